@@ -1,0 +1,21 @@
+use Rattle.std.proofs.Common.{refl}
+use Rattle.message_tree.specs.declared.items.Item.TheVariants.{Stop}
+use Rattle.message_tree.specs.Texts.{FrameText}
+use Rattle.message_tree.proofs.TextLaws.{lawful_frame, whole}
+use Rattle.message_tree.proofs.TextLengths.{longest_frame}
+use Rattle.message_tree.proofs.laws.texts_of_messages.Goals as goal
+
+pub returns-clause-some : goal.returns-clause-some
+returns-clause-some c f = (lawful_frame f).some
+
+pub returns-clause-stop : goal.returns-clause-stop
+returns-clause-stop c f = (lawful_frame f).ends
+
+pub returns-clause-answers : goal.returns-clause-answers
+returns-clause-answers c f = (lawful_frame f).both
+
+pub returns-clause-whole : goal.returns-clause-whole
+returns-clause-whole c f = whole Stop (FrameText f) refl (lawful_frame f).ends
+
+pub returns-clause-longest : goal.returns-clause-longest
+returns-clause-longest c f = longest_frame f

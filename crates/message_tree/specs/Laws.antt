@@ -1,0 +1,33 @@
+-- What holds of the texts of every message and of every interrupt.
+use Rattle.std.specs.Prelude.{◌≡◌, Bool, true, false, List, [], ◌∷◌, ◌++◌}
+use Rattle.message_tree.specs.declared.items.Item.{Item}
+use Rattle.message_tree.specs.declared.items.Item.TheVariants.{Heard, Stop, Claim}
+use Rattle.message_tree.specs.Texts.{Items}
+
+-- some list passes
+abbrev pub HasText : Items → Type 0
+HasText P = (u : List Item) × P u
+
+-- a transmission ends with a STOP, or with a claim
+abbrev pub is_end : Item → Bool
+is_end Stop = true
+is_end Claim = true
+is_end _ = false
+
+-- no item of the list ends a transmission
+abbrev pub GoesOn : List Item → Type 0
+GoesOn [] = Unit {0}
+GoesOn (x ∷ u) = (is_end x ≡ false) × GoesOn u
+
+-- each list that passes has x as its last item, and no end before
+abbrev pub EndsWith : Item → Items → Type 0
+EndsWith x P = (u : List Item) → P u → (v : List Item) × GoesOn v × (u ≡ v ++ x ∷ [])
+
+-- where a target answers, it may answer either bit
+abbrev pub HearsBoth : Items → Type 0
+HearsBoth P =
+    (u v : List Item) (b c : Bool) → P (u ++ Heard b ∷ v) → (w : List Item) × P (u ++ Heard c ∷ w)
+
+-- none is a proper beginning of another
+abbrev pub NoneBeginsAnother : Items → Type 0
+NoneBeginsAnother P = (u v : List Item) → P u → P (u ++ v) → v ≡ []

@@ -1,0 +1,9 @@
+pub mod Digits
+pub mod Bits
+pub mod Patterns
+pub mod Counts
+pub mod Items
+pub mod Trees
+pub mod Texts
+pub mod Sizes
+pub mod Laws
