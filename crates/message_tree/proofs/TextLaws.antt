@@ -180,7 +180,7 @@ lawful_interrupt a = lawful_sent (a ++ One ∷ []) (Only Claim) (lawful_only Cla
 -- ---- no text is a proper beginning of another
 
 -- an end stands in no list that goes on
-end_is_last : (v w more : List Item) (x y : Item) → is_end x ≡ true → GoesOn w → (v ++ x ∷ []) ++ more ≡ w ++ y ∷ [] → more ≡ []
+pub end_is_last : (v w more : List Item) (x y : Item) → is_end x ≡ true → GoesOn w → (v ++ x ∷ []) ++ more ≡ w ++ y ∷ [] → more ≡ []
 end_is_last [] [] more x y i g e = cc
 end_is_last [] (z ∷ w) more x y i g e = absurd (let h : x ≡ z = cc in let k : is_end z ≡ true = subst (λ (q : Item). is_end q ≡ true) h i in cc (g.0))
 end_is_last (z ∷ []) [] more x y i g e = cc

@@ -1,0 +1,41 @@
+-- What holds of every plan: that pairs suffice, and that the runs of a safe plan go on to their end.
+use Rattle.std.specs.Prelude.{◌≡◌, ◌≢◌, ℕ, ◌<◌, ◌≤◌, ◌↔◌, List, [], ◌∷◌, length, All}
+use Rattle.message_tree.specs.declared.items.Item.{Item}
+use Rattle.message_tree.specs.declared.items.Item.TheVariants.{Claim}
+use Rattle.message_tree.specs.declared.items.Kind.{Kind}
+use Rattle.message_tree.specs.Items.{KindsClash}
+use Rattle.message_tree.specs.Sizes.{frame_bytes}
+use Rattle.plan_core.specs.Contents.{Contents}
+use Rattle.plan_core.specs.Lawful.{Set, In, IsLawful, pair, IsPair}
+use Rattle.plan_core.specs.Rounds.{IsRound, NoClash, IsWire, Follows}
+use Rattle.plan_core.specs.Runs.{Reaches, HasEnded, Whole}
+use Rattle.plan_core.specs.Faults.{OffersKind, Fault, IsFaulty, IsSafe}
+
+-- the numbers of messages that controllers send are those of messages
+abbrev pub IsNumbered : Contents → Type 0
+IsNumbered plan = All (λ controller. All (λ m. m < length plan.messages) controller.1) plan.controllers
+
+-- no path of a message has more than 256 bytes
+abbrev pub IsShort : Contents → Type 0
+IsShort plan = All (λ message. frame_bytes message.1 ≤ 256) plan.messages
+
+-- no interrupt has claimed
+abbrev pub NoClaim : List Item → Type 0
+NoClaim [] = Unit {0}
+NoClaim (x ∷ u) = (x ≢ Claim) × NoClaim u
+
+-- x and y are both live in the run of the two alone, when the wire has been u
+abbrev pub BothLive : Contents → ℕ → ℕ → List Item → Type 0
+BothLive plan x y u = (live : Set) × Reaches plan (pair x y) u live × In x live × In y live
+
+-- after u, x may put an item of kind j and y one of kind k, and these must not meet
+abbrev pub MayClash : Contents → ℕ → ℕ → List Item → Kind → Kind → Type 0
+MayClash plan x y u j k = OffersKind plan x u j × OffersKind plan y u k × KindsClash j k
+
+-- the run of these live participants goes on from u: they may put items that do not clash and that the wire shows
+pub record GoesOn (plan : Contents) (u : List Item) (live : Set) : Type 0 where
+  pub put : ℕ → Item
+  pub wire : Item
+  pub is_round : IsRound plan u live put
+  pub no_clash : NoClash live put
+  pub is_wire : IsWire live put wire

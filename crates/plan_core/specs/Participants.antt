@@ -1,0 +1,71 @@
+-- Who may take part: each controller with each of its messages, controller by controller, and then the interrupts.
+use Rattle.std.specs.Prelude.{◌≡◌, ℕ, ◌+◌, Bool, true, false, ◌&&◌, ◌||◌, ◌==◌, not, nat_lt, List, [], ◌∷◌, ◌++◌, length, map, filter, Option, Some, None, slice_get}
+use Rattle.std.specs.List.{range_with_len, flat_map, list_any}
+use Rattle.message_tree.specs.declared.bits.Bit.{Bit}
+use Rattle.message_tree.specs.Bits.{bits_below}
+use Rattle.message_tree.specs.Texts.{Items, FrameText, InterruptText}
+use Rattle.message_tree.specs.Trees.{FrameTree}
+use Rattle.plan_core.specs.declared.plans.Participant.{Participant}
+use Rattle.plan_core.specs.declared.plans.Participant.TheVariants.{Sending, Interrupt}
+use Rattle.plan_core.specs.Contents.{Contents}
+
+-- the controllers from number c on, each with each of its messages
+abbrev pub sendings_from : ℕ → List (List ℕ × List ℕ) → List Participant
+sendings_from c [] = []
+sendings_from c (k ∷ ks) = map (Sending c) k.1 ++ sendings_from (c + 1) ks
+
+-- the participants of a plan, from number 0 on
+abbrev pub participants_of : Contents → List Participant
+participants_of plan =
+    sendings_from 0 plan.controllers ++ map Interrupt (range_with_len 0 (length plan.interrupts))
+
+abbrev pub participant_count : Contents → ℕ
+participant_count plan = length (participants_of plan)
+
+-- the seven bits of an interrupt's address, all of them known
+abbrev pub interrupt_bits : ℕ → List Bit
+interrupt_bits address = bits_below 7 127 address
+
+abbrev pub MessageText : Option (List ℕ × FrameTree) → Items
+MessageText (Some message) u = FrameText message.1 u
+MessageText None u = ⊥
+
+abbrev pub HeaderText : Option (List ℕ × ℕ) → Items
+HeaderText (Some interrupt) u = InterruptText (interrupt_bits interrupt.1) u
+HeaderText None u = ⊥
+
+abbrev pub ParticipantText : Contents → Option Participant → Items
+ParticipantText plan (Some (Sending controller message)) u = MessageText (slice_get plan.messages message) u
+ParticipantText plan (Some (Interrupt k)) u = HeaderText (slice_get plan.interrupts k) u
+ParticipantText plan None u = ⊥
+
+-- u is a text of participant p: what it can go through from the START to the end of its transmission
+unfoldable pub Text : Contents → ℕ → Items
+Text plan p u = ParticipantText plan (slice_get (participants_of plan) p) u
+
+-- a `never` names these two controllers, in either order
+abbrev pub names_both : ℕ → ℕ → ℕ × ℕ → Bool
+names_both c d never = (never.0 == c && never.1 == d) || (never.0 == d && never.1 == c)
+
+abbrev pub is_never : Contents → ℕ → ℕ → Bool
+is_never plan c d = list_any (names_both c d) plan.nevers
+
+abbrev pub forbids_both : Contents → Option Participant → Option Participant → Bool
+forbids_both plan (Some (Sending c m)) (Some (Sending d n)) = is_never plan c d
+forbids_both plan _ _ = false
+
+-- both are sendings whose controllers stand in one `never`
+unfoldable pub forbidden : Contents → ℕ → ℕ → Bool
+forbidden plan x y = forbids_both plan (slice_get (participants_of plan) x) (slice_get (participants_of plan) y)
+
+abbrev pub one_controller : Option Participant → Option Participant → Bool
+one_controller (Some (Sending c m)) (Some (Sending d n)) = c == d
+one_controller _ _ = false
+
+-- both are sendings of one controller
+unfoldable pub same_controller : Contents → ℕ → ℕ → Bool
+same_controller plan x y = one_controller (slice_get (participants_of plan) x) (slice_get (participants_of plan) y)
+
+-- x and y never start together
+abbrev pub apart : Contents → ℕ → ℕ → Bool
+apart plan x y = same_controller plan x y || forbidden plan x y
