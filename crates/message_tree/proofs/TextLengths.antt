@@ -12,7 +12,7 @@ use Rattle.message_tree.specs.Patterns.{pattern_bits, address_bits}
 use Rattle.message_tree.specs.Counts.{greatest_of}
 use Rattle.message_tree.specs.Trees.{FrameTree, write, read, PayloadTree, byte, last, TailTree, stop, again}
 use Rattle.message_tree.specs.Texts.{Items, SentThen, HeardThen, AnswerThen, AgainThen, Only, ByteThen, BytesThen, ReadThen, write_header, read_header, FrameText, PayloadText, TailText, InterruptText}
-use Rattle.message_tree.specs.Sizes.{IsLongest, frame_slots, payload_slots, tail_slots}
+use Rattle.message_tree.specs.Sizes.{IsLongest, frame_slots, payload_slots, tail_slots, frame_bytes, payload_bytes, tail_bytes}
 use Rattle.message_tree.proofs.TextLaws.{allowed}
 
 -- some text is n slots long, and none is longer
@@ -167,3 +167,18 @@ mutual
   longest_tail : (t : TailTree) → IsLongest (TailText t) (tail_slots t)
   longest_tail stop = longest_only Stop
   longest_tail (again frame) = longest_again (FrameText frame) (frame_slots frame) (longest_frame frame)
+
+-- ---- ten slots a byte are enough
+
+mutual
+  pub frame_slots_le : (f : FrameTree) → frame_slots f ≤ 10 * frame_bytes f
+  frame_slots_le (write address acked refused) = omega (arith, payload_slots_le acked, tail_slots_le refused)
+  frame_slots_le (read address count after refused) = omega (arith, tail_slots_le after, tail_slots_le refused)
+
+  payload_slots_le : (p : PayloadTree) → payload_slots p ≤ 10 * payload_bytes p + 1
+  payload_slots_le (byte bits acked refused) = omega (arith, payload_slots_le acked, tail_slots_le refused)
+  payload_slots_le (last tail) = tail_slots_le tail
+
+  tail_slots_le : (t : TailTree) → tail_slots t ≤ 10 * tail_bytes t + 1
+  tail_slots_le stop = omega arith
+  tail_slots_le (again frame) = omega (arith, frame_slots_le frame)

@@ -1,22 +1,24 @@
 // What holds of the texts of every message. Each function is a law: it does nothing, and its contract is the theorem.
 
-ghost use Rattle.std.specs.Prelude.{◌+◌, List, length};
+ghost use Rattle.std.specs.Prelude.{◌+◌, ◌*◌, ◌≤◌, List, length};
 ghost use Rattle.message_tree.specs.declared.bits.Bit.{Bit};
 ghost use Rattle.message_tree.specs.declared.items.Item.TheVariants.{Stop, Claim};
 ghost use Rattle.message_tree.specs.declared.tree.Frame.{Frame};
 ghost use Rattle.message_tree.specs.Trees.{FrameTree};
 ghost use Rattle.message_tree.specs.Texts.{FrameText, InterruptText};
-ghost use Rattle.message_tree.specs.Sizes.{IsLongest, frame_slots};
+ghost use Rattle.message_tree.specs.Sizes.{IsLongest, frame_slots, frame_bytes};
 ghost use Rattle.message_tree.specs.Laws.{HasText, EndsWith, HearsBoth, NoneBeginsAnother};
 
 /// Every message has a text. A text ends with its only STOP and has no claim. Where a target answers, it may answer
-/// either bit. No text is a proper beginning of another. The longest has the slots that `Frame::slots` counts.
+/// either bit. No text is a proper beginning of another. The longest has the slots that `Frame::slots` counts,
+/// at most ten for each byte of the longest path.
 pub fn texts_of_messages()
     ensures some { (f : FrameTree) → HasText (FrameText f) }
     ensures stop { (f : FrameTree) → EndsWith Stop (FrameText f) }
     ensures answers { (f : FrameTree) → HearsBoth (FrameText f) }
     ensures whole { (f : FrameTree) → NoneBeginsAnother (FrameText f) }
     ensures longest { (f : FrameTree) → IsLongest (FrameText f) (frame_slots f) }
+    ensures bytes { (f : FrameTree) → frame_slots f ≤ 10 * frame_bytes f }
 {}
 
 /// Every interrupt has a text. A text ends with its only claim and has no STOP, and no target answers in it.

@@ -1,19 +1,20 @@
 -- Who is live has a text that begins with the wire, and two who have are both live alone: so pairs suffice.
-use Rattle.std.proofs.Common.{◌≡◌, ◌≢◌, ℕ, zero, suc, ◌<◌, Bool, true, false, ◌&&◌, ◌||◌, ◌==◌, List, [], ◌∷◌, ◌++◌, refl, ap, sym, ◌∙◌, subst, append_assoc, arith, inl, inr, ◌⊎◌, ◌↔◌}
+use Rattle.std.proofs.Common.{◌≡◌, ◌≢◌, ℕ, ◌<◌, Bool, true, false, ◌&&◌, List, [], ◌∷◌, ◌++◌, refl, ap, sym, ◌∙◌, subst, append_assoc, append-nil, arith, inl, inr, ◌⊎◌}
+use Rattle.std.proofs.lemmas.Bool.Decides.{nat_tests}
 use Rattle.message_tree.specs.declared.items.Item.{Item}
 use Rattle.message_tree.specs.declared.items.Item.TheVariants.{Sent, Heard, Again, Stop, Claim}
 use Rattle.message_tree.specs.declared.items.Kind.{Kind}
 use Rattle.message_tree.specs.declared.items.Kind.TheVariants as kind
-use Rattle.message_tree.specs.Items.{kind_of, KindsClash, Clash}
+use Rattle.message_tree.specs.Items.{kind_of, Clash}
 use Rattle.message_tree.specs.Laws.{HasText, is_end, GoesOn}
 use Rattle.plan_core.specs.Contents.{Contents}
-use Rattle.plan_core.specs.Participants.{Text, participant_count, apart}
+use Rattle.plan_core.specs.Participants.{Text}
 use Rattle.plan_core.specs.Lawful.{Set, In, IsLawful, pair, IsPair}
-use Rattle.plan_core.specs.Rounds.{Follows, Offers, IsRound, NoClash, IsWire, is_item, survivors}
+use Rattle.plan_core.specs.Rounds.{Follows, Offers, is_item, survivors}
 use Rattle.plan_core.specs.Runs.{Reaches, start, round}
-use Rattle.plan_core.specs.Faults.{OffersKind, Fault, IsFaulty, IsSafe}
+use Rattle.plan_core.specs.Faults.{OffersKind, Fault}
 use Rattle.plan_core.specs.Laws.{NoClaim, BothLive, MayClash}
-use Rattle.plan_core.proofs.Texts.{Ends, fair_text}
+use Rattle.plan_core.proofs.Texts.{fair_text}
 
 -- ---- tests
 
@@ -69,3 +70,89 @@ followed {plan} some (round {u} {live = before} put w r o n i) p h =
 pub somebody : {plan : Contents} {s : Set} {u : List Item} {live : Set} → ((p : ℕ) × In p s) → Reaches plan s u live → (p : ℕ) × In p live
 somebody some start = some
 somebody some (round {live = before} put w r o n i) = (i.some.0, survives before put w i.some.0 i.some.1 i.some.2)
+
+-- ---- the two alone
+
+in_pair : (x y p : ℕ) → In p (pair x y) → (p ≡ x) ⊎ (p ≡ y)
+in_pair x y p h = grind (arith, nat_tests)
+
+first_in_pair : (x y : ℕ) → In x (pair x y)
+first_in_pair x y = grind (arith, nat_tests)
+
+second_in_pair : (x y : ℕ) → In y (pair x y)
+second_in_pair x y = grind (arith, nat_tests)
+
+kind_of_claim : (w : Item) → kind_of w ≡ kind.Claim → w ≡ Claim
+kind_of_claim Claim h = refl
+kind_of_claim _ h = cc
+
+-- one item clashes with itself only where it is a claim
+alike : (w : Item) → w ≢ Claim → Clash w w → ⊥
+alike w n (inl e) = e refl
+alike w n (inr h) = n (kind_of_claim w h.0)
+
+module _ (plan : Contents) (x y : ℕ) where
+  -- both put w, and stay live
+  one_more : (u v : List Item) (w : Item) (live : Set) → Reaches plan (pair x y) u live → In x live → In y live → w ≢ Claim → Follows plan x (u ++ w ∷ v) → Follows plan y (u ++ w ∷ v) → Reaches plan (pair x y) (u ++ w ∷ []) (survivors live (λ _. w) w)
+  one_more u v w live r i j n f g =
+      let put : ℕ → Item = λ _. w in
+      let offers : (p : ℕ) → Follows plan p (u ++ w ∷ v) → Offers plan p u w = λ p h. (v ++ h.0, subst (Text plan p) (append_assoc u (w ∷ v) h.0) h.1) in
+      let either : (p : ℕ) → (p ≡ x) ⊎ (p ≡ y) → Offers plan p u w = λ p h. elim h [ inl e ↦ subst (λ (q : ℕ). Offers plan q u w) (sym e) (offers x f) | inr e ↦ subst (λ (q : ℕ). Offers plan q u w) (sym e) (offers y g) ] in
+      round put w r
+      (record { offered = λ p h. either p (in_pair x y p (still_in r p h)); heard = λ p q b c h k e d. cc })
+      (λ p q ne h k c. alike w n c)
+      (record { some = (x, i, refl); all = λ p h. inl refl })
+
+  go_on : (u v : List Item) (live : Set) → Reaches plan (pair x y) u live → In x live → In y live → NoClaim v → Follows plan x (u ++ v) → Follows plan y (u ++ v) → BothLive plan x y (u ++ v)
+  go_on u [] live r i j n f g = (live, subst (λ (w : List Item). Reaches plan (pair x y) w live) (sym (append-nil u)) r, i, j)
+  go_on u (w ∷ v) live r i j n f g =
+      let put : ℕ → Item = λ _. w in
+      let next = one_more u v w live r i j n.0 f g in
+      let along : u ++ w ∷ v ≡ (u ++ w ∷ []) ++ v = sym (append_assoc u (w ∷ []) v) in
+      let rest = go_on (u ++ w ∷ []) v (survivors live put w) next (survives live put w x i refl) (survives live put w y j refl) n.1 (subst (Follows plan x) along f) (subst (Follows plan y) along g) in
+      subst (BothLive plan x y) (sym along) rest
+
+  pub both_live : (u : List Item) → NoClaim u → Follows plan x u → Follows plan y u → BothLive plan x y u
+  both_live u n f g = go_on [] u (pair x y) start (first_in_pair x y) (second_in_pair x y) n f g
+
+-- ---- what goes on has no claim
+
+cons_is_not_nil : (u v : List Item) (x : Item) → u ++ x ∷ v ≡ [] → ⊥
+cons_is_not_nil [] v x e = cc
+cons_is_not_nil (a ∷ u) v x e = cc
+
+front_goes_on : (u v w : List Item) (x end : Item) → GoesOn w → u ++ x ∷ v ≡ w ++ end ∷ [] → NoClaim u
+front_goes_on [] v w x end g e = tt
+front_goes_on (a ∷ u) v [] x end g e = absurd (cons_is_not_nil u v x cc)
+front_goes_on (a ∷ u) v (b ∷ w) x end g e =
+    let same : a ≡ b = cc in
+    ((λ c. let d : b ≡ Claim = cc in let k : is_end b ≡ true = ap is_end d in cc (g.0)), front_goes_on u v w x end g.1 cc)
+
+pub offers_without_claim : (plan : Contents) (p : ℕ) (u : List Item) (k : Kind) → OffersKind plan p u k → NoClaim u
+offers_without_claim plan p u k h =
+    let e = (fair_text plan p).ends (u ++ h.0 ∷ h.1.0) h.1.1 in
+    front_goes_on u h.1.0 e.before h.0 e.end e.goes_on e.whole
+
+follows_from_offer : (plan : Contents) (p : ℕ) (u : List Item) (k : Kind) → OffersKind plan p u k → Follows plan p u
+follows_from_offer plan p u k h = (h.0 ∷ h.1.0, h.1.1)
+
+-- ---- pairs suffice
+
+pub fault_of_pair : (plan : Contents) (x y : ℕ) (u : List Item) (j k : Kind) → x < y → MayClash plan x y u j k → Fault plan (pair x y) u x y j k
+fault_of_pair plan x y u j k lt m =
+    let b = both_live plan x y u (offers_without_claim plan x u j m.0) (follows_from_offer plan x u j m.0) (follows_from_offer plan y u k m.1) in
+    record { live = b.0; reached = b.1; in_order = lt; first = b.2; second = b.3; first_offers = m.0; second_offers = m.1; clash = m.2 }
+
+pub may_clash : (plan : Contents) (s : Set) (x y : ℕ) (u : List Item) (j k : Kind) → Fault plan s u x y j k → MayClash plan x y u j k
+may_clash plan s x y u j k f = (f.first_offers, f.second_offers, f.clash)
+
+pub pair_of_lawful : (plan : Contents) (s : Set) (x y : ℕ) → IsLawful plan s → x < y → In x s → In y s → IsPair plan x y
+pair_of_lawful plan s x y l lt i j =
+    let inside : (p : ℕ) → In p (pair x y) → In p s = λ p h. elim (in_pair x y p h) [ inl e ↦ subst (λ (q : ℕ). In q s) (sym e) i | inr e ↦ subst (λ (q : ℕ). In q s) (sym e) j ] in (
+      lt,
+      record {
+        some = (x, first_in_pair x y);
+        participants = λ p h. l.participants p (inside p h);
+        together = λ p q n h k. l.together p q n (inside p h) (inside q k);
+      },
+    )

@@ -1,15 +1,15 @@
 -- What holds of every plan: that pairs suffice, and that the runs of a safe plan go on to their end.
-use Rattle.std.specs.Prelude.{◌≡◌, ◌≢◌, ℕ, ◌<◌, ◌≤◌, ◌↔◌, List, [], ◌∷◌, length, All}
+use Rattle.std.specs.Prelude.{◌≢◌, ℕ, ◌<◌, ◌≤◌, List, [], ◌∷◌, length, All}
 use Rattle.message_tree.specs.declared.items.Item.{Item}
 use Rattle.message_tree.specs.declared.items.Item.TheVariants.{Claim}
 use Rattle.message_tree.specs.declared.items.Kind.{Kind}
 use Rattle.message_tree.specs.Items.{KindsClash}
 use Rattle.message_tree.specs.Sizes.{frame_bytes}
 use Rattle.plan_core.specs.Contents.{Contents}
-use Rattle.plan_core.specs.Lawful.{Set, In, IsLawful, pair, IsPair}
-use Rattle.plan_core.specs.Rounds.{IsRound, NoClash, IsWire, Follows}
-use Rattle.plan_core.specs.Runs.{Reaches, HasEnded, Whole}
-use Rattle.plan_core.specs.Faults.{OffersKind, Fault, IsFaulty, IsSafe}
+use Rattle.plan_core.specs.Lawful.{Set, In, pair}
+use Rattle.plan_core.specs.Rounds.{IsRound, NoClash, IsWire}
+use Rattle.plan_core.specs.Runs.{Reaches}
+use Rattle.plan_core.specs.Faults.{OffersKind}
 
 -- the numbers of messages that controllers send are those of messages
 abbrev pub IsNumbered : Contents → Type 0

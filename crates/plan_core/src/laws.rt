@@ -16,18 +16,16 @@ ghost use Rattle.plan_core.specs.Laws.{IsNumbered, IsShort, NoClaim, BothLive, M
 pub fn live_participants_follow()
     ensures followed { (plan : Contents) (s live : Set) (u : List Item) (p : ℕ) → IsNumbered plan → IsLawful plan s → Reaches plan s u live → In p live → Follows plan p u }
     ensures both { (plan : Contents) (x y : ℕ) (u : List Item) → NoClaim u → Follows plan x u → Follows plan y u → BothLive plan x y u }
-{
-}
+{}
 
 /// Pairs suffice: a fault of any lawful set is the fault of two of its participants alone, at the same wire; a plan is
 /// safe exactly where none of its pairs is faulty; and a pair is faulty exactly where, after some wire, the two may put
 /// items that must not meet.
 pub fn pairs_suffice()
-    ensures fault { (plan : Contents) (s : Set) (u : List Item) (x y : ℕ) (j k : Kind) → IsNumbered plan → IsLawful plan s → Fault plan s u x y j k → IsPair plan x y × Fault plan (pair x y) u x y j k }
-    ensures safe { (plan : Contents) → IsNumbered plan → (IsSafe plan ↔ ((x y : ℕ) → IsPair plan x y → IsFaulty plan (pair x y) → ⊥)) }
+    ensures fault { (plan : Contents) (s : Set) (u : List Item) (x y : ℕ) (j k : Kind) → IsLawful plan s → Fault plan s u x y j k → IsPair plan x y × Fault plan (pair x y) u x y j k }
+    ensures safe { (plan : Contents) → (IsSafe plan ↔ ((x y : ℕ) → IsPair plan x y → IsFaulty plan (pair x y) → ⊥)) }
     ensures clash { (plan : Contents) (x y : ℕ) (u : List Item) (j k : Kind) → x < y → (Fault plan (pair x y) u x y j k ↔ MayClash plan x y u j k) }
-{
-}
+{}
 
 /// In a safe plan each run goes on until it has ended: no round of live participants clashes, there is a next round, and
 /// somebody is live. No run is longer than 2,560 slots, and at its end each live participant stands whole on the wire.
@@ -37,5 +35,4 @@ pub fn safe_plans_go_on()
     ensures clash { (plan : Contents) (s live : Set) (u : List Item) (put : ℕ → Item) (p q : ℕ) → IsSafe plan → IsLawful plan s → Reaches plan s u live → IsRound plan u live put → p ≢ q → In p live → In q live → Clash (put p) (put q) → ⊥ }
     ensures bound { (plan : Contents) (s live : Set) (u : List Item) → IsNumbered plan → IsShort plan → IsLawful plan s → Reaches plan s u live → length u ≤ 2560 }
     ensures whole { (plan : Contents) (s live : Set) (u : List Item) (p : ℕ) → IsNumbered plan → IsLawful plan s → Reaches plan s u live → HasEnded u → In p live → Whole plan p u }
-{
-}
+{}

@@ -1,0 +1,9 @@
+use Rattle.plan_core.proofs.Texts.{some_text}
+use Rattle.plan_core.proofs.Model.{followed, both_live}
+use Rattle.plan_core.proofs.laws.live_participants_follow.Goals as goal
+
+pub returns-clause-followed : goal.returns-clause-followed
+returns-clause-followed c plan s live u p n l r i = followed (λ q j. some_text plan n q (l.participants q j)) r p i
+
+pub returns-clause-both : goal.returns-clause-both
+returns-clause-both c plan x y u n f g = both_live plan x y u n f g
