@@ -89,3 +89,12 @@ abbrev mutual
 -- An interrupt sends the bits of its address and a 1 as its header, and waits for the answer (our profile).
 abbrev pub InterruptText : List Bit → Items
 InterruptText address u = SentThen (address ++ One ∷ []) (Only Claim) u
+
+-- Who takes part: a controller with a message, or an interrupt with the bits of its address.
+pub data Sender : Type 0 where
+  message : (frame : FrameTree) → Sender
+  interrupt : (address : List Bit) → Sender
+
+abbrev pub SenderText : Sender → Items
+SenderText (message frame) u = FrameText frame u
+SenderText (interrupt address) u = InterruptText address u

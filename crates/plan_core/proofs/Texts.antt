@@ -6,14 +6,14 @@ use Rattle.message_tree.specs.declared.items.Item.{Item}
 use Rattle.message_tree.specs.declared.items.Item.TheVariants.{Stop, Claim}
 use Rattle.message_tree.specs.Laws.{HasText, is_end, GoesOn, HearsBoth}
 use Rattle.message_tree.specs.Sizes.{frame_bytes}
-use Rattle.message_tree.specs.Texts.{Items}
+use Rattle.message_tree.specs.Texts.{Items, Sender, message, interrupt}
 use Rattle.message_tree.specs.Trees.{FrameTree}
 use Rattle.message_tree.proofs.TextLaws.{lawful_frame, lawful_interrupt, end_is_last}
 use Rattle.message_tree.proofs.TextLengths.{longest_frame, longest_interrupt, frame_slots_le}
 use Rattle.plan_core.specs.declared.plans.Participant.{Participant}
 use Rattle.plan_core.specs.declared.plans.Participant.TheVariants.{Sending, Interrupt}
 use Rattle.plan_core.specs.Contents.{Contents}
-use Rattle.plan_core.specs.Participants.{Text, ParticipantText, MessageText, HeaderText, participants_of, participant_count, sendings_from, interrupt_bits}
+use Rattle.plan_core.specs.Participants.{Text, TextOf, sender_at, sender_of, message_sender, interrupt_sender, participants_of, participant_count, sendings_from, interrupt_bits}
 use Rattle.plan_core.specs.Runs.{HasEnded}
 use Rattle.plan_core.specs.Laws.{IsNumbered, IsShort}
 
@@ -30,31 +30,21 @@ pub record Fair (P : Items) : Type 0 where
   pub ends : (u : List Item) → P u → Ends u
   pub both : HearsBoth P
 
-fair_message : (m : Option (List ℕ × FrameTree)) → Fair (MessageText m)
-fair_message None = record { ends = λ u h. absurd h; both = λ u v b c h. absurd h }
-fair_message (Some m) =
+fair_sender : (s : Option Sender) → Fair (TextOf s)
+fair_sender None = record { ends = λ u h. absurd h; both = λ u v b c h. absurd h }
+fair_sender (Some (message f)) =
     record {
-      ends = λ u h. let r = (lawful_frame m.1).ends u h in record { before = r.0; end = Stop; goes_on = r.1; is_end = refl; whole = r.2 };
-      both = (lawful_frame m.1).both;
+      ends = λ u h. let r = (lawful_frame f).ends u h in record { before = r.0; end = Stop; goes_on = r.1; is_end = refl; whole = r.2 };
+      both = (lawful_frame f).both;
     }
-
-fair_header : (i : Option (List ℕ × ℕ)) → Fair (HeaderText i)
-fair_header None = record { ends = λ u h. absurd h; both = λ u v b c h. absurd h }
-fair_header (Some i) =
-    let l = lawful_interrupt (interrupt_bits i.1) in
+fair_sender (Some (interrupt a)) =
     record {
-      ends = λ u h. let r = l.ends u h in record { before = r.0; end = Claim; goes_on = r.1; is_end = refl; whole = r.2 };
-      both = l.both;
+      ends = λ u h. let r = (lawful_interrupt a).ends u h in record { before = r.0; end = Claim; goes_on = r.1; is_end = refl; whole = r.2 };
+      both = (lawful_interrupt a).both;
     }
-
-fair_participant : (plan : Contents) (p : Option Participant) → Fair (ParticipantText plan p)
-fair_participant plan None = record { ends = λ u h. absurd h; both = λ u v b c h. absurd h }
-fair_participant plan (Some (Sending c m)) = fair_message (slice_get plan.messages m)
-fair_participant plan (Some (Interrupt k)) = fair_header (slice_get plan.interrupts k)
 
 pub fair_text : (plan : Contents) (p : ℕ) → Fair (Text plan p)
-unfolding Text
-fair_text plan p = fair_participant plan (slice_get (participants_of plan) p)
+fair_text plan p = fair_sender (sender_at plan p)
 
 -- the two ends are a STOP and a claim
 pub end_cases : (x : Item) → is_end x ≡ true → (x ≡ Stop) ⊎ (x ≡ Claim)
@@ -70,18 +60,18 @@ nothing_after plan p v rest x i t =
 
 -- ---- each participant has a text
 
-some_message : (ms : List (List ℕ × FrameTree)) (k : ℕ) → k < length ms → HasText (MessageText (slice_get ms k))
+some_message : (ms : List (List ℕ × FrameTree)) (k : ℕ) → k < length ms → HasText (TextOf (message_sender (slice_get ms k)))
 some_message [] k h = absurd (omega arith)
 some_message (m ∷ ms) zero h = (lawful_frame m.1).some
 some_message (m ∷ ms) (suc k) h = some_message ms k (omega arith)
 
-some_header : (is : List (List ℕ × ℕ)) (k : ℕ) → k < length is → HasText (HeaderText (slice_get is k))
+some_header : (is : List (List ℕ × ℕ)) (k : ℕ) → k < length is → HasText (TextOf (interrupt_sender (slice_get is k)))
 some_header [] k h = absurd (omega arith)
 some_header (i ∷ is) zero h = (lawful_interrupt (interrupt_bits i.1)).some
 some_header (i ∷ is) (suc k) h = some_header is k (omega arith)
 
 HasItsText : Contents → Participant → Type 0
-HasItsText plan q = HasText (ParticipantText plan (Some q))
+HasItsText plan q = HasText (TextOf (sender_of plan (Some q)))
 
 module _ (plan : Contents) where
   sendings_have_texts : (c : ℕ) (ks : List (List ℕ × List ℕ)) → AllByRecursion (λ k. All (λ m. m < length plan.messages) k.1) ks → All (HasItsText plan) (sendings_from c ks)
@@ -98,14 +88,14 @@ module _ (plan : Contents) where
   interrupts_have_texts a (suc n) h =
       All-cons (HasItsText plan) (Interrupt a) (map Interrupt (range_with_len (a + 1) n)) (some_header plan.interrupts a (omega arith)) (interrupts_have_texts (a + 1) n (omega arith))
 
-  text_at : (ps : List Participant) (p : ℕ) → AllByRecursion (HasItsText plan) ps → p < length ps → HasText (ParticipantText plan (slice_get ps p))
+  text_at : (ps : List Participant) (p : ℕ) → AllByRecursion (HasItsText plan) ps → p < length ps → HasText (TextOf (sender_of plan (slice_get ps p)))
   unfolding HasItsText
   text_at [] p h l = absurd (omega arith)
   text_at (q ∷ ps) zero h l = h.0
   text_at (q ∷ ps) (suc p) h l = text_at ps p h.1 (omega arith)
 
   pub some_text : IsNumbered plan → (p : ℕ) → p < participant_count plan → HasText (Text plan p)
-  unfolding Text
+  unfolding sender_at HasItsText
   some_text n p h =
       let sendings = sendings_have_texts 0 plan.controllers (recursion_from_All (λ k. All (λ m. m < length plan.messages) k.1) plan.controllers n) in
       let all = All-append (HasItsText plan) (sendings_from 0 plan.controllers) (map Interrupt (range_with_len 0 (length plan.interrupts))) sendings (interrupts_have_texts 0 (length plan.interrupts) (omega arith)) in
@@ -113,23 +103,23 @@ module _ (plan : Contents) where
 
 -- ---- no text is longer than 2,560 slots
 
-bounded_message : (ms : List (List ℕ × FrameTree)) (k : ℕ) (u : List Item) → AllByRecursion (λ m. frame_bytes m.1 ≤ 256) ms → MessageText (slice_get ms k) u → length u ≤ 2560
+bounded_message : (ms : List (List ℕ × FrameTree)) (k : ℕ) (u : List Item) → AllByRecursion (λ m. frame_bytes m.1 ≤ 256) ms → TextOf (message_sender (slice_get ms k)) u → length u ≤ 2560
 bounded_message [] k u h t = absurd t
 bounded_message (m ∷ ms) zero u h t = omega (arith, h.0, (longest_frame m.1).bound u t, frame_slots_le m.1)
 bounded_message (m ∷ ms) (suc k) u h t = bounded_message ms k u h.1 t
 
-bounded_header : (is : List (List ℕ × ℕ)) (k : ℕ) (u : List Item) → HeaderText (slice_get is k) u → length u ≤ 2560
+bounded_header : (is : List (List ℕ × ℕ)) (k : ℕ) (u : List Item) → TextOf (interrupt_sender (slice_get is k)) u → length u ≤ 2560
 bounded_header [] k u t = absurd t
 bounded_header (i ∷ is) zero u t = omega (arith, (longest_interrupt (interrupt_bits i.1)).bound u t)
 bounded_header (i ∷ is) (suc k) u t = bounded_header is k u t
 
-bounded_participant : (plan : Contents) (p : Option Participant) (u : List Item) → IsShort plan → ParticipantText plan p u → length u ≤ 2560
+bounded_participant : (plan : Contents) (p : Option Participant) (u : List Item) → IsShort plan → TextOf (sender_of plan p) u → length u ≤ 2560
 bounded_participant plan None u h t = absurd t
 bounded_participant plan (Some (Sending c m)) u h t = bounded_message plan.messages m u (recursion_from_All (λ m. frame_bytes m.1 ≤ 256) plan.messages h) t
 bounded_participant plan (Some (Interrupt k)) u h t = bounded_header plan.interrupts k u t
 
 pub bounded_text : (plan : Contents) (p : ℕ) (u : List Item) → IsShort plan → Text plan p u → length u ≤ 2560
-unfolding Text
+unfolding sender_at
 bounded_text plan p u h t = bounded_participant plan (slice_get (participants_of plan) p) u h t
 
 -- what has ended is a whole text of each who follows it

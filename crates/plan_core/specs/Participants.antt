@@ -3,7 +3,7 @@ use Rattle.std.specs.Prelude.{ℕ, ◌+◌, Bool, false, ◌&&◌, ◌||◌, ◌
 use Rattle.std.specs.List.{range_with_len, list_any}
 use Rattle.message_tree.specs.declared.bits.Bit.{Bit}
 use Rattle.message_tree.specs.Bits.{bits_below}
-use Rattle.message_tree.specs.Texts.{Items, FrameText, InterruptText}
+use Rattle.message_tree.specs.Texts.{Items, Sender, message, interrupt, SenderText}
 use Rattle.message_tree.specs.Trees.{FrameTree}
 use Rattle.plan_core.specs.declared.plans.Participant.{Participant}
 use Rattle.plan_core.specs.declared.plans.Participant.TheVariants.{Sending, Interrupt}
@@ -26,22 +26,30 @@ participant_count plan = length (participants_of plan)
 abbrev pub interrupt_bits : ℕ → List Bit
 interrupt_bits address = bits_below 7 127 address
 
-abbrev pub MessageText : Option (List ℕ × FrameTree) → Items
-MessageText (Some message) u = FrameText message.1 u
-MessageText None u = ⊥
+abbrev pub message_sender : Option (List ℕ × FrameTree) → Option Sender
+message_sender (Some m) = Some (message m.1)
+message_sender None = None
 
-abbrev pub HeaderText : Option (List ℕ × ℕ) → Items
-HeaderText (Some interrupt) u = InterruptText (interrupt_bits interrupt.1) u
-HeaderText None u = ⊥
+abbrev pub interrupt_sender : Option (List ℕ × ℕ) → Option Sender
+interrupt_sender (Some i) = Some (interrupt (interrupt_bits i.1))
+interrupt_sender None = None
 
-abbrev pub ParticipantText : Contents → Option Participant → Items
-ParticipantText plan (Some (Sending controller message)) u = MessageText (slice_get plan.messages message) u
-ParticipantText plan (Some (Interrupt k)) u = HeaderText (slice_get plan.interrupts k) u
-ParticipantText plan None u = ⊥
+abbrev pub sender_of : Contents → Option Participant → Option Sender
+sender_of plan (Some (Sending controller m)) = message_sender (slice_get plan.messages m)
+sender_of plan (Some (Interrupt k)) = interrupt_sender (slice_get plan.interrupts k)
+sender_of plan None = None
+
+-- what participant p sends
+unfoldable pub sender_at : Contents → ℕ → Option Sender
+sender_at plan p = sender_of plan (slice_get (participants_of plan) p)
+
+abbrev pub TextOf : Option Sender → Items
+TextOf (Some sender) u = SenderText sender u
+TextOf None u = ⊥
 
 -- u is a text of participant p: what it can go through from the START to the end of its transmission
-unfoldable pub Text : Contents → ℕ → Items
-Text plan p u = ParticipantText plan (slice_get (participants_of plan) p) u
+abbrev pub Text : Contents → ℕ → Items
+Text plan p u = TextOf (sender_at plan p) u
 
 -- a `never` names these two controllers, in either order
 abbrev pub names_both : ℕ → ℕ → ℕ × ℕ → Bool
