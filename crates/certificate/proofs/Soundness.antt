@@ -21,11 +21,11 @@ use Rattle.certificate.specs.Proves.{ProvesFrames, ProvesPayloads, ProvesTails, 
 -- ---- bits that are sent
 
 -- two bits may stand in one slot
-both_sent : (s t : Bool) → Clash (Sent s) (Sent t) → ⊥
+pub both_sent : (s t : Bool) → Clash (Sent s) (Sent t) → ⊥
 both_sent s t (inl n) = n refl
 both_sent s t (inr h) = cc (h.0)
 
-both_heard : (s t : Bool) → Clash (Heard s) (Heard t) → ⊥
+pub both_heard : (s t : Bool) → Clash (Heard s) (Heard t) → ⊥
 both_heard s t (inl n) = n refl
 both_heard s t (inr h) = cc (h.0)
 
@@ -92,7 +92,7 @@ never_byte : (a b : Bit) (P Q : Items) → NeverClash (SentThen (a ∷ []) P) (S
 never_byte a b P Q n = never_heard 8 (SentThen (a ∷ []) P) (SentThen (b ∷ []) Q) n
 
 -- reads of m + 1 and of n + 1 bytes clash only behind the last, where they are of one length
-never_bytes : (m n : ℕ) (P Q : Items) → (m ≡ n → NeverClash P Q) → NeverClash (BytesThen m (ByteThen One P)) (BytesThen n (ByteThen One Q))
+pub never_bytes : (m n : ℕ) (P Q : Items) → (m ≡ n → NeverClash P Q) → NeverClash (BytesThen m (ByteThen One P)) (BytesThen n (ByteThen One Q))
 never_bytes zero zero P Q h = never_byte One One P Q (never_sent (One ∷ []) (One ∷ []) P Q refl (h refl))
 never_bytes zero (suc n) P Q h =
     never_byte One Zero P (BytesThen n (ByteThen One Q)) (never_split (One ∷ []) (Zero ∷ []) 0 P (BytesThen n (ByteThen One Q)) (inr (refl, refl)))

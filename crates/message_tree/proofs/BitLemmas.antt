@@ -4,8 +4,8 @@ use Rattle.std.specs.Int.{bit_at}
 use Rattle.std.specs.Int.Count.{count_leading_zeros}
 use Rattle.std.proofs.Math.Nat.{div-eq_of_lt-le}
 use Rattle.std.proofs.Math.Pow.{pow_mono}
-use Rattle.std.proofs.lemmas.Nat.{leading_top}
-use Rattle.std.proofs.lemmas.Nat.Bits.{bit_at_and, bit_at_xor, bit_at-lt, bit_at_above, bit_at_ones, bit_at-zero}
+use Rattle.std.proofs.lemmas.Nat.{leading_top, and_le_r}
+use Rattle.std.proofs.lemmas.Nat.Bits.{bit_at_and, bit_at_xor, bit_at-lt, bit_at_above, bit_at_ones, bit_at-zero, same_from_bits_below}
 use Rattle.std.proofs.lemmas.Bool.{cases_lt}
 use Rattle.std.proofs.lemmas.Option.{slice_get_within}
 use Rattle.message_tree.specs.declared.bits.Bit.{Bit}
@@ -94,44 +94,81 @@ bit_at_split : (known value other_known other_value i : ℕ) →
 bit_at_split known value other_known other_value i =
     rw (bit_at_and (bit_and known other_known) (bit_xor value other_value) i, bit_at_and known other_known i, bit_at_xor value other_value i) refl
 
-digit_of_split : (n known value other_known other_value j : ℕ) → SplitAt (bits_below n known value) (bits_below n other_known other_value) j →
-    (j < n) × (bit_at (split_digits known value other_known other_value) (n - (j + 1)) ≡ 1)
-digit_of_split n known value other_known other_value j s =
-    let size = length-bits_below n known value in
-    let within : j < n = elim s [
-      | inl p ↦ omega (arith, slice_get_within (bits_below n known value) j Zero p.0)
-      | inr p ↦ omega (arith, slice_get_within (bits_below n known value) j One p.0)
-    ] in
-    let i : ℕ = n - (j + 1) in
-    let here = get_bit n known value j i (omega arith) in
-    let there = get_bit n other_known other_value j i (omega arith) in
-    let differ : Differ (bit_from (bit_at known i) (bit_at value i)) (bit_from (bit_at other_known i) (bit_at other_value i)) =
-    elim s [ inl p ↦ inl (cc, cc) | inr p ↦ inr (cc, cc) ] in (
-      within,
-      bit_at_split known value other_known other_value i ∙
-          differ_digits _ _ _ _ (bit_at-lt known i) (bit_at-lt value i) (bit_at-lt other_known i) (bit_at-lt other_value i) differ,
-    )
+split_where_differ : (known value other_known other_value i : ℕ) → Differ (bit_from (bit_at known i) (bit_at value i)) (bit_from (bit_at other_known i) (bit_at other_value i)) →
+    bit_at (split_digits known value other_known other_value) i ≡ 1
+split_where_differ known value other_known other_value i h = bit_at_split known value other_known other_value i
+    ∙ differ_digits _ _ _ _ (bit_at-lt known i) (bit_at-lt value i) (bit_at-lt other_known i) (bit_at-lt other_value i) h
 
-split_of_digit : (n known value other_known other_value j : ℕ) → j < n → bit_at (split_digits known value other_known other_value) (n - (j + 1)) ≡ 1 →
+differ_where_split : (known value other_known other_value i : ℕ) → bit_at (split_digits known value other_known other_value) i ≡ 1 →
+    Differ (bit_from (bit_at known i) (bit_at value i)) (bit_from (bit_at other_known i) (bit_at other_value i))
+differ_where_split known value other_known other_value i one =
+    digits_differ _ _ _ _ (bit_at-lt known i) (bit_at-lt value i) (bit_at-lt other_known i) (bit_at-lt other_value i) (sym (bit_at_split known value other_known other_value i) ∙ one)
+
+split_within : (n known value other_known other_value j : ℕ) → SplitAt (bits_below n known value) (bits_below n other_known other_value) j → j < n
+split_within n known value other_known other_value j s =
+    let size = length-bits_below n known value in
+    elim s [ inl p ↦ omega (arith, slice_get_within (bits_below n known value) j Zero p.0) | inr p ↦ omega (arith, slice_get_within (bits_below n known value) j One p.0) ]
+
+digit_of_split : (n known value other_known other_value j i : ℕ) → j + suc i ≡ n → SplitAt (bits_below n known value) (bits_below n other_known other_value) j →
+    bit_at (split_digits known value other_known other_value) i ≡ 1
+digit_of_split n known value other_known other_value j i e s =
+    let here = get_bit n known value j i e in
+    let there = get_bit n other_known other_value j i e in
+    split_where_differ known value other_known other_value i (elim s [ inl p ↦ inl (cc, cc) | inr p ↦ inr (cc, cc) ])
+
+split_of_digit : (n known value other_known other_value j i : ℕ) → j + suc i ≡ n → bit_at (split_digits known value other_known other_value) i ≡ 1 →
     SplitAt (bits_below n known value) (bits_below n other_known other_value) j
-split_of_digit n known value other_known other_value j within one =
-    let i : ℕ = n - (j + 1) in
-    let here = get_bit n known value j i (omega arith) in
-    let there = get_bit n other_known other_value j i (omega arith) in
-    let differ : Differ (bit_from (bit_at known i) (bit_at value i)) (bit_from (bit_at other_known i) (bit_at other_value i)) =
-    digits_differ _ _ _ _ (bit_at-lt known i) (bit_at-lt value i) (bit_at-lt other_known i) (bit_at-lt other_value i)
-    (sym (bit_at_split known value other_known other_value i) ∙ one) in
-    elim differ [ inl p ↦ inl (cc, cc) | inr p ↦ inr (cc, cc) ]
+split_of_digit n known value other_known other_value j i e one =
+    let here = get_bit n known value j i e in
+    let there = get_bit n other_known other_value j i e in
+    elim (differ_where_split known value other_known other_value i one) [ inl p ↦ inl (cc, cc) | inr p ↦ inr (cc, cc) ]
 
 -- the first split of two lists, by the highest of those digits
 pub first_split_from : (n known value other_known other_value : ℕ) (r : Option ℕ) →
     MatchOption r (split_digits known value other_known other_value ≡ 0) (λ k. IsHighestOne n (split_digits known value other_known other_value) k) →
     MatchOption r (NeverSplit (bits_below n known value) (bits_below n other_known other_value)) (λ k. IsFirstSplit (bits_below n known value) (bits_below n other_known other_value) k)
-first_split_from n known value other_known other_value None h =
-    λ j s. let digit = digit_of_split n known value other_known other_value j s in
-    let none = ap (λ d. bit_at d (n - (j + 1))) h ∙ bit_at-zero (n - (j + 1)) in
+first_split_from n known value other_known other_value None none = λ j s.
+    let within = split_within n known value other_known other_value j s in
+    let one = digit_of_split n known value other_known other_value j (n - (j + 1)) (omega arith) s in
+    let zero_there = ap (λ digits. bit_at digits (n - (j + 1))) none ∙ bit_at-zero (n - (j + 1)) in
     omega arith
-first_split_from n known value other_known other_value (Some k) h = record {
-  splits = split_of_digit n known value other_known other_value k h.within h.one;
-  first = λ j below s. let digit = digit_of_split n known value other_known other_value j s in omega (arith, h.zeros j below);
+first_split_from n known value other_known other_value (Some k) highest = record {
+  splits = let within = highest.within in split_of_digit n known value other_known other_value k (n - (k + 1)) (omega arith) highest.one;
+  first = λ j below s. let within = highest.within in omega (arith, highest.zeros j below, digit_of_split n known value other_known other_value j (n - (j + 1)) (omega arith) s);
 }
+
+-- ---- two bytes by their bits
+bit_from-same : (j v k w : ℕ) → j < 2 → v < 2 → k < 2 → w < 2 → bit_from j v ≡ bit_from k w → (j ≡ k) × (min v j ≡ min w k)
+bit_from-same zero v zero w a b c d e = (refl, omega arith)
+bit_from-same zero v (suc k) zero a b c d e = absurd cc
+bit_from-same zero v (suc k) (suc w) a b c d e = absurd cc
+bit_from-same (suc j) zero zero w a b c d e = absurd cc
+bit_from-same (suc j) (suc v) zero w a b c d e = absurd cc
+bit_from-same (suc j) zero (suc k) zero a b c d e = (omega arith, omega arith)
+bit_from-same (suc j) zero (suc k) (suc w) a b c d e = absurd cc
+bit_from-same (suc j) (suc v) (suc k) zero a b c d e = absurd cc
+bit_from-same (suc j) (suc v) (suc k) (suc w) a b c d e = (omega arith, omega arith)
+
+same_bit : (n known value other_known other_value i : ℕ) → i < n → bits_below n known value ≡ bits_below n other_known other_value →
+    (bit_at known i ≡ bit_at other_known i) × (min (bit_at value i) (bit_at known i) ≡ min (bit_at other_value i) (bit_at other_known i))
+same_bit n known value other_known other_value i h e =
+    let here = get_bit n known value (n - suc i) i (omega arith) in
+    let there = get_bit n other_known other_value (n - suc i) i (omega arith) in
+    let same = ap (λ bits. slice_get bits (n - suc i)) e in
+    bit_from-same _ _ _ _ (bit_at-lt known i) (bit_at-lt value i) (bit_at-lt other_known i) (bit_at-lt other_value i) (cc)
+
+pub same_known : (n known value other_known other_value : ℕ) → known < 2 ^ n → other_known < 2 ^ n →
+    bits_below n known value ≡ bits_below n other_known other_value → known ≡ other_known
+same_known n known value other_known other_value a b e = same_from_bits_below n known other_known a b (λ i h. (same_bit n known value other_known other_value i h e).0)
+
+pub same_value : (n known value other_known other_value : ℕ) → known < 2 ^ n → other_known < 2 ^ n →
+    bit_and value known ≡ value → bit_and other_value other_known ≡ other_value →
+    bits_below n known value ≡ bits_below n other_known other_value → value ≡ other_value
+same_value n known value other_known other_value a b own others e =
+    let small : value < 2 ^ n = omega (arith, and_le_r value known) in
+    let other_small : other_value < 2 ^ n = omega (arith, and_le_r other_value other_known) in
+    same_from_bits_below n value other_value small other_small (λ i h.
+    let same = (same_bit n known value other_known other_value i h e).1 in
+    let masked = ap (λ d. bit_at d i) (sym own) ∙ bit_at_and value known i in
+    let other_masked = ap (λ d. bit_at d i) (sym others) ∙ bit_at_and other_value other_known i in
+    cc)

@@ -73,10 +73,10 @@ impl Address {
     pub fn new(known: u8, value: u8) -> Self
         ensures { address_bits result ≡ bits_below 7 known value }
     {
-        let known = known & 0x7f;
+        let low = known & 0x7f;
         Address {
-            known,
-            value: value & known,
+            known: low,
+            value: value & low,
         }
     }
 

@@ -54,6 +54,6 @@ impl Count {
     pub fn meets(&self, other: &Count) -> bool
         ensures { IsTrue result ↔ Meet self.now other.now }
     {
-        self.least <= other.greatest && other.least <= self.greatest
+        other.least <= self.greatest && self.least <= other.greatest
     }
 }

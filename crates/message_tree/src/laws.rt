@@ -1,7 +1,10 @@
 // What holds of the texts of every message. Each function is a law: it does nothing, and its contract is the theorem.
 
-ghost use Rattle.std.specs.Prelude.{◌+◌, ◌*◌, ◌≤◌, List, length};
+ghost use Rattle.std.specs.Prelude.{◌≡◌, ◌+◌, ◌*◌, ◌≤◌, List, length};
+ghost use Rattle.message_tree.specs.declared.bits.Address.{Address};
 ghost use Rattle.message_tree.specs.declared.bits.Bit.{Bit};
+ghost use Rattle.message_tree.specs.declared.bits.Pattern.{Pattern};
+ghost use Rattle.message_tree.specs.Patterns.{pattern_bits, address_bits};
 ghost use Rattle.message_tree.specs.declared.items.Item.TheVariants.{Stop, Claim};
 ghost use Rattle.message_tree.specs.declared.tree.Frame.{Frame};
 ghost use Rattle.message_tree.specs.Trees.{FrameTree};
@@ -29,4 +32,10 @@ pub fn texts_of_interrupts()
     ensures answers { (address : List Bit) → HearsBoth (InterruptText address) }
     ensures longest { (address : List Bit) → IsLongest (InterruptText address) (length address + 2) }
     ensures whole { (address : List Bit) → NoneBeginsAnother (InterruptText address) }
+{}
+
+/// Patterns with the same bits are the same, and so are addresses.
+pub fn patterns_are_their_bits()
+    ensures patterns { (p q : Pattern) → pattern_bits p ≡ pattern_bits q → p ≡ q }
+    ensures addresses { (a b : Address) → address_bits a ≡ address_bits b → a ≡ b }
 {}

@@ -11,3 +11,6 @@ pub use bits::{Address, Bit, Pattern};
 pub use counts::Count;
 pub use items::{Item, Kind};
 pub use tree::{Frame, Payload, Tail};
+
+#[cfg(test)]
+mod tests;
