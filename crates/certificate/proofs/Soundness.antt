@@ -146,7 +146,7 @@ pub never_answered : (bs cs : List Bit) (P Q R S : Items) → length bs ≡ leng
 never_answered bs cs P Q R S l m n = never_sent bs cs (AnswerThen P Q) (AnswerThen R S) l (never_answer P Q R S m n)
 
 mutual
-  sound_frames : (p : ProofTree) (f g : FrameTree) → ProvesFrames p f g → NeverClash (FrameText f) (FrameText g)
+  pub sound_frames : (p : ProofTree) (f g : FrameTree) → ProvesFrames p f g → NeverClash (FrameText f) (FrameText g)
   sound_frames (part k) (tree.write a x r) (tree.write b y s) h =
       never_split (write_header a) (write_header b) k (AnswerThen (PayloadText x) (TailText r)) (AnswerThen (PayloadText y) (TailText s)) h
   sound_frames (part k) (tree.write a x r) (tree.read b d y s) h =
@@ -163,7 +163,7 @@ mutual
       (sound_tails q r s h.1)
   sound_frames _ f g h = absurd h
 
-  sound_payloads : (p : ProofTree) (x y : PayloadTree) → ProvesPayloads p x y → NeverClash (PayloadText x) (PayloadText y)
+  pub sound_payloads : (p : ProofTree) (x y : PayloadTree) → ProvesPayloads p x y → NeverClash (PayloadText x) (PayloadText y)
   sound_payloads (part k) (tree.byte a x r) (tree.byte b y s) h =
       never_split (pattern_bits a) (pattern_bits b) k (AnswerThen (PayloadText x) (TailText r)) (AnswerThen (PayloadText y) (TailText s)) h
   sound_payloads (byte p q) (tree.byte a x r) (tree.byte b y s) h =
@@ -171,7 +171,7 @@ mutual
   sound_payloads p (tree.last r) (tree.last s) h = sound_tails p r s h
   sound_payloads _ x y h = absurd h
 
-  sound_tails : (p : ProofTree) (r s : TailTree) → ProvesTails p r s → NeverClash (TailText r) (TailText s)
+  pub sound_tails : (p : ProofTree) (r s : TailTree) → ProvesTails p r s → NeverClash (TailText r) (TailText s)
   sound_tails alike tree.stop tree.stop h = never_stop
   sound_tails (again p) (tree.again f) (tree.again g) h = never_again (FrameText f) (FrameText g) (sound_frames p f g h)
   sound_tails _ r s h = absurd h

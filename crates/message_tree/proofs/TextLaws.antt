@@ -165,12 +165,12 @@ mutual
   lawful_frame (read address count after refused) =
       lawful_sent (read_header address) (AnswerThen (ReadThen count (TailText after)) (TailText refused)) (lawful_answer (ReadThen count (TailText after)) (TailText refused) (lawful_read count (TailText after) (lawful_tail after)) (lawful_tail refused))
 
-  lawful_payload : (p : PayloadTree) → Lawful Stop (PayloadText p)
+  pub lawful_payload : (p : PayloadTree) → Lawful Stop (PayloadText p)
   lawful_payload (byte bits acked refused) =
       lawful_sent (pattern_bits bits) (AnswerThen (PayloadText acked) (TailText refused)) (lawful_answer (PayloadText acked) (TailText refused) (lawful_payload acked) (lawful_tail refused))
   lawful_payload (last tail) = lawful_tail tail
 
-  lawful_tail : (t : TailTree) → Lawful Stop (TailText t)
+  pub lawful_tail : (t : TailTree) → Lawful Stop (TailText t)
   lawful_tail stop = lawful_only Stop (λ b e. cc)
   lawful_tail (again frame) = lawful_again (FrameText frame) (lawful_frame frame)
 

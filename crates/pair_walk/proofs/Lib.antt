@@ -1,0 +1,4 @@
+pub mod First
+pub mod Halting
+pub mod Headers
+pub mod Nodes

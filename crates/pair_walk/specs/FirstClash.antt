@@ -1,0 +1,35 @@
+-- The first of all clashes of two participants, by the dictionary order of the wires before them.
+use Rattle.std.specs.Prelude.{◌≡◌, ◌⊎◌, Bool, true, false, List, [], ◌∷◌, ◌++◌}
+use Rattle.message_tree.specs.declared.items.Item.{Item}
+use Rattle.message_tree.specs.declared.items.Item.TheVariants.{Sent, Heard, Again, Stop, Claim}
+use Rattle.message_tree.specs.declared.items.Kind.{Kind}
+use Rattle.message_tree.specs.Items.{kind_of, KindsClash, Clash}
+use Rattle.message_tree.specs.Texts.{Items}
+
+-- `0` comes before `1`, and `l` before `h`
+abbrev pub ComesBefore : Item → Item → Type 0
+ComesBefore (Sent false) (Sent true) = Unit {0}
+ComesBefore (Heard false) (Heard true) = Unit {0}
+ComesBefore _ _ = ⊥
+
+-- u comes before v in the dictionary, or begins it
+abbrev pub InOrder : List Item → List Item → Type 0
+InOrder [] v = Unit {0}
+InOrder (x ∷ u) [] = ⊥
+InOrder (x ∷ u) (y ∷ v) = ComesBefore x y ⊎ ((x ≡ y) × InOrder u v)
+
+-- some list goes on from u with an item of kind k
+abbrev pub GoesOnWith : Items → List Item → Kind → Type 0
+GoesOnWith P u k = (x : Item) × (v : List Item) × P (u ++ x ∷ v) × (kind_of x ≡ k)
+
+-- no clash comes before the wire t
+abbrev pub NoneBefore : Items → Items → List Item → Type 0
+NoneBefore P Q t =
+    (u v w : List Item) (x y : Item) → P (u ++ x ∷ v) → Q (u ++ y ∷ w) → Clash x y → InOrder t u
+
+-- lists of P and of Q go on from u with items of kinds j and k, which clash, and no clash comes before
+pub record IsFirstClash (P Q : Items) (u : List Item) (j k : Kind) : Type 0 where
+  pub first : GoesOnWith P u j
+  pub second : GoesOnWith Q u k
+  pub clash : KindsClash j k
+  pub earliest : NoneBefore P Q u

@@ -1,0 +1,4 @@
+pub mod Canonical
+pub mod Compare
+pub mod FirstClash
+pub mod Wires

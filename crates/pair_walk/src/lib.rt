@@ -1,0 +1,5 @@
+//! The verdict of a pair of participants: a proof that they never clash, or their first fault.
+#![tactic(auto)]
+
+mod compare;
+mod wires;
