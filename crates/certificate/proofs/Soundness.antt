@@ -14,7 +14,7 @@ use Rattle.message_tree.specs.Items.{kind_of, Clash}
 use Rattle.message_tree.specs.Patterns.{pattern_bits, address_bits}
 use Rattle.message_tree.specs.Trees as tree
 use Rattle.message_tree.specs.Trees.{FrameTree, PayloadTree, TailTree}
-use Rattle.message_tree.specs.Texts.{Items, Allows, SentThen, HeardThen, AnswerThen, AgainThen, Only, ByteThen, BytesThen, ReadThen, write_header, read_header, FrameText, PayloadText, TailText, Sender, message, interrupt, SenderText}
+use Rattle.message_tree.specs.Texts.{Language, Allows, SentThen, HeardThen, AnswerThen, AgainThen, Only, ByteThen, BytesThen, ReadThen, write_header, read_header, FrameText, PayloadText, TailText, Sender, message, interrupt, SenderText}
 use Rattle.certificate.specs.Proofs.{ProofTree, part, byte, read, again, alike}
 use Rattle.certificate.specs.Proves.{ProvesFrames, ProvesPayloads, ProvesTails, header_of, ProvesHeaders, Proves, NeverClash}
 
@@ -30,7 +30,7 @@ both_heard s t (inl n) = n refl
 both_heard s t (inr h) = cc (h.0)
 
 -- bits of which none need be different
-pub never_sent : (bs cs : List Bit) (P Q : Items) → length bs ≡ length cs → NeverClash P Q → NeverClash (SentThen bs P) (SentThen cs Q)
+pub never_sent : (bs cs : List Bit) (P Q : Language) → length bs ≡ length cs → NeverClash P Q → NeverClash (SentThen bs P) (SentThen cs Q)
 never_sent [] [] P Q l n u v w x y p q c = n u v w x y p q c
 never_sent [] (c ∷ cs) P Q l n u v w x y p q k = absurd (omega arith)
 never_sent (b ∷ bs) [] P Q l n u v w x y p q k = absurd (omega arith)
@@ -55,7 +55,7 @@ no_common b Either s (inl h) a d = cc (h.1)
 no_common b Either s (inr h) a d = cc (h.1)
 
 -- a bit that is known in both and different: from there on only one is live
-pub never_split : (bs cs : List Bit) (k : ℕ) (P Q : Items) → SplitAt bs cs k → NeverClash (SentThen bs P) (SentThen cs Q)
+pub never_split : (bs cs : List Bit) (k : ℕ) (P Q : Language) → SplitAt bs cs k → NeverClash (SentThen bs P) (SentThen cs Q)
 never_split [] cs k P Q (inl h) u v w x y p q e = cc (h.0)
 never_split [] cs k P Q (inr h) u v w x y p q e = cc (h.0)
 never_split (b ∷ bs) [] k P Q (inl h) u v w x y p q e = cc (h.1)
@@ -69,7 +69,7 @@ never_split (b ∷ bs) (c ∷ cs) k P Q h (_ ∷ u) v w x y p q e = absurd p
 
 -- ---- bits that are heard, and answers
 
-never_heard : (n : ℕ) (P Q : Items) → NeverClash P Q → NeverClash (HeardThen n P) (HeardThen n Q)
+never_heard : (n : ℕ) (P Q : Language) → NeverClash P Q → NeverClash (HeardThen n P) (HeardThen n Q)
 never_heard zero P Q n u v w x y p q c = n u v w x y p q c
 never_heard (suc k) P Q n [] v w (Heard s) (Heard t) p q c = both_heard s t c
 never_heard (suc k) P Q n [] v w (Heard s) _ p q c = absurd q
@@ -77,7 +77,7 @@ never_heard (suc k) P Q n [] v w _ y p q c = absurd p
 never_heard (suc k) P Q n (Heard s ∷ u) v w x y p q c = never_heard k P Q n u v w x y p q c
 never_heard (suc k) P Q n (_ ∷ u) v w x y p q c = absurd p
 
-pub never_answer : (P Q R S : Items) → NeverClash P R → NeverClash Q S → NeverClash (AnswerThen P Q) (AnswerThen R S)
+pub never_answer : (P Q R S : Language) → NeverClash P R → NeverClash Q S → NeverClash (AnswerThen P Q) (AnswerThen R S)
 never_answer P Q R S m n [] v w (Heard false) (Heard t) p q c = both_heard false t c
 never_answer P Q R S m n [] v w (Heard true) (Heard t) p q c = both_heard true t c
 never_answer P Q R S m n [] v w (Heard s) _ p q c = absurd q
@@ -88,11 +88,11 @@ never_answer P Q R S m n (_ ∷ u) v w x y p q c = absurd p
 
 -- ---- reads
 
-never_byte : (a b : Bit) (P Q : Items) → NeverClash (SentThen (a ∷ []) P) (SentThen (b ∷ []) Q) → NeverClash (ByteThen a P) (ByteThen b Q)
+never_byte : (a b : Bit) (P Q : Language) → NeverClash (SentThen (a ∷ []) P) (SentThen (b ∷ []) Q) → NeverClash (ByteThen a P) (ByteThen b Q)
 never_byte a b P Q n = never_heard 8 (SentThen (a ∷ []) P) (SentThen (b ∷ []) Q) n
 
 -- reads of m + 1 and of n + 1 bytes clash only behind the last, where they are of one length
-pub never_bytes : (m n : ℕ) (P Q : Items) → (m ≡ n → NeverClash P Q) → NeverClash (BytesThen m (ByteThen One P)) (BytesThen n (ByteThen One Q))
+pub never_bytes : (m n : ℕ) (P Q : Language) → (m ≡ n → NeverClash P Q) → NeverClash (BytesThen m (ByteThen One P)) (BytesThen n (ByteThen One Q))
 never_bytes zero zero P Q h = never_byte One One P Q (never_sent (One ∷ []) (One ∷ []) P Q refl (h refl))
 never_bytes zero (suc n) P Q h =
     never_byte One Zero P (BytesThen n (ByteThen One Q)) (never_split (One ∷ []) (Zero ∷ []) 0 P (BytesThen n (ByteThen One Q)) (inr (refl, refl)))
@@ -102,13 +102,13 @@ never_bytes (suc m) (suc n) P Q h =
     never_byte Zero Zero (BytesThen m (ByteThen One P)) (BytesThen n (ByteThen One Q))
     (never_sent (Zero ∷ []) (Zero ∷ []) (BytesThen m (ByteThen One P)) (BytesThen n (ByteThen One Q)) refl (never_bytes m n P Q (λ e. h (ap suc e))))
 
-pub never_read : (c d : Count) (P Q : Items) → (Meet c d → NeverClash P Q) → NeverClash (ReadThen c P) (ReadThen d Q)
+pub never_read : (c d : Count) (P Q : Language) → (Meet c d → NeverClash P Q) → NeverClash (ReadThen c P) (ReadThen d Q)
 never_read c d P Q h u v w x y p q k =
     never_bytes p.0 q.0 P Q (λ e. h (p.0 + 1, p.1, subst (λ (n : ℕ). InRange d (n + 1)) (sym e) q.1)) u v w x y p.2 q.2 k
 
 -- ---- ends
 
-pub never_again : (P Q : Items) → NeverClash P Q → NeverClash (AgainThen P) (AgainThen Q)
+pub never_again : (P Q : Language) → NeverClash P Q → NeverClash (AgainThen P) (AgainThen Q)
 never_again P Q n [] v w Again Again p q (inl c) = c refl
 never_again P Q n [] v w Again Again p q (inr c) = cc (c.0)
 never_again P Q n [] v w Again _ p q c = absurd q
@@ -137,12 +137,12 @@ unfolding pattern_bits
 length_of_pattern p = refl
 
 -- what a frame sends: its header, and what follows
-pub behind_header : FrameTree → Items
+pub behind_header : FrameTree → Language
 behind_header (tree.write a x r) = AnswerThen (PayloadText x) (TailText r)
 behind_header (tree.read a c x r) = AnswerThen (ReadThen c (TailText x)) (TailText r)
 
 -- two headers or bytes without a known and different bit, and what follows each answer
-pub never_answered : (bs cs : List Bit) (P Q R S : Items) → length bs ≡ length cs → NeverClash P R → NeverClash Q S → NeverClash (SentThen bs (AnswerThen P Q)) (SentThen cs (AnswerThen R S))
+pub never_answered : (bs cs : List Bit) (P Q R S : Language) → length bs ≡ length cs → NeverClash P R → NeverClash Q S → NeverClash (SentThen bs (AnswerThen P Q)) (SentThen cs (AnswerThen R S))
 never_answered bs cs P Q R S l m n = never_sent bs cs (AnswerThen P Q) (AnswerThen R S) l (never_answer P Q R S m n)
 
 mutual
@@ -177,7 +177,7 @@ mutual
   sound_tails _ r s h = absurd h
 
 -- what follows a participant's first header
-behind : Sender → Items
+behind : Sender → Language
 behind (message f) = behind_header f
 behind (interrupt a) = Only Claim
 

@@ -1,4 +1,4 @@
--- A proof as its nodes make it up, apart from where they lie in memory.
+-- A proof as its nodes make it up, apart from where they lie in memory. Its form is ours.
 use Rattle.std.specs.Prelude.{ℕ}
 use Rattle.certificate.specs.declared.values.Cert.{Cert}
 use Rattle.certificate.specs.declared.values.Cert.TheVariants.{Part, Short, Byte', Read', Again', Alike}

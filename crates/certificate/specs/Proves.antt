@@ -1,4 +1,5 @@
--- What a proof proves of two participants: the cases are these and no others.
+-- What a proof proves of two participants: the cases are these and no others. The proofs are ours; what must not meet is
+-- UM10204, 3.1.8.
 use Rattle.std.specs.Prelude.{◌≡◌, ◌⊎◌, List, [], ◌∷◌, ◌++◌}
 use Rattle.message_tree.specs.declared.bits.Bit.{Bit}
 use Rattle.message_tree.specs.declared.bits.Bit.TheVariants.{One}
@@ -7,7 +8,7 @@ use Rattle.message_tree.specs.Bits.{SplitAt}
 use Rattle.message_tree.specs.Counts.{Meet}
 use Rattle.message_tree.specs.Items.{Clash}
 use Rattle.message_tree.specs.Patterns.{pattern_bits}
-use Rattle.message_tree.specs.Texts.{Items, Sender, message, interrupt, write_header, read_header}
+use Rattle.message_tree.specs.Texts.{Language, Sender, message, interrupt, write_header, read_header}
 use Rattle.message_tree.specs.Trees as tree
 use Rattle.message_tree.specs.Trees.{FrameTree, PayloadTree, TailTree}
 use Rattle.certificate.specs.Proofs.{ProofTree, part, short, byte, read, again, alike}
@@ -51,6 +52,6 @@ Proves p (message f) (message g) = ProvesFrames p f g
 Proves p s t = ProvesHeaders p (header_of s) (header_of t)
 
 -- no two of these lists go on, after the same beginning, with items that clash
-abbrev pub NeverClash : Items → Items → Type 0
+abbrev pub NeverClash : Language → Language → Type 0
 NeverClash P Q =
     (u v w : List Item) (x y : Item) → P (u ++ x ∷ v) → Q (u ++ y ∷ w) → Clash x y → ⊥

@@ -7,11 +7,11 @@ use Rattle.message_tree.specs.declared.items.Item.{Item}
 use Rattle.message_tree.specs.declared.items.Item.TheVariants.{Sent, Heard, Again, Stop, Claim}
 use Rattle.message_tree.specs.Patterns.{pattern_bits}
 use Rattle.message_tree.specs.Trees.{FrameTree, write, read, PayloadTree, byte, last, TailTree, stop, again}
-use Rattle.message_tree.specs.Texts.{Items, Allows, SentThen, HeardThen, AnswerThen, AgainThen, Only, ByteThen, BytesThen, ReadThen, write_header, read_header, FrameText, PayloadText, TailText, InterruptText}
-use Rattle.message_tree.specs.Laws.{HasText, is_end, GoesOn, EndsWith, HearsBoth, NoneBeginsAnother}
+use Rattle.message_tree.specs.Texts.{Language, Allows, SentThen, HeardThen, AnswerThen, AgainThen, Only, ByteThen, BytesThen, ReadThen, write_header, read_header, FrameText, PayloadText, TailText, InterruptText}
+use Rattle.message_tree.specs.Laws.{HasText, is_end, HasNoEnd, EndsWith, HearsBoth, NeverHears, NoneBeginsAnother}
 
 -- the three laws of one part, whose texts end with x
-pub record Lawful (x : Item) (P : Items) : Type 0 where
+pub record Lawful (x : Item) (P : Language) : Type 0 where
   pub some : HasText P
   pub ends : EndsWith x P
   pub both : HearsBoth P
@@ -24,14 +24,14 @@ allowed Zero = (false, refl)
 allowed One = (true, refl)
 allowed Either = (true, tt)
 
-some_sent : (bs : List Bit) (P : Items) → HasText P → HasText (SentThen bs P)
+some_sent : (bs : List Bit) (P : Language) → HasText P → HasText (SentThen bs P)
 some_sent [] P h = h
 some_sent (b ∷ bs) P h =
     let s = allowed b in
     let r = some_sent bs P h in
     (Sent s.0 ∷ r.0, (s.1, r.1))
 
-ends_sent : (x : Item) (bs : List Bit) (P : Items) → EndsWith x P → EndsWith x (SentThen bs P)
+ends_sent : (x : Item) (bs : List Bit) (P : Language) → EndsWith x P → EndsWith x (SentThen bs P)
 ends_sent x [] P e u h = e u h
 ends_sent x (b ∷ bs) P e [] h = absurd h
 ends_sent x (b ∷ bs) P e (Sent s ∷ u) h =
@@ -39,7 +39,7 @@ ends_sent x (b ∷ bs) P e (Sent s ∷ u) h =
     (Sent s ∷ r.0, (refl, r.1), ap (λ (w : List Item). Sent s ∷ w) r.2)
 ends_sent x (b ∷ bs) P e (_ ∷ u) h = absurd h
 
-both_sent : (bs : List Bit) (P : Items) → HearsBoth P → HearsBoth (SentThen bs P)
+both_sent : (bs : List Bit) (P : Language) → HearsBoth P → HearsBoth (SentThen bs P)
 both_sent [] P e u v b c h = e u v b c h
 both_sent (x ∷ bs) P e [] v b c h = absurd h
 both_sent (x ∷ bs) P e (Sent s ∷ u) v b c h =
@@ -47,19 +47,19 @@ both_sent (x ∷ bs) P e (Sent s ∷ u) v b c h =
     (r.0, (h.0, r.1))
 both_sent (x ∷ bs) P e (_ ∷ u) v b c h = absurd h
 
-lawful_sent : {x : Item} (bs : List Bit) (P : Items) → Lawful x P → Lawful x (SentThen bs P)
+lawful_sent : {x : Item} (bs : List Bit) (P : Language) → Lawful x P → Lawful x (SentThen bs P)
 lawful_sent {x} bs P l =
     record { some = some_sent bs P l.some; ends = ends_sent x bs P l.ends; both = both_sent bs P l.both }
 
 -- ---- bits that are heard
 
-some_heard : (n : ℕ) (P : Items) → HasText P → HasText (HeardThen n P)
+some_heard : (n : ℕ) (P : Language) → HasText P → HasText (HeardThen n P)
 some_heard zero P h = h
 some_heard (suc n) P h =
     let r = some_heard n P h in
     (Heard true ∷ r.0, r.1)
 
-ends_heard : (x : Item) (n : ℕ) (P : Items) → EndsWith x P → EndsWith x (HeardThen n P)
+ends_heard : (x : Item) (n : ℕ) (P : Language) → EndsWith x P → EndsWith x (HeardThen n P)
 ends_heard x zero P e u h = e u h
 ends_heard x (suc n) P e [] h = absurd h
 ends_heard x (suc n) P e (Heard s ∷ u) h =
@@ -67,19 +67,19 @@ ends_heard x (suc n) P e (Heard s ∷ u) h =
     (Heard s ∷ r.0, (refl, r.1), ap (λ (w : List Item). Heard s ∷ w) r.2)
 ends_heard x (suc n) P e (_ ∷ u) h = absurd h
 
-both_heard : (n : ℕ) (P : Items) → HearsBoth P → HearsBoth (HeardThen n P)
+both_heard : (n : ℕ) (P : Language) → HearsBoth P → HearsBoth (HeardThen n P)
 both_heard zero P e u v b c h = e u v b c h
 both_heard (suc n) P e [] v b c h = (v, h)
 both_heard (suc n) P e (Heard s ∷ u) v b c h = both_heard n P e u v b c h
 both_heard (suc n) P e (_ ∷ u) v b c h = absurd h
 
-lawful_heard : {x : Item} (n : ℕ) (P : Items) → Lawful x P → Lawful x (HeardThen n P)
+lawful_heard : {x : Item} (n : ℕ) (P : Language) → Lawful x P → Lawful x (HeardThen n P)
 lawful_heard {x} n P l =
     record { some = some_heard n P l.some; ends = ends_heard x n P l.ends; both = both_heard n P l.both }
 
 -- ---- an answer
 
-ends_answer : (x : Item) (P Q : Items) → EndsWith x P → EndsWith x Q → EndsWith x (AnswerThen P Q)
+ends_answer : (x : Item) (P Q : Language) → EndsWith x P → EndsWith x Q → EndsWith x (AnswerThen P Q)
 ends_answer x P Q e f [] h = absurd h
 ends_answer x P Q e f (Heard false ∷ u) h =
     let r = e u h in
@@ -89,14 +89,14 @@ ends_answer x P Q e f (Heard true ∷ u) h =
     (Heard true ∷ r.0, (refl, r.1), ap (λ (w : List Item). Heard true ∷ w) r.2)
 ends_answer x P Q e f (_ ∷ u) h = absurd h
 
-both_answer : (P Q : Items) → HasText P → HasText Q → HearsBoth P → HearsBoth Q → HearsBoth (AnswerThen P Q)
+both_answer : (P Q : Language) → HasText P → HasText Q → HearsBoth P → HearsBoth Q → HearsBoth (AnswerThen P Q)
 both_answer P Q p q e f [] v b false h = p
 both_answer P Q p q e f [] v b true h = q
 both_answer P Q p q e f (Heard false ∷ u) v b c h = e u v b c h
 both_answer P Q p q e f (Heard true ∷ u) v b c h = f u v b c h
 both_answer P Q p q e f (_ ∷ u) v b c h = absurd h
 
-lawful_answer : {x : Item} (P Q : Items) → Lawful x P → Lawful x Q → Lawful x (AnswerThen P Q)
+lawful_answer : {x : Item} (P Q : Language) → Lawful x P → Lawful x Q → Lawful x (AnswerThen P Q)
 lawful_answer {x} P Q l m =
     record {
       some = (Heard false ∷ l.some.0, l.some.1);
@@ -106,14 +106,14 @@ lawful_answer {x} P Q l m =
 
 -- ---- bytes that are read
 
-lawful_byte : {x : Item} (a : Bit) (P : Items) → Lawful x P → Lawful x (ByteThen a P)
+lawful_byte : {x : Item} (a : Bit) (P : Language) → Lawful x P → Lawful x (ByteThen a P)
 lawful_byte a P l = lawful_heard 8 (SentThen (a ∷ []) P) (lawful_sent (a ∷ []) P l)
 
-lawful_bytes : {x : Item} (n : ℕ) (P : Items) → Lawful x P → Lawful x (BytesThen n P)
+lawful_bytes : {x : Item} (n : ℕ) (P : Language) → Lawful x P → Lawful x (BytesThen n P)
 lawful_bytes zero P l = l
 lawful_bytes (suc n) P l = lawful_byte Zero (BytesThen n P) (lawful_bytes n P l)
 
-lawful_read : {x : Item} (count : Count) (P : Items) → Lawful x P → Lawful x (ReadThen count P)
+lawful_read : {x : Item} (count : Count) (P : Language) → Lawful x P → Lawful x (ReadThen count P)
 lawful_read {x} count P l =
     let one : (n : ℕ) → Lawful x (BytesThen n (ByteThen One P)) = λ n. lawful_bytes n (ByteThen One P) (lawful_byte One P l) in
     record {
@@ -140,19 +140,19 @@ lawful_only x n =
 
 -- ---- a repeated START
 
-ends_again : (x : Item) (P : Items) → EndsWith x P → EndsWith x (AgainThen P)
+ends_again : (x : Item) (P : Language) → EndsWith x P → EndsWith x (AgainThen P)
 ends_again x P e [] h = absurd h
 ends_again x P e (Again ∷ u) h =
     let r = e u h in
     (Again ∷ r.0, (refl, r.1), ap (λ (w : List Item). Again ∷ w) r.2)
 ends_again x P e (_ ∷ u) h = absurd h
 
-both_again : (P : Items) → HearsBoth P → HearsBoth (AgainThen P)
+both_again : (P : Language) → HearsBoth P → HearsBoth (AgainThen P)
 both_again P e [] v b c h = absurd h
 both_again P e (Again ∷ u) v b c h = e u v b c h
 both_again P e (_ ∷ u) v b c h = absurd h
 
-lawful_again : {x : Item} (P : Items) → Lawful x P → Lawful x (AgainThen P)
+lawful_again : {x : Item} (P : Language) → Lawful x P → Lawful x (AgainThen P)
 lawful_again {x} P l =
     record { some = (Again ∷ l.some.0, l.some.1); ends = ends_again x P l.ends; both = both_again P l.both }
 
@@ -180,7 +180,7 @@ lawful_interrupt a = lawful_sent (a ++ One ∷ []) (Only Claim) (lawful_only Cla
 -- ---- no text is a proper beginning of another
 
 -- an end stands in no list that goes on
-pub end_is_last : (v w more : List Item) (x y : Item) → is_end x ≡ true → GoesOn w → (v ++ x ∷ []) ++ more ≡ w ++ y ∷ [] → more ≡ []
+pub end_is_last : (v w more : List Item) (x y : Item) → is_end x ≡ true → HasNoEnd w → (v ++ x ∷ []) ++ more ≡ w ++ y ∷ [] → more ≡ []
 end_is_last [] [] more x y i g e = cc
 end_is_last [] (z ∷ w) more x y i g e = absurd (let h : x ≡ z = cc in let k : is_end z ≡ true = subst (λ (q : Item). is_end q ≡ true) h i in cc (g.0))
 end_is_last (z ∷ []) [] more x y i g e = cc
@@ -188,8 +188,19 @@ end_is_last (z ∷ z' ∷ v) [] more x y i g e = cc
 end_is_last (z ∷ v) (z' ∷ w) more x y i g e =
     end_is_last v w more x y i g.1 cc
 
-pub whole : (x : Item) (P : Items) → is_end x ≡ true → EndsWith x P → NoneBeginsAnother P
+pub whole : (x : Item) (P : Language) → is_end x ≡ true → EndsWith x P → NoneBeginsAnother P
 whole x P i e u more p q =
     let a = e u p in
     let b = e (u ++ more) q in
     end_is_last a.0 b.0 more x x i b.1 (sym (ap (λ (w : List Item). w ++ more) a.2) ∙ b.2)
+
+-- ---- an interrupt hears nothing
+
+never_hears_sent : (bs : List Bit) (P : Language) → NeverHears P → NeverHears (SentThen bs P)
+never_hears_sent [] P n u v b h = n u v b h
+never_hears_sent (x ∷ bs) P n [] v b h = absurd h
+never_hears_sent (x ∷ bs) P n (Sent s ∷ u) v b h = never_hears_sent bs P n u v b h.1
+never_hears_sent (x ∷ bs) P n (_ ∷ u) v b h = absurd h
+
+pub interrupt_hears_nothing : (a : List Bit) → NeverHears (InterruptText a)
+interrupt_hears_nothing a = never_hears_sent (a ++ One ∷ []) (Only Claim) (λ u v b h. no_heard_before Claim (λ c e. cc) u v b h)

@@ -11,33 +11,33 @@ use Rattle.message_tree.specs.declared.items.Item.TheVariants.{Sent, Heard, Agai
 use Rattle.message_tree.specs.Patterns.{pattern_bits, address_bits}
 use Rattle.message_tree.specs.Counts.{greatest_of}
 use Rattle.message_tree.specs.Trees.{FrameTree, write, read, PayloadTree, byte, last, TailTree, stop, again}
-use Rattle.message_tree.specs.Texts.{Items, SentThen, HeardThen, AnswerThen, AgainThen, Only, ByteThen, BytesThen, ReadThen, write_header, read_header, FrameText, PayloadText, TailText, InterruptText}
+use Rattle.message_tree.specs.Texts.{Language, SentThen, HeardThen, AnswerThen, AgainThen, Only, ByteThen, BytesThen, ReadThen, write_header, read_header, FrameText, PayloadText, TailText, InterruptText}
 use Rattle.message_tree.specs.Sizes.{IsLongest, frame_slots, payload_slots, tail_slots, frame_bytes, payload_bytes, tail_bytes}
 use Rattle.message_tree.proofs.TextLaws.{allowed}
 
 -- some text is n slots long, and none is longer
-abbrev Reaches : Items → ℕ → Type 0
+abbrev Reaches : Language → ℕ → Type 0
 Reaches P n = (u : List Item) × P u × (length u ≡ n)
 
-abbrev Bounded : Items → ℕ → Type 0
+abbrev Bounded : Language → ℕ → Type 0
 Bounded P n = (u : List Item) → P u → length u ≤ n
 
 -- ---- bits that are sent
 
-reaches_sent : (bs : List Bit) (P : Items) (n : ℕ) → Reaches P n → Reaches (SentThen bs P) (n + length bs)
+reaches_sent : (bs : List Bit) (P : Language) (n : ℕ) → Reaches P n → Reaches (SentThen bs P) (n + length bs)
 reaches_sent [] P n h = (h.0, h.1, omega (arith, h.2))
 reaches_sent (b ∷ bs) P n h =
     let s = allowed b in
     let r = reaches_sent bs P n h in
     (Sent s.0 ∷ r.0, (s.1, r.1), omega (arith, r.2))
 
-bounded_sent : (bs : List Bit) (P : Items) (n : ℕ) → Bounded P n → Bounded (SentThen bs P) (n + length bs)
+bounded_sent : (bs : List Bit) (P : Language) (n : ℕ) → Bounded P n → Bounded (SentThen bs P) (n + length bs)
 bounded_sent [] P n e u h = omega (arith, e u h)
 bounded_sent (b ∷ bs) P n e [] h = absurd h
 bounded_sent (b ∷ bs) P n e (Sent s ∷ u) h = omega (arith, bounded_sent bs P n e u h.1)
 bounded_sent (b ∷ bs) P n e (_ ∷ u) h = absurd h
 
-longest_sent : (bs : List Bit) (P : Items) (n k : ℕ) → length bs ≡ k → IsLongest P n → IsLongest (SentThen bs P) (n + k)
+longest_sent : (bs : List Bit) (P : Language) (n k : ℕ) → length bs ≡ k → IsLongest P n → IsLongest (SentThen bs P) (n + k)
 longest_sent bs P n k l h =
     let r = reaches_sent bs P n h.reached in
     record {
@@ -47,13 +47,13 @@ longest_sent bs P n k l h =
 
 -- ---- bits that are heard
 
-reaches_heard : (k : ℕ) (P : Items) (n : ℕ) → Reaches P n → Reaches (HeardThen k P) (n + k)
+reaches_heard : (k : ℕ) (P : Language) (n : ℕ) → Reaches P n → Reaches (HeardThen k P) (n + k)
 reaches_heard zero P n h = (h.0, h.1, omega (arith, h.2))
 reaches_heard (suc k) P n h =
     let r = reaches_heard k P n h in
     (Heard true ∷ r.0, r.1, omega (arith, r.2))
 
-bounded_heard : (k : ℕ) (P : Items) (n : ℕ) → Bounded P n → Bounded (HeardThen k P) (n + k)
+bounded_heard : (k : ℕ) (P : Language) (n : ℕ) → Bounded P n → Bounded (HeardThen k P) (n + k)
 bounded_heard zero P n e u h = omega (arith, e u h)
 bounded_heard (suc k) P n e [] h = absurd h
 bounded_heard (suc k) P n e (Heard s ∷ u) h = omega (arith, bounded_heard k P n e u h)
@@ -61,20 +61,20 @@ bounded_heard (suc k) P n e (_ ∷ u) h = absurd h
 
 -- ---- an answer
 
-bounded_answer : (P Q : Items) (m n : ℕ) → Bounded P m → Bounded Q n → Bounded (AnswerThen P Q) (max m n + 1)
+bounded_answer : (P Q : Language) (m n : ℕ) → Bounded P m → Bounded Q n → Bounded (AnswerThen P Q) (max m n + 1)
 bounded_answer P Q m n e f [] h = absurd h
 bounded_answer P Q m n e f (Heard false ∷ u) h = omega (arith, e u h)
 bounded_answer P Q m n e f (Heard true ∷ u) h = omega (arith, f u h)
 bounded_answer P Q m n e f (_ ∷ u) h = absurd h
 
-reaches_answer : (P Q : Items) (m n : ℕ) → Reaches P m → Reaches Q n → Reaches (AnswerThen P Q) (max m n + 1)
+reaches_answer : (P Q : Language) (m n : ℕ) → Reaches P m → Reaches Q n → Reaches (AnswerThen P Q) (max m n + 1)
 reaches_answer P Q m n e f =
     elim (cases_lt n m) [
       | inl h ↦ (Heard false ∷ e.0, e.1, omega (arith, e.2, h))
       | inr h ↦ (Heard true ∷ f.0, f.1, omega (arith, f.2, h))
     ]
 
-longest_answer : (P Q : Items) (m n : ℕ) → IsLongest P m → IsLongest Q n → IsLongest (AnswerThen P Q) (max m n + 1)
+longest_answer : (P Q : Language) (m n : ℕ) → IsLongest P m → IsLongest Q n → IsLongest (AnswerThen P Q) (max m n + 1)
 longest_answer P Q m n e f =
     record {
       reached = reaches_answer P Q m n e.reached f.reached;
@@ -83,24 +83,24 @@ longest_answer P Q m n e f =
 
 -- ---- bytes that are read
 
-reaches_byte : (a : Bit) (P : Items) (n : ℕ) → Reaches P n → Reaches (ByteThen a P) (n + 1 + 8)
+reaches_byte : (a : Bit) (P : Language) (n : ℕ) → Reaches P n → Reaches (ByteThen a P) (n + 1 + 8)
 reaches_byte a P n h = reaches_heard 8 (SentThen (a ∷ []) P) (n + 1) (reaches_sent (a ∷ []) P n h)
 
-bounded_byte : (a : Bit) (P : Items) (n : ℕ) → Bounded P n → Bounded (ByteThen a P) (n + 1 + 8)
+bounded_byte : (a : Bit) (P : Language) (n : ℕ) → Bounded P n → Bounded (ByteThen a P) (n + 1 + 8)
 bounded_byte a P n h = bounded_heard 8 (SentThen (a ∷ []) P) (n + 1) (bounded_sent (a ∷ []) P n h)
 
-reaches_bytes : (k : ℕ) (P : Items) (n : ℕ) → Reaches P n → Reaches (BytesThen k P) (n + 9 * k)
+reaches_bytes : (k : ℕ) (P : Language) (n : ℕ) → Reaches P n → Reaches (BytesThen k P) (n + 9 * k)
 reaches_bytes zero P n h = (h.0, h.1, omega (arith, h.2))
 reaches_bytes (suc k) P n h =
     let r = reaches_byte Zero (BytesThen k P) (n + 9 * k) (reaches_bytes k P n h) in
     (r.0, r.1, omega (arith, r.2))
 
-bounded_bytes : (k : ℕ) (P : Items) (n : ℕ) → Bounded P n → Bounded (BytesThen k P) (n + 9 * k)
+bounded_bytes : (k : ℕ) (P : Language) (n : ℕ) → Bounded P n → Bounded (BytesThen k P) (n + 9 * k)
 bounded_bytes zero P n h u t = omega (arith, h u t)
 bounded_bytes (suc k) P n h u t =
     omega (arith, bounded_byte Zero (BytesThen k P) (n + 9 * k) (bounded_bytes k P n h) u t)
 
-longest_read : (count : Count) (P : Items) (n : ℕ) → IsLongest P n → IsLongest (ReadThen count P) (n + 9 * greatest_of count)
+longest_read : (count : Count) (P : Language) (n : ℕ) → IsLongest P n → IsLongest (ReadThen count P) (n + 9 * greatest_of count)
 longest_read count P n h =
     let more = count.greatest - 1 in
     let r = reaches_bytes more (ByteThen One P) (n + 1 + 8) (reaches_byte One P n h.reached) in
@@ -111,12 +111,12 @@ longest_read count P n h =
 
 -- ---- a repeated START, and an end
 
-bounded_again : (P : Items) (n : ℕ) → Bounded P n → Bounded (AgainThen P) (n + 1)
+bounded_again : (P : Language) (n : ℕ) → Bounded P n → Bounded (AgainThen P) (n + 1)
 bounded_again P n e [] h = absurd h
 bounded_again P n e (Again ∷ u) h = omega (arith, e u h)
 bounded_again P n e (_ ∷ u) h = absurd h
 
-longest_again : (P : Items) (n : ℕ) → IsLongest P n → IsLongest (AgainThen P) (n + 1)
+longest_again : (P : Language) (n : ℕ) → IsLongest P n → IsLongest (AgainThen P) (n + 1)
 longest_again P n h =
     record {
       reached = (Again ∷ h.reached.0, h.reached.1, omega (arith, h.reached.2));
@@ -148,7 +148,7 @@ unfolding pattern_bits
 length_of_pattern p = refl
 
 -- a header or a byte, and the answer to it
-longest_answered : (bs : List Bit) → length bs ≡ 8 → (P Q : Items) (m n : ℕ) → IsLongest P m → IsLongest Q n → IsLongest (SentThen bs (AnswerThen P Q)) (max m n + 9)
+longest_answered : (bs : List Bit) → length bs ≡ 8 → (P Q : Language) (m n : ℕ) → IsLongest P m → IsLongest Q n → IsLongest (SentThen bs (AnswerThen P Q)) (max m n + 9)
 longest_answered bs l P Q m n e f =
     subst (IsLongest (SentThen bs (AnswerThen P Q))) (add_assoc (max m n) 1 8) (longest_sent bs (AnswerThen P Q) (max m n + 1) 8 l (longest_answer P Q m n e f))
 

@@ -1,4 +1,5 @@
--- How many bytes a controller reads: any number from the least to the greatest.
+-- How many bytes a controller reads: any number from the least to the greatest. It ends the read by not acknowledging
+-- the last (UM10204, 3.1.6).
 use Rattle.std.specs.Prelude.{ℕ, ◌≤◌}
 use Rattle.message_tree.specs.declared.counts.Count.{Count}
 

@@ -1,6 +1,7 @@
--- What one participant does with one slot of the bus. Sent is a data bit that the participant drives, Heard a
--- data bit that a target drives (UM10204, 3.1.5 and 3.1.6), Again a repeated START, Stop a STOP (3.1.4, 3.1.10).
--- Claim is our profile's: an interrupt that waits for the answer to its header.
+-- What one participant does with one slot of the bus. Sent is a bit that the participant drives: of a header, of a data
+-- byte, or its own acknowledge of a byte that it reads (UM10204, 3.1.5 and 3.1.6). Heard is a bit that a target drives:
+-- an acknowledge, or a bit that is read. Again is a repeated START and Stop a STOP (3.1.4 and 3.1.10). Claim is our
+-- profile's: an interrupt waits for the answer to its header.
 use Rattle.std.specs.Prelude.{◌≡◌, ◌≢◌, ◌⊎◌}
 use Rattle.message_tree.specs.declared.items.Item.{Item}
 use Rattle.message_tree.specs.declared.items.Item.TheVariants as item

@@ -1,4 +1,4 @@
--- What a pattern and an address stand for: their bits, in the order in which they are sent.
+-- What a pattern and an address stand for: their bits, in the order in which they are sent (UM10204, 3.1.5 and 3.1.10).
 use Rattle.std.specs.Prelude.{List}
 use Rattle.message_tree.specs.declared.bits.Bit.{Bit}
 use Rattle.message_tree.specs.declared.bits.Pattern.{Pattern}

@@ -2,7 +2,7 @@
 use Rattle.std.specs.Prelude.{◌≡◌, ℕ, ◌+◌, ◌*◌, ◌^◌, ◌-◌, ◌≤◌, max, min, List, length}
 use Rattle.message_tree.specs.declared.items.Item.{Item}
 use Rattle.message_tree.specs.Counts.{greatest_of}
-use Rattle.message_tree.specs.Texts.{Items}
+use Rattle.message_tree.specs.Texts.{Language}
 use Rattle.message_tree.specs.Trees.{FrameTree, write, read, PayloadTree, byte, last, TailTree, stop, again}
 
 -- the bytes on the longest path: headers, bytes that are sent, and as many read bytes as the range allows
@@ -48,7 +48,7 @@ abbrev mutual
   tail_slots (again frame) = frame_slots frame + 1
 
 -- n is the length of a longest one of these lists: one is that long, and none is longer
-pub record IsLongest (P : Items) (n : ℕ) : Type 0 where
+pub record IsLongest (P : Language) (n : ℕ) : Type 0 where
   pub reached : (u : List Item) × P u × (length u ≡ n)
   pub bound : (u : List Item) → P u → length u ≤ n
 

@@ -1,4 +1,4 @@
--- A message as its nodes make it up, apart from where they lie in memory.
+-- A message as its nodes make it up, apart from where they lie in memory (UM10204, 3.1.10).
 use Rattle.message_tree.specs.declared.bits.Pattern.{Pattern}
 use Rattle.message_tree.specs.declared.bits.Address.{Address}
 use Rattle.message_tree.specs.declared.counts.Count.{Count}

@@ -18,10 +18,11 @@ pub enum Item {
     Claim,
 }
 
-/// An item without its bit. Two kinds that meet in one slot are a fault (UM10204, 3.1.8), and so are two claims.
+/// An item without its bit. Two different kinds that meet in one slot are a fault (UM10204, 3.1.8), and so are two
+/// claims.
 #[derive(Clone, Copy, PartialEq, Eq, Debug)]
 pub enum Kind {
-    /// A data bit that a participant drives, `data`.
+    /// A bit that a participant drives, `data`.
     Sent,
     /// A bit that a target drives, `answer`.
     Heard,

@@ -10,7 +10,7 @@ ghost use Rattle.message_tree.specs.declared.tree.Frame.{Frame};
 ghost use Rattle.message_tree.specs.Trees.{FrameTree};
 ghost use Rattle.message_tree.specs.Texts.{FrameText, InterruptText};
 ghost use Rattle.message_tree.specs.Sizes.{IsLongest, frame_slots, frame_bytes};
-ghost use Rattle.message_tree.specs.Laws.{HasText, EndsWith, HearsBoth, NoneBeginsAnother};
+ghost use Rattle.message_tree.specs.Laws.{HasText, EndsWith, HearsBoth, NeverHears, NoneBeginsAnother};
 
 /// Every message has a text. A text ends with its only STOP and has no claim. Where a target answers, it may answer
 /// either bit. No text is a proper beginning of another. The longest has the slots that `Frame::slots` counts,
@@ -29,7 +29,7 @@ pub fn texts_of_messages()
 pub fn texts_of_interrupts()
     ensures some { (address : List Bit) → HasText (InterruptText address) }
     ensures claim { (address : List Bit) → EndsWith Claim (InterruptText address) }
-    ensures answers { (address : List Bit) → HearsBoth (InterruptText address) }
+    ensures silent { (address : List Bit) → NeverHears (InterruptText address) }
     ensures longest { (address : List Bit) → IsLongest (InterruptText address) (length address + 2) }
     ensures whole { (address : List Bit) → NoneBeginsAnother (InterruptText address) }
 {}

@@ -9,11 +9,11 @@ use Rattle.message_tree.specs.declared.items.Kind.{Kind}
 use Rattle.message_tree.specs.Bits.{SplitAt, NeverSplit}
 use Rattle.message_tree.specs.Counts.{InRange, Meet}
 use Rattle.message_tree.specs.Items.{kind_of, KindsClash, Clash}
-use Rattle.message_tree.specs.Texts.{Items, Allows, SentThen, HeardThen, AnswerThen, AgainThen, Only, ByteThen, BytesThen, ReadThen}
+use Rattle.message_tree.specs.Texts.{Language, Allows, SentThen, HeardThen, AnswerThen, AgainThen, Only, ByteThen, BytesThen, ReadThen}
 use Rattle.certificate.specs.Proves.{NeverClash}
 use Rattle.certificate.proofs.Soundness.{both_sent, both_heard, never_bytes}
 use Rattle.pair_walk.specs.Wires.{agreed_bit, agreed, read_wire}
-use Rattle.pair_walk.specs.FirstClash.{ComesBefore, InOrder, GoesOnWith, NoneBefore, IsFirstClash}
+use Rattle.pair_walk.specs.FirstClash.{ComesBefore, InOrder, GoesOnWith, AllFrom, IsFirstClash}
 
 -- ---- bits that are sent
 
@@ -39,7 +39,7 @@ allows_second b Either n = tt
 never_after : (b c : Bit) (bs cs : List Bit) → NeverSplit (b ∷ bs) (c ∷ cs) → NeverSplit bs cs
 never_after b c bs cs n k h = n (suc k) h
 
-sent_first : (bs cs : List Bit) (P : Items) (u : List Item) (k : Kind) → length bs ≡ length cs → NeverSplit bs cs → GoesOnWith P u k → GoesOnWith (SentThen bs P) (agreed bs cs ++ u) k
+sent_first : (bs cs : List Bit) (P : Language) (u : List Item) (k : Kind) → length bs ≡ length cs → NeverSplit bs cs → GoesOnWith P u k → GoesOnWith (SentThen bs P) (agreed bs cs ++ u) k
 sent_first [] [] P u k l n g = g
 sent_first (b ∷ bs) (c ∷ cs) P u k l n g =
     let r = sent_first bs cs P u k (omega arith) (never_after b c bs cs n) g in
@@ -47,7 +47,7 @@ sent_first (b ∷ bs) (c ∷ cs) P u k l n g =
 sent_first [] (c ∷ cs) P u k l n g = absurd (omega arith)
 sent_first (b ∷ bs) [] P u k l n g = absurd (omega arith)
 
-sent_second : (bs cs : List Bit) (P : Items) (u : List Item) (k : Kind) → length bs ≡ length cs → NeverSplit bs cs → GoesOnWith P u k → GoesOnWith (SentThen cs P) (agreed bs cs ++ u) k
+sent_second : (bs cs : List Bit) (P : Language) (u : List Item) (k : Kind) → length bs ≡ length cs → NeverSplit bs cs → GoesOnWith P u k → GoesOnWith (SentThen cs P) (agreed bs cs ++ u) k
 sent_second [] [] P u k l n g = g
 sent_second (b ∷ bs) (c ∷ cs) P u k l n g =
     let r = sent_second bs cs P u k (omega arith) (never_after b c bs cs n) g in
@@ -66,7 +66,7 @@ least_bit Either Zero s h k = inr (sym k)
 least_bit Either Either false h k = inr refl
 least_bit Either Either true h k = inl tt
 
-pub none_before_sent : (bs cs : List Bit) (P Q : Items) (t : List Item) → length bs ≡ length cs → NoneBefore P Q t → NoneBefore (SentThen bs P) (SentThen cs Q) (agreed bs cs ++ t)
+pub none_before_sent : (bs cs : List Bit) (P Q : Language) (t : List Item) → length bs ≡ length cs → AllFrom P Q t → AllFrom (SentThen bs P) (SentThen cs Q) (agreed bs cs ++ t)
 none_before_sent [] [] P Q t l n u v w x y p q c = n u v w x y p q c
 none_before_sent [] (_ ∷ cs) P Q t l n u v w x y p q c = absurd (omega arith)
 none_before_sent (_ ∷ bs) [] P Q t l n u v w x y p q c = absurd (omega arith)
@@ -80,7 +80,7 @@ none_before_sent (b ∷ bs) (d ∷ cs) P Q t l n (Sent i ∷ u) v w x y p q c =
     ]
 none_before_sent (b ∷ bs) (d ∷ cs) P Q t l n (_ ∷ u) v w x y p q c = absurd p
 
-pub first_sent : (bs cs : List Bit) (P Q : Items) (u : List Item) (j k : Kind) → length bs ≡ length cs → NeverSplit bs cs → IsFirstClash P Q u j k → IsFirstClash (SentThen bs P) (SentThen cs Q) (agreed bs cs ++ u) j k
+pub first_sent : (bs cs : List Bit) (P Q : Language) (u : List Item) (j k : Kind) → length bs ≡ length cs → NeverSplit bs cs → IsFirstClash P Q u j k → IsFirstClash (SentThen bs P) (SentThen cs Q) (agreed bs cs ++ u) j k
 first_sent bs cs P Q u j k l n f =
     record {
       first = sent_first bs cs P u j l n f.first;
@@ -91,7 +91,7 @@ first_sent bs cs P Q u j k l n f =
 
 -- ---- answers
 
-none_before_acked : (P Q R S : Items) (t : List Item) → NoneBefore P R t → NoneBefore (AnswerThen P Q) (AnswerThen R S) (Heard false ∷ t)
+none_before_acked : (P Q R S : Language) (t : List Item) → AllFrom P R t → AllFrom (AnswerThen P Q) (AnswerThen R S) (Heard false ∷ t)
 none_before_acked P Q R S t n [] v w (Heard false) (Heard j) p q c = absurd (both_heard false j c)
 none_before_acked P Q R S t n [] v w (Heard true) (Heard j) p q c = absurd (both_heard true j c)
 none_before_acked P Q R S t n [] v w (Heard i) _ p q c = absurd q
@@ -100,7 +100,7 @@ none_before_acked P Q R S t n (Heard false ∷ u) v w x y p q c = inr (refl, n u
 none_before_acked P Q R S t n (Heard true ∷ u) v w x y p q c = inl tt
 none_before_acked P Q R S t n (_ ∷ u) v w x y p q c = absurd p
 
-none_before_refused : (P Q R S : Items) (t : List Item) → NeverClash P R → NoneBefore Q S t → NoneBefore (AnswerThen P Q) (AnswerThen R S) (Heard true ∷ t)
+none_before_refused : (P Q R S : Language) (t : List Item) → NeverClash P R → AllFrom Q S t → AllFrom (AnswerThen P Q) (AnswerThen R S) (Heard true ∷ t)
 none_before_refused P Q R S t m n [] v w (Heard false) (Heard j) p q c = absurd (both_heard false j c)
 none_before_refused P Q R S t m n [] v w (Heard true) (Heard j) p q c = absurd (both_heard true j c)
 none_before_refused P Q R S t m n [] v w (Heard i) _ p q c = absurd q
@@ -109,17 +109,17 @@ none_before_refused P Q R S t m n (Heard false ∷ u) v w x y p q c = absurd (m 
 none_before_refused P Q R S t m n (Heard true ∷ u) v w x y p q c = inr (refl, n u v w x y p q c)
 none_before_refused P Q R S t m n (_ ∷ u) v w x y p q c = absurd p
 
-pub first_acked : (P Q R S : Items) (u : List Item) (j k : Kind) → IsFirstClash P R u j k → IsFirstClash (AnswerThen P Q) (AnswerThen R S) (Heard false ∷ u) j k
+pub first_acked : (P Q R S : Language) (u : List Item) (j k : Kind) → IsFirstClash P R u j k → IsFirstClash (AnswerThen P Q) (AnswerThen R S) (Heard false ∷ u) j k
 first_acked P Q R S u j k f =
     record { first = f.first; second = f.second; clash = f.clash; earliest = none_before_acked P Q R S u f.earliest }
 
-pub first_refused : (P Q R S : Items) (u : List Item) (j k : Kind) → NeverClash P R → IsFirstClash Q S u j k → IsFirstClash (AnswerThen P Q) (AnswerThen R S) (Heard true ∷ u) j k
+pub first_refused : (P Q R S : Language) (u : List Item) (j k : Kind) → NeverClash P R → IsFirstClash Q S u j k → IsFirstClash (AnswerThen P Q) (AnswerThen R S) (Heard true ∷ u) j k
 first_refused P Q R S u j k n f =
     record { first = f.first; second = f.second; clash = f.clash; earliest = none_before_refused P Q R S u n f.earliest }
 
 -- ---- a repeated START
 
-none_before_again : (P Q : Items) (t : List Item) → NoneBefore P Q t → NoneBefore (AgainThen P) (AgainThen Q) (Again ∷ t)
+none_before_again : (P Q : Language) (t : List Item) → AllFrom P Q t → AllFrom (AgainThen P) (AgainThen Q) (Again ∷ t)
 none_before_again P Q t n [] v w Again Again p q (inl c) = absurd (c refl)
 none_before_again P Q t n [] v w Again Again p q (inr c) = cc (c.0)
 none_before_again P Q t n [] v w Again _ p q c = absurd q
@@ -127,22 +127,22 @@ none_before_again P Q t n [] v w _ y p q c = absurd p
 none_before_again P Q t n (Again ∷ u) v w x y p q c = inr (refl, n u v w x y p q c)
 none_before_again P Q t n (_ ∷ u) v w x y p q c = absurd p
 
-pub first_again : (P Q : Items) (u : List Item) (j k : Kind) → IsFirstClash P Q u j k → IsFirstClash (AgainThen P) (AgainThen Q) (Again ∷ u) j k
+pub first_again : (P Q : Language) (u : List Item) (j k : Kind) → IsFirstClash P Q u j k → IsFirstClash (AgainThen P) (AgainThen Q) (Again ∷ u) j k
 first_again P Q u j k f =
     record { first = f.first; second = f.second; clash = f.clash; earliest = none_before_again P Q u f.earliest }
 
 -- ---- at once
 
-pub first_here : (P Q : Items) (j k : Kind) → GoesOnWith P [] j → GoesOnWith Q [] k → KindsClash j k → IsFirstClash P Q [] j k
+pub first_here : (P Q : Language) (j k : Kind) → GoesOnWith P [] j → GoesOnWith Q [] k → KindsClash j k → IsFirstClash P Q [] j k
 first_here P Q j k f g c = record { first = f; second = g; clash = c; earliest = λ u v w x y p q d. tt }
 
 -- ---- bits that are heard
 
-heard_on : (n : ℕ) (P : Items) (u : List Item) (k : Kind) → GoesOnWith P u k → GoesOnWith (HeardThen n P) (replicate n (Heard false) ++ u) k
+heard_on : (n : ℕ) (P : Language) (u : List Item) (k : Kind) → GoesOnWith P u k → GoesOnWith (HeardThen n P) (replicate n (Heard false) ++ u) k
 heard_on zero P u k g = g
 heard_on (suc n) P u k g = heard_on n P u k g
 
-none_before_heard : (n : ℕ) (P Q : Items) (t : List Item) → NoneBefore P Q t → NoneBefore (HeardThen n P) (HeardThen n Q) (replicate n (Heard false) ++ t)
+none_before_heard : (n : ℕ) (P Q : Language) (t : List Item) → AllFrom P Q t → AllFrom (HeardThen n P) (HeardThen n Q) (replicate n (Heard false) ++ t)
 none_before_heard zero P Q t n u v w x y p q c = n u v w x y p q c
 none_before_heard (suc k) P Q t n [] v w (Heard i) (Heard j) p q c = absurd (both_heard i j c)
 none_before_heard (suc k) P Q t n [] v w (Heard i) _ p q c = absurd q
@@ -153,14 +153,14 @@ none_before_heard (suc k) P Q t n (_ ∷ u) v w x y p q c = absurd p
 
 -- ---- reads
 
-bytes_on : (more : ℕ) (P : Items) (u : List Item) (k : Kind) → GoesOnWith P u k → GoesOnWith (BytesThen more (ByteThen One P)) (read_wire more ++ u) k
+bytes_on : (more : ℕ) (P : Language) (u : List Item) (k : Kind) → GoesOnWith P u k → GoesOnWith (BytesThen more (ByteThen One P)) (read_wire more ++ u) k
 bytes_on zero P u k g = heard_on 8 (SentThen (One ∷ []) P) (Sent true ∷ u) k (g.0, g.1, (refl, g.2), g.3)
 bytes_on (suc more) P u k g =
     let r = bytes_on more P u k g in
     heard_on 8 (SentThen (Zero ∷ []) (BytesThen more (ByteThen One P))) (Sent false ∷ (read_wire more ++ u)) k (r.0, r.1, (refl, r.2), r.3)
 
 -- who ends the read later stands before
-one_after_zero : (P Q : Items) (t : List Item) → NoneBefore (SentThen (One ∷ []) P) (SentThen (One ∷ []) Q) (Sent false ∷ t)
+one_after_zero : (P Q : Language) (t : List Item) → AllFrom (SentThen (One ∷ []) P) (SentThen (One ∷ []) Q) (Sent false ∷ t)
 one_after_zero P Q t [] v w (Sent i) (Sent j) p q c = absurd (both_sent i j c)
 one_after_zero P Q t [] v w (Sent i) _ p q c = absurd q
 one_after_zero P Q t [] v w _ y p q c = absurd p
@@ -168,7 +168,7 @@ one_after_zero P Q t (Sent false ∷ u) v w x y p q c = cc (p.0)
 one_after_zero P Q t (Sent true ∷ u) v w x y p q c = inl tt
 one_after_zero P Q t (_ ∷ u) v w x y p q c = absurd p
 
-none_before_bytes : (more m n : ℕ) (P Q : Items) (t : List Item) → (m ≡ n → m ≤ more) → NoneBefore P Q t → NoneBefore (BytesThen m (ByteThen One P)) (BytesThen n (ByteThen One Q)) (read_wire more ++ t)
+none_before_bytes : (more m n : ℕ) (P Q : Language) (t : List Item) → (m ≡ n → m ≤ more) → AllFrom P Q t → AllFrom (BytesThen m (ByteThen One P)) (BytesThen n (ByteThen One Q)) (read_wire more ++ t)
 none_before_bytes more zero (suc n) P Q t le e = λ u v w x y p q c. absurd (never_bytes zero (suc n) P Q (λ h. absurd (omega arith)) u v w x y p q c)
 none_before_bytes more (suc m) zero P Q t le e = λ u v w x y p q c. absurd (never_bytes (suc m) zero P Q (λ h. absurd (omega arith)) u v w x y p q c)
 none_before_bytes zero zero zero P Q t le e = none_before_heard 8 (SentThen (One ∷ []) P) (SentThen (One ∷ []) Q) (Sent true ∷ t) (none_before_sent (One ∷ []) (One ∷ []) P Q t refl e)
@@ -180,7 +180,7 @@ none_before_bytes (suc more) (suc m) (suc n) P Q t le e =
     none_before_heard 8 (SentThen (Zero ∷ []) X) (SentThen (Zero ∷ []) Y) (Sent false ∷ (read_wire more ++ t)) (none_before_sent (Zero ∷ []) (Zero ∷ []) X Y (read_wire more ++ t) refl (none_before_bytes more m n P Q t (λ h. omega (arith, le (ap suc h))) e))
 
 -- two reads that may end after the same number of bytes: the greatest such number comes first, since 0 comes before 1
-pub first_read : (c d : Count) (more : ℕ) (P Q : Items) (u : List Item) (j k : Kind) → Meet c d → more + 1 ≡ min c.greatest d.greatest → IsFirstClash P Q u j k → IsFirstClash (ReadThen c P) (ReadThen d Q) (read_wire more ++ u) j k
+pub first_read : (c d : Count) (more : ℕ) (P Q : Language) (u : List Item) (j k : Kind) → Meet c d → more + 1 ≡ min c.greatest d.greatest → IsFirstClash P Q u j k → IsFirstClash (ReadThen c P) (ReadThen d Q) (read_wire more ++ u) j k
 first_read c d more P Q u j k m e f =
     let a = bytes_on more P u j f.first in
     let b = bytes_on more Q u k f.second in

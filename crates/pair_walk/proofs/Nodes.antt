@@ -17,7 +17,7 @@ use Rattle.message_tree.specs.Items.{kind_of, KindsClash, Clash}
 use Rattle.message_tree.specs.Patterns.{pattern_bits, address_bits}
 use Rattle.message_tree.specs.Trees as tree
 use Rattle.message_tree.specs.Trees.{FrameTree, PayloadTree, TailTree}
-use Rattle.message_tree.specs.Texts.{Items, SentThen, AnswerThen, AgainThen, Only, ReadThen, write_header, read_header, FrameText, PayloadText, TailText}
+use Rattle.message_tree.specs.Texts.{Language, SentThen, AnswerThen, AgainThen, Only, ReadThen, write_header, read_header, FrameText, PayloadText, TailText}
 use Rattle.certificate.specs.declared.values.Cert.{Cert}
 use Rattle.certificate.specs.Proofs.{ProofTree, part, short, byte, read, again, alike, proof_tree}
 use Rattle.certificate.specs.Proves.{NeverClash, ProvesFrames, ProvesPayloads, ProvesTails}
@@ -35,7 +35,7 @@ use Rattle.pair_walk.proofs.Headers.{never_in_header, first_in_header, first_is_
 -- ---- what a comparison answers
 
 -- a first clash of the parts is, behind these items, one of the whole
-pub halts_behind : (P Q R S : Items) (items : List Item) (h r : Halt) → ((u : List Item) (j k : Kind) → IsFirstClash P Q u j k → IsFirstClash R S (items ++ u) j k) → Halts P Q h → HaltsBehind items h r → Halts R S r
+pub halts_behind : (P Q R S : Language) (items : List Item) (h r : Halt) → ((u : List Item) (j k : Kind) → IsFirstClash P Q u j k → IsFirstClash R S (items ++ u) j k) → Halts P Q h → HaltsBehind items h r → Halts R S r
 halts_behind P Q R S items (halt.Clash c) (halt.Clash d) f p b =
     let whole = f (reverse c.back.items) c.first c.second p in
     subst (λ (u : List Item). IsFirstClash R S u d.first d.second) (sym b.0) (subst (λ (j : Kind). IsFirstClash R S (items ++ reverse c.back.items) j d.second) (sym b.1) (subst (λ (k : Kind). IsFirstClash R S (items ++ reverse c.back.items) c.first k) (sym b.2) whole))
@@ -43,7 +43,7 @@ halts_behind P Q R S items halt.NoMemory (halt.Clash d) f p b = absurd b
 halts_behind P Q R S items h halt.NoMemory f p b = tt
 
 -- a clash at once
-pub halts_at_once : (P Q : Items) (j k : Kind) (h : Halt) → GoesOnWith P [] j → GoesOnWith Q [] k → KindsClash j k → ClashesAtOnce j k h → Halts P Q h
+pub halts_at_once : (P Q : Language) (j k : Kind) (h : Halt) → GoesOnWith P [] j → GoesOnWith Q [] k → KindsClash j k → ClashesAtOnce j k h → Halts P Q h
 halts_at_once P Q j k (halt.Clash c) f g n e =
     let here = first_here P Q j k f g n in
     let none : reverse c.back.items ≡ [] = ap reverse e.0 in
@@ -51,7 +51,7 @@ halts_at_once P Q j k (halt.Clash c) f g n e =
 halts_at_once P Q j k halt.NoMemory f g n e = absurd e
 
 -- a proof that was made, or no memory
-pub made : (r : Result Cert Halt) (t : ProofTree) (F : ProofTree → Type 0) (P Q : Items) → MatchResult r (λ cert. proof_tree cert ≡ t) (λ h. h ≡ NoMemory) → F t → MatchResult r (λ cert. F (proof_tree cert)) (Halts P Q)
+pub made : (r : Result Cert Halt) (t : ProofTree) (F : ProofTree → Type 0) (P Q : Language) → MatchResult r (λ cert. proof_tree cert ≡ t) (λ h. h ≡ NoMemory) → F t → MatchResult r (λ cert. F (proof_tree cert)) (Halts P Q)
 made (Ok cert) t F P Q e f = subst F (sym e) f
 made (Err halt.NoMemory) t F P Q e f = tt
 made (Err (halt.Clash c)) t F P Q e f = cc
@@ -198,7 +198,7 @@ module _ (v w : PayloadTree) (a b : Pattern) (x : PayloadTree) (r : TailTree) (y
 
 -- ---- clashes at once
 
-begins_sent : (b : Bit) (bs : List Bit) (P : Items) (u : List Item) → SentThen (b ∷ bs) P u → GoesOnWith (SentThen (b ∷ bs) P) [] kind.Sent
+begins_sent : (b : Bit) (bs : List Bit) (P : Language) (u : List Item) → SentThen (b ∷ bs) P u → GoesOnWith (SentThen (b ∷ bs) P) [] kind.Sent
 begins_sent b bs P [] h = absurd h
 begins_sent b bs P (Sent s ∷ u) h = (Sent s, u, h, refl)
 begins_sent b bs P (_ ∷ u) h = absurd h

@@ -4,13 +4,13 @@ use Rattle.message_tree.specs.declared.items.Item.{Item}
 use Rattle.message_tree.specs.declared.items.Kind.{Kind}
 use Rattle.message_tree.specs.declared.items.Kind.TheVariants as kind
 use Rattle.message_tree.specs.Trees.{TailTree, stop, again}
-use Rattle.message_tree.specs.Texts.{Items}
+use Rattle.message_tree.specs.Texts.{Language}
 use Rattle.pair_walk.specs.declared.compare.Halt.{Halt}
 use Rattle.pair_walk.specs.declared.compare.Halt.TheVariants.{Clash, NoMemory}
 use Rattle.pair_walk.specs.FirstClash.{IsFirstClash}
 
 -- the first clash of these two, or that memory ran out
-abbrev pub Halts : Items → Items → Halt → Type 0
+abbrev pub Halts : Language → Language → Halt → Type 0
 Halts P Q (Clash c) = IsFirstClash P Q (reverse c.back.items) c.first c.second
 Halts P Q NoMemory = Unit {0}
 

@@ -1,12 +1,12 @@
 -- What the model needs to know of texts: that there is one, how it ends, that either answer may come, and its length.
-use Rattle.std.proofs.Common.{◌≡◌, ℕ, zero, suc, ◌+◌, ◌<◌, ◌≤◌, true, Option, Some, None, List, [], ◌∷◌, ◌++◌, length, map, slice_get, refl, ap, ◌∙◌, subst, append-nil, arith, inl, inr, ◌⊎◌}
+use Rattle.std.proofs.Common.{◌≡◌, ℕ, zero, suc, ◌+◌, ◌<◌, ◌≤◌, true, Option, Some, None, List, [], ◌∷◌, ◌++◌, length, length-append, map, slice_get, refl, ap, sym, ◌∙◌, subst, append-nil, arith, inl, inr, ◌⊎◌}
 use Rattle.std.specs.List.{range_with_len, All, AllByRecursion}
 use Rattle.std.proofs.lemmas.List.Elements.{recursion_from_All, All-nil, All-cons, All-append, All-map, All-weaker}
 use Rattle.message_tree.specs.declared.items.Item.{Item}
 use Rattle.message_tree.specs.declared.items.Item.TheVariants.{Stop, Claim}
-use Rattle.message_tree.specs.Laws.{HasText, is_end, GoesOn, HearsBoth}
+use Rattle.message_tree.specs.Laws.{HasText, is_end, HasNoEnd, HearsBoth}
 use Rattle.message_tree.specs.Sizes.{frame_bytes}
-use Rattle.message_tree.specs.Texts.{Items, Sender, message, interrupt}
+use Rattle.message_tree.specs.Texts.{Language, Sender, message, interrupt}
 use Rattle.message_tree.specs.Trees.{FrameTree}
 use Rattle.message_tree.proofs.TextLaws.{lawful_frame, lawful_interrupt, end_is_last}
 use Rattle.message_tree.proofs.TextLengths.{longest_frame, longest_interrupt, frame_slots_le}
@@ -14,6 +14,7 @@ use Rattle.plan_core.specs.declared.plans.Participant.{Participant}
 use Rattle.plan_core.specs.declared.plans.Participant.TheVariants.{Sending, Interrupt}
 use Rattle.plan_core.specs.Contents.{Contents}
 use Rattle.plan_core.specs.Participants.{Text, TextOf, sender_at, sender_of, message_sender, interrupt_sender, participants_of, participant_count, sendings_from, interrupt_bits}
+use Rattle.plan_core.specs.Rounds.{Follows}
 use Rattle.plan_core.specs.Runs.{HasEnded}
 use Rattle.plan_core.specs.Laws.{IsNumbered, IsShort}
 
@@ -21,12 +22,12 @@ use Rattle.plan_core.specs.Laws.{IsNumbered, IsShort}
 pub record Ends (u : List Item) : Type 0 where
   pub before : List Item
   pub end : Item
-  pub goes_on : GoesOn before
+  pub goes_on : HasNoEnd before
   pub is_end : is_end end ≡ true
   pub whole : u ≡ before ++ end ∷ []
 
 -- what each list that passes is like
-pub record Fair (P : Items) : Type 0 where
+pub record Fair (P : Language) : Type 0 where
   pub ends : (u : List Item) → P u → Ends u
   pub both : HearsBoth P
 
@@ -130,3 +131,18 @@ whole_at_end plan p u rest (v, inl e) t =
 whole_at_end plan p u rest (v, inr e) t =
     let none : rest ≡ [] = nothing_after plan p v rest Claim refl (subst (λ (w : List Item). Text plan p (w ++ rest)) e t) in
     subst (Text plan p) (ap (λ (w : List Item). u ++ w) none ∙ append-nil u) t
+
+-- who follows a wire bounds its length
+pub length_bound : (plan : Contents) (p : ℕ) (u : List Item) → IsShort plan → (u ≡ []) ⊎ Follows plan p u → length u ≤ 2560
+length_bound plan p u h (inl e) = rw e (omega arith)
+length_bound plan p u h (inr f) = omega (arith, bounded_text plan p (u ++ f.0) h f.1, length-append u f.0)
+
+nil_has_not_ended : (v : List Item) (x : Item) → [] ≡ v ++ x ∷ [] → ⊥
+nil_has_not_ended [] x e = cc
+nil_has_not_ended (y ∷ v) x e = cc
+
+-- who follows a wire that has ended stands whole on it
+pub end_bound : (plan : Contents) (p : ℕ) (u : List Item) → HasEnded u → (u ≡ []) ⊎ Follows plan p u → Text plan p u
+end_bound plan p u (v, inl e) (inl n) = absurd (nil_has_not_ended v Stop (sym n ∙ e))
+end_bound plan p u (v, inr e) (inl n) = absurd (nil_has_not_ended v Claim (sym n ∙ e))
+end_bound plan p u e (inr f) = whole_at_end plan p u f.0 e f.1

@@ -1,4 +1,5 @@
--- Who may start together: a set of participants, given as a test on their numbers.
+-- Who may start together, within the hold time of one START (UM10204, 3.1.8): a set of participants, given as a test on
+-- their numbers.
 use Rattle.std.specs.Prelude.{◌≡◌, ◌≢◌, ℕ, ◌<◌, Bool, true, false, ◌||◌, ◌==◌}
 use Rattle.plan_core.specs.Contents.{Contents}
 use Rattle.plan_core.specs.Participants.{participant_count, apart}

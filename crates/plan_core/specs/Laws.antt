@@ -1,5 +1,5 @@
 -- What holds of every plan: that pairs suffice, and that the runs of a safe plan go on to their end.
-use Rattle.std.specs.Prelude.{◌≢◌, ℕ, ◌<◌, ◌≤◌, List, [], ◌∷◌, length, All}
+use Rattle.std.specs.Prelude.{◌≡◌, ◌≢◌, ℕ, ◌<◌, ◌≤◌, List, [], ◌∷◌, length, All}
 use Rattle.message_tree.specs.declared.items.Item.{Item}
 use Rattle.message_tree.specs.declared.items.Item.TheVariants.{Claim}
 use Rattle.message_tree.specs.declared.items.Kind.{Kind}
@@ -7,7 +7,7 @@ use Rattle.message_tree.specs.Items.{KindsClash}
 use Rattle.message_tree.specs.Sizes.{frame_bytes}
 use Rattle.plan_core.specs.Contents.{Contents}
 use Rattle.plan_core.specs.Lawful.{Set, In, pair}
-use Rattle.plan_core.specs.Rounds.{IsRound, NoClash, IsWire}
+use Rattle.plan_core.specs.Rounds.{IsSlot, IsWire}
 use Rattle.plan_core.specs.Runs.{Reaches}
 use Rattle.plan_core.specs.Faults.{OffersKind}
 
@@ -32,10 +32,10 @@ BothLive plan x y u = (live : Set) × Reaches plan (pair x y) u live × In x liv
 abbrev pub MayClash : Contents → ℕ → ℕ → List Item → Kind → Kind → Type 0
 MayClash plan x y u j k = OffersKind plan x u j × OffersKind plan y u k × KindsClash j k
 
--- the run of these live participants goes on from u: they may put items that do not clash and that the wire shows
-pub record GoesOn (plan : Contents) (u : List Item) (live : Set) : Type 0 where
-  pub put : ℕ → Item
-  pub wire : Item
-  pub is_round : IsRound plan u live put
-  pub no_clash : NoClash live put
-  pub is_wire : IsWire live put wire
+-- the live participants may put items that do not clash and that the wire shows
+abbrev pub HasNext : Contents → List Item → Set → Type 0
+HasNext plan u live = (put : ℕ → Item) × (w : Item) × IsSlot plan u live put w
+
+-- exactly one item is what the wire shows
+abbrev pub HasOneWire : Set → (ℕ → Item) → Type 0
+HasOneWire live put = (w : Item) × IsWire live put w × ((v : Item) → IsWire live put v → v ≡ w)

@@ -1,9 +1,10 @@
--- Who may take part: each controller with each of its messages, controller by controller, and then the interrupts.
+-- Who may take part: each controller with each of its messages, controller by controller, and then the interrupts, which
+-- are our profile's.
 use Rattle.std.specs.Prelude.{ℕ, ◌+◌, Bool, false, ◌&&◌, ◌||◌, ◌==◌, List, [], ◌∷◌, ◌++◌, length, map, Option, Some, None, slice_get}
 use Rattle.std.specs.List.{range_with_len, list_any}
 use Rattle.message_tree.specs.declared.bits.Bit.{Bit}
 use Rattle.message_tree.specs.Bits.{bits_below}
-use Rattle.message_tree.specs.Texts.{Items, Sender, message, interrupt, SenderText}
+use Rattle.message_tree.specs.Texts.{Language, Sender, message, interrupt, SenderText}
 use Rattle.message_tree.specs.Trees.{FrameTree}
 use Rattle.plan_core.specs.declared.plans.Participant.{Participant}
 use Rattle.plan_core.specs.declared.plans.Participant.TheVariants.{Sending, Interrupt}
@@ -43,12 +44,12 @@ sender_of plan None = None
 unfoldable pub sender_at : Contents → ℕ → Option Sender
 sender_at plan p = sender_of plan (slice_get (participants_of plan) p)
 
-abbrev pub TextOf : Option Sender → Items
+abbrev pub TextOf : Option Sender → Language
 TextOf (Some sender) u = SenderText sender u
 TextOf None u = ⊥
 
 -- u is a text of participant p: what it can go through from the START to the end of its transmission
-abbrev pub Text : Contents → ℕ → Items
+abbrev pub Text : Contents → ℕ → Language
 Text plan p u = TextOf (sender_at plan p) u
 
 -- a `never` names these two controllers, in either order

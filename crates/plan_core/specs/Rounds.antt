@@ -30,6 +30,12 @@ pub record IsWire (live : Set) (put : ℕ → Item) (w : Item) : Type 0 where
   pub some : (p : ℕ) × In p live × (put p ≡ w)
   pub all : (p : ℕ) → In p live → (put p ≡ w) ⊎ ((put p ≡ Sent true) × (w ≡ Sent false))
 
+-- one slot: a round without a clash, and what the wire shows
+pub record IsSlot (plan : Contents) (u : List Item) (live : Set) (put : ℕ → Item) (w : Item) : Type 0 where
+  pub is_round : IsRound plan u live put
+  pub no_clash : NoClash live put
+  pub is_wire : IsWire live put w
+
 -- two items are one
 abbrev pub is_item : Item → Item → Bool
 is_item (Sent false) (Sent false) = true

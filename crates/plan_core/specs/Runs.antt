@@ -1,16 +1,22 @@
--- Runs of the bus: what a lawful set can go through, whatever its participants choose and whatever targets answer.
+-- Runs of the bus: what a lawful set can go through, whatever its participants choose and whatever targets answer
+-- (arbitration, UM10204, 3.1.8).
 use Rattle.std.specs.Prelude.{◌≡◌, ℕ, ◌⊎◌, List, [], ◌∷◌, ◌++◌}
 use Rattle.message_tree.specs.declared.items.Item.{Item}
 use Rattle.message_tree.specs.declared.items.Item.TheVariants.{Stop, Claim}
 use Rattle.plan_core.specs.Contents.{Contents}
 use Rattle.plan_core.specs.Participants.{Text}
-use Rattle.plan_core.specs.Lawful.{Set}
-use Rattle.plan_core.specs.Rounds.{IsRound, NoClash, IsWire, survivors}
+use Rattle.plan_core.specs.Lawful.{Set, IsLawful}
+use Rattle.plan_core.specs.Rounds.{IsSlot, survivors}
 
--- Those in s have started together; the wire has been u, and these are still live. Each slot is a round without a clash.
+-- Those in s have started together, the wire has been u, and these are still live.
 pub data Reaches (plan : Contents) (s : Set) : List Item → Set → Type 0 where
   start : Reaches plan s [] s
-  round : {u : List Item} {live : Set} (put : ℕ → Item) (w : Item) → Reaches plan s u live → IsRound plan u live put → NoClash live put → IsWire live put w → Reaches plan s (u ++ w ∷ []) (survivors live put w)
+  slot : {u : List Item} {live : Set} (put : ℕ → Item) (w : Item) →
+      Reaches plan s u live → IsSlot plan u live put w → Reaches plan s (u ++ w ∷ []) (survivors live put w)
+
+-- a state that a lawful set reaches
+abbrev pub IsReached : Contents → Set → List Item → Set → Type 0
+IsReached plan s u live = IsLawful plan s × Reaches plan s u live
 
 -- the run has ended: its last item is a STOP or a claim
 abbrev pub HasEnded : List Item → Type 0

@@ -1,7 +1,7 @@
 use Rattle.std.proofs.Common.{refl}
 use Rattle.message_tree.specs.declared.items.Item.TheVariants.{Claim}
 use Rattle.message_tree.specs.Texts.{InterruptText}
-use Rattle.message_tree.proofs.TextLaws.{lawful_interrupt, whole}
+use Rattle.message_tree.proofs.TextLaws.{interrupt_hears_nothing, lawful_interrupt, whole}
 use Rattle.message_tree.proofs.TextLengths.{longest_interrupt}
 use Rattle.message_tree.proofs.laws.texts_of_interrupts.Goals as goal
 
@@ -11,8 +11,8 @@ returns-clause-some c a = (lawful_interrupt a).some
 pub returns-clause-claim : goal.returns-clause-claim
 returns-clause-claim c a = (lawful_interrupt a).ends
 
-pub returns-clause-answers : goal.returns-clause-answers
-returns-clause-answers c a = (lawful_interrupt a).both
+pub returns-clause-silent : goal.returns-clause-silent
+returns-clause-silent c a = interrupt_hears_nothing a
 
 pub returns-clause-whole : goal.returns-clause-whole
 returns-clause-whole c a = whole Claim (InterruptText a) refl (lawful_interrupt a).ends
