@@ -15,8 +15,9 @@ use Rattle.message_tree.specs.Patterns.{pattern_bits, address_bits}
 use Rattle.message_tree.specs.Trees as tree
 use Rattle.message_tree.specs.Trees.{FrameTree, PayloadTree, TailTree}
 use Rattle.message_tree.specs.Texts.{Language, Allows, SentThen, HeardThen, AnswerThen, AgainThen, Only, ByteThen, BytesThen, ReadThen, write_header, read_header, FrameText, PayloadText, TailText, Sender, message, interrupt, SenderText}
-use Rattle.certificate.specs.Proofs.{ProofTree, part, byte, read, again, alike}
-use Rattle.certificate.specs.Proves.{ProvesFrames, ProvesPayloads, ProvesTails, header_of, ProvesHeaders, Proves, NeverClash}
+use Rattle.message_tree.proofs.KindLemmas.{one_kind}
+use Rattle.certificate.specs.Proofs.{ProofTree, part, short, byte, read, again, alike}
+use Rattle.certificate.specs.Proves.{OneKind, ProvesFrames, ProvesPayloads, ProvesTails, header_of, ProvesHeaders, Proves, NeverClash}
 
 -- ---- bits that are sent
 
@@ -197,3 +198,58 @@ sound p (message f) (message g) h = sound_frames p f g h
 sound p (message f) (interrupt b) h = sound_headers p (message f) (interrupt b) h
 sound p (interrupt a) (message g) h = sound_headers p (interrupt a) (message g) h
 sound p (interrupt a) (interrupt b) h = sound_headers p (interrupt a) (interrupt b) h
+
+-- ---- a message never clashes with itself
+
+abbrev mutual
+  self_proof : FrameTree → ProofTree
+  self_proof (tree.write a x r) = byte (payload_proof x) (tail_proof r)
+  self_proof (tree.read a c x r) = read (tail_proof x) (tail_proof r)
+
+  payload_proof : PayloadTree → ProofTree
+  payload_proof (tree.byte a x r) = byte (payload_proof x) (tail_proof r)
+  payload_proof (tree.last r) = tail_proof r
+
+  tail_proof : TailTree → ProofTree
+  tail_proof tree.stop = alike
+  tail_proof (tree.again f) = again (self_proof f)
+
+last_proves : (p : ProofTree) (r s : TailTree) → ProvesTails p r s → ProvesPayloads p (tree.last r) (tree.last s)
+last_proves (part k) r s h = h
+last_proves short r s h = h
+last_proves (byte p q) r s h = h
+last_proves (read p q) r s h = h
+last_proves (again p) r s h = h
+last_proves alike r s h = h
+
+mutual
+  frame_proves_itself : (f : FrameTree) → ProvesFrames (self_proof f) f f
+  frame_proves_itself (tree.write a x r) = (payload_proves_itself x, tail_proves_itself r)
+  frame_proves_itself (tree.read a c x r) = (inr ((c.least, (omega arith, c.ordered), (omega arith, c.ordered)), tail_proves_itself x), tail_proves_itself r)
+
+  payload_proves_itself : (x : PayloadTree) → ProvesPayloads (payload_proof x) x x
+  payload_proves_itself (tree.byte a x r) = (payload_proves_itself x, tail_proves_itself r)
+  payload_proves_itself (tree.last r) = last_proves (tail_proof r) r r (tail_proves_itself r)
+
+  tail_proves_itself : (t : TailTree) → ProvesTails (tail_proof t) t t
+  tail_proves_itself tree.stop = tt
+  tail_proves_itself (tree.again f) = frame_proves_itself f
+
+one_kind_sent : (bs : List Bit) (P : Language) → OneKind P → OneKind (SentThen bs P)
+one_kind_sent [] P o u v w x y p q = o u v w x y p q
+one_kind_sent (b ∷ bs) P o [] v w (Sent s) (Sent t) p q = refl
+one_kind_sent (b ∷ bs) P o [] v w (Sent s) _ p q = absurd q
+one_kind_sent (b ∷ bs) P o [] v w _ y p q = absurd p
+one_kind_sent (b ∷ bs) P o (Sent s ∷ u) v w x y p q = one_kind_sent bs P o u v w x y p.1 q.1
+one_kind_sent (b ∷ bs) P o (_ ∷ u) v w x y p q = absurd p
+
+one_kind_only : (e : Item) → OneKind (Only e)
+one_kind_only e [] v w x y p q = ap kind_of (let f : x ≡ e = cc in let g : y ≡ e = cc in f ∙ sym g)
+one_kind_only e (a ∷ []) v w x y p q = cc
+one_kind_only e (a ∷ b ∷ u) v w x y p q = cc
+
+pub offers_one_kind : (s : Sender) → OneKind (SenderText s)
+offers_one_kind (message f) u v w x y p q =
+    one_kind (kind_of x) (kind_of y) (λ c. sound_frames (self_proof f) f f (frame_proves_itself f) u v w x y p q c)
+offers_one_kind (interrupt a) u v w x y p q =
+    one_kind_sent (a ++ One ∷ []) (Only Claim) (one_kind_only Claim) u v w x y p q

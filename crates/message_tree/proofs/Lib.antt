@@ -1,3 +1,4 @@
 pub mod BitLemmas
+pub mod KindLemmas
 pub mod TextLaws
 pub mod TextLengths

@@ -7,6 +7,7 @@ use Rattle.message_tree.specs.declared.items.Item.TheVariants.{Sent, Heard, Agai
 use Rattle.message_tree.specs.declared.items.Kind.{Kind}
 use Rattle.message_tree.specs.declared.items.Kind.TheVariants as kind
 use Rattle.message_tree.specs.Items.{kind_of, KindsClash, Clash}
+use Rattle.message_tree.proofs.KindLemmas.{one_kind}
 use Rattle.plan_core.specs.Contents.{Contents}
 use Rattle.plan_core.specs.Participants.{Text, participant_count}
 use Rattle.plan_core.specs.Lawful.{Set, In, IsLawful}
@@ -22,15 +23,6 @@ use Rattle.plan_core.proofs.Model.{still_in, survived, survives}
 clash_swaps : (j k : Kind) → KindsClash j k → KindsClash k j
 clash_swaps j k (inl n) = inl (λ e. n (sym e))
 clash_swaps j k (inr h) = inr (h.1, h.0)
-
--- two kinds that don't clash are one
-one_kind : (j k : Kind) → (KindsClash j k → ⊥) → j ≡ k
-one_kind kind.Sent kind.Sent n = refl
-one_kind kind.Heard kind.Heard n = refl
-one_kind kind.Again kind.Again n = refl
-one_kind kind.Stop kind.Stop n = refl
-one_kind kind.Claim kind.Claim n = refl
-one_kind _ _ n = absurd (n (inl (λ e. cc)))
 
 -- an item that is neither sent nor heard is its kind
 item_of_kind : (x y : Item) → kind_of x ≡ kind_of y → (kind_of y ≡ kind.Sent → ⊥) → (kind_of y ≡ kind.Heard → ⊥) → x ≡ y
