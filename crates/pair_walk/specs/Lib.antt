@@ -1,4 +1,5 @@
 pub mod Canonical
 pub mod Compare
 pub mod FirstClash
+pub mod Verdicts
 pub mod Wires

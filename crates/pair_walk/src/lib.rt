@@ -2,4 +2,5 @@
 #![tactic(auto)]
 
 mod compare;
+pub mod laws;
 mod wires;
