@@ -1,5 +1,6 @@
 pub mod First
 pub mod Halting
-pub mod Headers
+pub mod HeaderLemmas
+pub mod Interrupts
 pub mod Nodes
 pub mod Unique

@@ -30,7 +30,7 @@ use Rattle.pair_walk.specs.Compare.{Halts, HaltsBehind, ClashesAtOnce, kind_of_t
 use Rattle.pair_walk.specs.FirstClash.{GoesOnWith, IsFirstClash}
 use Rattle.pair_walk.specs.Wires.{agreed, read_wire}
 use Rattle.pair_walk.proofs.First.{first_sent, first_acked, first_refused, first_again, first_here, first_read}
-use Rattle.pair_walk.proofs.Headers.{never_in_header, first_in_header, first_is_direction}
+use Rattle.pair_walk.proofs.HeaderLemmas.{never_in_header, first_in_header, first_is_direction}
 
 -- ---- what a comparison answers
 

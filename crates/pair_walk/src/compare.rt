@@ -31,7 +31,7 @@ pub(crate) struct Meeting {
 }
 
 // A clash at once.
-fn clash(alloc: Global, first: Kind, second: Kind) -> Halt
+pub(crate) fn clash(alloc: Global, first: Kind, second: Kind) -> Halt
     ensures { ClashesAtOnce first second result }
 {
     Halt::Clash(Meeting {
@@ -42,7 +42,7 @@ fn clash(alloc: Global, first: Kind, second: Kind) -> Halt
 }
 
 // The same clash with these items before it.
-fn behind(halt: Halt, items: &[Item]) -> Halt
+pub(crate) fn behind(halt: Halt, items: &[Item]) -> Halt
     ensures { HaltsBehind items.now halt result }
 {
     match halt {

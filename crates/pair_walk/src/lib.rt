@@ -2,5 +2,6 @@
 #![tactic(auto)]
 
 mod compare;
+mod headers;
 pub mod laws;
 mod wires;

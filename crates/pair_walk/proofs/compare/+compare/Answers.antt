@@ -10,7 +10,7 @@ use Rattle.certificate.specs.Proofs as proof
 use Rattle.certificate.specs.Proves.{frame_header}
 use Rattle.pair_walk.specs.Canonical.{CanonicalFrames, CanonicalPayloads}
 use Rattle.pair_walk.proofs.Nodes.{made, frames_write_acked, frames_write_refused, frames_write_proved, frames_read_acked, frames_read_refused, frames_read_proved, payloads_acked, payloads_refused, payloads_byte_proved, byte_meets_tail, tail_meets_byte, stop_meets_again, again_meets_stop, tails_again, reads_halt, directions_split, length_of_address}
-use Rattle.pair_walk.proofs.Headers.{first_in_header}
+use Rattle.pair_walk.proofs.HeaderLemmas.{first_in_header}
 use Rattle.pair_walk.proofs.compare.+compare.Goals as goal
 
 pub compare_frames-returns-in-Err : goal.compare_frames-returns-in-Err
