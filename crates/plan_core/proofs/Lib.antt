@@ -1,3 +1,9 @@
 pub mod Texts
 pub mod Model
 pub mod Safety
+pub mod PairLemmas
+pub mod EntryLemmas
+pub mod ContentsLemmas
+pub mod PlanLemmas
+pub mod BuildingLemmas
+pub mod StepLemmas

@@ -5,3 +5,12 @@ pub mod Rounds
 pub mod Runs
 pub mod Faults
 pub mod Laws
+pub mod Names
+pub mod NameBytes
+pub mod Parts
+pub mod Limits
+pub mod Pairs
+pub mod PairTables
+pub mod PlanContents
+pub mod BuilderContents
+pub mod Building

@@ -1,7 +1,12 @@
 //! Plans: who may send what, and the model of the bus that says what may come of it.
 #![tactic(auto)]
 
+pub mod builder;
 pub mod laws;
+pub mod names;
+mod pairs;
 pub mod plans;
 
-pub use plans::Participant;
+pub use builder::{BuildError, Builder};
+pub use names::{Name, NameError};
+pub use plans::{Participant, Plan};

@@ -1,0 +1,9 @@
+use Rattle.std.proofs.Common.{ap, sym, ◌∙◌, Some}
+use Rattle.plan_core.specs.Parts.{contents_of, controller_of}
+use Rattle.plan_core.specs.PlanContents.{plan_contents}
+use Rattle.plan_core.proofs.EntryLemmas.{value_at}
+use Rattle.plan_core.proofs.plans.Plan.controller_messages.Goals as goal
+
+pub returns : goal.returns
+unfolding plan_contents contents_of
+returns c = value_at controller_of c.args.self.now.controllers.entries c.args.k c.get_index.result c.unwrap.result c.get_index.ensures.entry c.unwrap.ensures ∙ ap Some (sym c.as_slice.ensures.value)

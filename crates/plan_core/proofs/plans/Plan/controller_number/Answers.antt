@@ -1,0 +1,11 @@
+use Rattle.std.proofs.Common.{◌≡◌, ◌≤◌, length, position, sym, ◌∙◌, ap, refl, arith}
+use Rattle.std.specs.Str.{bytes_eq}
+use Rattle.plan_core.specs.NameBytes.{name_bytes}
+use Rattle.plan_core.specs.Parts.{contents_of, controller_of}
+use Rattle.plan_core.specs.PlanContents.{plan_contents}
+use Rattle.plan_core.proofs.EntryLemmas.{keys_of-viewed}
+use Rattle.plan_core.proofs.plans.Plan.controller_number.Goals as goal
+
+pub returns : goal.returns
+unfolding plan_contents contents_of
+returns c = c.index_of.ensures ∙ ap (position (bytes_eq (name_bytes c.args.name.now))) (sym (keys_of-viewed controller_of name_bytes (λ e. refl) c.args.self.now.controllers.entries))
