@@ -3,4 +3,5 @@ pub mod Halting
 pub mod HeaderLemmas
 pub mod Interrupts
 pub mod Nodes
+pub mod Senders
 pub mod Unique

@@ -4,4 +4,5 @@
 mod compare;
 mod headers;
 pub mod laws;
+mod starts;
 mod wires;
