@@ -1,3 +1,4 @@
+pub mod Faulty
 pub mod First
 pub mod Halting
 pub mod HeaderLemmas

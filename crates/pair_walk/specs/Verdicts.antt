@@ -9,6 +9,8 @@ use Rattle.plan_core.specs.Contents.{Contents}
 use Rattle.plan_core.specs.Participants.{sender_at}
 use Rattle.plan_core.specs.Lawful.{pair}
 use Rattle.plan_core.specs.Faults.{Fault, IsFaulty}
+use Rattle.pair_walk.specs.declared.walk_pair.Outcome.{Outcome}
+use Rattle.pair_walk.specs.declared.walk_pair.Outcome.TheVariants.{Safe, Unsafe}
 use Rattle.pair_walk.specs.Canonical.{IsCanonical}
 use Rattle.pair_walk.specs.FirstClash.{InOrder}
 
@@ -25,3 +27,7 @@ CanonicalBetween _ _ p = ⊥
 pub record IsSafeProof (plan : Contents) (x y : ℕ) (p : ProofTree) : Type 0 where
   pub canonical : CanonicalBetween (sender_at plan x) (sender_at plan y) p
   pub no_fault : IsFaulty plan (pair x y) → ⊥
+
+abbrev pub IsVerdict : Contents → ℕ → ℕ → Outcome → Type 0
+IsVerdict plan x y (Safe cert) = IsSafeProof plan x y (proof_tree cert)
+IsVerdict plan x y (Unsafe fault) = IsFirstFault plan x y fault.wire.items fault.first fault.second

@@ -5,4 +5,7 @@ mod compare;
 mod headers;
 pub mod laws;
 mod starts;
+pub mod walk_pair;
 mod wires;
+
+pub use walk_pair::{Outcome, Verdict, walk};

@@ -19,6 +19,7 @@ use crate::compare::{Halt, compare_frames};
 use crate::headers::{interrupt_and_message, message_and_interrupt, two_interrupts};
 
 /// What a participant sends after the START.
+#[derive(Drop)]
 pub(crate) enum Start<'a> {
     /// A controller's message.
     Message(&'a Frame),

@@ -84,7 +84,7 @@ somebody some (slot {live = before} put w r o) =
 
 -- ---- the two alone
 
-in_pair : (x y p : ℕ) → In p (pair x y) → (p ≡ x) ⊎ (p ≡ y)
+pub in_pair : (x y p : ℕ) → In p (pair x y) → (p ≡ x) ⊎ (p ≡ y)
 in_pair x y p h = grind (arith, nat_tests)
 
 first_in_pair : (x y : ℕ) → In x (pair x y)

@@ -1,0 +1,72 @@
+// The verdict of a pair of a plan.
+
+ghost use Rattle.std.specs.Prelude.{◌≡◌, ℕ, ◌<◌, length, reverse, slice_get, Some, IfOk};
+ghost use Rattle.plan_core.specs.PlanContents.{plan_contents};
+ghost use Rattle.plan_core.specs.Pairs.{pairs_of};
+ghost use Rattle.pair_walk.specs.Verdicts.{IsVerdict};
+
+use std::alloc::{AllocError, Global};
+
+use certificate::{Cert, Fault};
+use plan_core::Plan;
+
+use crate::compare::{Halt, Meeting};
+use crate::starts::{compare_starts, start_of};
+
+/// What holds of a pair.
+#[derive(Debug, Drop)]
+pub enum Outcome {
+    /// The two never clash when they start together, as this proof shows. A `Part` stands in it wherever two headers or
+    /// two data bytes have a bit that is known in both and different, and names the first such bit.
+    Safe(Cert),
+    /// The two clash. Of all their faults this is the one whose wire comes first in dictionary order, where `0` comes
+    /// before `1` and `l` before `h`.
+    Unsafe(Fault),
+}
+
+/// What holds of the pair with this number.
+#[derive(Debug, Drop)]
+pub struct Verdict {
+    pub pair: u32,
+    pub outcome: Outcome,
+}
+
+/// The verdict of the pair with number `i`. Memory is taken for the nodes of the proof and for the wire of the fault.
+pub fn walk(alloc: Global, plan: &Plan, i: u32) -> Result<Verdict, AllocError>
+    requires { i < length (pairs_of (plan_contents plan.now)) }
+    ensures number { IfOk result (λ verdict. verdict.pair ≡ i) }
+    ensures verdict { IfOk result (λ verdict. (x y : ℕ) → slice_get (pairs_of (plan_contents plan.now)) i ≡ Some (x, y) →
+        IsVerdict (plan_contents plan.now) x y verdict.outcome) }
+{
+    let (x, y) = plan.pair(i);
+    match compare_starts(alloc, &start_of(plan, x), &start_of(plan, y)) {
+        Ok(cert) => Ok(Verdict {
+            pair: i,
+            outcome: Outcome::Safe(cert),
+        }),
+        Err(Halt::Clash(meeting)) => Ok(Verdict {
+            pair: i,
+            outcome: Outcome::Unsafe(fault_of(meeting)),
+        }),
+        Err(Halt::NoMemory) => Err(AllocError),
+    }
+}
+
+// The fault, with its wire from the beginning.
+fn fault_of(meeting: Meeting) -> Fault
+    ensures wire { result.wire.items ≡ reverse meeting.back.items }
+    ensures first { result.first ≡ meeting.first }
+    ensures second { result.second ≡ meeting.second }
+{
+    let Meeting {
+        mut back,
+        first,
+        second,
+    } = meeting;
+    back.reverse();
+    Fault {
+        wire: back,
+        first,
+        second,
+    }
+}
