@@ -1,7 +1,6 @@
 -- From the first clash of what two participants send to the verdict of their pair.
-use Rattle.std.proofs.Common.{◌≡◌, ◌≢◌, ℕ, zero, suc, ◌+◌, ◌-◌, ◌<◌, ◌≤◌, Bool, true, ◌||◌, ◌==◌, Option, Some, None, List, [], ◌∷◌, ◌++◌, length, map, not, slice_get, refl, ap, sym, ◌∙◌, subst, arith, inl, inr, ◌⊎◌}
+use Rattle.std.proofs.Common.{◌≡◌, ℕ, zero, suc, ◌+◌, ◌-◌, ◌<◌, ◌≤◌, Option, Some, List, [], ◌∷◌, ◌++◌, map, not, slice_get, sym, ◌∙◌, subst, arith, inl, inr}
 use Rattle.std.specs.List.{range_with_len, flat_map, All, AllByRecursion}
-use Rattle.std.proofs.lemmas.Bool.Decides.{nat_tests}
 use Rattle.std.proofs.lemmas.List.Elements.{recursion_from_All, All-nil, All-cons, All-append, All-map, All-filter}
 use Rattle.message_tree.specs.declared.items.Item.{Item}
 use Rattle.message_tree.specs.declared.items.Kind.{Kind}
@@ -10,14 +9,14 @@ use Rattle.message_tree.specs.Texts.{Sender, SenderText}
 use Rattle.certificate.specs.Proofs.{ProofTree}
 use Rattle.certificate.proofs.Soundness.{sound}
 use Rattle.plan_core.specs.Contents.{Contents}
-use Rattle.plan_core.specs.Participants.{Text, TextOf, sender_at, participant_count, apart}
+use Rattle.plan_core.specs.Participants.{TextOf, sender_at, participant_count, apart}
 use Rattle.plan_core.specs.Lawful.{In, pair}
 use Rattle.plan_core.specs.Pairs.{partners, pairs_of}
-use Rattle.plan_core.specs.Faults.{OffersKind, Fault, IsFaulty}
+use Rattle.plan_core.specs.Faults.{OffersKind}
 use Rattle.plan_core.proofs.Model.{fault_of_pair, still_in, in_pair}
 use Rattle.pair_walk.specs.Canonical.{IsCanonical}
-use Rattle.pair_walk.specs.FirstClash.{InOrder, GoesOnWith, IsFirstClash}
-use Rattle.pair_walk.specs.Verdicts.{IsFirstFault, CanonicalBetween, IsSafeProof}
+use Rattle.pair_walk.specs.FirstClash.{GoesOnWith, IsFirstClash}
+use Rattle.pair_walk.specs.Verdicts.{IsFirstFault, IsSafeProof}
 use Rattle.pair_walk.proofs.Unique.{canonical_proves}
 
 -- ---- the numbers of a pair
@@ -35,8 +34,8 @@ rows_below plan a (suc k) l =
     let n = participant_count plan in
     let row = numbers_below a (a + 1) (n - (a + 1)) n (omega arith) (omega arith) in
     All-append (IsBelow n) (map (λ y. (a, y)) (partners plan a)) (flat_map (λ x. map (λ y. (x, y)) (partners plan x)) (range_with_len (a + 1) k))
-        (All-map (IsBelow n) (λ y. (a, y)) (partners plan a) (All-filter (λ y. not (apart plan a y)) (λ y. IsBelow n (a, y)) (range_with_len (a + 1) (n - (a + 1))) row))
-        (rows_below plan (a + 1) k (omega arith))
+    (All-map (IsBelow n) (λ y. (a, y)) (partners plan a) (All-filter (λ y. not (apart plan a y)) (λ y. IsBelow n (a, y)) (range_with_len (a + 1) (n - (a + 1))) row))
+    (rows_below plan (a + 1) k (omega arith))
 
 at_each : (P : ℕ × ℕ → Type 0) (ps : List (ℕ × ℕ)) (i : ℕ) (p : ℕ × ℕ) → AllByRecursion P ps → slice_get ps i ≡ Some p → P p
 at_each P [] i p h e = cc
@@ -69,18 +68,18 @@ module _ (plan : Contents) (x y : ℕ) (s t : Sender) (lt : x < y) (is_s : sende
       record {
         fault = fault_of_pair plan x y u j k lt (first_offers u j f.first, second_offers u k f.second, f.clash);
         earliest = λ v a b g.
-          let p = offers_first v a g.first_offers in
-          let q = offers_second v b g.second_offers in
-          let c = subst (λ (m : Kind). KindsClash m (kind_of q.0)) (sym p.3) (subst (KindsClash a) (sym q.3) g.clash) in
-          f.earliest v p.1 q.1 p.0 q.0 p.2 q.2 c;
+            let p = offers_first v a g.first_offers in
+            let q = offers_second v b g.second_offers in
+            let c = subst (λ (m : Kind). KindsClash m (kind_of q.0)) (sym p.3) (subst (KindsClash a) (sym q.3) g.clash) in
+            f.earliest v p.1 q.1 p.0 q.0 p.2 q.2 c;
       }
 
   -- the two of a fault of the pair are its lower and its higher number
   in_its_order : (a b : ℕ) → In a (pair x y) → In b (pair x y) → a < b → (a ≡ x) × (b ≡ y)
   in_its_order a b i j l =
       elim (in_pair x y a i) [
-        inl e ↦ elim (in_pair x y b j) [ inl d ↦ absurd (omega arith) | inr d ↦ (e, d) ]
-      | inr e ↦ elim (in_pair x y b j) [ inl d ↦ absurd (omega arith) | inr d ↦ absurd (omega arith) ]
+        | inl e ↦ elim (in_pair x y b j) [ inl d ↦ absurd (omega arith) | inr d ↦ (e, d) ]
+        | inr e ↦ elim (in_pair x y b j) [ inl d ↦ absurd (omega arith) | inr d ↦ absurd (omega arith) ]
       ]
 
   pub safe_proof : (p : ProofTree) → IsCanonical p s t → IsSafeProof plan x y p
@@ -88,12 +87,12 @@ module _ (plan : Contents) (x y : ℕ) (s t : Sender) (lt : x < y) (is_s : sende
       record {
         canonical = rw (is_s, is_t) c;
         no_fault = λ h.
-          let f = h.5 in
-          let o = in_its_order h.1 h.2 (still_in f.reached h.1 f.first) (still_in f.reached h.2 f.second) f.in_order in
-          let a = offers_first h.0 h.3 (subst (λ (q : ℕ). OffersKind plan q h.0 h.3) o.0 f.first_offers) in
-          let b = offers_second h.0 h.4 (subst (λ (q : ℕ). OffersKind plan q h.0 h.4) o.1 f.second_offers) in
-          let k = subst (λ (m : Kind). KindsClash m (kind_of b.0)) (sym a.3) (subst (KindsClash h.3) (sym b.3) f.clash) in
-          sound p s t (canonical_proves p s t c) h.0 a.1 b.1 a.0 b.0 a.2 b.2 k;
+            let f = h.5 in
+            let o = in_its_order h.1 h.2 (still_in f.reached h.1 f.first) (still_in f.reached h.2 f.second) f.in_order in
+            let a = offers_first h.0 h.3 (subst (λ (q : ℕ). OffersKind plan q h.0 h.3) o.0 f.first_offers) in
+            let b = offers_second h.0 h.4 (subst (λ (q : ℕ). OffersKind plan q h.0 h.4) o.1 f.second_offers) in
+            let k = subst (λ (m : Kind). KindsClash m (kind_of b.0)) (sym a.3) (subst (KindsClash h.3) (sym b.3) f.clash) in
+            sound p s t (canonical_proves p s t c) h.0 a.1 b.1 a.0 b.0 a.2 b.2 k;
       }
 
 -- ---- at the pair with a number

@@ -1,19 +1,19 @@
 -- The first clash, for each part that a text is made of.
-use Rattle.std.proofs.Common.{◌≡◌, ◌≢◌, ℕ, zero, suc, ◌+◌, ◌<◌, ◌≤◌, Bool, true, false, Option, Some, None, slice_get, List, [], ◌∷◌, ◌++◌, length, min, replicate, refl, ap, sym, ◌∙◌, subst, append_assoc, arith, inl, inr, ◌⊎◌}
+use Rattle.std.proofs.Common.{◌≡◌, ℕ, zero, suc, ◌+◌, ◌≤◌, Bool, true, false, List, [], ◌∷◌, ◌++◌, length, min, replicate, refl, ap, sym, arith, inl, inr, ◌⊎◌}
 use Rattle.message_tree.specs.declared.bits.Bit.{Bit}
 use Rattle.message_tree.specs.declared.bits.Bit.TheVariants.{Zero, One, Either}
 use Rattle.message_tree.specs.declared.counts.Count.{Count}
 use Rattle.message_tree.specs.declared.items.Item.{Item}
-use Rattle.message_tree.specs.declared.items.Item.TheVariants.{Sent, Heard, Again, Stop, Claim}
+use Rattle.message_tree.specs.declared.items.Item.TheVariants.{Sent, Heard, Again}
 use Rattle.message_tree.specs.declared.items.Kind.{Kind}
 use Rattle.message_tree.specs.Bits.{SplitAt, NeverSplit}
-use Rattle.message_tree.specs.Counts.{InRange, Meet}
-use Rattle.message_tree.specs.Items.{kind_of, KindsClash, Clash}
-use Rattle.message_tree.specs.Texts.{Language, Allows, SentThen, HeardThen, AnswerThen, AgainThen, Only, ByteThen, BytesThen, ReadThen}
+use Rattle.message_tree.specs.Counts.{Meet}
+use Rattle.message_tree.specs.Items.{KindsClash}
+use Rattle.message_tree.specs.Texts.{Language, Allows, SentThen, HeardThen, AnswerThen, AgainThen, ByteThen, BytesThen, ReadThen}
 use Rattle.certificate.specs.Proves.{NeverClash}
 use Rattle.certificate.proofs.Soundness.{both_sent, both_heard, never_bytes}
 use Rattle.pair_walk.specs.Wires.{agreed_bit, agreed, read_wire}
-use Rattle.pair_walk.specs.FirstClash.{ComesBefore, InOrder, GoesOnWith, AllFrom, IsFirstClash}
+use Rattle.pair_walk.specs.FirstClash.{ComesBefore, GoesOnWith, AllFrom, IsFirstClash}
 
 -- ---- bits that are sent
 

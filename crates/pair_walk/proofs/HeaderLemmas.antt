@@ -1,8 +1,8 @@
 -- Two headers, by their addresses.
-use Rattle.std.proofs.Common.{◌≡◌, ℕ, zero, suc, ◌+◌, ◌<◌, Option, Some, None, slice_get, List, [], ◌∷◌, ◌++◌, length, length-append, refl, ap, sym, ◌∙◌, subst, arith, inl, inr, ◌⊎◌}
+use Rattle.std.proofs.Common.{◌≡◌, ℕ, zero, suc, ◌<◌, Some, slice_get, List, [], ◌∷◌, ◌++◌, length, length-append, refl, sym, ◌∙◌, subst, arith, inl, inr, ◌⊎◌}
 use Rattle.std.proofs.lemmas.Bool.{cases_lt}
 use Rattle.message_tree.specs.declared.bits.Bit.{Bit}
-use Rattle.message_tree.specs.declared.bits.Bit.TheVariants.{Zero, One, Either}
+use Rattle.message_tree.specs.declared.bits.Bit.TheVariants.{Zero, One}
 use Rattle.message_tree.specs.Bits.{SplitAt, IsFirstSplit, NeverSplit}
 
 get_front : (xs p : List Bit) (j : ℕ) → j < length xs → slice_get (xs ++ p) j ≡ slice_get xs j
@@ -44,8 +44,8 @@ no_split_past : (xs ys : List Bit) (y z : Bit) (k : ℕ) → length xs ≡ lengt
 no_split_past xs ys y z k l s =
     let w = split_within (xs ++ y ∷ []) (ys ++ z ∷ []) k s in
     elim (cases_lt k (length xs)) [
-      inl lt ↦ inl (split_shorter xs ys (y ∷ []) (z ∷ []) k lt (omega (arith, l)) s)
-    | inr le ↦ inr (omega (arith, w.0, length-append xs (y ∷ []), le))
+      | inl lt ↦ inl (split_shorter xs ys (y ∷ []) (z ∷ []) k lt (omega (arith, l)) s)
+      | inr le ↦ inr (omega (arith, w.0, length-append xs (y ∷ []), le))
     ]
 
 same_last : (xs ys : List Bit) (z : Bit) → length xs ≡ length ys → SplitAt (xs ++ z ∷ []) (ys ++ z ∷ []) (length xs) → ⊥
@@ -62,8 +62,8 @@ same_last xs ys z l (inr h) =
 pub never_in_header : (xs ys : List Bit) (z : Bit) → length xs ≡ length ys → NeverSplit xs ys → NeverSplit (xs ++ z ∷ []) (ys ++ z ∷ [])
 never_in_header xs ys z l n k s =
     elim (no_split_past xs ys z z k l s) [
-      inl earlier ↦ n k earlier
-    | inr here ↦ same_last xs ys z l (subst (SplitAt (xs ++ z ∷ []) (ys ++ z ∷ [])) here s)
+      | inl earlier ↦ n k earlier
+      | inr here ↦ same_last xs ys z l (subst (SplitAt (xs ++ z ∷ []) (ys ++ z ∷ [])) here s)
     ]
 
 -- where two addresses don't split, the directions do
@@ -71,8 +71,8 @@ pub first_is_direction : (xs ys : List Bit) (y z : Bit) → length xs ≡ length
 first_is_direction xs ys y z l s n =
     record {
       splits = elim s [
-        inl h ↦ inl (get_last xs y ∙ h.0, subst (λ (m : ℕ). slice_get (ys ++ z ∷ []) m ≡ Some One) (sym l) (get_last ys z ∙ h.1))
-      | inr h ↦ inr (get_last xs y ∙ h.0, subst (λ (m : ℕ). slice_get (ys ++ z ∷ []) m ≡ Some Zero) (sym l) (get_last ys z ∙ h.1))
+        | inl h ↦ inl (get_last xs y ∙ h.0, subst (λ (m : ℕ). slice_get (ys ++ z ∷ []) m ≡ Some One) (sym l) (get_last ys z ∙ h.1))
+        | inr h ↦ inr (get_last xs y ∙ h.0, subst (λ (m : ℕ). slice_get (ys ++ z ∷ []) m ≡ Some Zero) (sym l) (get_last ys z ∙ h.1))
       ];
       first = λ j h t. elim (no_split_past xs ys y z j l t) [ inl earlier ↦ n j earlier | inr here ↦ absurd (omega arith) ];
     }

@@ -1,7 +1,6 @@
 -- A pair that has an interrupt: both have sent the same header, and the one waits for an answer while the other claims.
-use Rattle.std.proofs.Common.{◌≡◌, ℕ, Bool, true, false, List, [], ◌∷◌, ◌++◌, take, length, refl, ap, sym, ◌∙◌, subst, arith, inl, inr}
-use Rattle.message_tree.specs.declared.bits.Bit.{Bit}
-use Rattle.message_tree.specs.declared.bits.Bit.TheVariants.{Zero, One, Either}
+use Rattle.std.proofs.Common.{◌≡◌, true, false, List, [], ◌∷◌, ◌++◌, take, length, refl, sym, ◌∙◌, subst, inl, inr}
+use Rattle.message_tree.specs.declared.bits.Bit.TheVariants.{One}
 use Rattle.message_tree.specs.declared.bits.Address.{Address}
 use Rattle.message_tree.specs.declared.items.Item.{Item}
 use Rattle.message_tree.specs.declared.items.Item.TheVariants.{Sent, Heard, Claim}
@@ -34,7 +33,7 @@ length_of_read a b = refl
 sent_first : (a b : Address) (P Q : Language) (u : List Item) (j k : Kind) → NeverSplit (address_bits a) (address_bits b) → IsFirstClash P Q u j k → IsFirstClash (SentThen (read_header a) P) (SentThen (read_header b) Q) (take 8 (agreed (address_bits a) (address_bits b) ++ (Sent true ∷ Heard false ∷ [])) ++ u) j k
 sent_first a b P Q u j k n f =
     subst (λ (w : List Item). IsFirstClash (SentThen (read_header a) P) (SentThen (read_header b) Q) w j k) (header_wire a b u)
-        (first_sent (read_header a) (read_header b) P Q u j k (length_of_read a b) (never_in_header (address_bits a) (address_bits b) One (length_of_address a ∙ sym (length_of_address b)) n) f)
+    (first_sent (read_header a) (read_header b) P Q u j k (length_of_read a b) (never_in_header (address_bits a) (address_bits b) One (length_of_address a ∙ sym (length_of_address b)) n) f)
 
 -- what follows two equal headers, and how it begins
 pub headers_meet : (a b : Address) (P Q : Language) (j k : Kind) (items : List Item) (h m : Halt) → NeverSplit (address_bits a) (address_bits b) → items ≡ take 8 (agreed (address_bits a) (address_bits b) ++ (Sent true ∷ Heard false ∷ [])) → GoesOnWith P [] j → GoesOnWith Q [] k → KindsClash j k → ClashesAtOnce j k h → HaltsBehind items h m → Halts (SentThen (read_header a) P) (SentThen (read_header b) Q) m

@@ -1,29 +1,29 @@
 -- The first clash of two trees, node by node.
-use Rattle.std.proofs.Common.{◌≡◌, ℕ, ◌+◌, ◌-◌, ◌<◌, min, Bool, true, false, Option, Some, None, Result, Ok, Err, MatchResult, MatchOption, unwrap_or, List, [], ◌∷◌, ◌++◌, length, reverse, refl, ap, sym, ◌∙◌, subst, arith, inl, inr, ◌⊎◌}
+use Rattle.std.proofs.Common.{◌≡◌, ℕ, ◌+◌, min, Bool, true, false, Option, Some, None, Result, Ok, Err, MatchResult, MatchOption, unwrap_or, List, [], ◌∷◌, ◌++◌, length, reverse, refl, ap, sym, ◌∙◌, subst, inl, inr}
 use Rattle.message_tree.specs.declared.bits.Bit.{Bit}
-use Rattle.message_tree.specs.declared.bits.Bit.TheVariants.{Zero, One, Either}
+use Rattle.message_tree.specs.declared.bits.Bit.TheVariants.{Zero, One}
 use Rattle.message_tree.specs.declared.bits.Address.{Address}
 use Rattle.message_tree.specs.declared.bits.Pattern.{Pattern}
 use Rattle.message_tree.specs.declared.counts.Count.{Count}
 use Rattle.message_tree.specs.declared.items.Item.{Item}
-use Rattle.message_tree.specs.declared.items.Item.TheVariants.{Sent, Heard, Again, Stop, Claim}
+use Rattle.message_tree.specs.declared.items.Item.TheVariants.{Sent, Heard, Again, Stop}
 use Rattle.message_tree.specs.declared.items.Kind.{Kind}
 use Rattle.message_tree.specs.declared.items.Kind.TheVariants as kind
 use Rattle.std.specs.Int.{bit_at}
 use Rattle.message_tree.proofs.TextLaws.{lawful_frame, lawful_payload}
 use Rattle.message_tree.specs.Bits.{bit_from, bits_below, SplitAt, IsFirstSplit, NeverSplit}
-use Rattle.message_tree.specs.Counts.{InRange, Meet, greatest_of}
-use Rattle.message_tree.specs.Items.{kind_of, KindsClash, Clash}
+use Rattle.message_tree.specs.Counts.{Meet, greatest_of}
+use Rattle.message_tree.specs.Items.{KindsClash}
 use Rattle.message_tree.specs.Patterns.{pattern_bits, address_bits}
 use Rattle.message_tree.specs.Trees as tree
 use Rattle.message_tree.specs.Trees.{FrameTree, PayloadTree, TailTree}
-use Rattle.message_tree.specs.Texts.{Language, SentThen, AnswerThen, AgainThen, Only, ReadThen, write_header, read_header, FrameText, PayloadText, TailText}
+use Rattle.message_tree.specs.Texts.{Language, SentThen, AnswerThen, ReadThen, write_header, read_header, FrameText, PayloadText, TailText}
 use Rattle.certificate.specs.declared.values.Cert.{Cert}
-use Rattle.certificate.specs.Proofs.{ProofTree, part, short, byte, read, again, alike, proof_tree}
+use Rattle.certificate.specs.Proofs.{ProofTree, part, byte, read, again, alike, proof_tree}
 use Rattle.certificate.specs.Proves.{NeverClash, ProvesFrames, ProvesPayloads, ProvesTails}
-use Rattle.certificate.proofs.Soundness.{never_read, sound_frames, sound_payloads, sound_tails}
+use Rattle.certificate.proofs.Soundness.{never_read, sound_payloads, sound_tails}
 use Rattle.pair_walk.specs.declared.compare.Halt.{Halt}
-use Rattle.pair_walk.specs.declared.compare.Halt.TheVariants.{NoMemory} 
+use Rattle.pair_walk.specs.declared.compare.Halt.TheVariants.{NoMemory}
 use Rattle.pair_walk.specs.declared.compare.Halt.TheVariants as halt
 use Rattle.pair_walk.specs.Canonical.{CanonicalFrames, CanonicalReads, CanonicalPayloads, CanonicalTails}
 use Rattle.pair_walk.specs.Compare.{Halts, HaltsBehind, ClashesAtOnce, kind_of_tail}

@@ -1,21 +1,20 @@
 -- A pair has one verdict.
-use Rattle.std.proofs.Common.{◌≡◌, ℕ, ◌<◌, Bool, true, false, Option, Some, None, List, [], ◌∷◌, ◌++◌, refl, ap, sym, ◌∙◌, subst, arith, inl, inr, ◌⊎◌}
+use Rattle.std.proofs.Common.{◌≡◌, ℕ, true, false, Option, Some, None, List, [], ◌∷◌, refl, ap, sym, ◌∙◌, subst, arith, inl, inr}
 use Rattle.std.proofs.lemmas.Bool.{cases_lt}
 use Rattle.message_tree.specs.declared.bits.Bit.{Bit}
 use Rattle.message_tree.specs.declared.bits.Pattern.{Pattern}
 use Rattle.message_tree.specs.declared.items.Item.{Item}
 use Rattle.message_tree.specs.declared.items.Item.TheVariants.{Sent, Heard, Again, Stop, Claim}
 use Rattle.message_tree.specs.declared.items.Kind.{Kind}
-use Rattle.message_tree.specs.Bits.{IsFirstSplit, NeverSplit}
-use Rattle.message_tree.specs.Items.{kind_of}
+use Rattle.message_tree.specs.Bits.{IsFirstSplit}
 use Rattle.message_tree.specs.Trees as tree
 use Rattle.message_tree.specs.Trees.{FrameTree, PayloadTree, TailTree}
 use Rattle.message_tree.specs.Texts.{Sender, message, interrupt}
 use Rattle.certificate.specs.Proofs.{ProofTree, part, short, byte, read, again, alike}
-use Rattle.certificate.specs.Proves.{Proves, ProvesHeaders, header_of, OneKind}
+use Rattle.certificate.specs.Proves.{Proves, ProvesHeaders, OneKind}
 use Rattle.certificate.proofs.Soundness.{offers_one_kind}
 use Rattle.plan_core.specs.Contents.{Contents}
-use Rattle.plan_core.specs.Participants.{Text, TextOf, sender_at}
+use Rattle.plan_core.specs.Participants.{TextOf, sender_at}
 use Rattle.plan_core.specs.Faults.{OffersKind}
 use Rattle.pair_walk.specs.Canonical.{CanonicalFrames, CanonicalPayloads, CanonicalTails, CanonicalHeaders, IsCanonical}
 use Rattle.pair_walk.specs.FirstClash.{ComesBefore, InOrder}
@@ -27,10 +26,10 @@ use Rattle.pair_walk.proofs.Nodes.{frames_proved}
 one_place : (xs ys : List Bit) (k l : ℕ) → IsFirstSplit xs ys k → IsFirstSplit xs ys l → part k ≡ part l
 one_place xs ys k l f g =
     elim (cases_lt k l) [
-      inl lt ↦ absurd (g.first k lt f.splits)
-    | inr le ↦ elim (cases_lt l k) [
-        inl lt ↦ absurd (f.first l lt g.splits)
-      | inr ge ↦ let e : k ≡ l = omega arith in ap part e
+      | inl lt ↦ absurd (g.first k lt f.splits)
+      | inr le ↦ elim (cases_lt l k) [
+        | inl lt ↦ absurd (f.first l lt g.splits)
+        | inr ge ↦ let e : k ≡ l = omega arith in ap part e
       ]
     ]
 
@@ -91,8 +90,8 @@ mutual
   one_frames (read p q) (part k) (tree.read a c x r) (tree.read b d y s) h i = absurd (h.0 k i.splits)
   one_frames (read p q) (read p' q') (tree.read a c x r) (tree.read b d y s) h i =
       let e : p ≡ p' = elim h.1 [
-        inl m ↦ elim i.1 [ inl n ↦ m.0 ∙ sym n.0 | inr n ↦ absurd (m.1 n.0) ]
-      | inr m ↦ elim i.1 [ inl n ↦ absurd (n.1 m.0) | inr n ↦ one_tails p p' x y m.1 n.1 ]
+        | inl m ↦ elim i.1 [ inl n ↦ m.0 ∙ sym n.0 | inr n ↦ absurd (m.1 n.0) ]
+        | inr m ↦ elim i.1 [ inl n ↦ absurd (n.1 m.0) | inr n ↦ one_tails p p' x y m.1 n.1 ]
       ] in
       let d = one_tails q q' r s h.2 i.2 in
       cc (e, d)

@@ -1,12 +1,12 @@
 -- The proof that a verdict gives (ours): the one in which Part stands wherever two headers or bytes have a bit that is known in
 -- both and different, and names the first such bit.
-use Rattle.std.specs.Prelude.{◌≡◌, ℕ, ◌⊎◌, List}
+use Rattle.std.specs.Prelude.{◌≡◌, ◌⊎◌, List}
 use Rattle.message_tree.specs.declared.bits.Bit.{Bit}
 use Rattle.message_tree.specs.declared.counts.Count.{Count}
 use Rattle.message_tree.specs.Bits.{IsFirstSplit, NeverSplit}
 use Rattle.message_tree.specs.Counts.{Meet}
 use Rattle.message_tree.specs.Patterns.{pattern_bits}
-use Rattle.message_tree.specs.Texts.{Sender, message, interrupt, write_header, read_header}
+use Rattle.message_tree.specs.Texts.{Sender, message, write_header, read_header}
 use Rattle.message_tree.specs.Trees as tree
 use Rattle.message_tree.specs.Trees.{FrameTree, PayloadTree, TailTree}
 use Rattle.certificate.specs.Proofs.{ProofTree, part, short, byte, read, again, alike}

@@ -1,8 +1,8 @@
 -- The first of all clashes of two participants, by the dictionary order of the wires before them. The order is ours;
 -- what must not meet is UM10204, 3.1.8.
-use Rattle.std.specs.Prelude.{◌≡◌, ◌⊎◌, Bool, true, false, List, [], ◌∷◌, ◌++◌}
+use Rattle.std.specs.Prelude.{◌≡◌, ◌⊎◌, true, false, List, [], ◌∷◌, ◌++◌}
 use Rattle.message_tree.specs.declared.items.Item.{Item}
-use Rattle.message_tree.specs.declared.items.Item.TheVariants.{Sent, Heard, Again, Stop, Claim}
+use Rattle.message_tree.specs.declared.items.Item.TheVariants.{Sent, Heard}
 use Rattle.message_tree.specs.declared.items.Kind.{Kind}
 use Rattle.message_tree.specs.Items.{kind_of, KindsClash, Clash}
 use Rattle.message_tree.specs.Texts.{Language}

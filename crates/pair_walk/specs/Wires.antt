@@ -1,7 +1,7 @@
 -- The wire on which two participants are both live, as far as they may choose it: the first in dictionary order.
 use Rattle.std.specs.Prelude.{ℕ, suc, zero, Bool, true, false, List, [], ◌∷◌, ◌++◌, replicate}
 use Rattle.message_tree.specs.declared.bits.Bit.{Bit}
-use Rattle.message_tree.specs.declared.bits.Bit.TheVariants.{Zero, One, Either}
+use Rattle.message_tree.specs.declared.bits.Bit.TheVariants.{One}
 use Rattle.message_tree.specs.declared.items.Item.{Item}
 use Rattle.message_tree.specs.declared.items.Item.TheVariants.{Sent, Heard}
 

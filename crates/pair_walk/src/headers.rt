@@ -10,13 +10,11 @@ ghost use Rattle.certificate.specs.Proves.{frame_header};
 ghost use Rattle.pair_walk.specs.Canonical.{CanonicalHeaders};
 ghost use Rattle.pair_walk.specs.Compare.{Halts};
 
-use std::alloc::Global;
-
-use certificate::Cert;
-use message_tree::{Address, Frame, Kind};
-
 use crate::compare::{Halt, behind, clash};
 use crate::wires::header_items;
+use certificate::Cert;
+use message_tree::{Address, Frame, Kind};
+use std::alloc::Global;
 
 /// A message and an interrupt.
 pub(crate) fn message_and_interrupt(alloc: Global, f: &Frame, b: &Address) -> Result<Cert, Halt>

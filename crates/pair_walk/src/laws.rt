@@ -16,5 +16,4 @@ pub fn one_verdict()
     ensures one_proof { (p q : ProofTree) (s t : Sender) → IsCanonical p s t → IsCanonical q s t → p ≡ q }
     ensures one_fault { (plan : Contents) (x y : ℕ) (u v : List Item) (j k a b : Kind) →
         IsFirstFault plan x y u j k → IsFirstFault plan x y v a b → (u ≡ v) × (j ≡ a) × (k ≡ b) }
-{
-}
+{}

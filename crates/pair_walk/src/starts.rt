@@ -9,14 +9,12 @@ ghost use Rattle.pair_walk.specs.Canonical.{IsCanonical};
 ghost use Rattle.pair_walk.specs.Compare.{Halts};
 ghost use Rattle.pair_walk.specs.Starts.{start_sender};
 
-use std::alloc::Global;
-
+use crate::compare::{Halt, compare_frames};
+use crate::headers::{interrupt_and_message, message_and_interrupt, two_interrupts};
 use certificate::Cert;
 use message_tree::{Address, Frame};
 use plan_core::{Participant, Plan};
-
-use crate::compare::{Halt, compare_frames};
-use crate::headers::{interrupt_and_message, message_and_interrupt, two_interrupts};
+use std::alloc::Global;
 
 /// What a participant sends after the START.
 #[derive(Drop)]

@@ -5,13 +5,11 @@ ghost use Rattle.plan_core.specs.PlanContents.{plan_contents};
 ghost use Rattle.plan_core.specs.Pairs.{pairs_of};
 ghost use Rattle.pair_walk.specs.Verdicts.{IsVerdict};
 
-use std::alloc::{AllocError, Global};
-
-use certificate::{Cert, Fault};
-use plan_core::Plan;
-
 use crate::compare::{Halt, Meeting};
 use crate::starts::{compare_starts, start_of};
+use certificate::{Cert, Fault};
+use plan_core::Plan;
+use std::alloc::{AllocError, Global};
 
 /// What holds of a pair.
 #[derive(Debug, Drop)]

@@ -3,13 +3,13 @@ use Rattle.message_tree.specs.declared.bits.Bit.TheVariants.{Zero, One}
 use Rattle.message_tree.specs.declared.tree.Frame.{Frame}
 use Rattle.message_tree.specs.declared.tree.Payload.{Payload}
 use Rattle.message_tree.specs.Patterns.{address_bits}
-use Rattle.message_tree.specs.Trees.{frame_tree, payload_tree, tail_tree, write, read, byte, again}
-use Rattle.message_tree.specs.Texts.{FrameText, PayloadText, TailText}
-use Rattle.certificate.specs.Proofs.{proof_tree} 
+use Rattle.message_tree.specs.Trees.{frame_tree, payload_tree, tail_tree, write, byte, again}
+use Rattle.message_tree.specs.Texts.{FrameText}
+use Rattle.certificate.specs.Proofs.{proof_tree}
 use Rattle.certificate.specs.Proofs as proof
 use Rattle.certificate.specs.Proves.{frame_header}
-use Rattle.pair_walk.specs.Canonical.{CanonicalFrames, CanonicalPayloads}
-use Rattle.pair_walk.proofs.Nodes.{made, frames_write_acked, frames_write_refused, frames_write_proved, frames_read_acked, frames_read_refused, frames_read_proved, payloads_acked, payloads_refused, payloads_byte_proved, byte_meets_tail, tail_meets_byte, stop_meets_again, again_meets_stop, tails_again, reads_halt, directions_split, length_of_address}
+use Rattle.pair_walk.specs.Canonical.{CanonicalFrames}
+use Rattle.pair_walk.proofs.Nodes.{made, frames_write_acked, frames_write_refused, frames_write_proved, frames_read_acked, frames_read_refused, frames_read_proved, payloads_acked, payloads_refused, byte_meets_tail, tail_meets_byte, stop_meets_again, again_meets_stop, tails_again, reads_halt, directions_split, length_of_address}
 use Rattle.pair_walk.proofs.HeaderLemmas.{first_in_header}
 use Rattle.pair_walk.proofs.compare.+compare.Goals as goal
 
@@ -30,17 +30,17 @@ compare_frames-returns-in-Ok-compare_tails t c =
     let f = ap frame_tree c.in-Write.is ∙ ap (λ (p : Payload). write c.in-Write.a (payload_tree p) (tail_tree c.in-Write.r)) (sym c.deref.ensures) in
     let g = ap frame_tree c.in-Write-g.is ∙ ap (λ (p : Payload). write c.in-Write-g.b (payload_tree p) (tail_tree c.in-Write-g.s)) (sym c.deref-in-None.ensures) in
     made c.byte_proof.result (proof.byte (proof_tree c.in-Ok.acked) (proof_tree c.in-Ok-compare_tails.refused)) (λ p. CanonicalFrames p (frame_tree c.args.f.now) (frame_tree c.args.g.now)) (FrameText (frame_tree c.args.f.now)) (FrameText (frame_tree c.args.g.now)) c.byte_proof.ensures
-        (frames_write_proved (frame_tree c.args.f.now) (frame_tree c.args.g.now) c.in-Write.a c.in-Write-g.b (payload_tree c.deref.result.now) (tail_tree c.in-Write.r) (payload_tree c.deref-in-None.result.now) (tail_tree c.in-Write-g.s) f g c.in-None.ensures (proof_tree c.in-Ok.acked) (proof_tree c.in-Ok-compare_tails.refused) c.in-Ok.ensures c.in-Ok-compare_tails.ensures)
+    (frames_write_proved (frame_tree c.args.f.now) (frame_tree c.args.g.now) c.in-Write.a c.in-Write-g.b (payload_tree c.deref.result.now) (tail_tree c.in-Write.r) (payload_tree c.deref-in-None.result.now) (tail_tree c.in-Write-g.s) f g c.in-None.ensures (proof_tree c.in-Ok.acked) (proof_tree c.in-Ok-compare_tails.refused) c.in-Ok.ensures c.in-Ok-compare_tails.ensures)
 
 pub compare_frames-returns-in-Read-g : goal.compare_frames-returns-in-Read-g
 compare_frames-returns-in-Read-g t c =
     directions_split (address_bits c.in-Write.a) (address_bits c.in-Read-g.b) (frame_header (frame_tree c.args.f.now)) (frame_header (frame_tree c.args.g.now)) Zero One c.first_split-in-Read-g.result c.unwrap_or.result
-        (ap frame_header (ap frame_tree c.in-Write.is)) (ap frame_header (ap frame_tree c.in-Read-g.is)) (length_of_address c.in-Write.a) (length_of_address c.in-Read-g.b) (inl (refl, refl)) c.first_split-in-Read-g.ensures c.unwrap_or.ensures
+    (ap frame_header (ap frame_tree c.in-Write.is)) (ap frame_header (ap frame_tree c.in-Read-g.is)) (length_of_address c.in-Write.a) (length_of_address c.in-Read-g.b) (inl (refl, refl)) c.first_split-in-Read-g.ensures c.unwrap_or.ensures
 
 pub compare_frames-returns-in-Write-g-2 : goal.compare_frames-returns-in-Write-g-2
 compare_frames-returns-in-Write-g-2 t c =
     directions_split (address_bits c.in-Read.a) (address_bits c.in-Write-g-2.b) (frame_header (frame_tree c.args.f.now)) (frame_header (frame_tree c.args.g.now)) One Zero c.first_split-in-Write-g-2.result c.unwrap_or-in-Write-g-2.result
-        (ap frame_header (ap frame_tree c.in-Read.is)) (ap frame_header (ap frame_tree c.in-Write-g-2.is)) (length_of_address c.in-Read.a) (length_of_address c.in-Write-g-2.b) (inr (refl, refl)) c.first_split-in-Write-g-2.ensures c.unwrap_or-in-Write-g-2.ensures
+    (ap frame_header (ap frame_tree c.in-Read.is)) (ap frame_header (ap frame_tree c.in-Write-g-2.is)) (length_of_address c.in-Read.a) (length_of_address c.in-Write-g-2.b) (inr (refl, refl)) c.first_split-in-Write-g-2.ensures c.unwrap_or-in-Write-g-2.ensures
 
 pub compare_frames-returns-in-Some-first_split : goal.compare_frames-returns-in-Some-first_split
 compare_frames-returns-in-Some-first_split t c =
@@ -59,7 +59,7 @@ pub compare_frames-returns-in-Ok-compare_tails-2 :
     goal.compare_frames-returns-in-Ok-compare_tails-2
 compare_frames-returns-in-Ok-compare_tails-2 t c =
     made c.read_proof.result (proof.read (proof_tree c.in-Ok-compare_reads.after) (proof_tree c.in-Ok-compare_tails-2.refused)) (λ p. CanonicalFrames p (frame_tree c.args.f.now) (frame_tree c.args.g.now)) (FrameText (frame_tree c.args.f.now)) (FrameText (frame_tree c.args.g.now)) c.read_proof.ensures
-        (frames_read_proved (frame_tree c.args.f.now) (frame_tree c.args.g.now) c.in-Read.a c.in-Read-g-2.b c.in-Read.c c.in-Read-g-2.d (tail_tree c.in-Read.x) (tail_tree c.in-Read.r) (tail_tree c.in-Read-g-2.y) (tail_tree c.in-Read-g-2.s) (ap frame_tree c.in-Read.is) (ap frame_tree c.in-Read-g-2.is) c.in-None-first_split.ensures (proof_tree c.in-Ok-compare_reads.after) (proof_tree c.in-Ok-compare_tails-2.refused) c.in-Ok-compare_reads.ensures c.in-Ok-compare_tails-2.ensures)
+    (frames_read_proved (frame_tree c.args.f.now) (frame_tree c.args.g.now) c.in-Read.a c.in-Read-g-2.b c.in-Read.c c.in-Read-g-2.d (tail_tree c.in-Read.x) (tail_tree c.in-Read.r) (tail_tree c.in-Read-g-2.y) (tail_tree c.in-Read-g-2.s) (ap frame_tree c.in-Read.is) (ap frame_tree c.in-Read-g-2.is) c.in-None-first_split.ensures (proof_tree c.in-Ok-compare_reads.after) (proof_tree c.in-Ok-compare_tails-2.refused) c.in-Ok-compare_reads.ensures c.in-Ok-compare_tails-2.ensures)
 
 pub compare_payloads-returns-in-Err : goal.compare_payloads-returns-in-Err
 compare_payloads-returns-in-Err t c =

@@ -1,4 +1,4 @@
-use Rattle.std.proofs.Common.{ap, [], ◌∷◌, ◌++◌, take, refl, inl, inr}
+use Rattle.std.proofs.Common.{ap, [], ◌∷◌, ◌++◌, take, refl, inl}
 use Rattle.message_tree.specs.declared.bits.Bit.TheVariants.{Zero, One}
 use Rattle.message_tree.specs.Patterns.{address_bits}
 use Rattle.message_tree.specs.Trees.{frame_tree, tail_tree}
