@@ -326,9 +326,9 @@ limits-never plan first second limits none =
       once = limits.once;
       addresses = limits.addresses;
       never_known = All-push (λ (n : ℕ × ℕ). (n.0 < length plan.controllers) × (n.1 < length plan.controllers)) plan.nevers never limits.never_known
-        (omega (arith, is_c, number_within first plan.controllers allowed.c allowed.at_first), omega (arith, is_d, number_within second plan.controllers allowed.d allowed.at_second));
+          (omega (arith, is_c, number_within first plan.controllers allowed.c allowed.at_first), omega (arith, is_d, number_within second plan.controllers allowed.d allowed.at_second));
       never_two = All-push (λ (n : ℕ × ℕ). n.0 ≢ n.1) plan.nevers never limits.never_two (λ same. allowed.two (sym is_c ∙ same ∙ is_d));
       never_once = all_pairs_push (λ (m n : ℕ × ℕ). names_both m.0 m.1 n ≡ false) plan.nevers never limits.never_once
-        (λ k e h. names_both-turned (controller_number plan first) (controller_number plan second) (get_or plan.nevers k e).0 (get_or plan.nevers k e).1
+          (λ k e h. names_both-turned (controller_number plan first) (controller_number plan second) (get_or plan.nevers k e).0 (get_or plan.nevers k e).1
           (ap (λ c. names_both c (controller_number plan second) (get_or plan.nevers k e)) is_c ∙ ap (λ d. names_both allowed.c d (get_or plan.nevers k e)) is_d ∙ none_names allowed.c allowed.d plan.nevers allowed.new k e h));
     }

@@ -7,9 +7,10 @@ use Rattle.std.proofs.lemmas.Bool.Decides.{Decides-eqb}
 use Rattle.std.proofs.lemmas.Map.Made.{IsDistinct-from_AllPairs}
 use Rattle.std.proofs.lemmas.Map.Steps.{length-le_from_distinct_below}
 use Rattle.std.proofs.lemmas.List.{length-map, get_or-map, append-nil, length_push}
-use Rattle.std.proofs.lemmas.List.Elements.{filter_agree, All-head, All-tail, All-map}
-use Rattle.std.proofs.lemmas.List.FromFn.{length-range_with_len, map-range_with_len_more}
+use Rattle.std.proofs.lemmas.List.Elements.{filter_agree, All-nil, All-head, All-tail, All-map, All-append, All-weaker}
+use Rattle.std.proofs.lemmas.List.FromFn.{length-range_with_len, get_or-range_with_len, map-range_with_len_more}
 use Rattle.std.proofs.lemmas.List.Sums.{sum_by-cons}
+use Rattle.std.proofs.lemmas.Option.{get_or_from_slice_get, slice_get_within}
 use Rattle.plan_core.specs.declared.plans.Participant.{Participant}
 use Rattle.plan_core.specs.declared.plans.Participant.TheVariants.{Sending, Interrupt}
 use Rattle.message_tree.specs.declared.tree.Frame.{Frame}
@@ -17,7 +18,7 @@ use Rattle.plan_core.specs.declared.names.Name.{Name}
 use Rattle.plan_core.specs.Building.{with_sender, with_interrupt}
 use Rattle.plan_core.specs.Contents.{Contents, empty}
 use Rattle.plan_core.specs.Parts.{contents_of}
-use Rattle.plan_core.specs.Limits.{IsWithinLimits, sending_count}
+use Rattle.plan_core.specs.Limits.{IsKnown, IsWithinLimits, sending_count}
 use Rattle.plan_core.specs.Participants.{sendings_from, participants_of, participant_count, apart, same_controller, forbidden, one_controller, forbids_both}
 use Rattle.plan_core.specs.Pairs.{partners, pairs_of}
 use Rattle.plan_core.specs.PairTables.{apart_in, joins, partners_in, pairs_below}
@@ -83,8 +84,10 @@ nevers_few plan limits =
   where
     none : ℕ × ℕ
     none = (0, 0)
+
     code_at : (i d : ℕ) → i < length plan.nevers → get_or (map code_of plan.nevers) i d ≡ code_of (get_or plan.nevers i none)
     code_at i d h = get_or-map code_of plan.nevers i none d h
+
     differ : (i j : ℕ) → i < j → j < length plan.nevers → code_of (get_or plan.nevers i none) ≡ code_of (get_or plan.nevers j none) → ⊥
     differ i j lt within same =
         let m = get_or plan.nevers i none in
@@ -140,3 +143,21 @@ participants_of-interrupt plan name address =
     ap (λ k. sendings_from 0 plan.controllers ++ map Interrupt (range_with_len 0 k)) (length_push plan.interrupts (name, address))
     ∙ ap (λ xs. sendings_from 0 plan.controllers ++ xs) (map-range_with_len_more Interrupt 0 n n (zero-add n))
     ∙ sym (append_assoc (sendings_from 0 plan.controllers) (map Interrupt (range_with_len 0 n)) (Interrupt n ∷ []))
+
+-- what a participant names stands in the plan
+known_sendings : (plan : Contents) (c : ℕ) (controllers : List (List ℕ × List ℕ)) → c + length controllers ≤ length plan.controllers → All (λ (k : List ℕ × List ℕ). All (λ m. m < length plan.messages) k.1) controllers → All (IsKnown plan) (sendings_from c controllers)
+known_sendings plan c [] fits known = All-nil (IsKnown plan)
+known_sendings plan c (k ∷ ks) fits known =
+    let here = All-head (λ (k : List ℕ × List ℕ). All (λ m. m < length plan.messages) k.1) k ks known in
+    let rest = All-tail (λ (k : List ℕ × List ℕ). All (λ m. m < length plan.messages) k.1) k ks known in
+    All-append (IsKnown plan) (map (Sending c) k.1) (sendings_from (c + 1) ks)
+    (All-map (IsKnown plan) (Sending c) k.1 (All-weaker (λ m. m < length plan.messages) (λ m. IsKnown plan (Sending c m)) (λ m h. (omega (arith, fits), h)) k.1 here))
+    (known_sendings plan (c + 1) ks (omega (arith, fits)) rest)
+
+known_interrupts : (plan : Contents) → All (IsKnown plan) (map Interrupt (range_with_len 0 (length plan.interrupts)))
+known_interrupts plan = All-map (IsKnown plan) Interrupt (range_with_len 0 (length plan.interrupts)) (λ k d h. omega (arith, get_or-range_with_len 0 (length plan.interrupts) k d (omega (arith, h, length-range_with_len 0 (length plan.interrupts))), h, length-range_with_len 0 (length plan.interrupts)))
+
+pub participant_known : (plan : Contents) → IsWithinLimits plan → (x : ℕ) (p : Participant) → slice_get (participants_of plan) x ≡ Some p → IsKnown plan p
+participant_known plan limits x p at =
+    let all = All-append (IsKnown plan) (sendings_from 0 plan.controllers) (map Interrupt (range_with_len 0 (length plan.interrupts))) (known_sendings plan 0 plan.controllers (omega arith) limits.known) (known_interrupts plan) in
+    subst (IsKnown plan) (get_or_from_slice_get (participants_of plan) x p p at) (all x p (slice_get_within (participants_of plan) x p at))

@@ -7,3 +7,6 @@ pub mod ContentsLemmas
 pub mod PlanLemmas
 pub mod BuildingLemmas
 pub mod StepLemmas
+pub mod LabelLemmas
+pub mod PairLaws
+pub mod LabelLaws

@@ -148,8 +148,8 @@ pub AreRows-push : (nevers : List (ℕ × ℕ)) (participants : List Participant
 AreRows-push nevers participants x rows new_rows all new count new_count row are grown is rows_same count_same = record {
   sized = ap length rows_same ∙ length_push rows row ∙ ap (λ n. n + 1) are.sized;
   row = λ y d. below_more (λ y. IsRow nevers participants new y (get_or new_rows y d)) x
-    (λ k h. subst (IsRow nevers participants new k) (sym (get_or_append_left rows (row ∷ []) d k (omega (arith, are.sized, h))) ∙ ap (λ rs. get_or rs k d) (sym rows_same)) (IsRow-extends nevers participants all new (length participants) k (get_or rows k d) grown (are.row k d h)))
-    (subst (IsRow nevers participants new x) (sym (get_or_push rows row d x are.sized) ∙ ap (λ rs. get_or rs x d) (sym rows_same)) is) y;
+      (λ k h. subst (IsRow nevers participants new k) (sym (get_or_append_left rows (row ∷ []) d k (omega (arith, are.sized, h))) ∙ ap (λ rs. get_or rs k d) (sym rows_same)) (IsRow-extends nevers participants all new (length participants) k (get_or rows k d) grown (are.row k d h)))
+      (subst (IsRow nevers participants new x) (sym (get_or_push rows row d x are.sized) ∙ ap (λ rs. get_or rs x d) (sym rows_same)) is) y;
   pairs = omega (arith, count_same, are.pairs, is.len, length-pairs_below nevers participants x);
   few = omega (arith, are.few, grown.few, ap length grown.same, length-append all grown.more);
 }
@@ -191,18 +191,19 @@ module _ (nevers : List (ℕ × ℕ)) (participants : List Participant) (n : ℕ
   pub AreRows-last : (i x : ℕ) (d : Row) → i < count → x < n → ((k : ℕ) (d : Row) → x < k → k < length rows → i < (get_or rows k d).first) → i < (get_or rows x d).first + (get_or rows x d).len
   AreRows-last i x d lt within after =
       cases (cases_lt (x + 1) n)
-      where
-        upper : length (pairs_below nevers participants (x + 1)) ≡ (get_or rows x d).first + (get_or rows x d).len
-        upper = length-pairs_below nevers participants x ∙ omega (arith, (are.row x d within).first, (are.row x d within).len)
-        cases : (x + 1 < n) ⊎ (n ≤ x + 1) → i < (get_or rows x d).first + (get_or rows x d).len
-        cases (inl more) =
-            let begins = (are.row (x + 1) d more).first in
-            let above = after (x + 1) d (omega arith) (omega (arith, are.sized)) in
-            omega (arith, begins, above, upper)
-        cases (inr end) =
-            let e : n ≡ x + 1 = omega arith in
-            let total : count ≡ length (pairs_below nevers participants (x + 1)) = are.pairs ∙ ap (λ k. length (pairs_below nevers participants k)) e in
-            omega (arith, total, upper)
+    where
+      upper : length (pairs_below nevers participants (x + 1)) ≡ (get_or rows x d).first + (get_or rows x d).len
+      upper = length-pairs_below nevers participants x ∙ omega (arith, (are.row x d within).first, (are.row x d within).len)
+
+      cases : (x + 1 < n) ⊎ (n ≤ x + 1) → i < (get_or rows x d).first + (get_or rows x d).len
+      cases (inl more) =
+          let begins = (are.row (x + 1) d more).first in
+          let above = after (x + 1) d (omega arith) (omega (arith, are.sized)) in
+          omega (arith, begins, above, upper)
+      cases (inr end) =
+          let e : n ≡ x + 1 = omega arith in
+          let total : count ≡ length (pairs_below nevers participants (x + 1)) = are.pairs ∙ ap (λ k. length (pairs_below nevers participants k)) e in
+          omega (arith, total, upper)
 
   -- and this is the pair
   pub AreRows-pair : (i x : ℕ) (row : Row) → x < n → IsRow nevers participants all x row → row.first ≤ i → i < row.first + row.len → slice_get (pairs_below nevers participants n) i ≡ Some (x, get_or all (row.partners + (i - row.first)) 0)
@@ -222,7 +223,7 @@ module _ (nevers : List (ℕ × ℕ)) (participants : List Participant) (n : ℕ
       let total : i < length (pairs_below nevers participants n) = omega (arith, is.first, is.len, length-pairs_below nevers participants x, pairs_below-rising nevers participants (x + 1) n (omega arith)) in
       slice_get-get_or (pairs_below nevers participants n) i d total
       ∙ ap Some (ap (λ k. get_or (flat_map own range) k d) (sym begin) ∙ found ∙ ap (λ k. get_or (own k) j d) at
-        ∙ get_or-map (λ y. (x, y)) (partners_in nevers participants x) j 0 d short ∙ ap (λ y. (x, y)) second)
+      ∙ get_or-map (λ y. (x, y)) (partners_in nevers participants x) j 0 d short ∙ ap (λ y. (x, y)) second)
 
   -- there are rows where there are pairs
   pub AreRows-some : (i : ℕ) → i < count → 0 < length rows

@@ -14,3 +14,4 @@ pub mod PairTables
 pub mod PlanContents
 pub mod BuilderContents
 pub mod Building
+pub mod Labels

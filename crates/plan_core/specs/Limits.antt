@@ -6,6 +6,8 @@ use Rattle.message_tree.specs.Sizes.{frame_bytes, frame_nodes}
 use Rattle.plan_core.specs.Contents.{Contents}
 use Rattle.plan_core.specs.Names.{IsName}
 use Rattle.plan_core.specs.Participants.{names_both}
+use Rattle.plan_core.specs.declared.plans.Participant.{Participant}
+use Rattle.plan_core.specs.declared.plans.Participant.TheVariants.{Sending, Interrupt}
 
 -- each is a name, and no two are equal
 pub record AreNames (names : List (List ℕ)) : Type 0 where
@@ -35,3 +37,8 @@ pub record IsWithinLimits (plan : Contents) : Type 0 where
   pub never_known : All (λ n. (n.0 < length plan.controllers) × (n.1 < length plan.controllers)) plan.nevers
   pub never_two : All (λ n. n.0 ≢ n.1) plan.nevers
   pub never_once : AllPairs (λ m n. names_both m.0 m.1 n ≡ false) plan.nevers
+
+-- what the participant names stands in the plan
+abbrev pub IsKnown : Contents → Participant → Type 0
+IsKnown plan (Sending controller message) = (controller < length plan.controllers) × (message < length plan.messages)
+IsKnown plan (Interrupt k) = k < length plan.interrupts

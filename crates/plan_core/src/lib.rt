@@ -2,8 +2,10 @@
 #![tactic(auto)]
 
 pub mod builder;
+mod labels;
 pub mod laws;
 pub mod names;
+pub mod pair_laws;
 mod pairs;
 pub mod plans;
 

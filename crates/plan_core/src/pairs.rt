@@ -202,9 +202,7 @@ fn is_one_controller(x: Participant, y: Participant) -> bool
 pub fn is_never(nevers: &[(u32, u32)], first: u32, second: u32) -> bool
     ensures { result ≡ list_any (names_both first second) nevers.now }
 {
-    nevers
-        .iter()
-        .any(|never| names_both(first, second, *never))
+    nevers.iter().any(|never| names_both(first, second, *never))
 }
 
 fn names_both(first: u32, second: u32, never: (u32, u32)) -> bool

@@ -6,7 +6,7 @@ ghost use Rattle.std.specs.Map.{keys_of, values_of};
 ghost use Rattle.message_tree.specs.Trees.{frame_tree};
 ghost use Rattle.plan_core.specs.NameBytes.{name_bytes};
 ghost use Rattle.plan_core.specs.Parts.{contents_of};
-ghost use Rattle.plan_core.specs.Limits.{IsWithinLimits};
+ghost use Rattle.plan_core.specs.Limits.{IsKnown, IsWithinLimits};
 ghost use Rattle.plan_core.specs.Participants.{participants_of, participant_count, forbidden};
 ghost use Rattle.plan_core.specs.PairTables.{IsPairTable};
 
@@ -144,7 +144,8 @@ impl Plan {
     /// The participant with this number.
     pub fn participant(&self, i: u32) -> Participant
         requires { i < participant_count (plan_contents self.now) }
-        ensures { slice_get (participants_of (plan_contents self.now)) i ≡ Some result }
+        ensures value { slice_get (participants_of (plan_contents self.now)) i ≡ Some result }
+        ensures known { IsKnown (plan_contents self.now) result }
     {
         self.participants[i as usize]
     }

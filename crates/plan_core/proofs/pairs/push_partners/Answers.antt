@@ -20,7 +20,7 @@ loop-y-preserved c =
     record {
       kept = c.is_apart_after-apart.ensures;
       items = elim c.if-not-apart.branch [
-          then-not-apart+in_ok-push w ↦
+        | then-not-apart+in_ok-push w ↦
             let free : apart_in nevers (Some own) (Some other) ≡ false = sym c.is_apart_after-apart.ensures ∙ w.if-not-apart.true in
             ap vec_items w.all-is ∙ w.in_ok-push.ensures.items ∙ ap (λ xs. xs ++ c.loop-y.y ∷ []) c.loop-y.invariant.items ∙ append_assoc c.args.all.now.items _ _
             ∙ ap (λ xs. c.args.all.now.items ++ xs) (sym (partners_among-joined nevers participants c.args.x c.loop-y.y own other at_x at_y lt free))
@@ -28,11 +28,11 @@ loop-y-preserved c =
             let held : apart_in nevers (Some own) (Some other) ≡ true = sym c.is_apart_after-apart.ensures ∙ w.if-not-apart.false in
             ap vec_items w.all-is ∙ c.loop-y.invariant.items
             ∙ ap (λ xs. c.args.all.now.items ++ xs) (sym (partners_among-apart nevers participants c.args.x c.loop-y.y own other at_x at_y lt held))
-        ];
+      ];
     }
 
 pub returns : goal.returns
 unfolding partners_in
-returns c = 
+returns c =
     let size : c.loop-y.y ≡ length c.args.participants.now = omega arith in
     c.loop-y.invariant.items ∙ ap (λ y. c.args.all.now.items ++ partners_among c.args.nevers.now c.args.participants.now c.args.x (c.args.x + 1) (y - (c.args.x + 1))) size

@@ -15,7 +15,7 @@ returns-then-is_one_controller-clause-row c =
     IsRow-next_sending c.args.nevers.now c.args.participants.now c.args.self.now.partners.items (c.args.x - 1) c.args.x (Sending 0 0) last _ (omega arith) c.requires.within row (sym c.is_one_controller.ensures ∙ c.if-is_one_controller.true) below.pairs (λ i. last.len) (λ i. last.partners)
 
 pub overflow_cast-result-2 : goal.overflow_cast-result-2
-overflow_cast-result-2 c = 
+overflow_cast-result-2 c =
     let own = partners_in c.args.nevers.now c.args.participants.now c.args.x in
     let size : length c.push_partners.new.all.items ≡ length c.args.self.now.partners.items + length own = ap length c.in_ok-push_partners.ensures ∙ length-append c.args.self.now.partners.items own in
     let few = partners_in-few c.args.nevers.now c.args.participants.now c.args.x in
@@ -29,7 +29,7 @@ returns-clause-partners c = record {
 }
 
 pub returns-clause-row : goal.returns-clause-row
-returns-clause-row c = 
+returns-clause-row c =
     let own = partners_in c.args.nevers.now c.args.participants.now c.args.x in
     let size : length c.push_partners.new.all.items ≡ length c.args.self.now.partners.items + length own = ap length c.in_ok-push_partners.ensures ∙ length-append c.args.self.now.partners.items own in
     IsRow-pushed c.args.nevers.now c.args.participants.now c.args.self.now.partners.items _ c.args.x _ c.in_ok-push_partners.ensures c.requires.below.pairs (omega (arith, size)) (omega arith)

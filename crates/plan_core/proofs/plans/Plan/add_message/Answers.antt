@@ -26,10 +26,10 @@ invariant_of-self c =
     let nevers = plan.nevers.items in
     let new = c.push_entry.new.entries.entries in
     let after : (contents_of new controllers interrupts nevers ≡ with_message (plan_contents plan) (name_bytes c.args.name) (frame_tree c.args.frame)) ⊎ (contents_of new controllers interrupts nevers ≡ plan_contents plan) =
-      elim (either c.push_entry.result c.push_entry.ensures.added c.push_entry.ensures.unchanged) [
-        | inl e ↦ inl (contents_of-message plan.messages.entries controllers interrupts nevers new c.args.name c.args.frame e)
-        | inr e ↦ inr (contents_of-messages plan.messages.entries controllers interrupts nevers new e)
-      ] in
+    elim (either c.push_entry.result c.push_entry.ensures.added c.push_entry.ensures.unchanged) [
+      | inl e ↦ inl (contents_of-message plan.messages.entries controllers interrupts nevers new c.args.name c.args.frame e)
+      | inr e ↦ inr (contents_of-messages plan.messages.entries controllers interrupts nevers new e)
+    ] in
     let numbered = IsNumbered-message plan.participants.items (plan_contents plan) (contents_of new controllers interrupts nevers) (name_bytes c.args.name) (frame_tree c.args.frame) (record { limits = limits_of plan; numbered = participants_are plan }) c.args.name.is_name c.requires after in
     record { limits = numbered.limits; numbered = numbered.numbered; paired = plan.paired }
 

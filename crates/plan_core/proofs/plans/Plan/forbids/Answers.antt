@@ -17,10 +17,10 @@ pub returns-in-Sending-Sending : goal.returns-in-Sending-Sending
 unfolding plan_contents contents_of
 returns-in-Sending-Sending c =
     c.is_never.ensures ∙ ap (list_any (names_both c.in-Sending-Sending.controller c.in-Sending-Sending.other)) c.deref.ensures.value
-    ∙ at (plan_contents c.args.self.now) c.args.x c.args.y _ _ c.in-Sending-Sending.ensures c.in-Sending-Sending.ensures'
+    ∙ at (plan_contents c.args.self.now) c.args.x c.args.y _ _ c.in-Sending-Sending.ensures.value c.in-Sending-Sending.ensures'.value
 
 pub returns-in_default : goal.returns-in_default
-returns-in_default c = at (plan_contents c.args.self.now) c.args.x c.args.y _ _ c.in_default.ensures c.in_default.ensures'
+returns-in_default c = at (plan_contents c.args.self.now) c.args.x c.args.y _ _ c.in_default.ensures.value c.in_default.ensures'.value
 
 pub returns-in_default-2 : goal.returns-in_default-2
-returns-in_default-2 c = at (plan_contents c.args.self.now) c.args.x c.args.y (Interrupt c.in_default.field-0-0) _ (c.participant.ensures ∙ ap Some c.in_default.is-0) c.participant-2.ensures
+returns-in_default-2 c = at (plan_contents c.args.self.now) c.args.x c.args.y (Interrupt c.in_default.field-0-0) _ (c.participant.ensures.value ∙ ap Some c.in_default.is-0) c.participant-2.ensures.value

@@ -19,9 +19,9 @@ loop-name-preserved c =
     let more : numbers_of plan (map name_bytes (take (i + 1) messages)) ≡ so_far ++ cons_option (number_of (name_bytes name) plan.messages) [] = numbers_of-more plan messages i name c.loop-name-test.true ∙ ap (λ n. so_far ++ cons_option (number_of (name_bytes n) plan.messages) []) (sym c.name-item.is) in
     elim c.match-message_number.branch [
       | in-Some+in_ok-push w ↦
-        ap vec_items w.numbers-is ∙ w.in_ok-push.ensures.items ∙ ap (λ xs. xs ++ w.in-Some.k ∷ []) c.loop-name.invariant
-        ∙ ap (λ o. so_far ++ cons_option o []) (sym w.in-Some.is ∙ c.message_number.ensures) ∙ sym more
+          ap vec_items w.numbers-is ∙ w.in_ok-push.ensures.items ∙ ap (λ xs. xs ++ w.in-Some.k ∷ []) c.loop-name.invariant
+          ∙ ap (λ o. so_far ++ cons_option o []) (sym w.in-Some.is ∙ c.message_number.ensures) ∙ sym more
       | in_default w ↦
-        ap vec_items w.numbers-is ∙ c.loop-name.invariant ∙ sym (append-nil so_far)
-        ∙ ap (λ o. so_far ++ cons_option o []) (sym w.in_default.is ∙ c.message_number.ensures) ∙ sym more
+          ap vec_items w.numbers-is ∙ c.loop-name.invariant ∙ sym (append-nil so_far)
+          ∙ ap (λ o. so_far ++ cons_option o []) (sym w.in_default.is ∙ c.message_number.ensures) ∙ sym more
     ]

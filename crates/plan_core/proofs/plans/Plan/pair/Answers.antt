@@ -28,12 +28,12 @@ pub overflow_sub-i : goal.overflow_sub-i
 overflow_sub-i c = (holds c).from
 
 pub overflow_add-row : goal.overflow_add-row
-overflow_add-row c = 
+overflow_add-row c =
     let h = holds_pair c.args.self.now c.args.i c.last_begun-x.result c.deref.result.now c.index-row.result.now c.deref.ensures.value c.requires c.last_begun-x.ensures.within c.last_begun-x.ensures.begun c.last_begun-x.ensures.last c.index-row.ensures in
     omega (arith, h.from, h.to, h.is.within, partners_few c.args.self.now)
 
 pub index-y-requires : goal.index-y-requires
-index-y-requires c = 
+index-y-requires c =
     let h = holds_pair c.args.self.now c.args.i c.last_begun-x.result c.deref.result.now c.index-row.result.now c.deref.ensures.value c.requires c.last_begun-x.ensures.within c.last_begun-x.ensures.begun c.last_begun-x.ensures.last c.index-row.ensures in
     omega (arith, h.from, h.to, h.is.within, c.args.self.now.pairs.partners.ok.0)
 
