@@ -12,7 +12,7 @@ use Rattle.plan_core.specs.Participants.{Text}
 use Rattle.plan_core.specs.Lawful.{Set, In, IsLawful, pair, IsPair}
 use Rattle.plan_core.specs.Rounds.{Follows, Offers, IsSlot, is_item, survivors}
 use Rattle.plan_core.specs.Runs.{Reaches, start, slot}
-use Rattle.plan_core.specs.Faults.{OffersKind, Fault}
+use Rattle.plan_core.specs.Faults.{OffersKind, Fault, IsFaulty, IsSafe}
 use Rattle.plan_core.specs.Laws.{NoClaim, BothLive, MayClash}
 use Rattle.plan_core.proofs.Texts.{fair_text}
 
@@ -179,3 +179,10 @@ pair_of_lawful plan s x y l lt i j =
         together = λ p q n h k. l.together p q n (inside p h) (inside q k);
       },
     )
+
+-- a plan is safe where none of its pairs is faulty
+pub safe_by_pairs : (plan : Contents) → ((x y : ℕ) → IsPair plan x y → IsFaulty plan (pair x y) → ⊥) → IsSafe plan
+safe_by_pairs plan none s l f =
+    let fault = f.5 in
+    let alone = pair_of_lawful plan s f.1 f.2 l fault.in_order (still_in fault.reached f.1 fault.first) (still_in fault.reached f.2 fault.second) in
+    none f.1 f.2 alone (f.0, f.1, f.2, f.3, f.4, fault_of_pair plan f.1 f.2 f.0 f.3 f.4 fault.in_order (may_clash plan s f.1 f.2 f.0 f.3 f.4 fault))
