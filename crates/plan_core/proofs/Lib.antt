@@ -10,3 +10,4 @@ pub mod StepLemmas
 pub mod LabelLemmas
 pub mod PairLaws
 pub mod LabelLaws
+pub mod KnownLemmas

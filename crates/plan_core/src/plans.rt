@@ -1,7 +1,7 @@
 // Plans, and who takes part in them.
 #![tactic(auto, unfolding(crate::specs::PlanContents::plan_contents, crate::specs::Parts::contents_of))]
 
-ghost use Rattle.std.specs.Prelude.{◌≡◌, ◌<◌, length, slice_get, Some};
+ghost use Rattle.std.specs.Prelude.{◌≡◌, ◌<◌, length, slice_get, Some, All};
 ghost use Rattle.std.specs.Map.{keys_of, values_of};
 ghost use Rattle.message_tree.specs.Trees.{frame_tree};
 ghost use Rattle.plan_core.specs.NameBytes.{name_bytes};
@@ -91,7 +91,8 @@ impl Plan {
     /// The numbers of the messages that the controller with this number may send, in its own order.
     pub fn controller_messages(&self, k: u32) -> &[u32]
         requires { k < length (plan_contents self.now).controllers }
-        ensures { slice_get (values_of (plan_contents self.now).controllers) k ≡ Some result.now }
+        ensures value { slice_get (values_of (plan_contents self.now).controllers) k ≡ Some result.now }
+        ensures known { All (λ m. m < length (plan_contents self.now).messages) result.now }
     {
         self.controllers.get_index(k as usize).unwrap().1.as_slice()
     }
@@ -129,7 +130,8 @@ impl Plan {
     /// The numbers of the two controllers of the `never` with this number, in the order in which it names them.
     pub fn never(&self, k: u32) -> (u32, u32)
         requires { k < length (plan_contents self.now).nevers }
-        ensures { slice_get (plan_contents self.now).nevers k ≡ Some result }
+        ensures value { slice_get (plan_contents self.now).nevers k ≡ Some result }
+        ensures known { (result.0 < length (plan_contents self.now).controllers) × (result.1 < length (plan_contents self.now).controllers) }
     {
         self.nevers[k as usize]
     }

@@ -1,0 +1,55 @@
+// Why a run ends with no report, or with a part of one.
+
+ghost use Rattle.std.specs.Prelude.{◌≡◌, ◌≢◌};
+ghost use Rattle.report.specs.declared.errors.RunError.TheVariants.{NoMemory, Workers, Write};
+
+use plan_text::PlanError;
+use std::alloc::{AllocError, AllocFailed};
+use thiserror::Error;
+
+/// Why a run ends without its report. Only after `Write` has a part of the report been written: its first bytes.
+#[derive(Clone, Copy, Debug, PartialEq, Eq, Error)]
+pub enum RunError {
+    /// The plan text is refused. For want of memory the refusal is `NoMemory`.
+    #[error("{0}")]
+    Plan(PlanError),
+    /// The number of workers is not one that the run takes.
+    #[error("workers")]
+    Workers,
+    /// A reader failed, or gave no end within its limit of calls.
+    #[error("read")]
+    Read,
+    /// The writer failed, or took no bytes.
+    #[error("write")]
+    Write,
+    /// Memory was refused.
+    #[error("memory")]
+    NoMemory,
+}
+
+impl From<PlanError> for RunError {
+    ghost from_gives = { λ _ e. (e ≢ Workers) × (e ≢ Write) };
+
+    fn from(error: PlanError) -> RunError {
+        match error {
+            PlanError::NoMemory => RunError::NoMemory,
+            _ => RunError::Plan(error),
+        }
+    }
+}
+
+impl From<AllocError> for RunError {
+    ghost from_gives = { λ _ e. e ≡ NoMemory };
+
+    fn from(_error: AllocError) -> RunError {
+        RunError::NoMemory
+    }
+}
+
+impl<T: Drop> From<AllocFailed<T>> for RunError {
+    ghost from_gives = { λ _ e. e ≡ NoMemory };
+
+    fn from(_error: AllocFailed<T>) -> RunError {
+        RunError::NoMemory
+    }
+}

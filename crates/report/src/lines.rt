@@ -1,0 +1,124 @@
+// The lines of the reports.
+
+ghost use Rattle.std.specs.Prelude.{◌≡◌, ℕ, ◌<◌, ◌++◌, [], ◌∷◌, length, map, slice_get, Some, string_bytes, IfOk, OnOk};
+ghost use Rattle.plan_core.specs.PlanContents.{plan_contents};
+ghost use Rattle.plan_core.specs.Pairs.{pairs_of};
+ghost use Rattle.report.specs.Lines.{symbol_of, kind_word, fault_text, fault_line, last_line, check_lines};
+
+use certificate::Fault;
+use message_tree::{Item, Kind};
+use pair_walk::{Outcome, Verdict};
+use plan_core::Plan;
+use std::alloc::{AllocError, Global};
+
+/// The report of a check: a line for each pair that is not safe, in the order of the pairs, and a line that counts them.
+pub(crate) fn check_report(
+    alloc: Global,
+    plan: &Plan,
+    verdicts: &[Verdict],
+) -> Result<String, AllocError>
+    requires { length verdicts.now ≡ length (pairs_of (plan_contents plan.now)) }
+    ensures { IfOk result (λ report. string_bytes report ≡ check_lines (plan_contents plan.now) verdicts.now) }
+{
+    let mut report = String::new(alloc);
+    let mut faults = 0;
+    let pairs = plan.pair_count();
+    for i in 0..pairs {
+        match &verdicts[i as usize].outcome {
+            Outcome::Safe(_) => {}
+            Outcome::Unsafe(fault) => {
+                push_fault(alloc, &mut report, plan, i, fault)?;
+                faults += 1;
+            }
+        }
+    }
+    push_count(&mut report, pairs, faults)?;
+    Ok(report)
+}
+
+// One line for a pair with a fault.
+fn push_fault(
+    alloc: Global,
+    report: &mut String,
+    plan: &Plan,
+    i: u32,
+    fault: &Fault,
+) -> Result<(), AllocError>
+    requires { i < length (pairs_of (plan_contents plan.now)) }
+    ensures { OnOk result ((p : ℕ × ℕ) → slice_get (pairs_of (plan_contents plan.now)) i ≡ Some p → string_bytes report.new ≡ string_bytes report.old ++ fault_line (plan_contents plan.now) i p fault.now) }
+{
+    let (x, y) = plan.pair(i);
+    let first = plan.label(alloc, x)?;
+    let second = plan.label(alloc, y)?;
+    push_fault_text(report, i, first.as_str(), second.as_str(), fault)
+}
+
+// The line of a fault, of which these are the labels.
+#[tactic(auto, unfolding(crate::specs::Lines::fault_text))]
+fn push_fault_text(
+    report: &mut String,
+    i: u32,
+    first: &str,
+    second: &str,
+    fault: &Fault,
+) -> Result<(), AllocError>
+    ensures { OnOk result (string_bytes report.new ≡ string_bytes report.old ++ fault_text i first.now second.now fault.now) }
+{
+    let first_kind = kind_word(fault.first);
+    let second_kind = kind_word(fault.second);
+    write!(
+        report,
+        "pair {i} {first} {second}: {first_kind} against {second_kind} after "
+    )?;
+    push_wire(report, &fault.wire)?;
+    report.push_str("\n")?;
+    Ok(())
+}
+
+// The symbols of a wire.
+fn push_wire(report: &mut String, wire: &[Item]) -> Result<(), AllocError>
+    ensures { OnOk result (string_bytes report.new ≡ string_bytes report.old ++ map symbol_of wire.now) }
+{
+    for item in wire {
+        report.push(symbol(*item))?;
+    }
+    Ok(())
+}
+
+// The line that counts the pairs with a fault.
+#[tactic(auto, unfolding(crate::specs::Lines::last_line))]
+fn push_count(report: &mut String, pairs: u32, faults: u32) -> Result<(), AllocError>
+    ensures { OnOk result (string_bytes report.new ≡ string_bytes report.old ++ last_line pairs faults) }
+{
+    if faults == 0 {
+        writeln!(report, "safe: {pairs} pairs")
+    } else {
+        writeln!(report, "unsafe: {faults} of {pairs} pairs")
+    }
+}
+
+fn kind_word(kind: Kind) -> &'static str
+    ensures { result.now ≡ kind_word kind }
+{
+    match kind {
+        Kind::Sent => "data",
+        Kind::Heard => "answer",
+        Kind::Again => "restart",
+        Kind::Stop => "stop",
+        Kind::Claim => "claim",
+    }
+}
+
+fn symbol(item: Item) -> char
+    ensures { result ≡ symbol_of item }
+{
+    match item {
+        Item::Sent(false) => '0',
+        Item::Sent(true) => '1',
+        Item::Heard(false) => 'l',
+        Item::Heard(true) => 'h',
+        Item::Again => 'r',
+        Item::Stop => 's',
+        Item::Claim => 'c',
+    }
+}

@@ -1,0 +1,12 @@
+//! Checks message plans of controllers and targets that share one two-wire bus.
+#![tactic(auto)]
+
+mod commands;
+mod devices;
+mod runs;
+
+use std::process::ExitCode;
+
+fn main(rt: HostRuntime) -> ExitCode {
+    ExitCode::from(runs::run(&rt))
+}

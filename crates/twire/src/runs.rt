@@ -1,0 +1,82 @@
+// What the program does, and the status that it ends with.
+
+use crate::commands::{Request, parse_request};
+use crate::devices::{Sink, Source};
+use clap::error::ErrorKind;
+use report::{RunError, Status, run_check};
+use std::rt::{Env, Files};
+use std::{env, fs, io};
+
+/// Does what the command line asks for, and answers the exit status.
+pub fn run<R: Files + Env + Print + Eprint + AllocGlobal>(rt: &R) -> u8 {
+    match run_words(rt) {
+        Ok(status) => status,
+        Err(error) => {
+            // Where standard error takes nothing the status is all that is left.
+            let _ = eprintln!(rt; "refused {error}");
+            2
+        }
+    }
+}
+
+fn run_words<R: Files + Env + Print + Eprint + AllocGlobal>(rt: &R) -> Result<u8, RunError> {
+    let words: Vec<String> = match env::args(rt) {
+        Ok(words) => words.collect(rt.alloc())?,
+        Err(error) => return no_words(rt, &error),
+    };
+    match parse_request(rt.alloc(), words.as_slice()) {
+        Ok(Some(request)) => Ok(status_of(do_request(rt, request)?)),
+        Ok(None) => Ok(2),
+        Err(error) => no_request(rt, &error),
+    }
+}
+
+fn do_request<R: Files + Print + AllocGlobal>(
+    rt: &R,
+    request: Request<'_>,
+) -> Result<Status, RunError> {
+    match request {
+        Request::Check { plan, workers } => {
+            let mut plan = Source::new(open(rt, plan)?);
+            let mut out = Sink::new(io::writer(rt));
+            run_check(rt, rt.alloc(), &mut plan, &mut out, workers)
+        }
+    }
+}
+
+fn status_of(status: Status) -> u8 {
+    match status {
+        Status::Good => 0,
+        Status::Bad => 1,
+        Status::Refused => 2,
+    }
+}
+
+fn open<R: Files>(rt: &R, path: &str) -> Result<R::File, RunError> {
+    match fs::open(rt, path) {
+        Ok(file) => Ok(file),
+        Err(error) if error.kind() == io::ErrorKind::OutOfMemory => Err(RunError::NoMemory),
+        Err(_) => Err(RunError::Read),
+    }
+}
+
+// Prints the help or the version that was asked for, or why the command line does not parse.
+fn no_request<R: Print + Eprint>(rt: &R, error: &clap::Error) -> Result<u8, RunError> {
+    if error.kind() == ErrorKind::OutOfMemory {
+        return Err(RunError::NoMemory);
+    }
+    match error.print(rt) {
+        Err(_) if !error.use_stderr() => Err(RunError::Write),
+        _ if error.use_stderr() => Ok(2),
+        _ => Ok(0),
+    }
+}
+
+// The words of the command line are not there: memory was refused, or one of them is not UTF-8.
+fn no_words<R: Eprint>(rt: &R, error: &io::Error) -> Result<u8, RunError> {
+    if error.kind() == io::ErrorKind::OutOfMemory {
+        return Err(RunError::NoMemory);
+    }
+    let _ = eprintln!(rt; "error: an argument is not UTF-8");
+    Ok(2)
+}

@@ -1,0 +1,145 @@
+// Plans, readers and writers in memory.
+
+ghost use Rattle.std.specs.Prelude.{false};
+
+use certificate::Cert;
+use pair_walk::Outcome;
+use plan_text::read_plan;
+use report::{Input, Output, run_check};
+use std::alloc::{AllocError, Global};
+use std::io;
+use std::io::{Read, Write};
+use std::test::Fail;
+use verdicts::table;
+
+/// A reader over bytes, which never fails.
+#[derive(Drop)]
+pub struct Source<'a>(pub &'a [u8]);
+
+impl Read for Source<'_> {
+    fn read(&mut self, buf: &mut [u8]) -> io::Result<usize> {
+        self.0.read(buf)
+    }
+}
+
+impl Input for Source<'_> {
+    ghost has_failed = { λ _. false };
+
+    fn failed(&self) -> bool {
+        false
+    }
+}
+
+/// A writer into memory, which fails only for want of it.
+#[derive(Drop)]
+pub struct Page {
+    pub bytes: Vec<u8>,
+    failed: bool,
+}
+
+impl Page {
+    pub fn new(alloc: Global) -> Self {
+        Page {
+            bytes: Vec::new(alloc),
+            failed: false,
+        }
+    }
+}
+
+impl Write for Page {
+    fn write(&mut self, buf: &[u8]) -> io::Result<usize> {
+        let result = self.bytes.write(buf);
+        self.failed = result.is_err();
+        result
+    }
+
+    fn flush(&mut self) -> io::Result<()> {
+        Ok(())
+    }
+}
+
+impl Output for Page {
+    ghost has_failed = { λ p. p.failed };
+
+    fn failed(&self) -> bool {
+        self.failed
+    }
+}
+
+/// A plan in which controller `a` sends the first message, named `m`, and `b` the second, named `n`.
+pub fn two(alloc: Global, version: u8, first: &str, second: &str) -> Result<String, AllocError> {
+    format!(in alloc;
+        "plan {version}\nmessage m {first} ;\nmessage n {second} ;\ncontroller a m ;\ncontroller b n ;\n"
+    )
+}
+
+/// What a check of the plan writes.
+pub fn check<R>(rt: &R, alloc: Global, plan: &str) -> Result<String, Fail> {
+    let mut page = Page::new(alloc);
+    run_check(rt, alloc, &mut Source(plan.as_bytes()), &mut page, 1)?;
+    let Ok(report) = String::from_utf8(page.bytes) else {
+        return Err(Fail::from("a report that is no text"));
+    };
+    Ok(report)
+}
+
+/// What a check writes of two messages, the first sent by controller `a` and the second by `b`.
+pub fn check_two<R>(
+    rt: &R,
+    alloc: Global,
+    version: u8,
+    first: &str,
+    second: &str,
+) -> Result<String, Fail> {
+    let plan = two(alloc, version, first, second)?;
+    check(rt, alloc, plan.as_str())
+}
+
+/// The proof of each pair of a plan, a line for each: the token of a node, then what follows an ACK, then what follows
+/// a NACK. A pair that has a fault has the line `fault`.
+pub fn proofs(alloc: Global, plan: &str) -> Result<String, Fail> {
+    let plan = read_plan(alloc, plan.as_bytes())?;
+    let table = table(alloc, &plan)?;
+    let mut lines = String::new(alloc);
+    for verdict in table.verdicts() {
+        match &verdict.outcome {
+            Outcome::Safe(cert) => put_cert(&mut lines, cert)?,
+            Outcome::Unsafe(_) => lines.push_str(" fault")?,
+        }
+        lines.push('\n')?;
+    }
+    Ok(lines)
+}
+
+/// The proofs of two messages, the first sent by controller `a` and the second by `b`.
+pub fn proofs_of_two(
+    alloc: Global,
+    version: u8,
+    first: &str,
+    second: &str,
+) -> Result<String, Fail> {
+    let plan = two(alloc, version, first, second)?;
+    proofs(alloc, plan.as_str())
+}
+
+fn put_cert(line: &mut String, cert: &Cert) -> Result<(), AllocError> {
+    match cert {
+        Cert::Part(k) => write!(line, " P{k}"),
+        Cert::Short => line.push_str(" R"),
+        Cert::Alike => line.push_str(" ."),
+        Cert::Byte(acked, refused) => {
+            line.push_str(" B")?;
+            put_cert(line, acked)?;
+            put_cert(line, refused)
+        }
+        Cert::Read(after, refused) => {
+            line.push_str(" D")?;
+            put_cert(line, after)?;
+            put_cert(line, refused)
+        }
+        Cert::Again(next) => {
+            line.push_str(" S")?;
+            put_cert(line, next)
+        }
+    }
+}

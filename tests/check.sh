@@ -1,0 +1,207 @@
+#!/usr/bin/env bash
+# Runs 'twire check' from the command line, and compares the exit status and all that it writes. The last line is
+# 'N passed, M failed', and the exit status is 1 where a case fails.
+#
+# It runs the launcher at the top of the repository, or the program that TWIRE names.
+set -u
+
+tests=$(dirname -- "$(readlink -f -- "${BASH_SOURCE[0]}")")
+twire=$(readlink -f -- "${TWIRE:-$tests/../twire}")
+work=$(mktemp -d)
+trap 'rm -rf -- "$work"' EXIT
+cd -- "$work" || exit 1
+
+passed=0
+failed=0
+
+# Counts a case by what stands in the files status, out and err and in those that are wanted.
+compare() {
+    local name=$1
+    if cmp -s want_status status && cmp -s want_out out && cmp -s want_err err; then
+        passed=$((passed + 1))
+        return
+    fi
+    failed=$((failed + 1))
+    echo "FAILED: $name"
+    diff -u --label "wanted status" --label status want_status status
+    diff -u --label "wanted output" --label output want_out out
+    diff -u --label "wanted error" --label error want_err err
+}
+
+# want STATUS OUT ERR: what the next case gives, with an LF after each text that is not empty.
+want() {
+    echo "$1" >want_status
+    printf '%s' "${2:+$2$'\n'}" >want_out
+    printf '%s' "${3:+$3$'\n'}" >want_err
+}
+
+# run NAME ARG..: a case, with this script's standard input.
+run() {
+    local name=$1
+    shift
+    "$twire" "$@" >out 2>err
+    echo "$?" >status
+    compare "$name"
+}
+
+# The first call may build the program, and says so on standard error.
+"$twire" --version >out 2>err
+echo "$?" >status
+want 0 "twire 0.1.0" ""
+: >err
+compare "version"
+
+# Plans.
+
+write_plan() {
+    printf '%s\n' "${@:2}" >"$1"
+}
+
+header="write 1001000 stop else stop"
+write_plan safe.plan "plan 1" "message m write 1010000 xxxxxxxx stop else stop else stop ;" "controller a m ;" "controller b m ;"
+write_plan unsafe.plan "plan 1" "message m $header ;" "message n write 1001000 0000000x stop else stop else stop ;" "controller a m ;" "controller b n ;"
+unsafe_report="pair 0 a/m b/n: stop against data after 10010000l
+unsafe: 1 of 1 pairs"
+
+want 0 "safe: 1 pairs" ""
+run "safe plan" check safe.plan
+run "safe plan with one worker" check --workers 1 safe.plan
+run "safe plan with leading zeros in the number of workers" check safe.plan --workers 001
+run "safe plan from standard input" check /dev/stdin <safe.plan
+
+want 1 "$unsafe_report" ""
+run "unsafe plan" check unsafe.plan
+run "unsafe plan from a pipe" check /dev/stdin < <(cat unsafe.plan)
+
+# Refused plans.
+
+refused() {
+    local code=$1 line=$2
+    shift 2
+    write_plan refused.plan "$@"
+    want 2 "" "refused $code line $line"
+    run "$code line $line: $*" check refused.plan
+}
+
+refused P1 2 "plan 1" "# caf$(printf '\303\251')"
+refused P2 1 "plan 3"
+refused P2 2 "plan"
+refused P3 2 "plan 1" "message m write again stop else stop ;"
+refused P3 4 "plan 1" "message m" "# no frame"
+refused P4 2 "plan 1" "message m read 1001000 256 stop else stop ;"
+refused P5 2 "plan 1" "message m read 1001000 255 again $header else stop ;"
+refused P6 34 "plan 1" "$(for k in {1..33}; do echo "controller c$k ;"; done)"
+refused P7 3 "plan 1" "message m $header ;" "message m $header ;"
+refused P8 2 "plan 1" "controller a q ;"
+
+: >empty.plan
+want 2 "" "refused P2 line 1"
+run "empty plan" check empty.plan
+
+# Files and workers.
+
+want 2 "" "refused read"
+run "missing file" check missing.plan
+run "missing file before a number of workers" check missing.plan --workers 0
+mkdir directory
+run "directory" check directory
+
+want 2 "" "refused workers"
+run "no worker" check safe.plan --workers 0
+run "nine workers" check safe.plan --workers 9
+run "no worker with a refused plan" check empty.plan --workers 0
+run "no worker with a directory" check directory --workers 0
+
+# Standard output that takes nothing.
+
+want 2 "" "refused write"
+for plan in safe.plan unsafe.plan; do
+    "$twire" check "$plan" >&- 2>err
+    echo "$?" >status
+    : >out
+    compare "closed standard output: $plan"
+done
+"$twire" --help >&- 2>err
+echo "$?" >status
+compare "closed standard output: help"
+if [[ -c /dev/full ]]; then
+    "$twire" check unsafe.plan >/dev/full 2>err
+    echo "$?" >status
+    compare "full device"
+fi
+
+# With a closed standard error the status is left.
+want 2 "" ""
+"$twire" check missing.plan >out 2>&-
+echo "$?" >status
+: >err
+compare "closed standard error"
+
+# Command lines.
+
+cp "$tests/expected/help.txt" help.txt
+want 0 "$(cat help.txt)" ""
+run "help" --help
+run "short help" -h
+run "help as a subcommand" help
+want 0 "$(cat "$tests/expected/check_help.txt")" ""
+run "help on check" check --help
+run "help on check as a subcommand" help check
+want 2 "" "$(cat help.txt)"
+run "no argument"
+
+want 2 "" "error: unexpected argument '--bogus' found
+
+  tip: to pass '--bogus' as a value, use '-- --bogus'
+
+Usage: twire check [OPTIONS] <PLAN>
+
+For more information, try '--help'."
+run "unknown option" check --bogus safe.plan
+
+want 2 "" "error: the following required arguments were not provided:
+  <PLAN>
+
+Usage: twire check <PLAN>
+
+For more information, try '--help'."
+run "no plan" check
+
+want 2 "" "error: unrecognized subcommand 'chek'
+
+  tip: a similar subcommand exists: 'check'
+
+Usage: twire <COMMAND>
+
+For more information, try '--help'."
+run "unknown subcommand" chek safe.plan
+
+# Each of these ends with status 2 and a message that is not compared.
+for words in "--workers x" "--workers" "--workers=" "--workers -1" "--workers 4294967296" "--workers 1 --workers 1" "other.plan"; do
+    want 2 "" ""
+    # shellcheck disable=SC2086
+    "$twire" check safe.plan $words >out 2>err
+    echo "$?" >status
+    grep -q '^error: ' err && : >err
+    compare "command line: check safe.plan $words"
+done
+
+# The plan in the help has the fault that the help on check shows.
+sed -n '/^  plan 1$/,/^$/s/^  //p' help.txt >help.plan
+"$twire" check help.plan >report 2>err
+echo "$?" >status
+head -n 1 report >out
+want 1 "$(sed -n 's/^  \(pair 0 .*\)/\1/p' "$tests/expected/check_help.txt")" ""
+compare "the plan in the help"
+
+# Each example says in its head how it is checked: a line '# twire check FILE (exit status N)', and below it the lines
+# of the report, each after '#   '.
+for plan in "$tests"/../examples/*.plan; do
+    status=$(sed -n 's/^# twire check .*(exit status \([0-2]\))$/\1/p' "$plan")
+    report=$(sed -n '/^# twire check /,/^\(#\)\{0,1\}$/s/^#   //p' "$plan")
+    want "$status" "$report" ""
+    run "example $(basename "$plan")" check "$plan"
+done
+
+echo "$passed passed, $failed failed"
+((failed == 0))
