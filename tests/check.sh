@@ -105,6 +105,7 @@ run "missing file" check missing.plan
 run "missing file before a number of workers" check missing.plan --workers 0
 mkdir directory
 run "directory" check directory
+run "closed standard input" check /dev/stdin <&-
 
 want 2 "" "refused workers"
 run "no worker" check safe.plan --workers 0

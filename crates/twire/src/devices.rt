@@ -4,6 +4,24 @@ use report::{Input, Output};
 use std::io;
 use std::io::{Read, Write};
 
+/// What a path of the command line names.
+#[derive(Drop)]
+pub enum Opened<F, S> {
+    /// A file.
+    File(F),
+    /// Standard input.
+    Standard(S),
+}
+
+impl<F: Read, S: Read> Read for Opened<F, S> {
+    fn read(&mut self, buf: &mut [u8]) -> io::Result<usize> {
+        match self {
+            Opened::File(file) => file.read(buf),
+            Opened::Standard(input) => input.read(buf),
+        }
+    }
+}
+
 /// A reader that remembers whether its last read answered an error.
 #[derive(Drop)]
 pub struct Source<R> {

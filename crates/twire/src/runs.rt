@@ -1,14 +1,14 @@
 // What the program does, and the status that it ends with.
 
 use crate::commands::{Request, parse_request};
-use crate::devices::{Sink, Source};
+use crate::devices::{Opened, Sink, Source};
 use clap::error::ErrorKind;
 use report::{RunError, Status, run_check};
 use std::rt::{Env, Files};
 use std::{env, fs, io};
 
 /// Does what the command line asks for, and answers the exit status.
-pub fn run<R: Files + Env + Print + Eprint + AllocGlobal>(rt: &R) -> u8 {
+pub fn run<R: Files + Env + Input + Print + Eprint + AllocGlobal>(rt: &R) -> u8 {
     match run_words(rt) {
         Ok(status) => status,
         Err(error) => {
@@ -19,7 +19,9 @@ pub fn run<R: Files + Env + Print + Eprint + AllocGlobal>(rt: &R) -> u8 {
     }
 }
 
-fn run_words<R: Files + Env + Print + Eprint + AllocGlobal>(rt: &R) -> Result<u8, RunError> {
+fn run_words<R: Files + Env + Input + Print + Eprint + AllocGlobal>(
+    rt: &R,
+) -> Result<u8, RunError> {
     let words: Vec<String> = match env::args(rt) {
         Ok(words) => words.collect(rt.alloc())?,
         Err(error) => return no_words(rt, &error),
@@ -31,13 +33,13 @@ fn run_words<R: Files + Env + Print + Eprint + AllocGlobal>(rt: &R) -> Result<u8
     }
 }
 
-fn do_request<R: Files + Print + AllocGlobal>(
+fn do_request<R: Files + Input + Print + AllocGlobal>(
     rt: &R,
     request: Request<'_>,
 ) -> Result<Status, RunError> {
     match request {
         Request::Check { plan, workers } => {
-            let mut plan = Source::new(open(rt, plan)?);
+            let mut plan = open(rt, plan)?;
             let mut out = Sink::new(io::writer(rt));
             run_check(rt, rt.alloc(), &mut plan, &mut out, workers)
         }
@@ -52,9 +54,16 @@ fn status_of(status: Status) -> u8 {
     }
 }
 
-fn open<R: Files>(rt: &R, path: &str) -> Result<R::File, RunError> {
+// Opens a file for reading. The path /dev/stdin is standard input itself, which needs no leave to open that file.
+fn open<R: Files + Input>(
+    rt: &R,
+    path: &str,
+) -> Result<Source<Opened<R::File, R::Reader>>, RunError> {
+    if path == "/dev/stdin" {
+        return Ok(Source::new(Opened::Standard(rt.reader())));
+    }
     match fs::open(rt, path) {
-        Ok(file) => Ok(file),
+        Ok(file) => Ok(Source::new(Opened::File(file))),
         Err(error) if error.kind() == io::ErrorKind::OutOfMemory => Err(RunError::NoMemory),
         Err(_) => Err(RunError::Read),
     }
