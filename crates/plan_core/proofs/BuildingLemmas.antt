@@ -1,15 +1,14 @@
 -- What a call of a builder leaves within the limits.
-use Rattle.std.proofs.Common.{◌≡◌, ◌≢◌, ◌⊎◌, inl, inr, ℕ, zero, suc, ◌+◌, ◌<◌, ◌≤◌, ◌||◌, ◌&&◌, Bool, true, false, not, cond, eqb, List, [], ◌∷◌, ◌++◌, length, get_or, map, position, Option, Some, None, is_some, unwrap_or, Result, Ok, Err, refl, sym, ◌∙◌, ap, subst, arith, true≢false, length-append, append_assoc}
+use Rattle.std.proofs.Common.{◌≡◌, ◌≢◌, ◌⊎◌, inl, inr, ℕ, zero, suc, ◌+◌, ◌<◌, ◌≤◌, ◌||◌, Bool, true, false, not, cond, List, [], ◌∷◌, ◌++◌, length, get_or, position, Option, Some, None, is_some, unwrap_or, Result, Ok, Err, refl, sym, ◌∙◌, ap, subst, arith, true≢false}
 use Rattle.std.specs.Prelude.{nat_lt, nat_le, if◌then◌else◌, All, AllPairs}
-use Rattle.std.specs.List.{list_any, filter_map, cons_option, position_or_len}
+use Rattle.std.specs.List.{list_any, cons_option, position_or_len}
 use Rattle.std.specs.Map.{keys_of}
 use Rattle.std.specs.Result.{OnOk, OnErr}
 use Rattle.std.specs.Str.{bytes_eq}
-use Rattle.std.proofs.Common.{leb-true, ltb-true}
-use Rattle.std.proofs.lemmas.Bool.{leb-false, ltb-false, or_cases, cases_lt, cases_Bool}
+use Rattle.std.proofs.lemmas.Bool.{leb-false, ltb-false, or_cases, cases_Bool}
 use Rattle.std.proofs.lemmas.Bool.Decides.{nat_tests}
 use Rattle.std.proofs.lemmas.List.{length_push, length-map, map_push}
-use Rattle.std.proofs.lemmas.List.Elements.{All-push, All-weaker, All-nil, All-cons}
+use Rattle.std.proofs.lemmas.List.Elements.{All-push, All-nil, All-cons}
 use Rattle.std.proofs.lemmas.List.Kept.{AllPairs-cons}
 use Rattle.std.proofs.lemmas.List.Quantifiers.{all_pairs_push, position-Some}
 use Rattle.std.proofs.lemmas.List.Sums.{fails_before_first, sum_by_push}

@@ -1,15 +1,15 @@
 -- The pairs of a plan are its lawful sets of two.
-use Rattle.std.proofs.Common.{◌≡◌, ◌≢◌, ◌⊎◌, inl, inr, ℕ, zero, suc, ◌+◌, ◌-◌, ◌<◌, ◌≤◌, ◌==◌, ◌||◌, ◌&&◌, Bool, true, false, not, cond, List, [], ◌∷◌, ◌++◌, length, get_or, map, filter, Option, Some, None, slice_get, refl, sym, ◌∙◌, ap, subst, arith, true≢false}
+use Rattle.std.proofs.Common.{◌≡◌, ◌≢◌, ◌⊎◌, inl, inr, ℕ, zero, suc, ◌+◌, ◌-◌, ◌<◌, ◌≤◌, ◌==◌, ◌||◌, ◌&&◌, Bool, true, false, not, cond, List, [], ◌∷◌, ◌++◌, length, get_or, map, filter, Option, Some, None, slice_get, refl, sym, ◌∙◌, ap, subst, arith}
 use Rattle.std.specs.Prelude.{All, AllPairs, Contains}
 use Rattle.std.specs.List.{range_with_len, flat_map, list_any}
-use Rattle.std.proofs.lemmas.Bool.{eqb-true, eq-eqb, or_cases, cases_Bool, cases_eq, cases_lt}
+use Rattle.std.proofs.lemmas.Bool.{eqb-true, eq-eqb, or_cases, cases_eq}
 use Rattle.std.proofs.lemmas.Bool.Decides.{nat_tests}
-use Rattle.std.proofs.lemmas.List.Elements.{All-nil, All-cons, All-head, All-tail, All-append, All-map, All-weaker, Contains-append_left, Contains-append_right, Contains-append_cases}
+use Rattle.std.proofs.lemmas.List.Elements.{All-nil, All-cons, All-head, All-tail, All-append, All-map, All-weaker}
 use Rattle.std.proofs.lemmas.List.Kept.{AllPairs-cons, AllPairs-filter}
 use Rattle.plan_core.specs.Contents.{Contents}
-use Rattle.plan_core.specs.Lawful.{Set, In, IsLawful, pair, IsPair}
+use Rattle.plan_core.specs.Lawful.{In, pair, IsPair}
 use Rattle.plan_core.specs.Pairs.{partners, pairs_of, IsBefore}
-use Rattle.plan_core.specs.Participants.{participant_count, participants_of, apart, same_controller, forbidden, one_controller, forbids_both, is_never, names_both}
+use Rattle.plan_core.specs.Participants.{participant_count, participants_of, apart, same_controller, forbidden, one_controller, forbids_both, names_both}
 use Rattle.plan_core.specs.declared.plans.Participant.{Participant}
 use Rattle.plan_core.specs.declared.plans.Participant.TheVariants.{Sending, Interrupt}
 

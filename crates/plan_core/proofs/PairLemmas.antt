@@ -1,9 +1,8 @@
 -- The pairs of a list of participants.
-use Rattle.std.proofs.Common.{◌≡◌, ℕ, ◌+◌, ◌-◌, ◌*◌, ◌<◌, ◌≤◌, ◌==◌, zero, suc, Bool, true, false, not, cond, List, [], ◌∷◌, ◌++◌, length, map, filter, Option, Some, None, slice_get, get_or, take, refl, sym, ◌∙◌, ap, subst, arith, append_assoc, length-append, true≢false, below_more, ◌⊎◌, inl, inr, zero-add}
-use Rattle.std.specs.List.{range_with_len, flat_map, count_by}
+use Rattle.std.proofs.Common.{◌≡◌, ℕ, ◌+◌, ◌-◌, ◌*◌, ◌<◌, ◌≤◌, zero, suc, true, false, not, cond, List, [], ◌∷◌, ◌++◌, length, map, filter, Option, Some, None, slice_get, get_or, take, refl, sym, ◌∙◌, ap, subst, arith, length-append, true≢false, below_more, ◌⊎◌, inl, inr, zero-add}
+use Rattle.std.specs.List.{range_with_len, flat_map}
 use Rattle.std.specs.List.Sorted.{IsNonDecreasingBy}
-use Rattle.std.proofs.lemmas.Grind.{common_steps}
-use Rattle.std.proofs.lemmas.Bool.{eqb-true, eq-eqb, cases_lt}
+use Rattle.std.proofs.lemmas.Bool.{eqb-true, cases_lt}
 use Rattle.std.proofs.lemmas.List.{length-map, map-id, append-nil, get_or_append_left, get_or-append-add, get_or_push, length_push, get_or-map}
 use Rattle.std.proofs.lemmas.List.Concat.{flat_map-append, get_or-flat_map}
 use Rattle.std.proofs.lemmas.List.Elements.{filter_agree}

@@ -2,11 +2,10 @@
 use Rattle.std.proofs.Common.{◌≡◌, ℕ, ◌+◌, ◌-◌, ◌*◌, ◌<◌, ◌≤◌, List, length, Some, slice_get, get_or, sym, ◌∙◌, ap, subst, arith}
 use Rattle.plan_core.specs.declared.pairs.Row.{Row}
 use Rattle.plan_core.specs.declared.plans.Plan.{Plan}
-use Rattle.plan_core.specs.Contents.{Contents}
 use Rattle.plan_core.specs.Limits.{IsWithinLimits}
-use Rattle.plan_core.specs.PairTables.{IsPairTable, IsRow, pairs_below}
+use Rattle.plan_core.specs.PairTables.{IsRow, pairs_below}
 use Rattle.plan_core.specs.Pairs.{pairs_of}
-use Rattle.plan_core.specs.Participants.{participants_of, participant_count}
+use Rattle.plan_core.specs.Participants.{participants_of}
 use Rattle.plan_core.specs.Parts.{contents_of}
 use Rattle.plan_core.specs.PlanContents.{plan_contents}
 use Rattle.plan_core.proofs.PairLemmas.{AreRows-last, AreRows-pair}

@@ -1,8 +1,7 @@
 -- What a plan holds after an entry has been added.
-use Rattle.std.proofs.Common.{◌≡◌, ◌⊎◌, inl, inr, ℕ, ◌+◌, ◌<◌, ◌≤◌, Bool, true, false, not, cond, List, [], ◌∷◌, ◌++◌, length, get_or, take, drop, map, Option, Some, None, Result, is_some, ◌||◌, refl, sym, ◌∙◌, ap, subst, arith}
+use Rattle.std.proofs.Common.{◌≡◌, ◌⊎◌, inl, inr, ℕ, ◌+◌, ◌<◌, ◌≤◌, Bool, true, false, not, List, [], ◌∷◌, ◌++◌, length, get_or, take, drop, map, Some, None, is_some, ◌||◌, refl, sym, ◌∙◌, ap, subst}
 use Rattle.std.specs.List.{range_with_len, list_any, cons_option}
 use Rattle.std.specs.Prelude.{nat_le, if◌then◌else◌}
-use Rattle.std.specs.Result.{OnOk, OnErr}
 use Rattle.std.specs.Str.{bytes_eq}
 use Rattle.std.specs.Vec.{vec_items}
 use Rattle.std.specs.declared.vec.Vec.{Vec}
@@ -11,21 +10,20 @@ use Rattle.std.proofs.lemmas.List.{map_push, map_more, take_at, drop_more}
 use Rattle.std.proofs.lemmas.List.Elements.{filter_map-append}
 use Rattle.message_tree.specs.declared.tree.Frame.{Frame}
 use Rattle.message_tree.specs.Trees.{FrameTree, frame_tree}
-use Rattle.plan_core.specs.declared.builder.BuildError.{BuildError}
 use Rattle.plan_core.specs.declared.builder.BuildError.TheVariants.{Twice, Unknown, TooMany}
 use Rattle.plan_core.specs.declared.names.Name.{Name}
 use Rattle.plan_core.specs.declared.pairs.PairTable.{PairTable}
 use Rattle.plan_core.specs.declared.plans.Participant.{Participant}
 use Rattle.plan_core.specs.declared.plans.Participant.TheVariants.{Interrupt}
 use Rattle.plan_core.specs.NameBytes.{name_bytes}
-use Rattle.plan_core.specs.Building.{number_of, has_name, numbers_of, list_refusal, controller_number, message_refusal, with_message, controller_refusal, with_sender, interrupt_refusal, with_interrupt, with_never}
+use Rattle.plan_core.specs.Building.{number_of, numbers_of, list_refusal, controller_number, message_refusal, with_message, controller_refusal, with_sender, interrupt_refusal, with_interrupt, with_never}
 use Rattle.plan_core.specs.Contents.{Contents}
 use Rattle.plan_core.specs.Limits.{IsWithinLimits, sending_count}
 use Rattle.plan_core.specs.Names.{IsName}
 use Rattle.plan_core.specs.PairTables.{IsPairTable}
 use Rattle.plan_core.specs.Participants.{participants_of, sendings_from}
 use Rattle.plan_core.specs.Parts.{contents_of, message_of, controller_of, interrupt_of}
-use Rattle.plan_core.proofs.BuildingLemmas.{either, limits-message, limits-controller, limits-interrupt}
+use Rattle.plan_core.proofs.BuildingLemmas.{limits-message, limits-controller, limits-interrupt}
 use Rattle.plan_core.proofs.ContentsLemmas.{participant_count-few, participants_of-interrupt, length-sendings_from}
 
 -- the participants of a plan that is within the limits

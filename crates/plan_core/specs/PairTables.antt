@@ -1,8 +1,8 @@
 -- How the pairs are found by their numbers.
-use Rattle.std.specs.Prelude.{◌≡◌, ℕ, ◌+◌, ◌-◌, ◌*◌, ◌<◌, ◌≤◌, Bool, false, ◌||◌, ◌==◌, not, List, ◌++◌, length, map, filter, Option, Some, None, slice_get, slice_range}
+use Rattle.std.specs.Prelude.{◌≡◌, ℕ, ◌+◌, ◌-◌, ◌*◌, ◌<◌, ◌≤◌, Bool, false, ◌||◌, ◌==◌, not, List, ◌++◌, length, map, filter, Option, Some, slice_get}
 use Rattle.std.specs.List.{range_with_len, flat_map, list_any, slice_index_or}
 use Rattle.plan_core.specs.declared.plans.Participant.{Participant}
-use Rattle.plan_core.specs.declared.plans.Participant.TheVariants.{Sending, Interrupt}
+use Rattle.plan_core.specs.declared.plans.Participant.TheVariants.{Sending}
 use Rattle.plan_core.specs.declared.pairs.Row.{Row}
 use Rattle.plan_core.specs.declared.pairs.PairTable.{PairTable}
 use Rattle.plan_core.specs.Participants.{names_both}

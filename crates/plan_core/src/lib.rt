@@ -8,7 +8,10 @@ pub mod names;
 pub mod pair_laws;
 mod pairs;
 pub mod plans;
+#[cfg(test)]
+mod tests;
 
 pub use builder::{BuildError, Builder};
+pub use labels::labels_differ;
 pub use names::{Name, NameError};
 pub use plans::{Participant, Plan};

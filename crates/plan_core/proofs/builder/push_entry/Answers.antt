@@ -1,4 +1,4 @@
-use Rattle.std.proofs.Common.{◌≡◌, position, None, sym, ◌∙◌, ap, is_some}
+use Rattle.std.proofs.Common.{sym, ◌∙◌, ap, is_some}
 use Rattle.std.specs.Str.{bytes_eq}
 use Rattle.indexmap.specs.IndexMap.{keys}
 use Rattle.indexmap.proofs.CallerLemmas.{insert_entry-new}

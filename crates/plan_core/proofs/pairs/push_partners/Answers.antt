@@ -1,4 +1,4 @@
-use Rattle.std.proofs.Common.{◌≡◌, true, false, [], ◌∷◌, ◌+◌, ◌-◌, ◌<◌, ◌++◌, length, get_or, slice_get, Some, arith, sym, ◌∙◌, ap, append_assoc}
+use Rattle.std.proofs.Common.{◌≡◌, true, false, [], ◌∷◌, ◌+◌, ◌-◌, ◌<◌, ◌++◌, length, get_or, Some, arith, sym, ◌∙◌, ap, append_assoc}
 use Rattle.std.proofs.lemmas.Option.{slice_get-get_or}
 use Rattle.std.specs.Vec.{vec_items}
 use Rattle.plan_core.specs.declared.plans.Participant.TheVariants.{Sending}

@@ -1,4 +1,4 @@
-use Rattle.std.proofs.Common.{ap, arith, length, refl, ◌*◌}
+use Rattle.std.proofs.Common.{ap, arith, length, refl}
 use Rattle.plan_core.specs.PairTables.{pairs_below}
 use Rattle.plan_core.proofs.pairs.PairTable.empty.Goals as goal
 

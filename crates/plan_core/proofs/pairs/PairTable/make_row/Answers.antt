@@ -1,7 +1,5 @@
-use Rattle.std.proofs.Common.{◌≡◌, ◌≤◌, ◌<◌, ◌+◌, ◌-◌, ◌*◌, ◌++◌, length, get_or, arith, ap, sym, ◌∙◌, subst, length-append}
-use Rattle.std.specs.Vec.{vec_items, vec_len}
+use Rattle.std.proofs.Common.{◌≡◌, ◌<◌, ◌+◌, ◌-◌, length, arith, ap, sym, ◌∙◌, subst, length-append}
 use Rattle.plan_core.specs.declared.plans.Participant.TheVariants.{Sending}
-use Rattle.plan_core.specs.declared.pairs.Row.{Row}
 use Rattle.plan_core.specs.PairTables.{IsRow, partners_in}
 use Rattle.plan_core.proofs.PairLemmas.{IsRow-next_sending, IsRow-pushed, partners_in-few}
 use Rattle.plan_core.proofs.pairs.PairTable.make_row.Goals as goal
