@@ -12,5 +12,4 @@ pub fn proved_pairs_never_clash()
 /// After one wire, a participant may send items of one kind only.
 pub fn a_sender_offers_one_kind()
     ensures { (s : Sender) → OneKind (SenderText s) }
-{
-}
+{}
