@@ -1,0 +1,6 @@
+mod build;
+mod depth;
+mod generated;
+mod rows;
+mod sets;
+mod words;
