@@ -18,6 +18,20 @@ number_of name entries = position (bytes_eq name) (keys_of entries)
 abbrev pub has_name : {X : Type 0} → List ℕ → List (List ℕ × X) → Bool
 has_name name entries = is_some (number_of name entries)
 
+-- why a message of this name is refused, whatever its frame: it stands already, or there are as many as there may be
+unfoldable pub message_name_refusal : Contents → List ℕ → Option BuildError
+message_name_refusal plan name =
+    if has_name name plan.messages then Some Twice
+    else if nat_le 256 (length plan.messages) then Some TooMany
+    else None
+
+-- the same of a controller, whatever its messages
+unfoldable pub controller_name_refusal : Contents → List ℕ → Option BuildError
+controller_name_refusal plan name =
+    if has_name name plan.controllers then Some Twice
+    else if nat_le 32 (length plan.controllers) then Some TooMany
+    else None
+
 -- why a message is refused: its name stands already, there are as many as there may be, or it is too long
 unfoldable pub message_refusal : Contents → List ℕ → FrameTree → Option BuildError
 message_refusal plan name frame =

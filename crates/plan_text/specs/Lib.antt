@@ -1,2 +1,6 @@
 pub mod Canonical
-pub mod Unread
+pub mod Tokens
+pub mod Words
+pub mod Grammar
+pub mod Refusals
+pub mod Reading

@@ -6,12 +6,12 @@
 #![tactic(auto)]
 
 pub mod errors;
-mod grammar;
 mod limits;
 pub mod print;
+mod symbols;
 mod tokens;
+mod versions;
 mod words;
 
 pub use errors::PlanError;
-pub use grammar::read_plan;
 pub use print::print_plan;

@@ -1,56 +1,9 @@
 // The tokens of a plan text, one at a time, each with its line.
 
-ghost use Rattle.std.specs.Prelude.{◌≡◌, ◌<◌, ◌≤◌, ◌+◌, ◌^◌, length};
+ghost use Rattle.std.specs.Prelude.{◌≡◌, ◌<◌, ◌≤◌, ◌+◌, ◌^◌, length, true, false, Some};
+ghost use Rattle.plan_text.specs.Tokens.{Dots, tokens_of, dots_now, one_later, is_word_part};
 
-use crate::errors::PlanError;
-
-/// What stands at one place of a plan text, after the white space and the comments before it.
-#[derive(Clone, Copy, Debug)]
-pub(crate) enum Symbol<'a> {
-    /// A maximal run of letters, digits and `_`, and of `.` where dots count as parts of words.
-    Word(&'a [u8]),
-    /// `;`.
-    Semicolon,
-    /// An ASCII character that belongs to no token.
-    Stray,
-    /// A byte of 128 or more, inside a comment or outside.
-    Foreign,
-    /// The end of the text.
-    End,
-}
-
-/// A symbol with its line.
-#[derive(Clone, Copy, Debug)]
-pub(crate) struct Token<'a> {
-    pub(crate) symbol: Symbol<'a>,
-    pub(crate) line: u64,
-}
-
-impl<'a> Token<'a> {
-    /// The word, if this token is one.
-    pub(crate) fn word(&self) -> Option<&'a [u8]> {
-        match self.symbol {
-            Symbol::Word(word) => Some(word),
-            _ => None,
-        }
-    }
-
-    /// The refusal of this token where the grammar does not allow it.
-    pub(crate) fn unexpected(&self) -> PlanError {
-        match self.symbol {
-            Symbol::Foreign => PlanError::NotAscii(self.line),
-            _ => PlanError::Unexpected(self.line),
-        }
-    }
-
-    /// The refusal of this token in the place of `plan`, or of the version after it.
-    pub(crate) fn is_no_version(&self) -> PlanError {
-        match self.symbol {
-            Symbol::Stray | Symbol::Foreign => self.unexpected(),
-            _ => PlanError::Version(self.line),
-        }
-    }
-}
+use crate::symbols::{Symbol, Token, word_symbol};
 
 /// What is left of a plan text.
 #[derive(Debug, Drop)]
@@ -62,10 +15,13 @@ pub(crate) struct Tokens<'a> {
 }
 
 impl<'a> Tokens<'a> {
-    ghost use Rattle.plan_text.specs.Unread.{unread, taken};
+    ghost use Rattle.plan_text.specs.Reading.{unread, taken, with_token, left_of, left};
 
     /// The tokens of a whole text, with no dots in words.
-    pub(crate) fn new(text: &'a [u8]) -> Self {
+    pub(crate) fn new(text: &'a [u8]) -> Self
+        ensures whole { (dots : Dots) → left_of dots result ≡ tokens_of dots 1 text.now }
+        ensures dots { result.dots ≡ false }
+    {
         Tokens {
             rest: text,
             line: 1,
@@ -75,14 +31,17 @@ impl<'a> Tokens<'a> {
 
     /// From here on `.` counts as a part of words.
     pub(crate) fn allow_dots(&mut self)
-        ensures { unread self.new ≡ unread self.old }
+        ensures same { (dots : Dots) → left_of dots self.new ≡ left_of dots self.old }
+        ensures now { self.new.dots ≡ true }
     {
         self.dots = true;
     }
 
     /// The next token. A stray character and a foreign byte stay in their places.
     pub(crate) fn next(&mut self) -> Token<'a>
-        ensures { unread self.new + taken result.symbol ≤ unread self.old }
+        ensures tokens { (dots : Dots) → dots_now dots ≡ self.old.dots → left_of dots self.old ≡ with_token result (left_of (one_later dots) self.new) }
+        ensures dots { self.new.dots ≡ self.old.dots }
+        ensures shorter { unread self.new + taken result.symbol ≤ unread self.old }
     {
         self.skip_blank();
         let line = self.line;
@@ -97,7 +56,7 @@ impl<'a> Tokens<'a> {
                     let end = 1 + self.word_end(others);
                     let (word, rest) = self.rest.split_at(end);
                     self.rest = rest;
-                    Symbol::Word(word)
+                    word_symbol(word)
                 } else if first.is_ascii() {
                     Symbol::Stray
                 } else {
@@ -142,6 +101,8 @@ impl<'a> Tokens<'a> {
     }
 }
 
-fn is_part_of_word(byte: u8, dots: bool) -> bool {
+fn is_part_of_word(byte: u8, dots: bool) -> bool
+    ensures { result ≡ is_word_part dots byte }
+{
     byte.is_ascii_alphanumeric() || byte == b'_' || dots && byte == b'.'
 }

@@ -1,0 +1,109 @@
+// The symbols of a plan text: its tokens, and what stands where there is none.
+
+ghost use Rattle.std.specs.Prelude.{◌≡◌, Some};
+ghost use Rattle.plan_text.specs.Tokens.{keyword_of, token_of_word};
+ghost use Rattle.plan_text.specs.Reading.{token_of_symbol};
+ghost use Rattle.plan_text.specs.Tokens as tokens;
+
+use crate::errors::PlanError;
+
+/// A word that the grammar has in fixed places.
+#[derive(Clone, Copy, Debug, PartialEq, Eq)]
+pub(crate) enum Keyword {
+    Plan,
+    Message,
+    Controller,
+    Interrupt,
+    Never,
+    Write,
+    Read,
+    Again,
+    Else,
+    Stop,
+}
+
+/// What stands at one place of a plan text, after the white space and the comments before it.
+#[derive(Clone, Copy, Debug)]
+pub(crate) enum Symbol<'a> {
+    /// A maximal run of letters, digits and `_`, and of `.` where dots count as parts of words, that is a keyword.
+    Keyword(Keyword),
+    /// Another such run.
+    Word(&'a [u8]),
+    /// `;`.
+    Semicolon,
+    /// An ASCII character that belongs to no token.
+    Stray,
+    /// A byte of 128 or more, inside a comment or outside.
+    Foreign,
+    /// The end of the text.
+    End,
+}
+
+/// A symbol with its line.
+#[derive(Clone, Copy, Debug)]
+pub(crate) struct Token<'a> {
+    pub(crate) symbol: Symbol<'a>,
+    pub(crate) line: u64,
+}
+
+impl<'a> Token<'a> {
+    ghost use Rattle.plan_text.specs.Reading.{unexpected_at, with_token};
+    ghost use Rattle.plan_text.specs.Refusals.{no_version};
+
+    /// The word, if this token is one and no keyword.
+    pub(crate) fn word(&self) -> Option<&'a [u8]> {
+        match self.symbol {
+            Symbol::Word(word) => Some(word),
+            _ => None,
+        }
+    }
+
+    /// The refusal of this token where the grammar does not allow it.
+    pub(crate) fn unexpected(&self) -> PlanError
+        ensures { result ≡ unexpected_at self.now }
+    {
+        match self.symbol {
+            Symbol::Foreign => PlanError::NotAscii(self.line),
+            _ => PlanError::Unexpected(self.line),
+        }
+    }
+
+    /// The refusal of this token in the place of `plan`, or of the version after it.
+    pub(crate) fn is_no_version(&self) -> PlanError
+        ensures { (rest : tokens.Tokens) → result ≡ no_version (with_token self.now rest) }
+    {
+        match self.symbol {
+            Symbol::Stray | Symbol::Foreign => self.unexpected(),
+            _ => PlanError::Version(self.line),
+        }
+    }
+}
+
+/// The symbol that this word is.
+#[tactic(auto, unfolding(crate::specs::Tokens::token_of_word))]
+pub(crate) fn word_symbol(word: &[u8]) -> Symbol<'_>
+    ensures { token_of_symbol result ≡ Some (token_of_word word.now) }
+{
+    match keyword_of(word) {
+        Some(keyword) => Symbol::Keyword(keyword),
+        None => Symbol::Word(word),
+    }
+}
+
+fn keyword_of(word: &[u8]) -> Option<Keyword>
+    ensures { result ≡ keyword_of word.now }
+{
+    match word {
+        b"plan" => Some(Keyword::Plan),
+        b"message" => Some(Keyword::Message),
+        b"controller" => Some(Keyword::Controller),
+        b"interrupt" => Some(Keyword::Interrupt),
+        b"never" => Some(Keyword::Never),
+        b"write" => Some(Keyword::Write),
+        b"read" => Some(Keyword::Read),
+        b"again" => Some(Keyword::Again),
+        b"else" => Some(Keyword::Else),
+        b"stop" => Some(Keyword::Stop),
+        _ => None,
+    }
+}
