@@ -9,7 +9,7 @@ use Rattle.plan_text.specs.declared.symbols.Keyword.TheVariants as keywords
 use Rattle.plan_text.specs.declared.versions.Version.{Version}
 use Rattle.plan_text.specs.declared.versions.Version.TheVariants.{One, Two}
 use Rattle.plan_text.specs.Canonical.{address_word, pattern_word}
-use Rattle.plan_text.specs.Tokens.{Token, keyword, word, semicolon, text_end, Tokens, tokens_of, Dots, never, after}
+use Rattle.plan_text.specs.Tokens.{Token, keyword, word, semicolon, text_end, Tokens, tokens_of, Dots, never}
 use Rattle.plan_text.specs.Tokens as tokens
 use Rattle.plan_text.specs.Words.{WritesCount, known_word}
 
@@ -99,7 +99,7 @@ version_word Two = codes "2"
 -- `.` is a part of words after the first two tokens of a text of the second version
 abbrev pub dots_of : Version → Dots
 dots_of One = never
-dots_of Two = after 2
+dots_of Two = tokens.after 2
 
 -- the text begins with `plan` and this version, and these tokens follow
 abbrev pub Begins : List ℕ → Version → Tokens → Type 0

@@ -4,3 +4,5 @@ pub mod Words
 pub mod Grammar
 pub mod Refusals
 pub mod Reading
+pub mod Sources
+pub mod WordBits

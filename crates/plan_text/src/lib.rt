@@ -7,6 +7,7 @@
 
 pub mod errors;
 mod limits;
+mod messages;
 pub mod print;
 mod symbols;
 mod tokens;

@@ -1,9 +1,20 @@
 // What the words of a frame say, each by its form alone.
 
+ghost use Rattle.std.specs.Prelude.{◌≡◌, ◌<◌, is_some, IfSome};
+ghost use Rattle.message_tree.specs.Counts.{least_of, greatest_of};
+ghost use Rattle.plan_text.specs.Canonical.{pattern_word, address_word};
+ghost use Rattle.plan_text.specs.Words.{is_pattern, is_known_address, known_word, in_range, number};
+
+ghost use Rattle.plan_text.specs.WordBits.{ends_of};
+ghost use Rattle.plan_text.specs.Words as words_spec;
+
 use message_tree::{Address, Count, Pattern};
 
 /// The eight bits of a data byte: `0`, `1` or `x`.
-pub(crate) fn pattern(word: &[u8]) -> Option<Pattern> {
+pub(crate) fn pattern(word: &[u8]) -> Option<Pattern>
+    ensures form { is_some result ≡ is_pattern 8 word.now }
+    ensures bits { IfSome result (λ p. pattern_word p ≡ word.now) }
+{
     if word.len() != 8 {
         return None;
     }
@@ -12,7 +23,10 @@ pub(crate) fn pattern(word: &[u8]) -> Option<Pattern> {
 }
 
 /// The seven bits of an address: `0`, `1` or `x`.
-pub(crate) fn address(word: &[u8]) -> Option<Address> {
+pub(crate) fn address(word: &[u8]) -> Option<Address>
+    ensures form { is_some result ≡ is_pattern 7 word.now }
+    ensures bits { IfSome result (λ a. address_word a ≡ word.now) }
+{
     if word.len() != 7 {
         return None;
     }
@@ -21,7 +35,10 @@ pub(crate) fn address(word: &[u8]) -> Option<Address> {
 }
 
 /// The seven bits of an interrupt's address: `0` or `1`.
-pub(crate) fn known_address(word: &[u8]) -> Option<u8> {
+pub(crate) fn known_address(word: &[u8]) -> Option<u8>
+    ensures form { is_some result ≡ is_known_address word.now }
+    ensures bits { IfSome result (λ a. (known_word a ≡ word.now) × (a < 128)) }
+{
     if word.len() != 7 {
         return None;
     }
@@ -34,7 +51,9 @@ pub(crate) fn known_address(word: &[u8]) -> Option<u8> {
 }
 
 /// The ends of a count, each of digits alone: both are the word itself, or they stand around `..`.
-pub(crate) fn count_ends(word: &[u8]) -> Option<CountEnds<'_>> {
+pub(crate) fn count_ends(word: &[u8]) -> Option<CountEnds<'_>>
+    ensures { ends_of result ≡ words_spec.count_ends word.now }
+{
     let ends = match word.iter().position(|byte| *byte == b'.') {
         None => CountEnds {
             least: word,
@@ -63,8 +82,13 @@ pub(crate) struct CountEnds<'a> {
 }
 
 impl CountEnds<'_> {
+    ghost use Rattle.plan_text.specs.WordBits.{ends_at};
+
     /// The count, where both ends are 1 to 255 and in order.
-    pub(crate) fn count(&self) -> Option<Count> {
+    pub(crate) fn count(&self) -> Option<Count>
+        ensures form { is_some result ≡ in_range (ends_at self.now) }
+        ensures ends { IfSome result (λ c. (least_of c ≡ number self.now.least.now) × (greatest_of c ≡ number self.now.greatest.now)) }
+    {
         Count::between(number(self.least)?, number(self.greatest)?)
     }
 }

@@ -1,0 +1,6 @@
+-- The place of a source.
+use Rattle.plan_text.specs.declared.messages.Source.{Source}
+use Rattle.plan_text.specs.Reading.{Place, left}
+
+abbrev pub place : Source → Place
+place source = record { tokens = left source.tokens; nodes = source.nodes }
