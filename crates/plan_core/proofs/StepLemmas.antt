@@ -1,22 +1,18 @@
 -- What a plan holds after an entry has been added.
-use Rattle.std.proofs.Common.{◌≡◌, ◌⊎◌, inl, inr, ℕ, ◌+◌, ◌<◌, ◌≤◌, Bool, true, false, not, List, [], ◌∷◌, ◌++◌, length, get_or, take, drop, map, Some, None, is_some, ◌||◌, refl, sym, ◌∙◌, ap, subst}
+use Rattle.std.proofs.Common.{◌≡◌, ◌⊎◌, inl, inr, ℕ, ◌+◌, ◌<◌, ◌≤◌, Bool, List, [], ◌∷◌, ◌++◌, length, get_or, take, map, None, ◌||◌, refl, sym, ◌∙◌, ap, subst}
 use Rattle.std.specs.List.{range_with_len, list_any, cons_option}
-use Rattle.std.specs.Prelude.{nat_le, if◌then◌else◌}
-use Rattle.std.specs.Str.{bytes_eq}
 use Rattle.std.specs.Vec.{vec_items}
 use Rattle.std.specs.declared.vec.Vec.{Vec}
-use Rattle.std.proofs.lemmas.Bool.{le-leb, lt-leb}
-use Rattle.std.proofs.lemmas.List.{map_push, map_more, take_at, drop_more}
+use Rattle.std.proofs.lemmas.List.{map_push, map_more, take_at}
 use Rattle.std.proofs.lemmas.List.Elements.{filter_map-append}
 use Rattle.message_tree.specs.declared.tree.Frame.{Frame}
 use Rattle.message_tree.specs.Trees.{FrameTree, frame_tree}
-use Rattle.plan_core.specs.declared.builder.BuildError.TheVariants.{Twice, Unknown, TooMany}
 use Rattle.plan_core.specs.declared.names.Name.{Name}
 use Rattle.plan_core.specs.declared.pairs.PairTable.{PairTable}
 use Rattle.plan_core.specs.declared.plans.Participant.{Participant}
 use Rattle.plan_core.specs.declared.plans.Participant.TheVariants.{Interrupt}
 use Rattle.plan_core.specs.NameBytes.{name_bytes}
-use Rattle.plan_core.specs.Building.{number_of, numbers_of, list_refusal, controller_number, message_refusal, with_message, controller_refusal, with_sender, interrupt_refusal, with_interrupt, with_never}
+use Rattle.plan_core.specs.Building.{number_of, numbers_of, controller_number, message_refusal, with_message, controller_refusal, with_sender, interrupt_refusal, with_interrupt, with_never}
 use Rattle.plan_core.specs.Contents.{Contents}
 use Rattle.plan_core.specs.Limits.{IsWithinLimits, sending_count}
 use Rattle.plan_core.specs.Names.{IsName}
@@ -98,27 +94,7 @@ numbers_of-more plan names i d within =
     ap (numbers_of plan) (map_more name_bytes names i d within)
     ∙ filter_map-append (λ name. number_of name plan.messages) (map name_bytes (take i names)) (name_bytes (get_or names i d) ∷ [])
 
--- what a list of names is refused for from name i on
-pub list_refusal-at : (plan : Contents) (names : List Name) (i : ℕ) (d : Name) → i < length names → list_refusal plan (map name_bytes (take i names)) (map name_bytes (drop i names)) ≡ list_refusal plan (map name_bytes (take i names)) (name_bytes (get_or names i d) ∷ map name_bytes (drop (i + 1) names))
-list_refusal-at plan names i d within = ap (λ xs. list_refusal plan (map name_bytes (take i names)) (map name_bytes xs)) (drop_more names i d within)
-
 -- a test of each element of a list made by a function
 pub list_any-map : {X Y : Type 0} (p : Y → Bool) (f : X → Y) (xs : List X) → list_any p (map f xs) ≡ list_any (λ x. p (f x)) xs
 list_any-map p f [] = refl
 list_any-map p f (x ∷ xs) = ap (λ b. p (f x) || b) (list_any-map p f xs)
-
-module _ (plan : Contents) (before : List (List ℕ)) (name : List ℕ) (names : List (List ℕ)) (known : is_some (number_of name plan.messages) ≡ true) where
-  after_known : list_refusal plan before (name ∷ names) ≡ (if list_any (λ other. bytes_eq other name) before then Some Twice else if nat_le 512 (sending_count plan.controllers + length before) then Some TooMany else list_refusal plan (before ++ name ∷ []) names)
-  after_known = ap (λ b. if not b then Some Unknown else if list_any (λ other. bytes_eq other name) before then Some Twice else if nat_le 512 (sending_count plan.controllers + length before) then Some TooMany else list_refusal plan (before ++ name ∷ []) names) known
-
-  pub list_refusal-twice : list_any (λ other. bytes_eq other name) before ≡ true → list_refusal plan before (name ∷ names) ≡ Some Twice
-  list_refusal-twice twice = after_known ∙ ap (λ b. if b then Some Twice else if nat_le 512 (sending_count plan.controllers + length before) then Some TooMany else list_refusal plan (before ++ name ∷ []) names) twice
-
-  after_new : list_any (λ other. bytes_eq other name) before ≡ false → list_refusal plan before (name ∷ names) ≡ (if nat_le 512 (sending_count plan.controllers + length before) then Some TooMany else list_refusal plan (before ++ name ∷ []) names)
-  after_new new = after_known ∙ ap (λ b. if b then Some Twice else if nat_le 512 (sending_count plan.controllers + length before) then Some TooMany else list_refusal plan (before ++ name ∷ []) names) new
-
-  pub list_refusal-many : list_any (λ other. bytes_eq other name) before ≡ false → 512 ≤ sending_count plan.controllers + length before → list_refusal plan before (name ∷ names) ≡ Some TooMany
-  list_refusal-many new many = after_new new ∙ ap (λ b. if b then Some TooMany else list_refusal plan (before ++ name ∷ []) names) (le-leb 512 (sending_count plan.controllers + length before) many)
-
-  pub list_refusal-next : list_any (λ other. bytes_eq other name) before ≡ false → sending_count plan.controllers + length before < 512 → list_refusal plan before (name ∷ names) ≡ list_refusal plan (before ++ name ∷ []) names
-  list_refusal-next new few = after_new new ∙ ap (λ b. if b then Some TooMany else list_refusal plan (before ++ name ∷ []) names) (lt-leb 512 (sending_count plan.controllers + length before) few)

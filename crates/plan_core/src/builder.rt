@@ -9,7 +9,7 @@ ghost use Rattle.message_tree.specs.Trees.{frame_tree};
 ghost use Rattle.plan_core.specs.Contents.{empty};
 ghost use Rattle.plan_core.specs.NameBytes.{name_bytes};
 ghost use Rattle.plan_core.specs.declared.builder.BuildError.TheVariants.{NoMemory};
-ghost use Rattle.plan_core.specs.Building.{Answers, number_of, numbers_of, message_refusal, with_message, controller_refusal, list_refusal, with_controller, with_sender, interrupt_refusal, with_interrupt, never_refusal, with_never};
+ghost use Rattle.plan_core.specs.Building.{Answers, number_of, numbers_of, has_name, message_name_refusal, message_refusal, with_message, controller_name_refusal, controller_refusal, list_refusal, with_controller, with_sender, interrupt_refusal, with_interrupt, never_refusal, with_never};
 ghost use Rattle.plan_core.specs.Limits.{sending_count};
 ghost use Rattle.plan_core.specs.Participants.{participants_of};
 ghost use Rattle.plan_core.specs.declared.plans.Participant.TheVariants.{Sending, Interrupt};
@@ -87,6 +87,14 @@ impl Builder {
         }
     }
 
+    /// Why a message of this name would be refused, whatever its frame: `Twice` where a message has this name, then
+    /// `TooMany` where there are 256 messages. It takes no memory and changes nothing.
+    pub fn message_name_refusal(&self, name: &Name) -> Option<BuildError>
+        ensures { result ≡ message_name_refusal (builder_contents self.now) (name_bytes name.now) }
+    {
+        self.plan.message_name_refusal(name)
+    }
+
     /// Adds a controller that may send these messages, in this order, at the end of the controllers.
     ///
     /// # Errors
@@ -105,6 +113,30 @@ impl Builder {
         }
     }
 
+    /// Why a controller of this name would be refused, whatever its messages: `Twice` where a controller has this name,
+    /// then `TooMany` where there are 32 controllers. It takes no memory and changes nothing.
+    pub fn controller_name_refusal(&self, name: &Name) -> Option<BuildError>
+        ensures { result ≡ controller_name_refusal (builder_contents self.now) (name_bytes name.now) }
+    {
+        self.plan.controller_name_refusal(name)
+    }
+
+    /// Whether a controller has this name. It takes no memory and changes nothing.
+    pub fn has_controller(&self, name: &Name) -> bool
+        ensures { result ≡ has_name (name_bytes name.now) (builder_contents self.now).controllers }
+    {
+        self.plan.controller_number(name).is_some()
+    }
+
+    /// Why the message of this name would be refused to a further controller that may send those in `before`: `Unknown`
+    /// where there is no such message, then `Twice` where the name stands in `before`, then `TooMany` where the plan
+    /// would have more than 512 sendings. It takes no memory and changes nothing.
+    pub fn sending_refusal(&self, before: &[Name], name: &Name) -> Option<BuildError>
+        ensures { result ≡ list_refusal (builder_contents self.now) (map name_bytes before.now) (name_bytes name.now ∷ []) }
+    {
+        self.plan.sending_refusal(before, name)
+    }
+
     /// Adds an interrupt at the end of the interrupts. The low seven bits of `address` count.
     ///
     /// # Errors
@@ -119,6 +151,14 @@ impl Builder {
             Some(refusal) => Err(refusal),
             None => self.plan.add_interrupt(self.alloc, name, address % 128),
         }
+    }
+
+    /// Why an interrupt of this name would be refused, whatever its address: `Twice` where an interrupt has this name,
+    /// then `TooMany` where there are 32 interrupts. It takes no memory and changes nothing.
+    pub fn interrupt_refusal(&self, name: &Name) -> Option<BuildError>
+        ensures { result ≡ interrupt_refusal (builder_contents self.now) (name_bytes name.now) }
+    {
+        self.plan.interrupt_refusal(name)
     }
 
     /// Adds that these two controllers never start together.
@@ -137,6 +177,15 @@ impl Builder {
             Some(refusal) => Err(refusal),
             None => self.plan.add_never(self.alloc, first, second),
         }
+    }
+
+    /// Why a `never` of these two would be refused: `Unknown` where no controller has the name `first`, then `Twice` where
+    /// the names are equal, then `Unknown` where no controller has the name `second`, then `Twice` where the two stand
+    /// together already, in either order. It takes no memory and changes nothing.
+    pub fn never_refusal(&self, first: &Name, second: &Name) -> Option<BuildError>
+        ensures { result ≡ never_refusal (builder_contents self.now) (name_bytes first.now) (name_bytes second.now) }
+    {
+        self.plan.never_refusal(first, second)
     }
 
     /// The plan. It takes no memory.
@@ -168,19 +217,29 @@ impl Plan {
         index_of(&self.interrupts, name)
     }
 
-    // Why this message is refused, apart from want of memory.
-    #[tactic(auto, unfolding(crate::specs::Building::message_refusal))]
-    fn message_refusal(&self, name: &Name, frame: &Frame) -> Option<BuildError>
-        ensures { result ≡ message_refusal (plan_contents self.now) (name_bytes name.now) (frame_tree frame.now) }
+    // Why a message of this name is refused, whatever its frame.
+    #[tactic(auto, unfolding(crate::specs::Building::message_name_refusal))]
+    fn message_name_refusal(&self, name: &Name) -> Option<BuildError>
+        ensures { result ≡ message_name_refusal (plan_contents self.now) (name_bytes name.now) }
     {
         if self.message_number(name).is_some() {
             Some(BuildError::Twice)
         } else if self.messages() >= 256 {
             Some(BuildError::TooMany)
-        } else if frame.longest() > 256 || frame.nodes() > 4096 {
-            Some(BuildError::TooLong)
         } else {
             None
+        }
+    }
+
+    // Why this message is refused, apart from want of memory.
+    #[tactic(auto, unfolding(crate::specs::Building::message_refusal, crate::specs::Building::message_name_refusal))]
+    fn message_refusal(&self, name: &Name, frame: &Frame) -> Option<BuildError>
+        ensures { result ≡ message_refusal (plan_contents self.now) (name_bytes name.now) (frame_tree frame.now) }
+    {
+        match self.message_name_refusal(name) {
+            Some(refusal) => Some(refusal),
+            None if frame.longest() > 256 || frame.nodes() > 4096 => Some(BuildError::TooLong),
+            None => None,
         }
     }
 
@@ -194,17 +253,28 @@ impl Plan {
         Ok(())
     }
 
-    // Why this controller is refused, apart from want of memory.
-    #[tactic(auto, unfolding(crate::specs::Building::controller_refusal))]
-    fn controller_refusal(&self, name: &Name, messages: &[Name]) -> Option<BuildError>
-        ensures { result ≡ controller_refusal (plan_contents self.now) (name_bytes name.now) (map name_bytes messages.now) }
+    // Why a controller of this name is refused, whatever its messages.
+    #[tactic(auto, unfolding(crate::specs::Building::controller_name_refusal))]
+    fn controller_name_refusal(&self, name: &Name) -> Option<BuildError>
+        ensures { result ≡ controller_name_refusal (plan_contents self.now) (name_bytes name.now) }
     {
         if self.controller_number(name).is_some() {
             Some(BuildError::Twice)
         } else if self.controllers() >= 32 {
             Some(BuildError::TooMany)
         } else {
-            self.list_refusal(messages)
+            None
+        }
+    }
+
+    // Why this controller is refused, apart from want of memory.
+    #[tactic(auto, unfolding(crate::specs::Building::controller_refusal, crate::specs::Building::controller_name_refusal))]
+    fn controller_refusal(&self, name: &Name, messages: &[Name]) -> Option<BuildError>
+        ensures { result ≡ controller_refusal (plan_contents self.now) (name_bytes name.now) (map name_bytes messages.now) }
+    {
+        match self.controller_name_refusal(name) {
+            Some(refusal) => Some(refusal),
+            None => self.list_refusal(messages),
         }
     }
 
@@ -212,19 +282,27 @@ impl Plan {
     fn list_refusal(&self, messages: &[Name]) -> Option<BuildError>
         ensures { result ≡ list_refusal (plan_contents self.now) [] (map name_bytes messages.now) }
     {
-        let sendings = self.sendings();
         for (i, name) in messages.iter().enumerate() {
-            if self.message_number(name).is_none() {
-                return Some(BuildError::Unknown);
-            }
-            if messages[..i].contains(name) {
-                return Some(BuildError::Twice);
-            }
-            if sendings + i >= 512 {
-                return Some(BuildError::TooMany);
+            if let Some(refusal) = self.sending_refusal(&messages[..i], name) {
+                return Some(refusal);
             }
         }
         None
+    }
+
+    // Why one more message is refused to a controller that may send those before.
+    fn sending_refusal(&self, before: &[Name], name: &Name) -> Option<BuildError>
+        ensures { result ≡ list_refusal (plan_contents self.now) (map name_bytes before.now) (name_bytes name.now ∷ []) }
+    {
+        if self.message_number(name).is_none() {
+            Some(BuildError::Unknown)
+        } else if before.contains(name) {
+            Some(BuildError::Twice)
+        } else if self.sendings() + before.len() >= 512 {
+            Some(BuildError::TooMany)
+        } else {
+            None
+        }
     }
 
     // The number of sendings of all controllers.

@@ -114,6 +114,57 @@ fn never(
     Ok(builder.never(&first, &second).err())
 }
 
+// What the builder would refuse, if anything, without a call that adds.
+fn message_name(builder: &Builder, alloc: Global, text: &str) -> Result<Option<BuildError>, Fail> {
+    let name = name(alloc, text)?;
+    Ok(builder.message_name_refusal(&name))
+}
+
+fn controller_name(
+    builder: &Builder,
+    alloc: Global,
+    text: &str,
+) -> Result<Option<BuildError>, Fail> {
+    let name = name(alloc, text)?;
+    Ok(builder.controller_name_refusal(&name))
+}
+
+fn interrupt_name(
+    builder: &Builder,
+    alloc: Global,
+    text: &str,
+) -> Result<Option<BuildError>, Fail> {
+    let name = name(alloc, text)?;
+    Ok(builder.interrupt_refusal(&name))
+}
+
+fn one_more_sending(
+    builder: &Builder,
+    alloc: Global,
+    before: &str,
+    text: &str,
+) -> Result<Option<BuildError>, Fail> {
+    let before = names(alloc, before)?;
+    let name = name(alloc, text)?;
+    Ok(builder.sending_refusal(&before, &name))
+}
+
+fn one_more_never(
+    builder: &Builder,
+    alloc: Global,
+    first: &str,
+    second: &str,
+) -> Result<Option<BuildError>, Fail> {
+    let first = name(alloc, first)?;
+    let second = name(alloc, second)?;
+    Ok(builder.never_refusal(&first, &second))
+}
+
+fn is_controller(builder: &Builder, alloc: Global, text: &str) -> Result<bool, Fail> {
+    let name = name(alloc, text)?;
+    Ok(builder.has_controller(&name))
+}
+
 // Messages `m0`, `m1` and so on.
 fn add_messages(rt: &impl Abort, builder: &mut Builder, alloc: Global, n: u32) -> Result<(), Fail> {
     for k in 0..n {
@@ -272,6 +323,7 @@ fn expect_bounds(rt: &impl Abort, builder: &mut Builder, alloc: Global) -> Resul
 fn messages_are_at_most_256(rt: HostRuntime) -> Result<(), Fail> {
     let mut builder = Builder::new(rt.alloc());
     fill_messages(&rt, &mut builder, rt.alloc())?;
+    expect_full_of_messages(&rt, &builder, rt.alloc())?;
     assert_eq!(rt; builder.finish().messages(), 256);
     Ok(())
 }
@@ -285,6 +337,18 @@ fn fill_messages(rt: &impl Abort, builder: &mut Builder, alloc: Global) -> Resul
     );
     assert_eq!(rt;
         message(builder, alloc, "m3", 256)?,
+        Some(BuildError::Twice)
+    );
+    Ok(())
+}
+
+fn expect_full_of_messages(rt: &impl Abort, builder: &Builder, alloc: Global) -> Result<(), Fail> {
+    assert_eq!(rt;
+        message_name(builder, alloc, "a")?,
+        Some(BuildError::TooMany)
+    );
+    assert_eq!(rt;
+        message_name(builder, alloc, "m3")?,
         Some(BuildError::Twice)
     );
     Ok(())
@@ -428,6 +492,125 @@ fn refuse_nevers(rt: &impl Abort, builder: &mut Builder, alloc: Global) -> Resul
             "{first} {second}"
         );
     }
+    Ok(())
+}
+
+// A message `m`, a controller `a` and an interrupt `t`.
+#[test]
+fn refusals_are_told_beforehand(rt: HostRuntime) -> Result<(), Fail> {
+    let mut builder = Builder::new(rt.alloc());
+    fill_one_and_one(&rt, &mut builder, rt.alloc())?;
+    expect_refused_names(&rt, &builder, rt.alloc())?;
+    expect_counts(&rt, &builder.finish(), [1, 1, 1, 2, 1]);
+    Ok(())
+}
+
+fn expect_refused_names(rt: &impl Abort, builder: &Builder, alloc: Global) -> Result<(), Fail> {
+    let twice = Some(BuildError::Twice);
+    for (text, message, controller, interrupt) in [
+        ("m", twice, None, None),
+        ("a", None, twice, None),
+        ("t", None, None, twice),
+        ("n", None, None, None),
+    ] {
+        assert_eq!(rt; message_name(builder, alloc, text)?, message, "{text}");
+        assert_eq!(rt;
+            controller_name(builder, alloc, text)?,
+            controller,
+            "{text}"
+        );
+        assert_eq!(rt; interrupt_name(builder, alloc, text)?, interrupt, "{text}");
+        assert_eq!(rt; is_controller(builder, alloc, text)?, text == "a", "{text}");
+    }
+    for (before, text, answer) in [
+        ("", "m", None),
+        ("", "a", Some(BuildError::Unknown)),
+        ("q", "q", Some(BuildError::Unknown)),
+        ("q m", "m", twice),
+        ("q", "m", None),
+    ] {
+        assert_eq!(rt;
+            one_more_sending(builder, alloc, before, text)?,
+            answer,
+            "{before} {text}"
+        );
+    }
+    Ok(())
+}
+
+// Controllers `c0`, `c1` and `c2`, of which the last and the first never start together.
+#[test]
+fn refused_nevers_are_told_beforehand(rt: HostRuntime) -> Result<(), Fail> {
+    let mut builder = Builder::new(rt.alloc());
+    fill_with_never(&rt, &mut builder, rt.alloc())?;
+    expect_refused_nevers(&rt, &builder, rt.alloc())
+}
+
+fn expect_refused_nevers(rt: &impl Abort, builder: &Builder, alloc: Global) -> Result<(), Fail> {
+    for (first, second, answer) in [
+        ("q", "q", Some(BuildError::Unknown)),
+        ("c0", "c0", Some(BuildError::Twice)),
+        ("c0", "q", Some(BuildError::Unknown)),
+        ("c0", "c1", None),
+        ("c0", "c2", Some(BuildError::Twice)),
+        ("c2", "c0", Some(BuildError::Twice)),
+    ] {
+        assert_eq!(rt;
+            one_more_never(builder, alloc, first, second)?,
+            answer,
+            "{first} {second}"
+        );
+    }
+    Ok(())
+}
+
+// With 496 sendings, and 15 or 16 more.
+#[test]
+fn one_sending_too_many_is_told_beforehand(rt: HostRuntime) -> Result<(), Fail> {
+    let mut builder = Builder::new(rt.alloc());
+    add_messages(&rt, &mut builder, rt.alloc(), 17)?;
+    add_controllers(&rt, &mut builder, rt.alloc(), 31, ALL)?;
+    expect_last_sending(&rt, &builder, rt.alloc())
+}
+
+fn expect_last_sending(rt: &impl Abort, builder: &Builder, alloc: Global) -> Result<(), Fail> {
+    for (before, text, answer) in [
+        (
+            "m0 m1 m2 m3 m4 m5 m6 m7 m8 m9 m10 m11 m12 m13 m14",
+            "m15",
+            None,
+        ),
+        (ALL, "m16", Some(BuildError::TooMany)),
+        (ALL, "m3", Some(BuildError::Twice)),
+        (ALL, "q", Some(BuildError::Unknown)),
+    ] {
+        assert_eq!(rt;
+            one_more_sending(builder, alloc, before, text)?,
+            answer,
+            "{text}"
+        );
+    }
+    Ok(())
+}
+
+// 32 controllers and 32 interrupts.
+#[test]
+fn full_plans_are_told_beforehand(rt: HostRuntime) -> Result<(), Fail> {
+    let mut builder = Builder::new(rt.alloc());
+    fill_all(&rt, &mut builder, rt.alloc())?;
+    expect_full(&rt, &builder, rt.alloc())
+}
+
+fn expect_full(rt: &impl Abort, builder: &Builder, alloc: Global) -> Result<(), Fail> {
+    let twice = Some(BuildError::Twice);
+    let many = Some(BuildError::TooMany);
+    assert_eq!(rt; message_name(builder, alloc, "m")?, None);
+    assert_eq!(rt; controller_name(builder, alloc, "d")?, many);
+    assert_eq!(rt; controller_name(builder, alloc, "c31")?, twice);
+    assert_eq!(rt; interrupt_name(builder, alloc, "u")?, many);
+    assert_eq!(rt; interrupt_name(builder, alloc, "t31")?, twice);
+    assert!(rt; is_controller(builder, alloc, "c31")?);
+    assert!(rt; !is_controller(builder, alloc, "t31")?);
     Ok(())
 }
 

@@ -1,2 +1,4 @@
 pub mod Adding
 pub mod MessageLemmas
+pub mod WordLemmas
+pub mod TokenLemmas

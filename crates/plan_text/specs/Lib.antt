@@ -5,4 +5,5 @@ pub mod Grammar
 pub mod Refusals
 pub mod Reading
 pub mod Sources
-pub mod WordBits
+pub mod Items
+pub mod Readers

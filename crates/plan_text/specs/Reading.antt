@@ -1,5 +1,5 @@
 -- What the functions of the reader say of the tokens: what is left of them, and what is expected there.
-use Rattle.std.specs.Prelude.{◌≡◌, ℕ, ◌+◌, ◌≤◌, ◌<◌, Bool, true, false, List, [], ◌∷◌, ◌++◌, length, Option, Some, None}
+use Rattle.std.specs.Prelude.{◌≡◌, ℕ, ◌+◌, ◌≤◌, ◌<◌, Bool, true, false, ◌||◌, ◌==◌, List, [], ◌∷◌, ◌++◌, length, Option, Some, None}
 use Rattle.plan_core.specs.Contents.{Contents}
 use Rattle.plan_text.specs.declared.errors.PlanError.{PlanError}
 use Rattle.plan_text.specs.declared.errors.PlanError.TheVariants as errors
@@ -34,6 +34,15 @@ taken symbols.End = 0
 -- the tokens that are left
 abbrev pub left_of : spec.Dots → Tokens → spec.Tokens
 left_of dots tokens = spec.tokens_of dots tokens.line tokens.rest.now
+
+-- white space, or the sign that begins a comment
+abbrev pub is_skipped : ℕ → Bool
+is_skipped byte = byte == 10 || byte == 32 || byte == 9 || byte == 13 || byte == 35
+
+-- neither white space nor a comment stands at the front
+abbrev pub BeginsHere : List ℕ → Type 0
+BeginsHere [] = Unit {0}
+BeginsHere (byte ∷ bytes) = is_skipped byte ≡ false
 
 abbrev pub dots_from : Bool → spec.Dots
 dots_from true = spec.after 0

@@ -1,5 +1,5 @@
 -- The place of a source.
-use Rattle.plan_text.specs.declared.messages.Source.{Source}
+use Rattle.plan_text.specs.declared.sources.Source.{Source}
 use Rattle.plan_text.specs.Reading.{Place, left}
 
 abbrev pub place : Source → Place

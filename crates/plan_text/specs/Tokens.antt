@@ -105,9 +105,9 @@ abbrev mutual
         | number_sign ↦ in_comment dots line bytes
         | semicolon_sign ↦ next semicolon line (raw_tokens (one_later dots) line bytes)
         | word_part ↦ elim (begins_with_part (dots_now dots) bytes) [
-            | true ↦ put_before byte (raw_tokens dots line bytes)
-            | false ↦ next (word (byte ∷ [])) line (raw_tokens (one_later dots) line bytes)
-          ]
+          | true ↦ put_before byte (raw_tokens dots line bytes)
+          | false ↦ next (word (byte ∷ [])) line (raw_tokens (one_later dots) line bytes)
+        ]
         | no_ascii ↦ last foreign line
         | other ↦ last stray line
       ]

@@ -3,7 +3,6 @@
 ghost use Rattle.std.specs.Prelude.{◌≡◌};
 ghost use Rattle.plan_text.specs.declared.errors.PlanError.TheVariants.{NoMemory};
 
-use plan_core::BuildError;
 use std::alloc::{AllocError, AllocFailed};
 use thiserror::Error;
 
@@ -38,19 +37,6 @@ pub enum PlanError {
     /// P9: memory was refused before another refusal was met.
     #[error("P9")]
     NoMemory,
-}
-
-impl PlanError {
-    /// The refusal of a name, a message or an item at the token that makes it one, which stands on this line.
-    pub(crate) fn at(error: BuildError, line: u64) -> PlanError {
-        match error {
-            BuildError::TooLong => PlanError::TooLong(line),
-            BuildError::TooMany => PlanError::TooMany(line),
-            BuildError::Twice => PlanError::Twice(line),
-            BuildError::Unknown => PlanError::Unknown(line),
-            BuildError::NoMemory => PlanError::NoMemory,
-        }
-    }
 }
 
 impl From<AllocError> for PlanError {

@@ -6,13 +6,15 @@
 #![tactic(auto)]
 
 pub mod errors;
-mod limits;
+mod items;
 mod messages;
 pub mod print;
+mod sources;
 mod symbols;
 mod tokens;
 mod versions;
 mod words;
 
 pub use errors::PlanError;
+pub use items::read_plan;
 pub use print::print_plan;

@@ -9,11 +9,10 @@ ghost use Rattle.plan_text.specs.Tokens as spec;
 ghost use Rattle.plan_core.specs.declared.builder.BuildError.TheVariants as build;
 
 use crate::errors::PlanError;
+use crate::sources::Source;
 use crate::symbols::{Keyword, Symbol, Token};
-use crate::tokens::Tokens;
 use crate::words::{address, count_ends, pattern};
 use message_tree::{Address, Count, Frame, Payload, Tail};
-use std::alloc::Global;
 
 /// The bytes on one path of a message.
 const PATH_BYTES: u32 = 256;
@@ -21,29 +20,9 @@ const PATH_BYTES: u32 = 256;
 /// The nodes of a message.
 const NODES: u32 = 4096;
 
-/// What is left of a plan text, and how many nodes of the message have been read.
-#[derive(Debug, Drop)]
-pub(crate) struct Source<'a> {
-    pub(crate) alloc: Global,
-    pub(crate) tokens: Tokens<'a>,
-    nodes: u32,
-    ghost nodes_fit: { nodes ≤ 4096 },
-}
-
-impl<'a> Source<'a> {
+impl Source<'_> {
     ghost use Rattle.plan_text.specs.Reading.{Place, FrameRead, PayloadRead, TailRead, TokenRead, NodeRead, CountRead, Took, TookKeyword, Refuses, unread, taken};
     ghost use Rattle.plan_text.specs.Sources.{place};
-
-    /// The whole of these tokens.
-    pub(crate) fn new(alloc: Global, tokens: Tokens<'a>) -> Self
-        ensures { result.tokens ≡ tokens }
-    {
-        Source {
-            alloc,
-            tokens,
-            nodes: 0,
-        }
-    }
 
     /// The frame of a whole message.
     pub(crate) fn message_frame(&mut self) -> Result<Frame, PlanError>
@@ -162,7 +141,7 @@ impl<'a> Source<'a> {
 
     // The tail that begins with this token.
     #[cycle(message)]
-    fn tail_from(&mut self, token: Token<'a>, above: u32) -> Result<Tail, PlanError>
+    fn tail_from(&mut self, token: Token<'_>, above: u32) -> Result<Tail, PlanError>
         requires { above ≤ 256 }
         ensures read { IfOk result (λ it. (start : Place) → Took token.entry start (place self.old) → TailRead above (tail_tree it) start (place self.new)) }
         ensures refused { IfErr result (λ e. (start : Place) → Took token.entry start (place self.old) → Refuses start (expect.tail above ∷ []) e) }
@@ -243,19 +222,6 @@ impl<'a> Source<'a> {
         let token = self.tokens.next();
         match token.symbol {
             Symbol::Keyword(Keyword::Else) => Ok(()),
-            _ => Err(token.unexpected()),
-        }
-    }
-
-    /// `;`, which ends an item.
-    pub(crate) fn semicolon(&mut self) -> Result<u64, PlanError>
-        ensures read { OnOk result (TokenRead spec.semicolon expect.item_end (place self.old) (place self.new)) }
-        ensures refused { IfErr result (λ e. Refuses (place self.old) (expect.item_end ∷ []) e) }
-        ensures left { unread self.new.tokens ≤ unread self.old.tokens }
-    {
-        let token = self.tokens.next();
-        match token.symbol {
-            Symbol::Semicolon => Ok(token.line),
             _ => Err(token.unexpected()),
         }
     }

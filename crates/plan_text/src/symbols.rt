@@ -50,14 +50,6 @@ impl<'a> Token<'a> {
     ghost use Rattle.plan_text.specs.Reading.{unexpected_at, with_token};
     ghost use Rattle.plan_text.specs.Refusals.{no_version};
 
-    /// The word, if this token is one and no keyword.
-    pub(crate) fn word(&self) -> Option<&'a [u8]> {
-        match self.symbol {
-            Symbol::Word(word) => Some(word),
-            _ => None,
-        }
-    }
-
     /// The refusal of this token where the grammar does not allow it.
     pub(crate) fn unexpected(&self) -> PlanError
         ensures { result ≡ unexpected_at self.now }
@@ -93,17 +85,27 @@ pub(crate) fn word_symbol(word: &[u8]) -> Symbol<'_>
 fn keyword_of(word: &[u8]) -> Option<Keyword>
     ensures { result ≡ keyword_of word.now }
 {
-    match word {
-        b"plan" => Some(Keyword::Plan),
-        b"message" => Some(Keyword::Message),
-        b"controller" => Some(Keyword::Controller),
-        b"interrupt" => Some(Keyword::Interrupt),
-        b"never" => Some(Keyword::Never),
-        b"write" => Some(Keyword::Write),
-        b"read" => Some(Keyword::Read),
-        b"again" => Some(Keyword::Again),
-        b"else" => Some(Keyword::Else),
-        b"stop" => Some(Keyword::Stop),
-        _ => None,
+    if word == b"plan".as_slice() {
+        Some(Keyword::Plan)
+    } else if word == b"message".as_slice() {
+        Some(Keyword::Message)
+    } else if word == b"controller".as_slice() {
+        Some(Keyword::Controller)
+    } else if word == b"interrupt".as_slice() {
+        Some(Keyword::Interrupt)
+    } else if word == b"never".as_slice() {
+        Some(Keyword::Never)
+    } else if word == b"write".as_slice() {
+        Some(Keyword::Write)
+    } else if word == b"read".as_slice() {
+        Some(Keyword::Read)
+    } else if word == b"again".as_slice() {
+        Some(Keyword::Again)
+    } else if word == b"else".as_slice() {
+        Some(Keyword::Else)
+    } else if word == b"stop".as_slice() {
+        Some(Keyword::Stop)
+    } else {
+        None
     }
 }

@@ -1,7 +1,9 @@
 // The tokens of a plan text, one at a time, each with its line.
 
-ghost use Rattle.std.specs.Prelude.{◌≡◌, ◌<◌, ◌≤◌, ◌+◌, ◌^◌, length, true, false, Some};
-ghost use Rattle.plan_text.specs.Tokens.{Dots, tokens_of, dots_now, one_later, is_word_part};
+ghost use Rattle.std.specs.Prelude.{◌≡◌, ℕ, ◌<◌, ◌≤◌, ◌+◌, ◌^◌, length, true, false, not, ◌&&◌, ◌==◌, Some};
+ghost use Rattle.std.specs.Char.{is_ascii};
+ghost use Rattle.std.specs.List.{prefix_len};
+ghost use Rattle.plan_text.specs.Tokens.{Dots, tokens_of, dots_now, one_later, is_word_part, raw_tokens, in_comment};
 
 use crate::symbols::{Symbol, Token, word_symbol};
 
@@ -15,7 +17,7 @@ pub(crate) struct Tokens<'a> {
 }
 
 impl<'a> Tokens<'a> {
-    ghost use Rattle.plan_text.specs.Reading.{unread, taken, with_token, left_of, left};
+    ghost use Rattle.plan_text.specs.Reading.{unread, taken, with_token, left_of, left, BeginsHere};
 
     /// The tokens of a whole text, with no dots in words.
     pub(crate) fn new(text: &'a [u8]) -> Self
@@ -52,10 +54,9 @@ impl<'a> Tokens<'a> {
                 self.rest = rest;
                 Symbol::Semicolon
             }
-            [first, others @ ..] => {
+            [first, ..] => {
                 if is_part_of_word(*first, self.dots) {
-                    let end = 1 + self.word_end(others);
-                    let (word, rest) = self.rest.split_at(end);
+                    let (word, rest) = self.rest.split_at(self.word_end());
                     self.rest = rest;
                     word_symbol(word)
                 } else if first.is_ascii() {
@@ -70,36 +71,53 @@ impl<'a> Tokens<'a> {
 
     // Skips white space and comments. It stops before a foreign byte also inside a comment.
     fn skip_blank(&mut self)
-        ensures { unread self.new ≤ unread self.old }
+        ensures same { (dots : Dots) → left_of dots self.new ≡ left_of dots self.old }
+        ensures here { BeginsHere self.new.rest.now }
+        ensures dots { self.new.dots ≡ self.old.dots }
+        ensures shorter { unread self.new ≤ unread self.old }
     {
-        let mut in_comment = false;
         while let [first, rest @ ..] = self.rest {
             match *first {
                 b'\n' => {
                     self.line += 1;
-                    in_comment = false;
+                    self.rest = rest;
                 }
-                b'#' => in_comment = true,
-                b' ' | b'\t' | b'\r' => {}
-                byte => {
-                    if !in_comment || !byte.is_ascii() {
-                        return;
-                    }
-                }
+                b' ' | b'\t' | b'\r' => self.rest = rest,
+                b'#' => self.rest = after_comment(rest),
+                _ => return,
             }
-            self.rest = rest;
         }
     }
 
     // How many bytes at the front are parts of a word.
-    fn word_end(&self, bytes: &[u8]) -> usize
-        ensures { result ≤ length bytes.now }
+    fn word_end(&self) -> usize
+        ensures end { result ≡ prefix_len (is_word_part self.now.dots) self.now.rest.now }
+        ensures within { result ≤ length self.now.rest.now }
     {
-        bytes
+        self.rest
             .iter()
-            .position(|byte| !is_part_of_word(*byte, self.dots))
-            .unwrap_or(bytes.len())
+            .take_while(|byte| is_part_of_word(**byte, self.dots))
+            .count()
     }
+}
+
+// What follows a comment after its `#`: the end of its line, a foreign byte, or nothing.
+fn after_comment(bytes: &[u8]) -> &[u8]
+    ensures tokens { (dots : Dots) (line : ℕ) → raw_tokens dots line result.now ≡ in_comment dots line bytes.now }
+    ensures shorter { length result.now ≤ length bytes.now }
+{
+    &bytes[comment_end(bytes)..]
+}
+
+// How many bytes of a comment stand at the front: all up to the end of its line, or to a foreign byte.
+fn comment_end(bytes: &[u8]) -> usize
+    ensures end { result ≡ prefix_len (λ byte. not (byte == 10) && is_ascii byte) bytes.now }
+    ensures within { result ≤ length bytes.now }
+{
+    bytes
+        .iter()
+        .take_while(|byte| **byte != b'\n' && byte.is_ascii())
+        .count()
 }
 
 fn is_part_of_word(byte: u8, dots: bool) -> bool

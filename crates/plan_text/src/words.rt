@@ -1,12 +1,10 @@
 // What the words of a frame say, each by its form alone.
 
-ghost use Rattle.std.specs.Prelude.{◌≡◌, ◌<◌, is_some, IfSome};
-ghost use Rattle.message_tree.specs.Counts.{least_of, greatest_of};
-ghost use Rattle.plan_text.specs.Canonical.{pattern_word, address_word};
-ghost use Rattle.plan_text.specs.Words.{is_pattern, is_known_address, known_word, in_range, number};
-
-ghost use Rattle.plan_text.specs.WordBits.{ends_of};
-ghost use Rattle.plan_text.specs.Words as words_spec;
+ghost use Rattle.std.specs.Prelude.{◌≡◌, ◌<◌, ◌≤◌, ◌^◌, length, map, is_some, IfSome, MatchOption, nat_le, true};
+ghost use Rattle.std.specs.List.{list_all};
+ghost use Rattle.message_tree.specs.Bits.{bit_from, bits_below};
+ghost use Rattle.plan_text.specs.Canonical.{bit_symbol, address_word, pattern_word};
+ghost use Rattle.plan_text.specs.Words.{is_bit, is_pattern, is_known_address, known_word, is_digits, number, around_dots, count_ends};
 
 use message_tree::{Address, Count, Pattern};
 
@@ -52,23 +50,17 @@ pub(crate) fn known_address(word: &[u8]) -> Option<u8>
 
 /// The ends of a count, each of digits alone: both are the word itself, or they stand around `..`.
 pub(crate) fn count_ends(word: &[u8]) -> Option<CountEnds<'_>>
-    ensures { ends_of result ≡ words_spec.count_ends word.now }
+    ensures { MatchOption result (count_ends word.now ≡ None) (λ e. count_ends word.now ≡ Some (e.least.now, e.greatest.now)) }
 {
-    let ends = match word.iter().position(|byte| *byte == b'.') {
-        None => CountEnds {
+    if is_digits(word) {
+        return Some(CountEnds {
             least: word,
             greatest: word,
-        },
-        Some(dot) => {
-            let (least, rest) = word.split_at(dot);
-            let [b'.', b'.', greatest @ ..] = rest else {
-                return None;
-            };
-            CountEnds { least, greatest }
-        }
-    };
-    if is_digits(ends.least) && is_digits(ends.greatest) {
-        Some(ends)
+        });
+    }
+    let (least, greatest) = around_dots(word)?;
+    if is_digits(least) && is_digits(greatest) {
+        Some(CountEnds { least, greatest })
     } else {
         None
     }
@@ -79,15 +71,18 @@ pub(crate) fn count_ends(word: &[u8]) -> Option<CountEnds<'_>>
 pub(crate) struct CountEnds<'a> {
     least: &'a [u8],
     greatest: &'a [u8],
+    ghost least_digits: { is_digits least.now ≡ true },
+    ghost greatest_digits: { is_digits greatest.now ≡ true },
 }
 
 impl CountEnds<'_> {
-    ghost use Rattle.plan_text.specs.WordBits.{ends_at};
+    ghost use Rattle.message_tree.specs.Counts.{least_of, greatest_of};
+    ghost use Rattle.plan_text.specs.Words.{in_range};
 
     /// The count, where both ends are 1 to 255 and in order.
     pub(crate) fn count(&self) -> Option<Count>
-        ensures form { is_some result ≡ in_range (ends_at self.now) }
-        ensures ends { IfSome result (λ c. (least_of c ≡ number self.now.least.now) × (greatest_of c ≡ number self.now.greatest.now)) }
+        ensures form { is_some result ≡ in_range (self.now.least.now, self.now.greatest.now) }
+        ensures value { IfSome result (λ c. (least_of c ≡ number self.now.least.now) × (greatest_of c ≡ number self.now.greatest.now)) }
     {
         Count::between(number(self.least)?, number(self.greatest)?)
     }
@@ -100,29 +95,64 @@ struct Mask {
     value: u8,
 }
 
-fn bits(word: &[u8]) -> Option<Mask> {
+fn bits(word: &[u8]) -> Option<Mask>
+    requires { length word.now ≤ 8 }
+    ensures form { is_some result ≡ list_all is_bit word.now }
+    ensures bits { IfSome result (λ m. map bit_symbol (bits_below (length word.now) m.known m.value) ≡ word.now) }
+    ensures known { IfSome result (λ m. m.known < 2 ^ length word.now) }
+    ensures value { IfSome result (λ m. m.value < 2 ^ length word.now) }
+{
     let mut bits = Mask { known: 0, value: 0 };
     for byte in word {
-        let (known, value) = match *byte {
-            b'0' => (1, 0),
-            b'1' => (1, 1),
-            b'x' => (0, 0),
-            _ => return None,
-        };
+        let last = bit(*byte)?;
         bits = Mask {
-            known: bits.known << 1 | known,
-            value: bits.value << 1 | value,
+            known: bits.known * 2 + last.known,
+            value: bits.value * 2 + last.value,
         };
     }
     Some(bits)
 }
 
-fn is_digits(word: &[u8]) -> bool {
+// The bit of a single character.
+fn bit(byte: u8) -> Option<Mask>
+    ensures form { is_some result ≡ is_bit byte }
+    ensures bit { IfSome result (λ m. bit_symbol (bit_from m.known m.value) ≡ byte) }
+    ensures known { IfSome result (λ m. m.known < 2) }
+    ensures value { IfSome result (λ m. m.value < 2) }
+{
+    let (known, value) = match byte {
+        b'0' => (1, 0),
+        b'1' => (1, 1),
+        b'x' => (0, 0),
+        _ => return None,
+    };
+    Some(Mask { known, value })
+}
+
+// What stands before and after the first `.`, where another `.` follows it directly.
+fn around_dots(word: &[u8]) -> Option<(&[u8], &[u8])>
+    ensures { MatchOption result (around_dots word.now ≡ None) (λ ends. around_dots word.now ≡ Some (ends.0.now, ends.1.now)) }
+{
+    let dot = word.iter().position(|byte| *byte == b'.')?;
+    let (before, rest) = word.split_at(dot);
+    match rest {
+        [b'.', b'.', after @ ..] => Some((before, after)),
+        _ => None,
+    }
+}
+
+fn is_digits(word: &[u8]) -> bool
+    ensures { result ≡ is_digits word.now }
+{
     !word.is_empty() && word.iter().all(|byte| byte.is_ascii_digit())
 }
 
 // The number that the digits write, where it is at most 255.
-fn number(digits: &[u8]) -> Option<u8> {
+fn number(digits: &[u8]) -> Option<u8>
+    requires { is_digits digits.now ≡ true }
+    ensures form { is_some result ≡ nat_le (number digits.now) 255 }
+    ensures value { IfSome result (λ n. n ≡ number digits.now) }
+{
     let mut number = 0u8;
     for digit in digits {
         number = number

@@ -1,19 +1,26 @@
-use Rattle.std.proofs.Common.{rules, ◌≡◌, ◌<◌, is_some, IfSome, ℕ, ◌+◌, ◌-◌, ◌*◌, ◌≤◌, length, ◌/◌, ◌%◌, Bool, true, false, nat_eq, nat_lt, List, [], ◌∷◌, ◌++◌, slice_index_or, slice_set, bit_and, bit_or, Fits, w8, w32, w64, Bor, MutBor}
-use Rattle.message_tree.specs.Counts.{least_of, greatest_of}
-use Rattle.plan_text.specs.Canonical.{pattern_word, address_word}
-use Rattle.plan_text.specs.Words.{is_pattern, is_known_address, known_word, in_range, number}
-use Rattle.plan_text.specs.WordBits.{ends_of}
-use Rattle.plan_text.specs.Words as words_spec
+use Rattle.std.proofs.Common.{◌≡◌, ◌&&◌, false, sym, ◌∙◌}
+use Rattle.std.proofs.lemmas.Bool.{and_left, and_right}
+use Rattle.plan_text.specs.Words.{is_digits}
+use Rattle.plan_text.proofs.WordLemmas.{ends_whole, ends_apart, ends_absent, ends_not_digits}
+use Rattle.plan_text.proofs.words.count_ends.Goals.{else-is_digits-2-via-then-is_digits-2+else-is_digits-3, else-is_digits-2-via-else-is_digits-2}
 use Rattle.plan_text.proofs.words.count_ends.Goals as goal
 
--- src/words.rt:65:17
-pub returns-in_default : goal.returns-in_default
-returns-in_default c = ?
+pub returns-then-is_digits : goal.returns-then-is_digits
+returns-then-is_digits c = ends_whole c.args.word.now (sym c.is_digits.ensures ∙ c.if-is_digits.true)
 
--- src/words.rt:54:1
-pub returns-then-is_digits-2 : goal.returns-then-is_digits-2
-returns-then-is_digits-2 c = ?
+pub returns-in_err-least : goal.returns-in_err-least
+returns-in_err-least c =
+    rw c.from_residual.ensures (ends_absent c.args.word.now (sym c.is_digits.ensures ∙ c.if-is_digits.false) c.in_err-least.ensures)
 
--- src/words.rt:54:1
-pub returns-else-is_digits : goal.returns-else-is_digits
-returns-else-is_digits c = ?
+pub returns-then-is_digits-3 : goal.returns-then-is_digits-3
+returns-then-is_digits-3 c =
+    ends_apart c.args.word.now _ _ (sym c.is_digits.ensures ∙ c.if-is_digits.false) c.in_ok-least.ensures (sym c.is_digits-2.ensures ∙ c.if-is_digits-2.true) (sym c.is_digits-then-is_digits-2.ensures ∙ c.if-is_digits-3.true)
+
+pub returns-else-is_digits-2 : goal.returns-else-is_digits-2
+returns-else-is_digits-2 c =
+    let neither : (is_digits c.in_ok-least.least.now && is_digits c.in_ok-least.greatest.now) ≡ false =
+    elim c.else-is_digits-2.branch [
+      | else-is_digits-2-via-then-is_digits-2+else-is_digits-3 w ↦ and_right _ _ (sym w.is_digits-then-is_digits-2.ensures ∙ w.if-is_digits-3.false)
+      | else-is_digits-2-via-else-is_digits-2 w ↦ and_left _ _ (sym c.is_digits-2.ensures ∙ w.if-is_digits-2.false)
+    ] in
+    ends_not_digits c.args.word.now _ _ (sym c.is_digits.ensures ∙ c.if-is_digits.false) c.in_ok-least.ensures neither

@@ -1,23 +1,16 @@
-use Rattle.std.proofs.Common.{rules, ◌≡◌, ◌<◌, is_some, IfSome, ℕ, ◌+◌, ◌-◌, ◌*◌, ◌≤◌, length, ◌/◌, ◌%◌, Bool, true, false, nat_eq, nat_lt, List, [], ◌∷◌, ◌++◌, slice_index_or, slice_set, bit_and, bit_or, Fits, w8, w32, w64, Bor, MutBor}
-use Rattle.message_tree.specs.Counts.{least_of, greatest_of}
-use Rattle.plan_text.specs.Canonical.{pattern_word, address_word}
-use Rattle.plan_text.specs.Words.{is_pattern, is_known_address, known_word, in_range, number}
-use Rattle.plan_text.specs.WordBits.{ends_of}
-use Rattle.plan_text.specs.Words as words_spec
+use Rattle.std.proofs.Common.{ap, sym, ◌∙◌, arith, is_some}
+use Rattle.std.proofs.lemmas.Bool.{and_right}
+use Rattle.plan_text.proofs.WordLemmas.{no_known_bits, known_address_whole, no_known_address}
 use Rattle.plan_text.proofs.words.known_address.Goals as goal
 
--- src/words.rt:45:16
 pub returns-in_err-bits-clause-form : goal.returns-in_err-bits-clause-form
-returns-in_err-bits-clause-form c = ?
+returns-in_err-bits-clause-form c =
+    ap is_some c.from_residual.ensures ∙ sym (and_right _ _ (no_known_bits c.args.word.now (sym c.in_err-bits.ensures.form)))
 
--- src/words.rt:38:1
 pub returns-then-bits-eq127-clause-form : goal.returns-then-bits-eq127-clause-form
-returns-then-bits-eq127-clause-form c = ?
+returns-then-bits-eq127-clause-form c =
+    sym (known_address_whole c.args.word.now _ _ (omega arith) c.if-bits-eq127.true c.in_ok-bits.ensures.bits)
 
--- src/words.rt:38:1
-pub returns-then-bits-eq127-clause-bits : goal.returns-then-bits-eq127-clause-bits
-returns-then-bits-eq127-clause-bits c = ?
-
--- src/words.rt:38:1
 pub returns-else-bits-eq127-clause-form : goal.returns-else-bits-eq127-clause-form
-returns-else-bits-eq127-clause-form c = ?
+returns-else-bits-eq127-clause-form c =
+    sym (no_known_address c.args.word.now _ _ (omega arith) c.in_ok-bits.ensures.known c.if-bits-eq127.false c.in_ok-bits.ensures.bits)

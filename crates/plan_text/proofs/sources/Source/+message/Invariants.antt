@@ -1,5 +1,5 @@
 use Rattle.std.proofs.Common.{◌+◌, ◌-◌, ◌*◌}
-use Rattle.plan_text.proofs.messages.Source.+message.Given as goal
+use Rattle.plan_text.proofs.sources.Source.+message.Given as goal
 
 -- each rule is below those that call it on the same path, and each byte of a path leaves room for fewer
 abbrev pub decreases-frame : goal.decreases-frame

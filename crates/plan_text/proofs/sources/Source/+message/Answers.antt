@@ -9,14 +9,14 @@ use Rattle.plan_text.specs.Tokens as spec
 use Rattle.plan_core.specs.declared.builder.BuildError.TheVariants as build
 use Rattle.plan_text.specs.Reading.{Place, FrameRead, PayloadRead, TailRead, TokenRead, NodeRead, CountRead, Took, TookKeyword, Refuses, Fails, left, with_symbol, unread, taken}
 use Rattle.plan_text.specs.Sources.{place}
-use Rattle.std.proofs.Common.{refl, subst, sym, ap, ◌∙◌}
+use Rattle.std.proofs.Common.{refl, subst, sym, ap, ◌∙◌, arith}
 use Rattle.std.proofs.lemmas.Result.{err_from_is_err_and}
 use Rattle.plan_text.specs.declared.errors.PlanError.{PlanError}
 use Rattle.message_tree.specs.declared.tree.Frame.{Frame}
 use Rattle.message_tree.specs.declared.tree.Payload.{Payload}
 use Rattle.message_tree.specs.declared.tree.Tail.{Tail}
 use Rattle.plan_text.proofs.MessageLemmas.{took_keyword, if_ok, if_err, as_tail, write_acked_refused, write_else_refused, write_tail_refused, write_read, read_count_refused, read_after_refused, read_else_refused, read_tail_refused, read_read}
-use Rattle.plan_text.proofs.messages.Source.+message.Goals as goal
+use Rattle.plan_text.proofs.sources.Source.+message.Goals as goal
 
 -- src/messages.rt:59:5
 pub frame-returns-in-Keyword-Write-clause-read : goal.frame-returns-in-Keyword-Write-clause-read
