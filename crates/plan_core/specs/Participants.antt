@@ -56,6 +56,7 @@ Text plan p u = TextOf (sender_at plan p) u
 abbrev pub names_both : ℕ → ℕ → ℕ × ℕ → Bool
 names_both c d never = (never.0 == c && never.1 == d) || (never.0 == d && never.1 == c)
 
+-- a `never` names them
 abbrev pub is_never : Contents → ℕ → ℕ → Bool
 is_never plan c d = list_any (names_both c d) plan.nevers
 

@@ -501,6 +501,7 @@ fn refusals_are_told_beforehand(rt: HostRuntime) -> Result<(), Fail> {
     let mut builder = Builder::new(rt.alloc());
     fill_one_and_one(&rt, &mut builder, rt.alloc())?;
     expect_refused_names(&rt, &builder, rt.alloc())?;
+    expect_refused_sendings(&rt, &builder, rt.alloc())?;
     expect_counts(&rt, &builder.finish(), [1, 1, 1, 2, 1]);
     Ok(())
 }
@@ -520,13 +521,18 @@ fn expect_refused_names(rt: &impl Abort, builder: &Builder, alloc: Global) -> Re
             "{text}"
         );
         assert_eq!(rt; interrupt_name(builder, alloc, text)?, interrupt, "{text}");
-        assert_eq!(rt; is_controller(builder, alloc, text)?, text == "a", "{text}");
     }
+    assert!(rt; is_controller(builder, alloc, "a")?);
+    assert!(rt; !is_controller(builder, alloc, "t")?);
+    Ok(())
+}
+
+fn expect_refused_sendings(rt: &impl Abort, builder: &Builder, alloc: Global) -> Result<(), Fail> {
     for (before, text, answer) in [
         ("", "m", None),
         ("", "a", Some(BuildError::Unknown)),
         ("q", "q", Some(BuildError::Unknown)),
-        ("q m", "m", twice),
+        ("q m", "m", Some(BuildError::Twice)),
         ("q", "m", None),
     ] {
         assert_eq!(rt;
@@ -568,9 +574,13 @@ fn expect_refused_nevers(rt: &impl Abort, builder: &Builder, alloc: Global) -> R
 #[test]
 fn one_sending_too_many_is_told_beforehand(rt: HostRuntime) -> Result<(), Fail> {
     let mut builder = Builder::new(rt.alloc());
-    add_messages(&rt, &mut builder, rt.alloc(), 17)?;
-    add_controllers(&rt, &mut builder, rt.alloc(), 31, ALL)?;
+    fill_all_but_one(&rt, &mut builder, rt.alloc())?;
     expect_last_sending(&rt, &builder, rt.alloc())
+}
+
+fn fill_all_but_one(rt: &impl Abort, builder: &mut Builder, alloc: Global) -> Result<(), Fail> {
+    add_messages(rt, builder, alloc, 17)?;
+    add_controllers(rt, builder, alloc, 31, ALL)
 }
 
 fn expect_last_sending(rt: &impl Abort, builder: &Builder, alloc: Global) -> Result<(), Fail> {

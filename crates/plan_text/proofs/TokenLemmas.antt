@@ -6,23 +6,23 @@ use Rattle.std.proofs.lemmas.List.{take_all}
 use Rattle.std.proofs.lemmas.Bool.Decides.{nat_tests}
 use Rattle.plan_text.specs.declared.symbols.Symbol.{Symbol}
 use Rattle.plan_text.specs.declared.symbols.Symbol.TheVariants as symbols
-use Rattle.plan_text.specs.Tokens.{Tokens, next, last, Token, word, semicolon, text_end, foreign, stray, Dots, dots_now, one_later, Class, line_feed, blank, number_sign, semicolon_sign, word_part, no_ascii, other, is_word_part, class_of, begins_with_part, put_before, raw_tokens, in_comment, tokens_of, token_of_word, with_keywords}
+use Rattle.plan_text.specs.Tokens.{Tokens, next, last, Token, word, semicolon, text_end, foreign, stray, Dots, dots_now, one_later, Class, line_feed, blank, number_sign, semicolon_sign, word_part, foreign_byte, stray_byte, is_word_part, class_of, begins_with_part, put_before, raw_tokens, in_comment, tokens_of, token_of_word, with_keywords}
 use Rattle.plan_text.specs.Reading.{is_skipped, BeginsHere, dots_from, with_symbol, token_of_symbol}
 
 -- what the tests of a byte say of its class
 pub class_part : (dots : Bool) (byte : ℕ) → is_word_part dots byte ≡ true → class_of dots byte ≡ word_part
 class_part dots byte h = grind (arith, nat_tests)
 
-pub class_foreign : (dots : Bool) (byte : ℕ) → nat_lt byte 128 ≡ false → class_of dots byte ≡ no_ascii
+pub class_foreign : (dots : Bool) (byte : ℕ) → nat_lt byte 128 ≡ false → class_of dots byte ≡ foreign_byte
 class_foreign dots byte h = grind (arith, nat_tests)
 
-pub class_stray : (dots : Bool) (byte : ℕ) → is_skipped byte ≡ false → byte ≢ 59 → is_word_part dots byte ≡ false → nat_lt byte 128 ≡ true → class_of dots byte ≡ other
+pub class_stray : (dots : Bool) (byte : ℕ) → is_skipped byte ≡ false → byte ≢ 59 → is_word_part dots byte ≡ false → nat_lt byte 128 ≡ true → class_of dots byte ≡ stray_byte
 class_stray dots byte a b c d = grind (arith, nat_tests)
 
 class_line_feed : (dots : Bool) (byte : ℕ) → class_of dots byte ≡ line_feed → (byte == 10) ≡ true
 class_line_feed dots byte h = grind (arith, nat_tests)
 
-class_no_ascii : (dots : Bool) (byte : ℕ) → class_of dots byte ≡ no_ascii → nat_lt byte 128 ≡ false
+class_no_ascii : (dots : Bool) (byte : ℕ) → class_of dots byte ≡ foreign_byte → nat_lt byte 128 ≡ false
 class_no_ascii dots byte h = grind (arith, nat_tests)
 
 -- a comment goes on with each byte but a line feed and those of 128 or more
@@ -41,15 +41,15 @@ raw_at k dots line byte bytes =
         | true ↦ put_before byte (raw_tokens dots line bytes)
         | false ↦ next (word (byte ∷ [])) line (raw_tokens (one_later dots) line bytes)
       ]
-      | no_ascii ↦ last foreign line
-      | other ↦ last stray line
+      | foreign_byte ↦ last foreign line
+      | stray_byte ↦ last stray line
     ]
 
 abbrev comment_at : Class → Dots → ℕ → List ℕ → Tokens
 comment_at k dots line bytes =
     elim k as (λ _. Tokens) [
       | line_feed ↦ raw_tokens dots (line + 1) bytes
-      | no_ascii ↦ last foreign line
+      | foreign_byte ↦ last foreign line
       | _ ↦ in_comment dots line bytes
     ]
 
@@ -60,14 +60,14 @@ comment_by_class : (k : Class) (dots : Dots) (line byte : ℕ) (bytes : List ℕ
 comment_by_class k dots line byte bytes e = ap (λ c. comment_at c dots line bytes) e
 
 -- each class but two goes on with the comment
-comment_over : (k : Class) (dots : Dots) (line : ℕ) (bytes : List ℕ) → k ≢ line_feed → k ≢ no_ascii → comment_at k dots line bytes ≡ in_comment dots line bytes
+comment_over : (k : Class) (dots : Dots) (line : ℕ) (bytes : List ℕ) → k ≢ line_feed → k ≢ foreign_byte → comment_at k dots line bytes ≡ in_comment dots line bytes
 comment_over line_feed dots line bytes a b = absurd (a refl)
-comment_over no_ascii dots line bytes a b = absurd (b refl)
+comment_over foreign_byte dots line bytes a b = absurd (b refl)
 comment_over blank dots line bytes a b = refl
 comment_over number_sign dots line bytes a b = refl
 comment_over semicolon_sign dots line bytes a b = refl
 comment_over word_part dots line bytes a b = refl
-comment_over other dots line bytes a b = refl
+comment_over stray_byte dots line bytes a b = refl
 
 comment_goes_on : (dots : Dots) (line byte : ℕ) (bytes : List ℕ) → (byte == 10) ≡ false → nat_lt byte 128 ≡ true → in_comment dots line (byte ∷ bytes) ≡ in_comment dots line bytes
 comment_goes_on dots line byte bytes a b =
@@ -93,7 +93,7 @@ ends_at true ascii dots line byte bytes a b more =
 ends_at false false dots line byte bytes a b more =
     let stops = prefix_stops is_comment_part byte bytes (ap (λ t. not t && nat_lt byte 128) a ∙ b) in
     let class = class_foreign (dots_now dots) byte b in
-    ap (λ n. raw_tokens dots line (drop n (byte ∷ bytes))) stops ∙ raw_by_class no_ascii dots line byte bytes class ∙ sym (comment_by_class no_ascii dots line byte bytes class)
+    ap (λ n. raw_tokens dots line (drop n (byte ∷ bytes))) stops ∙ raw_by_class foreign_byte dots line byte bytes class ∙ sym (comment_by_class foreign_byte dots line byte bytes class)
 ends_at false true dots line byte bytes a b more =
     let goes = prefix_goes_on is_comment_part byte bytes (ap (λ t. not t && nat_lt byte 128) a ∙ b) in
     ap (λ n. raw_tokens dots line (drop n (byte ∷ bytes))) goes ∙ more ∙ sym (comment_goes_on dots line byte bytes a b)
@@ -177,13 +177,13 @@ pub semicolon_here : (dots : Dots) (line : ℕ) (rest others : List ℕ) → res
 unfolding tokens_of
 semicolon_here dots line rest others front = ap (tokens_of dots line) front
 
-pub stray_here : (dots : Dots) (line byte : ℕ) (rest others : List ℕ) → rest ≡ byte ∷ others → class_of (dots_now dots) byte ≡ other → tokens_of dots line rest ≡ last stray line
+pub stray_here : (dots : Dots) (line byte : ℕ) (rest others : List ℕ) → rest ≡ byte ∷ others → class_of (dots_now dots) byte ≡ stray_byte → tokens_of dots line rest ≡ last stray line
 unfolding tokens_of
-stray_here dots line byte rest others front class = ap (tokens_of dots line) front ∙ ap with_keywords (raw_by_class other dots line byte others class)
+stray_here dots line byte rest others front class = ap (tokens_of dots line) front ∙ ap with_keywords (raw_by_class stray_byte dots line byte others class)
 
-pub foreign_here : (dots : Dots) (line byte : ℕ) (rest others : List ℕ) → rest ≡ byte ∷ others → class_of (dots_now dots) byte ≡ no_ascii → tokens_of dots line rest ≡ last foreign line
+pub foreign_here : (dots : Dots) (line byte : ℕ) (rest others : List ℕ) → rest ≡ byte ∷ others → class_of (dots_now dots) byte ≡ foreign_byte → tokens_of dots line rest ≡ last foreign line
 unfolding tokens_of
-foreign_here dots line byte rest others front class = ap (tokens_of dots line) front ∙ ap with_keywords (raw_by_class no_ascii dots line byte others class)
+foreign_here dots line byte rest others front class = ap (tokens_of dots line) front ∙ ap with_keywords (raw_by_class foreign_byte dots line byte others class)
 
 -- the whole run of word parts at the front is the first token
 word_of_front : (dots : Dots) (line byte : ℕ) (others : List ℕ) → is_word_part (dots_now dots) byte ≡ true →

@@ -8,10 +8,10 @@ use Rattle.plan_core.specs.Building.{message_refusal, with_message, controller_r
 use Rattle.plan_text.specs.declared.symbols.Keyword.TheVariants as keywords
 use Rattle.plan_text.specs.declared.versions.Version.{Version}
 use Rattle.plan_text.specs.declared.versions.Version.TheVariants.{One, Two}
-use Rattle.plan_text.specs.Canonical.{address_word, pattern_word}
-use Rattle.plan_text.specs.Tokens.{Token, keyword, word, semicolon, text_end, Tokens, tokens_of, Dots, never}
+use Rattle.plan_text.specs.Canonical.{address_word, pattern_word, interrupt_word}
+use Rattle.plan_text.specs.Tokens.{Token, keyword, word, semicolon, text_end, Tokens, tokens_of, Dots, no_dots}
 use Rattle.plan_text.specs.Tokens as tokens
-use Rattle.plan_text.specs.Words.{WritesCount, known_word}
+use Rattle.plan_text.specs.Words.{WritesCount}
 
 -- tokens from one place of a text up to another
 abbrev pub Phrase : Type 1
@@ -67,7 +67,7 @@ SpellsItem version (message name frame) =
 SpellsItem version (controller name messages) =
     one (keyword keywords.Controller) ▸ SpellsName name ▸ SpellsNames messages ▸ one semicolon
 SpellsItem version (interrupt name address) =
-    one (keyword keywords.Interrupt) ▸ SpellsName name ▸ one (word (known_word address)) ▸ one semicolon
+    one (keyword keywords.Interrupt) ▸ SpellsName name ▸ one (word (interrupt_word address)) ▸ one semicolon
 SpellsItem Two (never_both first second) =
     one (keyword keywords.Never) ▸ SpellsName first ▸ SpellsName second ▸ one semicolon
 SpellsItem One (never_both first second) = λ from to. ⊥
@@ -76,6 +76,7 @@ SpellsItem One (never_both first second) = λ from to. ⊥
 abbrev pub Fits : Contents → Item → Type 0
 Fits plan (message name frame) = message_refusal plan name frame ≡ None
 Fits plan (controller name messages) = controller_refusal plan name messages ≡ None
+-- (an address has seven bits)
 Fits plan (interrupt name address) = (interrupt_refusal plan name ≡ None) × (address < 128)
 Fits plan (never_both first second) = never_refusal plan first second ≡ None
 
@@ -98,8 +99,8 @@ version_word Two = codes "2"
 
 -- `.` is a part of words after the first two tokens of a text of the second version
 abbrev pub dots_of : Version → Dots
-dots_of One = never
-dots_of Two = tokens.after 2
+dots_of One = no_dots
+dots_of Two = tokens.dots_after 2
 
 -- the text begins with `plan` and this version, and these tokens follow
 abbrev pub Begins : List ℕ → Version → Tokens → Type 0

@@ -45,8 +45,8 @@ BeginsHere [] = Unit {0}
 BeginsHere (byte ∷ bytes) = is_skipped byte ≡ false
 
 abbrev pub dots_from : Bool → spec.Dots
-dots_from true = spec.after 0
-dots_from false = spec.never
+dots_from true = spec.dots_after 0
+dots_from false = spec.no_dots
 
 abbrev pub left : Tokens → spec.Tokens
 left tokens = left_of (dots_from tokens.dots) tokens

@@ -1,5 +1,5 @@
 -- The first refusal of a text that spells no plan, from token to token: each token takes the place of what is expected
--- there, and says what is expected after it, or is refused.
+-- there, and says what is expected after it, or is refused. `PlanError` in src/errors.rt has the codes P1 to P8.
 use Rattle.std.specs.Prelude.{◌≡◌, ℕ, ◌+◌, Bool, true, false, ◌||◌, nat_le, nat_lt, ◌==◌, List, [], ◌∷◌, ◌++◌, length, Option, Some, None, Result, Ok, Err, codes, ◌⊎◌, if◌then◌else◌}
 use Rattle.std.specs.Str.{bytes_eq}
 use Rattle.plan_core.specs.Contents.{Contents}
@@ -15,7 +15,7 @@ use Rattle.plan_text.specs.declared.symbols.Keyword.TheVariants as keywords
 use Rattle.plan_text.specs.declared.versions.Version.{Version}
 use Rattle.plan_text.specs.declared.versions.Version.TheVariants.{One, Two}
 use Rattle.plan_text.specs.Grammar.{SpellsFront}
-use Rattle.plan_text.specs.Tokens.{Token, keyword, word, semicolon, Ending, text_end, foreign, stray, Tokens, next, last, tokens_of, never}
+use Rattle.plan_text.specs.Tokens.{Token, keyword, word, semicolon, Ending, text_end, foreign, stray, Tokens, next, last, tokens_of, no_dots}
 use Rattle.plan_text.specs.Words.{is_pattern, is_known_address, count_ends, in_range, number}
 
 -- what is expected in the place of one token; a number of bytes is that of the path above it
@@ -26,7 +26,7 @@ pub data Expected : Type 0 where
   interrupt_name : Expected
   -- the address of an interrupt
   known_address : Expected
-  -- a further message of a controller after these, or `;`
+  -- a further message of a controller after these, or the `;` that ends it
   messages_after : (before : List (List ℕ)) → Expected
   -- the two names of a `never`
   first_controller : Expected
@@ -42,7 +42,7 @@ pub data Expected : Type 0 where
   else_word : Expected
   item_end : Expected
 
--- the refusal of a name or a byte at the token that makes it one
+-- a refusal of the plan's, as that of the token on this line
 abbrev pub refused_at : BuildError → ℕ → PlanError
 refused_at build.TooLong line = TooLong line
 refused_at build.TooMany line = TooMany line
@@ -50,6 +50,7 @@ refused_at build.Twice line = Twice line
 refused_at build.Unknown line = Unknown line
 refused_at build.NoMemory line = NoMemory
 
+-- what is expected next, and the nodes so far; or a refusal
 abbrev pub Step : Type 0
 Step = Result (List Expected × ℕ) PlanError
 
@@ -62,7 +63,7 @@ unless_refused None line more = more
 abbrev pub name_step : List ℕ → Option BuildError → ℕ → Step → Step
 name_step bytes cause line more = if is_name bytes then unless_refused cause line more else Err (Unexpected line)
 
--- why one more byte of the plan is refused below a path of so many bytes, after so many of the message's
+-- why one more header or data byte is refused below a path of so many bytes, after so many nodes of the message
 abbrev pub byte_refusal : ℕ → ℕ → Option BuildError
 byte_refusal above nodes = if nat_le 4096 nodes || nat_le 256 above then Some build.TooLong else None
 
@@ -122,6 +123,7 @@ ends_early text_end line = Unexpected line
 ends_early stray line = Unexpected line
 ends_early foreign line = NotAscii line
 
+-- the refusal of a step, or of what comes after it
 abbrev pub go_on : Step → (List Expected → ℕ → Option PlanError) → Option PlanError
 go_on (Ok more) after_it = after_it more.0 more.1
 go_on (Err e) after_it = Some e
@@ -150,12 +152,14 @@ item_refusal version plan (last text_end line) = None
 item_refusal version plan (last ending line) = Some (ends_early ending line)
 item_refusal version plan (next token line rest) = parts_refusal plan (item_parts version token) line rest
 
+-- the refusal of what stands in the place of `plan` or of the version
 abbrev pub no_version : Tokens → PlanError
 no_version (last stray line) = Unexpected line
 no_version (last foreign line) = NotAscii line
 no_version (last text_end line) = errors.Version line
 no_version (next token line rest) = errors.Version line
 
+-- `1` or `2`
 abbrev pub is_version : Token → Bool
 is_version (word bytes) = bytes_eq bytes (codes "1") || bytes_eq bytes (codes "2")
 is_version token = false
@@ -177,6 +181,7 @@ pub record ItemRefused (text : List ℕ) (e : PlanError) : Type 0 where
   pub front : SpellsFront text version plan rest
   pub refused : item_refusal version plan rest ≡ Some e
 
--- the first refusal of the text: in its first two tokens, or in its first item that cannot be read
+-- The first refusal of the text: in its first two tokens, where `.` is a part of words in neither version, or in its
+-- first item that cannot be read.
 abbrev pub First : List ℕ → PlanError → Type 0
-First text e = (version_refusal (tokens_of never 1 text) ≡ Some e) ⊎ ItemRefused text e
+First text e = (version_refusal (tokens_of no_dots 1 text) ≡ Some e) ⊎ ItemRefused text e

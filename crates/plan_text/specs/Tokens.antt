@@ -41,36 +41,36 @@ abbrev token_by : Option Keyword → List ℕ → Token
 token_by (Some k) bytes = keyword k
 token_by None bytes = word bytes
 
--- the token of these bytes, a maximal run of letters, digits and `_`
+-- the token of these bytes, a maximal run of letters, digits and `_`, and of `.` where it is a part of words
 unfoldable pub token_of_word : List ℕ → Token
 token_of_word bytes = token_by (keyword_of bytes) bytes
 
 -- From where on `.` is a part of words: after so many tokens, or never.
 pub data Dots : Type 0 where
-  never : Dots
-  after : (tokens : ℕ) → Dots
+  no_dots : Dots
+  dots_after : (tokens : ℕ) → Dots
 
 -- whether `.` is a part of the next token
 abbrev pub dots_now : Dots → Bool
-dots_now never = false
-dots_now (after zero) = true
-dots_now (after (suc n)) = false
+dots_now no_dots = false
+dots_now (dots_after zero) = true
+dots_now (dots_after (suc n)) = false
 
 -- one token later
 abbrev pub one_later : Dots → Dots
-one_later never = never
-one_later (after zero) = after zero
-one_later (after (suc n)) = after n
+one_later no_dots = no_dots
+one_later (dots_after zero) = dots_after zero
+one_later (dots_after (suc n)) = dots_after n
 
--- what a byte is between tokens
+-- what a byte is, between tokens and inside words and comments
 pub data Class : Type 0 where
   line_feed : Class
   blank : Class
   number_sign : Class
   semicolon_sign : Class
   word_part : Class
-  no_ascii : Class
-  other : Class
+  foreign_byte : Class
+  stray_byte : Class
 
 abbrev pub is_word_part : Bool → ℕ → Bool
 is_word_part dots byte = is_name_byte byte || (dots && byte == 46)
@@ -82,10 +82,10 @@ class_of dots byte =
     else if byte == 35 then number_sign
     else if byte == 59 then semicolon_sign
     else if is_word_part dots byte then word_part
-    else if nat_lt byte 128 then other
-    else no_ascii
+    else if nat_lt byte 128 then stray_byte
+    else foreign_byte
 
--- the part of a word goes onto the rest of the word, which follows it
+-- The part of a word goes onto the rest of the word, which follows it. (It is used only where a word follows.)
 abbrev pub put_before : ℕ → Tokens → Tokens
 put_before byte (next (word bytes) line rest) = next (word (byte ∷ bytes)) line rest
 put_before byte tokens = tokens
@@ -108,8 +108,8 @@ abbrev mutual
           | true ↦ put_before byte (raw_tokens dots line bytes)
           | false ↦ next (word (byte ∷ [])) line (raw_tokens (one_later dots) line bytes)
         ]
-        | no_ascii ↦ last foreign line
-        | other ↦ last stray line
+        | foreign_byte ↦ last foreign line
+        | stray_byte ↦ last stray line
       ]
 
   -- a comment goes up to the end of its line
@@ -118,7 +118,7 @@ abbrev mutual
   in_comment dots line (byte ∷ bytes) =
       elim (class_of (dots_now dots) byte) [
         | line_feed ↦ raw_tokens dots (line + 1) bytes
-        | no_ascii ↦ last foreign line
+        | foreign_byte ↦ last foreign line
         | _ ↦ in_comment dots line bytes
       ]
 
@@ -131,6 +131,6 @@ abbrev pub with_keywords : Tokens → Tokens
 with_keywords (next t line rest) = next (told t) line (with_keywords rest)
 with_keywords (last ending line) = last ending line
 
--- the tokens of these bytes, the first of which stands on this line
+-- the tokens of these bytes, of which the first byte stands on this line
 unfoldable pub tokens_of : Dots → ℕ → List ℕ → Tokens
 tokens_of dots line bytes = with_keywords (raw_tokens dots line bytes)

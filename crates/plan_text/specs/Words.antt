@@ -23,10 +23,6 @@ is_known_bit byte = byte == 48 || byte == 49
 abbrev pub is_known_address : List ℕ → Bool
 is_known_address bytes = length bytes == 7 && list_all is_known_bit bytes
 
--- the word of an interrupt's address: its seven bits
-abbrev pub known_word : ℕ → List ℕ
-known_word address = map bit_symbol (bits_below 7 127 address)
-
 -- digits alone, and at least one
 abbrev pub is_digits : List ℕ → Bool
 is_digits [] = false
@@ -60,7 +56,7 @@ number digits = digits_value 10 digits
 abbrev pub in_range : List ℕ × List ℕ → Bool
 in_range ends = nat_le 1 (number ends.0) && nat_le (number ends.0) (number ends.1) && nat_le (number ends.1) 255
 
--- the word writes this count
+-- the word writes this count, which is 1 to 255 at both ends, the first not greater than the second, as every count is
 pub record WritesCount (bytes : List ℕ) (count : Count) : Type 0 where
   pub ends : List ℕ × List ℕ
   pub form : count_ends bytes ≡ Some ends

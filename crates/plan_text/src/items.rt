@@ -1,6 +1,6 @@
 // The items of a plan text, a function for each of them, and the plan that they make up.
 
-ghost use Rattle.std.specs.Prelude.{◌≡◌, ◌<◌, ◌≤◌, ◌+◌, ◌⊎◌, ℕ, List, [], ◌∷◌, Some, None, true, false, IfOk, IfErr, OnOk, IsTrue, length, map};
+ghost use Rattle.std.specs.Prelude.{◌≡◌, ◌<◌, ◌≤◌, ◌+◌, ◌⊎◌, ℕ, List, [], ◌∷◌, Some, None, true, false, Ok, IfOk, IfErr, OnOk, IsTrue, length, map};
 ghost use Rattle.plan_core.specs.BuilderContents.{builder_contents};
 ghost use Rattle.plan_core.specs.Building.{Answers, list_refusal};
 ghost use Rattle.plan_core.specs.NameBytes.{name_bytes};
@@ -17,7 +17,7 @@ ghost use Rattle.plan_text.specs.Reading.{Fails, left, unread, taken, with_token
 ghost use Rattle.plan_text.specs.Refusals.{First, refusal, item_refusal, refused_at};
 ghost use Rattle.plan_text.specs.Refusals as expect;
 ghost use Rattle.plan_text.specs.Tokens as spec;
-ghost use Rattle.plan_text.specs.Words.{known_word};
+ghost use Rattle.plan_text.specs.Canonical.{interrupt_word};
 
 use crate::errors::PlanError;
 use crate::sources::Source;
@@ -179,7 +179,7 @@ fn allowed(refusal: Option<BuildError>, line: u64) -> Result<(), PlanError>
 // What the builder answers for an item that it does not refuse: that it is added, or that there is no memory.
 fn built(answer: Result<(), BuildError>) -> Result<(), PlanError>
     requires { Answers None answer }
-    ensures added { OnOk result (OnOk answer Unit) }
+    ensures added { IfOk result (λ it. answer ≡ Ok it) }
     ensures memory { IfErr result (λ e. e ≡ PlanError.NoMemory) }
 {
     match answer {

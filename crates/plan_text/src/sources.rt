@@ -5,7 +5,7 @@ ghost use Rattle.plan_core.specs.Contents.{Contents};
 ghost use Rattle.plan_core.specs.NameBytes.{name_bytes};
 ghost use Rattle.plan_text.specs.Refusals as expect;
 ghost use Rattle.plan_text.specs.Tokens as spec;
-ghost use Rattle.plan_text.specs.Words.{known_word};
+ghost use Rattle.plan_text.specs.Canonical.{interrupt_word};
 
 use crate::errors::PlanError;
 use crate::symbols::{Symbol, Token};
@@ -36,7 +36,7 @@ impl<'a> Source<'a> {
 
     /// The whole of these tokens.
     pub(crate) fn new(alloc: Global, tokens: Tokens<'a>) -> Self
-        ensures { result.tokens ≡ tokens }
+        ensures { result.tokens ≡ tokens.entry }
     {
         Source {
             alloc,
@@ -88,7 +88,7 @@ impl<'a> Source<'a> {
 
     /// ADDR7
     pub(crate) fn interrupt_address(&mut self) -> Result<u8, PlanError>
-        ensures read { IfOk result (λ it. (it < 128) × ((line : ℕ) × (left self.old.tokens ≡ spec.next (spec.word (known_word it)) line (left self.new.tokens)))) }
+        ensures read { IfOk result (λ it. (it < 128) × ((line : ℕ) × (left self.old.tokens ≡ spec.next (spec.word (interrupt_word it)) line (left self.new.tokens)))) }
         ensures refused { IfErr result (λ e. (plan : Contents) (nodes : ℕ) (more : List expect.Expected) → expect.refusal plan (left self.old.tokens) nodes (expect.known_address ∷ more) ≡ Some e) }
         ensures left { unread self.new.tokens ≤ unread self.old.tokens }
     {

@@ -22,7 +22,7 @@ pub(crate) enum Version {
 /// Reads `plan` and the version, and gives the tokens after them.
 pub(crate) fn read_version(text: &[u8]) -> Result<(Version, Tokens<'_>), PlanError>
     ensures begins { IfOk result (λ it. Begins text.now it.0 (left it.1)) }
-    ensures refused { IfErr result (λ e. version_refusal (spec.tokens_of spec.never 1 text.now) ≡ Some e) }
+    ensures refused { IfErr result (λ e. version_refusal (spec.tokens_of spec.no_dots 1 text.now) ≡ Some e) }
 {
     let mut tokens = Tokens::new(text);
     let first = tokens.next();

@@ -3,8 +3,8 @@
 ghost use Rattle.std.specs.Prelude.{◌≡◌, ◌<◌, ◌≤◌, ◌^◌, length, map, is_some, IfSome, MatchOption, nat_le, true};
 ghost use Rattle.std.specs.List.{list_all};
 ghost use Rattle.message_tree.specs.Bits.{bit_from, bits_below};
-ghost use Rattle.plan_text.specs.Canonical.{bit_symbol, address_word, pattern_word};
-ghost use Rattle.plan_text.specs.Words.{is_bit, is_pattern, is_known_address, known_word, is_digits, number, around_dots, count_ends};
+ghost use Rattle.plan_text.specs.Canonical.{bit_symbol, address_word, pattern_word, interrupt_word};
+ghost use Rattle.plan_text.specs.Words.{is_bit, is_pattern, is_known_address, is_digits, number, around_dots, count_ends};
 
 use message_tree::{Address, Count, Pattern};
 
@@ -35,7 +35,7 @@ pub(crate) fn address(word: &[u8]) -> Option<Address>
 /// The seven bits of an interrupt's address: `0` or `1`.
 pub(crate) fn known_address(word: &[u8]) -> Option<u8>
     ensures form { is_some result ≡ is_known_address word.now }
-    ensures bits { IfSome result (λ a. (known_word a ≡ word.now) × (a < 128)) }
+    ensures bits { IfSome result (λ a. (interrupt_word a ≡ word.now) × (a < 128)) }
 {
     if word.len() != 7 {
         return None;

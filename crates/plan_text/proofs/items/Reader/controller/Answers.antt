@@ -1,0 +1,40 @@
+use Rattle.std.proofs.Common.{rules, ◌≡◌, ◌<◌, ◌≤◌, ◌+◌, ◌⊎◌, ℕ, List, [], ◌∷◌, Some, None, true, false, IfOk, IfErr, OnOk, IsTrue, length, map, ◌-◌, ◌*◌, ◌/◌, ◌%◌, Bool, nat_eq, nat_lt, ◌++◌, slice_index_or, slice_set, bit_and, bit_or, Fits, w8, w32, w64, Bor, MutBor}
+use Rattle.plan_core.specs.BuilderContents.{builder_contents}
+use Rattle.plan_core.specs.Building.{Answers, list_refusal, controller_refusal}
+use Rattle.plan_core.specs.NameBytes.{name_bytes}
+use Rattle.plan_core.specs.Names.{IsName}
+use Rattle.plan_core.specs.PlanContents.{plan_contents}
+use Rattle.plan_core.specs.Contents.{Contents}
+use Rattle.plan_core.specs.declared.builder.BuildError.{BuildError}
+use Rattle.plan_text.specs.declared.symbols.Keyword.TheVariants as keywords
+use Rattle.plan_text.specs.declared.versions.Version.TheVariants as versions
+use Rattle.plan_text.specs.declared.versions.Version.{Version}
+use Rattle.plan_text.specs.Grammar.{Spells, SpellsNames}
+use Rattle.plan_text.specs.Items.{ItemRead, RestRead, name_refusal}
+use Rattle.plan_text.specs.Reading.{Fails, left, unread, taken, with_token}
+use Rattle.plan_text.specs.Refusals.{First, refusal, item_refusal, refused_at}
+use Rattle.plan_text.specs.Refusals as expect
+use Rattle.plan_text.specs.Tokens as spec
+use Rattle.plan_text.specs.Canonical.{interrupt_word}
+use Rattle.plan_text.specs.Readers.{so_far, ahead}
+use Rattle.std.proofs.lemmas.Result.{err_from_is_err_and}
+use Rattle.std.proofs.Common.{refl, sym, ap, subst, ◌∙◌, arith, Option}
+use Rattle.plan_text.specs.Sources.{place}
+use Rattle.plan_text.proofs.ItemLemmas as lemmas
+use Rattle.plan_text.proofs.items.Reader.controller.Goals as goal
+
+-- src/items.rt:103:9
+pub built-requires : goal.built-requires
+built-requires c =
+    let same = c.in_ok-messages.ensures.same.0 in
+    let fits = lemmas.controller_fits (so_far c.args.self.now) (name_bytes c.in_ok-named.named.name) (map name_bytes c.in_ok-messages.messages.items) (sym c.controller_name_refusal.ensures ∙ c.in_ok-allowed.ensures.allowed) c.in_ok-messages.ensures.known in
+    let none : controller_refusal (builder_contents c.sendings.new.self.builder) (name_bytes c.in_ok-named.named.name) (map name_bytes c.as_slice.result.now) ≡ None = rw (same, c.as_slice.ensures.value) fits in
+    subst (λ (due : Option BuildError). Answers due c.controller.result) none c.controller.ensures.answer
+
+-- src/items.rt:91:5
+pub returns-clause-read : goal.returns-clause-read
+returns-clause-read c =
+    let same = c.in_ok-messages.ensures.same.0 in
+    let spelled = c.in_ok-messages.ensures.read in
+    lemmas.on_ok _ _ c.built.result (λ added version. lemmas.controller_read (so_far c.args.self.now) _ (name_bytes c.in_ok-named.named.name) (map name_bytes c.in_ok-messages.messages.items) c.in_ok-named.named.line (ahead c.args.self.now) (left c.name.new.self.tokens) spelled.0 (ahead c.sendings.new.self) c.in_ok-named.ensures.read c.in_ok-named.named.name.is_name (sym c.controller_name_refusal.ensures ∙ c.in_ok-allowed.ensures.allowed) spelled.1 c.in_ok-messages.ensures.known spelled.2 (added ∙ rw (same, c.as_slice.ensures.value) refl) version)
+    (lemmas.added_then _ c.built.result c.controller.result c.built.ensures.added c.controller.ensures.added)

@@ -1,0 +1,38 @@
+use Rattle.std.proofs.Common.{rules, ◌≡◌, ◌<◌, ◌≤◌, ◌+◌, ◌⊎◌, ℕ, List, [], ◌∷◌, Some, None, true, false, IfOk, IfErr, OnOk, IsTrue, length, map, ◌-◌, ◌*◌, ◌/◌, ◌%◌, Bool, nat_eq, nat_lt, ◌++◌, slice_index_or, slice_set, bit_and, bit_or, Fits, w8, w32, w64, Bor, MutBor}
+use Rattle.plan_core.specs.BuilderContents.{builder_contents}
+use Rattle.plan_core.specs.Building.{Answers, list_refusal}
+use Rattle.plan_core.specs.NameBytes.{name_bytes}
+use Rattle.plan_core.specs.Names.{IsName}
+use Rattle.plan_core.specs.PlanContents.{plan_contents}
+use Rattle.plan_core.specs.Contents.{Contents}
+use Rattle.plan_core.specs.declared.builder.BuildError.{BuildError}
+use Rattle.plan_text.specs.declared.symbols.Keyword.TheVariants as keywords
+use Rattle.plan_text.specs.declared.versions.Version.TheVariants as versions
+use Rattle.plan_text.specs.declared.versions.Version.{Version}
+use Rattle.plan_text.specs.Grammar.{Spells, SpellsNames}
+use Rattle.plan_text.specs.Items.{ItemRead, RestRead, name_refusal}
+use Rattle.plan_text.specs.Reading.{Fails, left, unread, taken, with_token}
+use Rattle.plan_text.specs.Refusals.{First, refusal, item_refusal, refused_at}
+use Rattle.plan_text.specs.Refusals as expect
+use Rattle.plan_text.specs.Tokens as spec
+use Rattle.plan_text.specs.Canonical.{interrupt_word}
+use Rattle.plan_text.specs.Readers.{so_far, ahead}
+use Rattle.std.proofs.lemmas.Result.{err_from_is_err_and}
+use Rattle.std.proofs.Common.{refl, sym, ap, subst, ◌∙◌, arith, Option}
+use Rattle.plan_text.specs.Sources.{place}
+use Rattle.plan_text.proofs.ItemLemmas as lemmas
+use Rattle.plan_core.specs.Building.{with_interrupt}
+use Rattle.plan_text.proofs.items.Reader.interrupt.Goals as goal
+
+-- src/items.rt:139:9
+pub returns-in_err-semicolon-clause-refused : goal.returns-in_err-semicolon-clause-refused
+returns-in_err-semicolon-clause-refused c =
+    let p = err_from_is_err_and c.from_residual-in_err-semicolon.result c.from_residual-in_err-semicolon.ensures.1 in
+    rw (p.1, p.2) (let e = c.in_err-semicolon.field-0.0 in let h = lemmas.interrupt_end_refused (so_far c.args.self.now) (name_bytes c.in_ok-named.named.name) c.in_ok-address.address c.in_ok-named.named.line (ahead c.args.self.now) (left c.name.new.self.tokens) (left c.interrupt_address.new.self.tokens) e c.in_ok-named.ensures.read c.in_ok-named.named.name.is_name (sym c.interrupt_refusal.ensures ∙ c.in_ok-allowed.ensures.allowed) c.in_ok-address.ensures.read.1 (c.in_err-semicolon.ensures.refused (so_far c.args.self.now)) in lemmas.fails e _ h)
+
+-- src/items.rt:130:5
+pub returns-clause-read : goal.returns-clause-read
+returns-clause-read c =
+    let low = c.in_ok-address.ensures.read.0 in
+    lemmas.on_ok _ _ c.built.result (λ added version. lemmas.interrupt_read (so_far c.args.self.now) _ (name_bytes c.in_ok-named.named.name) c.in_ok-address.address c.in_ok-named.named.line (ahead c.args.self.now) (left c.name.new.self.tokens) (left c.interrupt_address.new.self.tokens) (left c.semicolon.new.self.tokens) c.in_ok-named.ensures.read c.in_ok-named.named.name.is_name (sym c.interrupt_refusal.ensures ∙ c.in_ok-allowed.ensures.allowed) low c.in_ok-address.ensures.read.1 c.in_ok-semicolon.ensures.read (added ∙ ap (λ (a : ℕ). with_interrupt (so_far c.args.self.now) (name_bytes c.in_ok-named.named.name) a) (omega (arith, low))) version)
+    (lemmas.added_then _ c.built.result c.interrupt.result c.built.ensures.added c.interrupt.ensures.added)

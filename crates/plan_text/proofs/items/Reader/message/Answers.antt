@@ -1,0 +1,37 @@
+use Rattle.std.proofs.Common.{rules, ◌≡◌, ◌<◌, ◌≤◌, ◌+◌, ◌⊎◌, ℕ, List, [], ◌∷◌, Some, None, true, false, IfOk, IfErr, OnOk, IsTrue, length, map, ◌-◌, ◌*◌, ◌/◌, ◌%◌, Bool, nat_eq, nat_lt, ◌++◌, slice_index_or, slice_set, bit_and, bit_or, Fits, w8, w32, w64, Bor, MutBor}
+use Rattle.plan_core.specs.BuilderContents.{builder_contents}
+use Rattle.plan_core.specs.Building.{Answers, list_refusal}
+use Rattle.plan_core.specs.NameBytes.{name_bytes}
+use Rattle.plan_core.specs.Names.{IsName}
+use Rattle.plan_core.specs.PlanContents.{plan_contents}
+use Rattle.plan_core.specs.Contents.{Contents}
+use Rattle.plan_core.specs.declared.builder.BuildError.{BuildError}
+use Rattle.plan_text.specs.declared.symbols.Keyword.TheVariants as keywords
+use Rattle.plan_text.specs.declared.versions.Version.TheVariants as versions
+use Rattle.plan_text.specs.declared.versions.Version.{Version}
+use Rattle.plan_text.specs.Grammar.{Spells, SpellsNames}
+use Rattle.plan_text.specs.Items.{ItemRead, RestRead, name_refusal}
+use Rattle.plan_text.specs.Reading.{Fails, left, unread, taken, with_token}
+use Rattle.plan_text.specs.Refusals.{First, refusal, item_refusal, refused_at}
+use Rattle.plan_text.specs.Refusals as expect
+use Rattle.plan_text.specs.Tokens as spec
+use Rattle.plan_text.specs.Canonical.{interrupt_word}
+use Rattle.plan_text.specs.Readers.{so_far, ahead}
+use Rattle.std.proofs.lemmas.Result.{err_from_is_err_and}
+use Rattle.std.proofs.Common.{refl, sym, ap, subst, ◌∙◌, arith, Option}
+use Rattle.plan_text.specs.Sources.{place}
+use Rattle.plan_text.proofs.ItemLemmas as lemmas
+use Rattle.message_tree.specs.Trees.{frame_tree}
+use Rattle.plan_text.proofs.items.Reader.message.Goals as goal
+
+-- src/items.rt:87:9
+pub built-requires : goal.built-requires
+built-requires c =
+    let fits = lemmas.message_fits (so_far c.args.self.now) (name_bytes c.in_ok-named.named.name) (frame_tree c.in_ok-frame.frame) (sym c.message_name_refusal.ensures ∙ c.in_ok-allowed.ensures.allowed) (omega (arith, c.in_ok-frame.ensures.read.path)) (omega (arith, c.in_ok-frame.ensures.read.nodes_then, c.message_frame.new.self.nodes_fit)) in
+    subst (λ (due : Option BuildError). Answers due c.message.result) fits c.message.ensures.answer
+
+-- src/items.rt:77:5
+pub returns-clause-read : goal.returns-clause-read
+returns-clause-read c =
+    lemmas.on_ok _ _ c.built.result (λ added version. lemmas.message_read (so_far c.args.self.now) _ (name_bytes c.in_ok-named.named.name) (frame_tree c.in_ok-frame.frame) c.message_frame.new.self.nodes c.in_ok-named.named.line (ahead c.args.self.now) (left c.name.new.self.tokens) (left c.message_frame.new.self.tokens) (left c.semicolon.new.self.tokens) c.in_ok-named.ensures.read c.in_ok-named.named.name.is_name (sym c.message_name_refusal.ensures ∙ c.in_ok-allowed.ensures.allowed) c.in_ok-frame.ensures.read c.message_frame.new.self.nodes_fit c.in_ok-semicolon.ensures.read added version)
+    (lemmas.added_then _ c.built.result c.message.result c.built.ensures.added c.message.ensures.added)
