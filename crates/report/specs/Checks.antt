@@ -1,9 +1,11 @@
--- What a check leaves.
+-- What a check reads, and what it leaves.
 use Rattle.std.specs.Prelude.{◌≡◌, ℕ, Bool, true, false, List, Option}
-use Rattle.std.specs.Io.KnownBytes.{Appends}
+use Rattle.std.specs.Io.KnownBytes.{Appends, Consumes, IsAtEnd}
 use Rattle.plan_core.specs.Contents.{Contents}
 use Rattle.plan_core.specs.Faults.{IsSafe}
 use Rattle.pair_walk.specs.declared.walk_pair.Verdict.{Verdict}
+use Rattle.plan_text.specs.Grammar.{Spells}
+use Rattle.plan_text.specs.Refusals.{First}
 use Rattle.verdicts.specs.Verdicts.{AreVerdicts}
 use Rattle.report.specs.Devices.{AppendsFront}
 use Rattle.report.specs.Lines.{check_lines}
@@ -22,10 +24,17 @@ Judges Good plan = IsSafe plan
 Judges Bad plan = IsSafe plan → ⊥
 Judges Refused plan = ⊥
 
--- the writer has taken the lines for the verdicts of some plan, of which this status judges; which plan the bytes that
--- were read spell is not said here
-pub record Reports (old new : Option (List ℕ)) (status : Status) : Type 0 where
+-- the reader has given these bytes, and no more
+abbrev pub Gives : Option (List ℕ) → Option (List ℕ) → List ℕ → Type 0
+Gives before after text = Consumes before after text × IsAtEnd after
+
+-- The reader has given a text, which spells a plan; the writer has taken the lines for the verdicts of this plan, and the
+-- status judges of it.
+pub record Reports (before after old new : Option (List ℕ)) (status : Status) : Type 0 where
+  pub text : List ℕ
+  pub given : Gives before after text
   pub plan : Contents
+  pub spelled : Spells text plan
   pub verdicts : List Verdict
   pub right : AreVerdicts plan verdicts
   pub written : Appends old new (check_lines plan verdicts)
@@ -35,3 +44,8 @@ pub record Reports (old new : Option (List ℕ)) (status : Status) : Type 0 wher
 abbrev pub Leaves : Option (List ℕ) → Option (List ℕ) → RunError → Type 0
 Leaves old new error.Write = (report : List ℕ) × AppendsFront old new report
 Leaves old new _ = new ≡ old
+
+-- where a plan is refused, this is the first refusal of the text that the reader has given
+abbrev pub Refuses : Option (List ℕ) → Option (List ℕ) → RunError → Type 0
+Refuses before after (error.Plan e) = (text : List ℕ) × Gives before after text × First text e
+Refuses before after _ = Unit {0}

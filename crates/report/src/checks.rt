@@ -3,7 +3,7 @@
 ghost use Rattle.std.specs.Prelude.{◌≡◌, ◌≢◌, ◌↔◌, IfOk, IfErr, OnOk};
 ghost use Rattle.std.specs.Io.KnownBytes.{Appends};
 ghost use Rattle.report.specs.Devices.{AppendsFront};
-ghost use Rattle.report.specs.Checks.{status_of, Reports, Leaves};
+ghost use Rattle.report.specs.Checks.{status_of, Reports, Leaves, Refuses};
 
 use crate::devices::{Input, Output, READS, read_within, write_report};
 use crate::errors::RunError;
@@ -33,8 +33,9 @@ pub fn run_check<R, I: Input, O: Output>(
     out: &mut O,
     workers: u32,
 ) -> Result<Status, RunError>
-    ensures report { IfOk result (λ status. Reports (O.contents out.old) (O.contents out.new) status) }
-    ensures refused { IfErr result (λ error. Leaves (O.contents out.old) (O.contents out.new) error) }
+    ensures report { IfOk result (λ status. Reports (I.remaining plan.old) (I.remaining plan.new) (O.contents out.old) (O.contents out.new) status) }
+    ensures refusal { IfErr result (λ error. Refuses (I.remaining plan.old) (I.remaining plan.new) error) }
+    ensures left { IfErr result (λ error. Leaves (O.contents out.old) (O.contents out.new) error) }
     ensures workers { result ≡ Err RunError.Workers ↔ (workers ≢ 1) }
     ensures unread { workers ≢ 1 → I.remaining plan.new ≡ I.remaining plan.old }
 {

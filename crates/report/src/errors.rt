@@ -1,7 +1,8 @@
 // Why a run ends with no report, or with a part of one.
 
-ghost use Rattle.std.specs.Prelude.{◌≡◌, ◌≢◌};
-ghost use Rattle.report.specs.declared.errors.RunError.TheVariants.{NoMemory, Workers, Write};
+ghost use Rattle.std.specs.Prelude.{◌≡◌};
+ghost use Rattle.report.specs.declared.errors.RunError.TheVariants.{NoMemory};
+ghost use Rattle.report.specs.RunErrors.{run_error};
 
 use plan_text::PlanError;
 use std::alloc::{AllocError, AllocFailed};
@@ -28,7 +29,7 @@ pub enum RunError {
 }
 
 impl From<PlanError> for RunError {
-    ghost from_gives = { λ _ e. (e ≢ Workers) × (e ≢ Write) };
+    ghost from_gives = { λ refusal e. e ≡ run_error refusal };
 
     fn from(error: PlanError) -> RunError {
         match error {
