@@ -1,5 +1,7 @@
 // Readers and writers that remember whether they failed.
 
+ghost use Rattle.std.specs.Prelude.{◌≡◌, false};
+
 use report::{Input, Output};
 use std::io;
 use std::io::{Read, Write};
@@ -22,34 +24,37 @@ impl<F: Read, S: Read> Read for Opened<F, S> {
     }
 }
 
-/// A reader that remembers whether its last read answered an error.
+/// A reader or writer that remembers whether its last read or write answered an error.
 #[derive(Drop)]
-pub struct Source<R> {
-    reader: R,
+pub struct Watched<D> {
+    device: D,
     failed: bool,
 }
 
-impl<R: Read> Source<R> {
-    /// The reader, which has not failed yet.
-    pub fn new(reader: R) -> Self {
-        Source {
-            reader,
+impl<D> Watched<D> {
+    /// The device, which has not failed yet.
+    pub fn new(device: D) -> Self
+        ensures device { result.device ≡ device }
+        ensures sound { result.failed ≡ false }
+    {
+        Watched {
+            device,
             failed: false,
         }
     }
 }
 
-impl<R: Read> Read for Source<R> {
-    ghost remaining = { λ s. R.remaining s.reader };
+impl<R: Read> Read for Watched<R> {
+    ghost remaining = { λ s. R.remaining s.device };
 
     fn read(&mut self, buf: &mut [u8]) -> io::Result<usize> {
-        let result = self.reader.read(buf);
+        let result = self.device.read(buf);
         self.failed = result.is_err();
         result
     }
 }
 
-impl<R: Read> Input for Source<R> {
+impl<R: Read> Input for Watched<R> {
     ghost has_failed = { λ s. s.failed };
 
     fn failed(&self) -> bool {
@@ -57,38 +62,21 @@ impl<R: Read> Input for Source<R> {
     }
 }
 
-/// A writer that remembers whether its last write answered an error.
-#[derive(Drop)]
-pub struct Sink<W> {
-    writer: W,
-    failed: bool,
-}
-
-impl<W: Write> Sink<W> {
-    /// The writer, which has not failed yet.
-    pub fn new(writer: W) -> Self {
-        Sink {
-            writer,
-            failed: false,
-        }
-    }
-}
-
-impl<W: Write> Write for Sink<W> {
-    ghost contents = { λ s. W.contents s.writer };
+impl<W: Write> Write for Watched<W> {
+    ghost contents = { λ s. W.contents s.device };
 
     fn write(&mut self, buf: &[u8]) -> io::Result<usize> {
-        let result = self.writer.write(buf);
-        self.failed = result.is_err();
-        result
+        let written = self.device.write(buf);
+        self.failed = written.is_err();
+        written
     }
 
     fn flush(&mut self) -> io::Result<()> {
-        self.writer.flush()
+        self.device.flush()
     }
 }
 
-impl<W: Write> Output for Sink<W> {
+impl<W: Write> Output for Watched<W> {
     ghost has_failed = { λ s. s.failed };
 
     fn failed(&self) -> bool {

@@ -1,7 +1,7 @@
 // What the program does, and the status that it ends with.
 
 use crate::commands::{Request, parse_request};
-use crate::devices::{Opened, Sink, Source};
+use crate::devices::{Opened, Watched};
 use clap::error::ErrorKind;
 use report::{RunError, Status, run_check};
 use std::rt::{Env, Files};
@@ -40,7 +40,7 @@ fn do_request<R: Files + Input + Print + AllocGlobal>(
     match request {
         Request::Check { plan, workers } => {
             let mut plan = open(rt, plan)?;
-            let mut out = Sink::new(io::writer(rt));
+            let mut out = Watched::new(io::writer(rt));
             run_check(rt, rt.alloc(), &mut plan, &mut out, workers)
         }
     }
@@ -58,12 +58,12 @@ fn status_of(status: Status) -> u8 {
 fn open<R: Files + Input>(
     rt: &R,
     path: &str,
-) -> Result<Source<Opened<R::File, R::Reader>>, RunError> {
+) -> Result<Watched<Opened<R::File, R::Reader>>, RunError> {
     if path == "/dev/stdin" {
-        return Ok(Source::new(Opened::Standard(rt.reader())));
+        return Ok(Watched::new(Opened::Standard(rt.reader())));
     }
     match fs::open(rt, path) {
-        Ok(file) => Ok(Source::new(Opened::File(file))),
+        Ok(file) => Ok(Watched::new(Opened::File(file))),
         Err(error) if error.kind() == io::ErrorKind::OutOfMemory => Err(RunError::NoMemory),
         Err(_) => Err(RunError::Read),
     }
