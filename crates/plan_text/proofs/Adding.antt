@@ -1,12 +1,15 @@
 -- A text that grows by some words and then by more grows by all of them, and a word is written bit by bit.
 
-use Rattle.std.proofs.Common.{◌≡◌, ◌<◌, ◌≤◌, ◌+◌, ℕ, List, [], ◌∷◌, ◌++◌, refl, ap, sym, ◌∙◌, append_assoc, append-nil, map, take, length, Some, lit<, le_refl, subst, add-one}
-use Rattle.std.specs.Prelude.{Result, Ok, Err, OnOk, slice_get}
-use Rattle.std.proofs.lemmas.List.{take_all, map-append}
+use Rattle.std.proofs.Common.{◌≡◌, ◌<◌, ◌≤◌, ◌+◌, ℕ, zero, suc, Bool, true, false, ◌||◌, List, [], ◌∷◌, ◌++◌, refl, ap, sym, ◌∙◌, append_assoc, append-nil, map, take, drop, length, get_or, Some, slice_get, lit<, le_refl, subst, add-one}
+use Rattle.std.specs.List.{list_any, flat_map}
+use Rattle.std.specs.Map.{keys_of, values_of}
+use Rattle.std.specs.Prelude.{Result, Ok, Err, OnOk}
+use Rattle.std.proofs.lemmas.List.{take_all, map-append, drop_more, take_more}
 use Rattle.std.proofs.Math.Seq.{take-suc}
 use Rattle.std.proofs.lemmas.Option.{slice_get_within, get_or_from_slice_get}
 use Rattle.message_tree.specs.declared.bits.Bit.{Bit}
 use Rattle.message_tree.specs.declared.bits.Bit.TheVariants.{Zero, One, Either}
+use Rattle.plan_core.specs.Labels.{name_at}
 use Rattle.plan_text.specs.Canonical.{bit_symbol, spaced, Adds}
 
 pub spaced-append : (xs ys : List (List ℕ)) → spaced (xs ++ ys) ≡ spaced xs ++ spaced ys
@@ -59,3 +62,38 @@ pub adds_read : {X E : Type 0} (r : Result X E) (t0 t1 t2 t3 t4 t5 t6 : List ℕ
     → OnOk r (Adds t0 t6 (kind ∷ (address ∷ (count ∷ (after ++ (else_word ∷ refused))))))
 adds_read r t0 t1 t2 t3 t4 t5 t6 kind address count else_word after refused e1 e2 e3 e4 e5 e6 =
     then_adds r t0 t1 t6 (kind ∷ []) (address ∷ (count ∷ (after ++ (else_word ∷ refused)))) e1 (adds_write r t1 t2 t3 t4 t5 t6 address count else_word after refused e2 e3 e4 e5 e6)
+
+-- the entry of this name and this value
+pub entry_at : {X : Type 0} (entries : List (List ℕ × X)) (k : ℕ) (name : List ℕ) (x : X) → slice_get (keys_of entries) k ≡ Some name → slice_get (values_of entries) k ≡ Some x → slice_get entries k ≡ Some (name, x)
+entry_at [] k name x key value = cc
+entry_at (e ∷ es) zero name x key value = let named : e.0 ≡ name = cc in let given : e.1 ≡ x = cc in λ i. Some (named i, given i)
+entry_at (e ∷ es) (suc k) name x key value = entry_at es k name x key value
+
+module _ {X : Type 0} (xs : List X) (k : ℕ) (x : X) (at : slice_get xs k ≡ Some x) where
+  rest_at : drop k xs ≡ x ∷ drop (k + 1) xs
+  rest_at = drop_more xs k x (slice_get_within xs k x at) ∙ ap (λ y. y ∷ drop (k + 1) xs) (get_or_from_slice_get xs k x x at)
+
+  -- one line more of all lines
+  pub line_more : (f : X → List ℕ) (a b all : List ℕ) → a ++ flat_map f (drop k xs) ≡ all → b ≡ a ++ f x → b ++ flat_map f (drop (k + 1) xs) ≡ all
+  line_more f a b all before more = rw (more, append_assoc) (ap (λ rest. a ++ flat_map f rest) (sym rest_at) ∙ before)
+
+  -- one test more of all tests
+  pub any_here : (test : X → Bool) (all : Bool) → list_any test (drop k xs) ≡ all → test x ≡ true → true ≡ all
+  any_here test all before here = sym (ap (λ b. b || list_any test (drop (k + 1) xs)) here) ∙ ap (list_any test) (sym rest_at) ∙ before
+
+  pub any_later : (test : X → Bool) (all : Bool) → list_any test (drop k xs) ≡ all → test x ≡ false → list_any test (drop (k + 1) xs) ≡ all
+  any_later test all before here = sym (ap (λ b. b || list_any test (drop (k + 1) xs)) here) ∙ ap (list_any test) (sym rest_at) ∙ before
+
+-- a value that passes is that of an entry
+pub value_entry : {X : Type 0} (entries : List (List ℕ × X)) (k : ℕ) (x : X) → slice_get (values_of entries) k ≡ Some x → (name : List ℕ) × (slice_get entries k ≡ Some (name, x))
+value_entry [] k x value = cc
+value_entry (e ∷ es) zero x value = let given : e.1 ≡ x = cc in (e.0, λ i. Some (e.0, given i))
+value_entry (e ∷ es) (suc k) x value = value_entry es k x value
+
+-- one more message's name is written
+pub names_more : {X : Type 0} (entries : List (List ℕ × X)) (numbers : List ℕ) (k : ℕ) (name a b c : List ℕ) → k < length numbers → slice_get (keys_of entries) (get_or numbers k 0) ≡ Some name → Adds a b (map (name_at entries) (take k numbers)) → Adds b c (name ∷ []) → Adds a c (map (name_at entries) (take (k + 1) numbers))
+names_more entries numbers k name a b c within named before more =
+    let n = get_or numbers k 0 in
+    let names : map (name_at entries) (take (k + 1) numbers) ≡ map (name_at entries) (take k numbers) ++ (name ∷ []) =
+    ap (map (name_at entries)) (take_more numbers k 0 within) ∙ map-append (name_at entries) (take k numbers) (n ∷ []) ∙ ap (λ m. map (name_at entries) (take k numbers) ++ (m ∷ [])) (get_or_from_slice_get (keys_of entries) n name [] named) in
+    subst (Adds a c) (sym names) (adds_then a b c (map (name_at entries) (take k numbers)) (name ∷ []) before more)

@@ -1,8 +1,11 @@
 // The canonical spelling of a plan.
 
-ghost use Rattle.std.specs.Prelude.{◌≡◌, ◌∷◌, [], OnOk, string_bytes};
+ghost use Rattle.std.specs.Prelude.{◌≡◌, ◌<◌, ◌∷◌, ◌++◌, [], length, map, codes, All, IfOk, OnOk, string_bytes};
+ghost use Rattle.std.specs.List.{list_any, flat_map};
 ghost use Rattle.message_tree.specs.Trees.{frame_tree, payload_tree, tail_tree};
-ghost use Rattle.plan_text.specs.Canonical.{Adds, address_word, pattern_word, count_word, frame_words, payload_words, tail_words, bit_symbol};
+ghost use Rattle.plan_core.specs.Labels.{name_at};
+ghost use Rattle.plan_core.specs.PlanContents.{plan_contents};
+ghost use Rattle.plan_text.specs.Canonical.{Adds, address_word, pattern_word, count_word, frame_words, payload_words, tail_words, bit_symbol, frame_has_range, payload_has_range, tail_has_range, item_line, message_line, controller_line, interrupt_line, never_line, version_line, plan_text};
 
 use message_tree::{Address, Bit, Count, Frame, Pattern, Payload, Tail};
 use plan_core::Plan;
@@ -10,7 +13,10 @@ use std::alloc::{AllocError, Global};
 
 /// The canonical spelling: the version on the first line, then the messages, the controllers, the interrupts and the
 /// `never` items, each on a line of its own and in the order of its kind, with one space between two tokens.
-pub fn print_plan(alloc: Global, plan: &Plan) -> Result<Vec<u8>, AllocError> {
+#[tactic(auto, unfolding(crate::specs::Canonical::plan_text))]
+pub fn print_plan(alloc: Global, plan: &Plan) -> Result<Vec<u8>, AllocError>
+    ensures { IfOk result (λ text. text.items ≡ plan_text (plan_contents plan.now)) }
+{
     let mut text = String::new(alloc);
     text.push_str(version(plan))?;
     messages(&mut text, plan)?;
@@ -21,55 +27,113 @@ pub fn print_plan(alloc: Global, plan: &Plan) -> Result<Vec<u8>, AllocError> {
 }
 
 // The first line. The second version is for `never` and for reads with two different ends alone.
-fn version(plan: &Plan) -> &'static str {
-    if plan.nevers() > 0 || (0..plan.messages()).any(|k| frame_has_range(plan.message(k))) {
+fn version(plan: &Plan) -> &'static str
+    ensures { result.now ≡ version_line (plan_contents plan.now) }
+{
+    if plan.nevers() > 0 || has_range(plan) {
         "plan 2\n"
     } else {
         "plan 1\n"
     }
 }
 
-fn messages(text: &mut String, plan: &Plan) -> Result<(), AllocError> {
+fn has_range(plan: &Plan) -> bool
+    ensures { result ≡ list_any (λ message. frame_has_range message.1) (plan_contents plan.now).messages }
+{
     for k in 0..plan.messages() {
-        text.push_str("message")?;
-        word(text, plan.message_name(k).as_str())?;
-        frame(text, plan.message(k))?;
-        end(text)?;
-    }
-    Ok(())
-}
-
-fn controllers(text: &mut String, plan: &Plan) -> Result<(), AllocError> {
-    for k in 0..plan.controllers() {
-        text.push_str("controller")?;
-        word(text, plan.controller_name(k).as_str())?;
-        for message in plan.controller_messages(k) {
-            word(text, plan.message_name(*message).as_str())?;
+        if frame_has_range(plan.message(k)) {
+            return true;
         }
-        end(text)?;
+    }
+    false
+}
+
+fn messages(text: &mut String, plan: &Plan) -> Result<(), AllocError>
+    ensures { OnOk result (string_bytes text.new ≡ string_bytes text.old ++ flat_map message_line (plan_contents plan.now).messages) }
+{
+    for k in 0..plan.messages() {
+        message(text, plan.message_name(k).as_str(), plan.message(k))?;
     }
     Ok(())
 }
 
-fn interrupts(text: &mut String, plan: &Plan) -> Result<(), AllocError> {
+fn message(text: &mut String, name: &str, it: &Frame) -> Result<(), AllocError>
+    ensures { OnOk result (string_bytes text.new ≡ string_bytes text.old ++ message_line (name.now, frame_tree it.now)) }
+{
+    text.push_str("message")?;
+    word(text, name)?;
+    frame(text, it)?;
+    end(text)
+}
+
+fn controllers(text: &mut String, plan: &Plan) -> Result<(), AllocError>
+    ensures { OnOk result (string_bytes text.new ≡ string_bytes text.old ++ flat_map (controller_line (plan_contents plan.now)) (plan_contents plan.now).controllers) }
+{
+    for k in 0..plan.controllers() {
+        let name = plan.controller_name(k).as_str();
+        controller(text, plan, name, plan.controller_messages(k))?;
+    }
+    Ok(())
+}
+
+fn controller(text: &mut String, plan: &Plan, name: &str, sends: &[u32]) -> Result<(), AllocError>
+    requires { All (λ m. m < length (plan_contents plan.now).messages) sends.now }
+    ensures { OnOk result (string_bytes text.new ≡ string_bytes text.old ++ controller_line (plan_contents plan.now) (name.now, sends.now)) }
+{
+    text.push_str("controller")?;
+    word(text, name)?;
+    message_names(text, plan, sends)?;
+    end(text)
+}
+
+// The names of the messages with these numbers.
+fn message_names(text: &mut String, plan: &Plan, numbers: &[u32]) -> Result<(), AllocError>
+    requires { All (λ m. m < length (plan_contents plan.now).messages) numbers.now }
+    ensures { OnOk result (Adds (string_bytes text.old) (string_bytes text.new) (map (name_at (plan_contents plan.now).messages) numbers.now)) }
+{
+    for message in numbers {
+        word(text, plan.message_name(*message).as_str())?;
+    }
+    Ok(())
+}
+
+fn interrupts(text: &mut String, plan: &Plan) -> Result<(), AllocError>
+    ensures { OnOk result (string_bytes text.new ≡ string_bytes text.old ++ flat_map interrupt_line (plan_contents plan.now).interrupts) }
+{
     for k in 0..plan.interrupts() {
-        text.push_str("interrupt")?;
-        word(text, plan.interrupt_name(k).as_str())?;
-        address(text, &Address::new(0x7f, plan.interrupt_address(k)))?;
-        end(text)?;
+        let name = plan.interrupt_name(k).as_str();
+        interrupt(text, name, plan.interrupt_address(k))?;
     }
     Ok(())
 }
 
-fn nevers(text: &mut String, plan: &Plan) -> Result<(), AllocError> {
+fn interrupt(text: &mut String, name: &str, target: u8) -> Result<(), AllocError>
+    ensures { OnOk result (string_bytes text.new ≡ string_bytes text.old ++ interrupt_line (name.now, target)) }
+{
+    text.push_str("interrupt")?;
+    word(text, name)?;
+    address(text, &Address::new(0x7f, target))?;
+    end(text)
+}
+
+fn nevers(text: &mut String, plan: &Plan) -> Result<(), AllocError>
+    ensures { OnOk result (string_bytes text.new ≡ string_bytes text.old ++ flat_map (never_line (plan_contents plan.now)) (plan_contents plan.now).nevers) }
+{
     for k in 0..plan.nevers() {
         let (first, second) = plan.never(k);
-        text.push_str("never")?;
-        word(text, plan.controller_name(first).as_str())?;
-        word(text, plan.controller_name(second).as_str())?;
-        end(text)?;
+        let first = plan.controller_name(first).as_str();
+        never(text, first, plan.controller_name(second).as_str())?;
     }
     Ok(())
+}
+
+fn never(text: &mut String, first: &str, second: &str) -> Result<(), AllocError>
+    ensures { OnOk result (string_bytes text.new ≡ string_bytes text.old ++ item_line (codes "never") (first.now ∷ (second.now ∷ []))) }
+{
+    text.push_str("never")?;
+    word(text, first)?;
+    word(text, second)?;
+    end(text)
 }
 
 #[cycle(frame)]
@@ -137,7 +201,9 @@ fn tail(text: &mut String, it: &Tail) -> Result<(), AllocError>
 }
 
 #[cycle(has_range)]
-fn frame_has_range(it: &Frame) -> bool {
+fn frame_has_range(it: &Frame) -> bool
+    ensures { result ≡ frame_has_range (frame_tree it.now) }
+{
     match it {
         Frame::Write { acked, refused, .. } => payload_has_range(acked) || tail_has_range(refused),
         Frame::Read {
@@ -150,7 +216,9 @@ fn frame_has_range(it: &Frame) -> bool {
 }
 
 #[cycle(has_range)]
-fn payload_has_range(it: &Payload) -> bool {
+fn payload_has_range(it: &Payload) -> bool
+    ensures { result ≡ payload_has_range (payload_tree it.now) }
+{
     match it {
         Payload::Byte { acked, refused, .. } => payload_has_range(acked) || tail_has_range(refused),
         Payload::Last(last) => tail_has_range(last),
@@ -158,7 +226,9 @@ fn payload_has_range(it: &Payload) -> bool {
 }
 
 #[cycle(has_range)]
-fn tail_has_range(it: &Tail) -> bool {
+fn tail_has_range(it: &Tail) -> bool
+    ensures { result ≡ tail_has_range (tail_tree it.now) }
+{
     match it {
         Tail::Stop => false,
         Tail::Again(next) => frame_has_range(next),
@@ -174,7 +244,9 @@ fn word(text: &mut String, it: &str) -> Result<(), AllocError>
 }
 
 // The end of an item.
-fn end(text: &mut String) -> Result<(), AllocError> {
+fn end(text: &mut String) -> Result<(), AllocError>
+    ensures { OnOk result (string_bytes text.new ≡ string_bytes text.old ++ codes " ;\n") }
+{
     text.push_str(" ;\n")
 }
 
