@@ -5,3 +5,6 @@ pub mod TokenLemmas
 pub mod SpelledLemmas
 pub mod SpelledVersions
 pub mod RefusedLemmas
+pub mod EitherWords
+pub mod EitherMessages
+pub mod EitherItems

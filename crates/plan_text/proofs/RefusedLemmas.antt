@@ -77,7 +77,7 @@ mutual
 
 -- ---- what a builder takes, token by token
 
-if_none : (t : Bool) (cause : BuildError) (more : Option BuildError) → (if t then Some cause else more) ≡ None → (t ≡ false) × (more ≡ None)
+pub if_none : (t : Bool) (cause : BuildError) (more : Option BuildError) → (if t then Some cause else more) ≡ None → (t ≡ false) × (more ≡ None)
 if_none true cause more h = absurd cc
 if_none false cause more h = (refl, h)
 

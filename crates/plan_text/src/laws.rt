@@ -11,4 +11,5 @@ pub fn one_plan()
     ensures one_plan { (text : List ℕ) (P Q : Contents) → Spells text P → Spells text Q → P ≡ Q }
     ensures one_refusal { (text : List ℕ) (e f : PlanError) → First text e → First text f → e ≡ f }
     ensures not_both { (text : List ℕ) (P : Contents) (e : PlanError) → Spells text P → First text e → ⊥ }
+    ensures one_of_both { (text : List ℕ) → ((P : Contents) × Spells text P) ⊎ ((e : PlanError) × First text e) }
 {}

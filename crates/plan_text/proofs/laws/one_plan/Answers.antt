@@ -1,6 +1,7 @@
 use Rattle.plan_text.specs.Tokens.{text_end}
 use Rattle.plan_text.proofs.SpelledVersions.{front_same, stops_at_end}
 use Rattle.plan_text.proofs.RefusedLemmas.{first_same, spelled_not_refused}
+use Rattle.plan_text.proofs.EitherItems.{answered}
 use Rattle.plan_text.proofs.laws.one_plan.Goals as goal
 
 pub returns-clause-one_plan : goal.returns-clause-one_plan
@@ -11,3 +12,6 @@ returns-clause-one_refusal c = first_same
 
 pub returns-clause-not_both : goal.returns-clause-not_both
 returns-clause-not_both c = spelled_not_refused
+
+pub returns-clause-one_of_both : goal.returns-clause-one_of_both
+returns-clause-one_of_both c = answered
