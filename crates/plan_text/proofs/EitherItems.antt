@@ -1,9 +1,8 @@
 -- What is not refused is an item or the end, and so each text spells a plan or has a first refusal.
-use Rattle.std.proofs.Common.{◌≡◌, ℕ, zero, suc, ◌+◌, ◌<◌, ◌≤◌, List, [], ◌∷◌, ◌++◌, Bool, true, false, ◌||◌, ◌⊎◌, inl, inr, Option, Some, None, refl, sym, ap, ◌∙◌, subst, arith}
-use Rattle.std.specs.Prelude.{nat_lt, nat_le, not, length, codes, Result, Ok, Err, if◌then◌else◌}
+use Rattle.std.proofs.Common.{◌≡◌, ℕ, zero, suc, ◌+◌, ◌<◌, ◌≤◌, List, [], ◌∷◌, ◌++◌, Bool, true, false, ◌||◌, ◌⊎◌, inl, inr, Option, Some, None, refl, sym, ap, arith}
+use Rattle.std.specs.Prelude.{nat_lt, nat_le, not, length, codes, Ok, Err, if◌then◌else◌}
 use Rattle.std.specs.List.{list_any}
 use Rattle.std.specs.Str.{bytes_eq}
-use Rattle.std.proofs.lemmas.Bool.{or_cases}
 use Rattle.std.proofs.lemmas.Bool.Decides.{nat_tests}
 use Rattle.std.proofs.lemmas.Slice.Eq.{bytes_eq-Decides}
 use Rattle.message_tree.specs.Sizes.{frame_bytes, frame_nodes}
@@ -19,8 +18,8 @@ use Rattle.plan_text.specs.declared.symbols.Keyword.TheVariants as keywords
 use Rattle.plan_text.specs.declared.versions.Version.{Version}
 use Rattle.plan_text.specs.declared.versions.Version.TheVariants as versions
 use Rattle.plan_text.specs.Grammar.{one, SpellsName, SpellsNames, Item, message, controller, interrupt, never_both, SpellsItem, SpellsItems, Fits, with_item, Spells, Begins, version_word}
-use Rattle.plan_text.specs.Refusals.{Expected, message_name, controller_name, interrupt_name, known_address, messages_after, first_controller, second_controller, frame, item_end, refusal, unknown_controller, item_refusal, is_version, version_refusal, First, Step, name_step, go_on}
-use Rattle.plan_text.specs.Tokens.{Token, keyword, word, semicolon, text_end, foreign, stray, Tokens, next, last, tokens_of, never, after}
+use Rattle.plan_text.specs.Refusals.{Expected, message_name, controller_name, interrupt_name, known_address, messages_after, first_controller, second_controller, frame, item_end, refusal, unknown_controller, item_refusal, is_version, version_refusal, First, go_on}
+use Rattle.plan_text.specs.Tokens.{keyword, word, semicolon, text_end, foreign, stray, Tokens, next, last, tokens_of, never, after}
 use Rattle.plan_text.specs.Words.{is_known_address, known_word}
 use Rattle.plan_text.proofs.SpelledVersions.{both_followed}
 use Rattle.plan_text.proofs.RefusedLemmas.{if_none}
@@ -85,7 +84,7 @@ record AddressThere (plan : Contents) (more : List Expected) (from : Tokens) : T
   passed : Passed (word (known_word address)) plan from 0 more
 
 address_by : (t : Bool) (plan : Contents) (more : List Expected) (bytes : List ℕ) (line : ℕ) (rest : Tokens) → is_known_address bytes ≡ t →
-    go_on (let s : Step = (if t then Ok ([], 0) else Err (Unexpected line)) in s) (λ further n. refusal plan rest n (further ++ more)) ≡ None → AddressThere plan more (next (word bytes) line rest)
+    go_on (if t then Ok ([], 0) else Err (Unexpected line)) (λ further n. refusal plan rest n (further ++ more)) ≡ None → AddressThere plan more (next (word bytes) line rest)
 address_by true plan more bytes line rest e h =
     let a = known_from bytes e in
     record { address = a.0; small = a.1; passed = record { to = rest; first = (line, ap (λ (w : List ℕ). next (word w) line rest) (sym a.2)); rest = h; smaller = refl } }
@@ -219,11 +218,10 @@ items_there (suc n) version plan from fewer = by_refusal (item_refusal version p
     by_refusal (Some e) h more = refused [] plan from e (refl, refl) h
     by_refusal None h more = by_item more (item_there version plan from h)
 
-Answered : List ℕ → Type 0
+abbrev Answered : List ℕ → Type 0
 Answered text = ((plan : Contents) × Spells text plan) ⊎ ((e : PlanError) × First text e)
 
 begun_answered : (text : List ℕ) (version : Version) (start : Tokens) → Begins text version start → ItemsThere version empty start → Answered text
-unfolding Answered
 begun_answered text version start b (spelled items whole line s) = inl (whole, record { version = version; line = line; whole = record { items = items; start = start; begins = b; spelled = s } })
 begun_answered text version start b (refused items whole to e s h) = inr (e, inr (record { version = version; plan = whole; rest = to; front = record { items = items; start = start; begins = b; spelled = s }; refused = h }))
 
@@ -257,7 +255,6 @@ begins_by text versions.Two line second rest e =
     (f.0, (next (word (version_word versions.Two)) second f.0, (line, f.1), (second, refl)))
 
 answered_by : (text : List ℕ) (r : Option PlanError) → version_refusal (tokens_of never 1 text) ≡ r → Answered text
-unfolding Answered
 answered_by text (Some e) h = inr (e, inl h)
 answered_by text None h =
     let v = version_there (tokens_of never 1 text) h in
@@ -265,5 +262,4 @@ answered_by text None h =
     begun_answered text v.version b.0 b.1 (items_there (suc (size b.0)) v.version empty b.0 (omega arith))
 
 pub answered : (text : List ℕ) → ((plan : Contents) × Spells text plan) ⊎ ((e : PlanError) × First text e)
-unfolding Answered
 answered text = answered_by text (version_refusal (tokens_of never 1 text)) refl

@@ -1,6 +1,6 @@
 -- What is not refused in the place of a message is a message within the limits.
-use Rattle.std.proofs.Common.{◌≡◌, ℕ, zero, suc, ◌+◌, ◌<◌, ◌≤◌, List, [], ◌∷◌, ◌++◌, Bool, true, false, ◌||◌, Option, Some, None, refl, sym, ap, ◌∙◌, subst, arith}
-use Rattle.std.specs.Prelude.{nat_lt, nat_le, max, Result, Ok, Err, if◌then◌else◌}
+use Rattle.std.proofs.Common.{◌≡◌, ℕ, zero, suc, ◌+◌, ◌<◌, ◌≤◌, List, ◌∷◌, ◌++◌, Bool, true, false, ◌||◌, Option, Some, None, refl, sym, ap, ◌∙◌, arith}
+use Rattle.std.specs.Prelude.{nat_lt, nat_le, Ok, Err, if◌then◌else◌}
 use Rattle.std.proofs.lemmas.Bool.Decides.{nat_tests}
 use Rattle.message_tree.specs.declared.bits.Address.{Address}
 use Rattle.message_tree.specs.declared.bits.Pattern.{Pattern}
@@ -19,7 +19,7 @@ use Rattle.plan_text.specs.Tokens.{Token, keyword, word, Tokens, next}
 use Rattle.plan_text.specs.Tokens as tokens
 use Rattle.plan_text.specs.Words.{is_pattern, count_ends, in_range, number}
 use Rattle.plan_text.proofs.RefusedLemmas.{if_none}
-use Rattle.plan_text.proofs.EitherWords.{address_from, pattern_from, CountFrom, count_from}
+use Rattle.plan_text.proofs.EitherWords.{address_from, pattern_from, count_from}
 
 -- the number of tokens
 abbrev pub size : Tokens → ℕ
@@ -169,9 +169,6 @@ PayloadThere = PartThere PayloadTree SpellsPayload payload_bytes payload_nodes
 abbrev TailThere : Contents → ℕ → ℕ → List Expected → Tokens → Type 0
 TailThere = PartThere TailTree SpellsTail tail_bytes tail_nodes
 
-moved : (plan : Contents) (to : Tokens) (more : List Expected) (m n : ℕ) → m ≡ n → refusal plan to m more ≡ None → refusal plan to n more ≡ None
-moved plan to more m n e h = subst (λ (k : ℕ). refusal plan to k more ≡ None) e h
-
 -- for tokens fewer than n
 mutual
   pub frame_there : (n : ℕ) (plan : Contents) (above nodes : ℕ) (more : List Expected) (from : Tokens) → size from < n → above ≤ 256 → nodes ≤ 4096 → refusal plan from nodes (frame above ∷ more) ≡ None → FrameThere plan above nodes more from
@@ -191,7 +188,7 @@ mutual
               spelled = (k.to, k.first, (p.to, p.first, (first.to, first.spelled, (middle.to, middle.first, second.spelled))));
               path = omega arith;
               room = omega arith;
-              rest = moved plan second.to more _ _ sum second.rest;
+              rest = rw (← sum) second.rest;
               smaller = omega arith;
             }
         | reads k ↦
@@ -208,7 +205,7 @@ mutual
               spelled = (k.to, k.first, (p.to, p.first, (counted.to, counted.spelled, (first.to, first.spelled, (middle.to, middle.first, second.spelled)))));
               path = omega arith;
               room = omega arith;
-              rest = moved plan second.to more _ _ sum second.rest;
+              rest = rw (← sum) second.rest;
               smaller = omega arith;
             }
       ]
@@ -228,11 +225,11 @@ mutual
               spelled = (p.to, p.first, (first.to, first.spelled, (middle.to, middle.first, second.spelled)));
               path = omega arith;
               room = omega arith;
-              rest = moved plan second.to more _ _ sum second.rest;
+              rest = rw (← sum) second.rest;
               smaller = omega arith;
             }
-        | ends t ↦ elim t [
-          | stops k ↦ record { part = last stop; to = k.to; spelled = k.first; path = omega arith; room = omega arith; rest = moved plan k.to more nodes (nodes + 0) (omega arith) k.rest; smaller = omega arith }
+        | ends t ↦ let none : nodes + 0 ≡ nodes = omega arith in elim t [
+          | stops k ↦ record { part = last stop; to = k.to; spelled = k.first; path = omega arith; room = omega arith; rest = rw none k.rest; smaller = omega arith }
           | goes k ↦
               let f = frame_there n plan above nodes more k.to (omega arith) path room k.rest in
               record { part = last (again f.part); to = f.to; spelled = (k.to, k.first, f.spelled); path = f.path; room = f.room; rest = f.rest; smaller = omega arith }
@@ -242,8 +239,9 @@ mutual
   tail_there : (n : ℕ) (plan : Contents) (above nodes : ℕ) (more : List Expected) (from : Tokens) → size from < n → above ≤ 256 → nodes ≤ 4096 → refusal plan from nodes (tail above ∷ more) ≡ None → TailThere plan above nodes more from
   tail_there zero plan above nodes more from fewer path room h = absurd (omega arith)
   tail_there (suc n) plan above nodes more from fewer path room h =
+      let none : nodes + 0 ≡ nodes = omega arith in
       elim (tail_begins plan above nodes more from h) [
-        | stops k ↦ record { part = stop; to = k.to; spelled = k.first; path = omega arith; room = omega arith; rest = moved plan k.to more nodes (nodes + 0) (omega arith) k.rest; smaller = omega arith }
+        | stops k ↦ record { part = stop; to = k.to; spelled = k.first; path = omega arith; room = omega arith; rest = rw none k.rest; smaller = omega arith }
         | goes k ↦
             let f = frame_there n plan above nodes more k.to (omega arith) path room k.rest in
             record { part = again f.part; to = f.to; spelled = (k.to, k.first, f.spelled); path = f.path; room = f.room; rest = f.rest; smaller = omega arith }

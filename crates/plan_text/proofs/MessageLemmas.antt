@@ -46,7 +46,7 @@ read_fits header greatest path = grind arith
 path_of : (above first second : ℕ) → above < 256 → above + 1 + first ≤ 256 → above + 1 + second ≤ 256 → above + (max first second + 1) ≤ 256
 path_of above first second h f s = omega (arith, h, f, s)
 
-pub leb_is : (m n : ℕ) → m ≤ n → nat_le m n ≡ true
+leb_is : (m n : ℕ) → m ≤ n → nat_le m n ≡ true
 leb_is m n h = grind arith
 
 pub count_in_range : (bytes : List ℕ) (c : Count) (w : WritesCount bytes c) → in_range w.ends ≡ true

@@ -1,24 +1,23 @@
 -- What is spelled within the limits is not refused.
-use Rattle.std.proofs.Common.{◌≡◌, ◌||◌, ◌⊎◌, inl, inr, ℕ, ◌+◌, ◌<◌, ◌≤◌, List, [], ◌∷◌, ◌++◌, Bool, true, false, Option, Some, None, refl, sym, ap, ◌∙◌, subst, arith, le_refl}
+use Rattle.std.proofs.Common.{◌≡◌, ◌||◌, inl, inr, ℕ, ◌+◌, ◌≤◌, List, [], ◌∷◌, ◌++◌, Bool, true, false, Option, Some, None, refl, sym, ap, ◌∙◌, arith, le_refl}
 use Rattle.std.specs.Prelude.{nat_lt, nat_le, not, length, is_some, if◌then◌else◌}
 use Rattle.std.specs.Str.{bytes_eq}
 use Rattle.std.specs.List.{list_any}
 use Rattle.std.proofs.lemmas.Bool.{and_from}
 use Rattle.std.proofs.lemmas.Bool.Decides.{nat_tests}
-use Rattle.message_tree.specs.Counts.{least_of, greatest_of}
+use Rattle.message_tree.specs.Counts.{greatest_of}
 use Rattle.message_tree.specs.Sizes.{frame_bytes, payload_bytes, tail_bytes, frame_nodes, payload_nodes, tail_nodes}
 use Rattle.message_tree.specs.Trees.{FrameTree, write, read, PayloadTree, byte, last, TailTree, stop, again}
 use Rattle.plan_core.specs.Contents.{Contents}
 use Rattle.plan_core.specs.Limits.{sending_count}
-use Rattle.plan_core.specs.Building.{has_name, message_name_refusal, controller_name_refusal, message_refusal, list_refusal, controller_refusal, interrupt_refusal, never_refusal, two_refusal}
+use Rattle.plan_core.specs.Building.{has_name, message_name_refusal, controller_name_refusal, message_refusal, list_refusal, controller_refusal, never_refusal, two_refusal}
 use Rattle.plan_core.specs.declared.builder.BuildError.{BuildError}
-use Rattle.plan_text.specs.Canonical.{address_word, pattern_word}
 use Rattle.plan_text.specs.declared.errors.PlanError.{PlanError}
 use Rattle.plan_text.specs.declared.versions.Version.{Version}
 use Rattle.plan_text.specs.declared.versions.Version.TheVariants as versions
 use Rattle.plan_text.specs.Grammar.{SpellsFrame, SpellsPayload, SpellsTail, SpellsNames, Item, message, controller, interrupt, never_both, SpellsItem, Fits, Spells}
-use Rattle.plan_text.specs.Refusals.{Expected, frame, write_address, read_address, count, payload, tail, else_word, item_end, messages_after, refusal, byte_refusal, read_refusal, item_refusal, unknown_controller, version_refusal, ItemRefused, First}
-use Rattle.plan_text.specs.Tokens.{Token, keyword, word, semicolon, Tokens, next, text_end, never, tokens_of}
+use Rattle.plan_text.specs.Refusals.{Expected, frame, count, payload, tail, else_word, item_end, messages_after, refusal, read_refusal, item_refusal, unknown_controller, version_refusal, ItemRefused, First}
+use Rattle.plan_text.specs.Tokens.{semicolon, Tokens, next, text_end, never, tokens_of}
 use Rattle.plan_text.specs.Words.{number, known_word, is_known_address}
 use Rattle.plan_text.proofs.MessageLemmas.{address_is_pattern, pattern_is_pattern, byte_fits, read_fits, count_in_range}
 use Rattle.plan_text.proofs.SpelledLemmas.{Stops}

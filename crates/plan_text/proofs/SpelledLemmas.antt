@@ -1,5 +1,5 @@
 -- What tokens spell: one message, one item, one plan.
-use Rattle.std.proofs.Common.{◌≡◌, ℕ, ◌+◌, ◌<◌, ◌≤◌, ◌^◌, bit_and, List, [], ◌∷◌, Option, Some, None, refl, sym, ap, ◌∙◌, subst, arith, map, lit<}
+use Rattle.std.proofs.Common.{◌≡◌, ℕ, ◌<◌, ◌≤◌, ◌^◌, bit_and, List, [], ◌∷◌, refl, sym, ap, ◌∙◌, subst, arith, map, lit<}
 use Rattle.std.proofs.Math.Bridge.{le_prop}
 use Rattle.std.proofs.Math.Nat.{ℕ_set}
 use Rattle.std.proofs.lemmas.Nat.{and_mask}
@@ -20,8 +20,8 @@ use Rattle.plan_text.specs.declared.symbols.Keyword.{Keyword}
 use Rattle.plan_text.specs.declared.versions.Version.{Version}
 use Rattle.plan_text.specs.declared.versions.Version.TheVariants as versions
 use Rattle.plan_text.specs.Grammar.{one, SpellsFrame, SpellsPayload, SpellsTail, SpellsName, SpellsNames, SpellsCount, Item, message, controller, interrupt, never_both, SpellsItem, SpellsItems, Fits, with_item}
-use Rattle.plan_text.specs.Tokens.{Token, keyword, word, semicolon, Tokens, next}
-use Rattle.plan_text.specs.Words.{WritesCount, number, known_word}
+use Rattle.plan_text.specs.Tokens.{Token, keyword, word, semicolon, Tokens}
+use Rattle.plan_text.specs.Words.{number, known_word}
 
 -- ---- words
 

@@ -1,12 +1,12 @@
 -- The first two tokens of a text are the same whether or not `.` is a part of words after them, and so a text has one
 -- version.
-use Rattle.std.proofs.Common.{◌≡◌, ℕ, zero, suc, ◌+◌, List, [], ◌∷◌, Bool, true, false, Some, None, refl, sym, ap, ◌∙◌, subst, arith, get_or}
+use Rattle.std.proofs.Common.{◌≡◌, ℕ, ◌+◌, List, [], ◌∷◌, Bool, true, false, None, refl, sym, ap, ◌∙◌, subst, arith, get_or}
 use Rattle.std.specs.Prelude.{codes}
 use Rattle.plan_core.specs.Contents.{Contents, empty}
 use Rattle.plan_text.specs.declared.symbols.Keyword.TheVariants as keywords
 use Rattle.plan_text.specs.declared.versions.Version.{Version}
 use Rattle.plan_text.specs.declared.versions.Version.TheVariants as versions
-use Rattle.plan_text.specs.Grammar.{one, version_word, dots_of, Begins, SpellsItems, SpellsFront}
+use Rattle.plan_text.specs.Grammar.{version_word, Begins, SpellsFront}
 use Rattle.plan_text.specs.Refusals.{version_refusal}
 use Rattle.plan_text.specs.Tokens.{Token, keyword, word, semicolon, Ending, text_end, foreign, stray, Tokens, next, last, Dots, never, after, dots_now, one_later, Class, line_feed, blank, number_sign, semicolon_sign, word_part, no_ascii, other, class_of, begins_with_part, put_before, raw_tokens, in_comment, tokens_of, with_keywords}
 use Rattle.plan_text.proofs.TokenLemmas.{raw_at, comment_at, part_at}
@@ -112,7 +112,7 @@ version_passes text versions.Two p = ap version_refusal p.tokens
 
 front_same_by : (text : List ℕ) (v w : Version) (plan second : Contents) (a b : Tokens) → v ≡ w → SpellsFront text v plan a → SpellsFront text w second b → Stops v plan a → Stops w second b → (plan ≡ second) × (a ≡ b)
 front_same_by text v w plan second a b e f g stops others =
-    subst (λ (x : Version). SpellsFront text x second b → Stops x second b → (plan ≡ second) × (a ≡ b)) e (with_version) g others
+    subst (λ (x : Version). SpellsFront text x second b → Stops x second b → (plan ≡ second) × (a ≡ b)) e with_version g others
   where
     with_version : SpellsFront text v second b → Stops v second b → (plan ≡ second) × (a ≡ b)
     with_version h here =

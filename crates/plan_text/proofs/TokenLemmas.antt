@@ -53,10 +53,10 @@ comment_at k dots line bytes =
       | _ ↦ in_comment dots line bytes
     ]
 
-pub raw_by_class : (k : Class) (dots : Dots) (line byte : ℕ) (bytes : List ℕ) → class_of (dots_now dots) byte ≡ k → raw_tokens dots line (byte ∷ bytes) ≡ raw_at k dots line byte bytes
+raw_by_class : (k : Class) (dots : Dots) (line byte : ℕ) (bytes : List ℕ) → class_of (dots_now dots) byte ≡ k → raw_tokens dots line (byte ∷ bytes) ≡ raw_at k dots line byte bytes
 raw_by_class k dots line byte bytes e = ap (λ c. raw_at c dots line byte bytes) e
 
-pub comment_by_class : (k : Class) (dots : Dots) (line byte : ℕ) (bytes : List ℕ) → class_of (dots_now dots) byte ≡ k → in_comment dots line (byte ∷ bytes) ≡ comment_at k dots line bytes
+comment_by_class : (k : Class) (dots : Dots) (line byte : ℕ) (bytes : List ℕ) → class_of (dots_now dots) byte ≡ k → in_comment dots line (byte ∷ bytes) ≡ comment_at k dots line bytes
 comment_by_class k dots line byte bytes e = ap (λ c. comment_at c dots line bytes) e
 
 -- each class but two goes on with the comment
