@@ -4,3 +4,9 @@ pub mod WordLemmas
 pub mod TokenLemmas
 pub mod ItemLemmas
 pub mod FrontLemmas
+pub mod SpelledLemmas
+pub mod SpelledVersions
+pub mod RefusedLemmas
+pub mod EitherWords
+pub mod EitherMessages
+pub mod EitherItems

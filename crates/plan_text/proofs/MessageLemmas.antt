@@ -37,10 +37,10 @@ pub pattern_is_pattern : (p : Pattern) → is_pattern 8 (pattern_word p) ≡ tru
 unfolding pattern_bits
 pattern_is_pattern p = all_bits (pattern_bits p)
 
-byte_fits : (above nodes : ℕ) → above < 256 → nodes < 4096 → byte_refusal above nodes ≡ None
+pub byte_fits : (above nodes : ℕ) → above < 256 → nodes < 4096 → byte_refusal above nodes ≡ None
 byte_fits above nodes path room = grind arith
 
-read_fits : (header greatest : ℕ) → header + greatest ≤ 256 → read_refusal header greatest ≡ None
+pub read_fits : (header greatest : ℕ) → header + greatest ≤ 256 → read_refusal header greatest ≡ None
 read_fits header greatest path = grind arith
 
 path_of : (above first second : ℕ) → above < 256 → above + 1 + first ≤ 256 → above + 1 + second ≤ 256 → above + (max first second + 1) ≤ 256
@@ -49,7 +49,7 @@ path_of above first second h f s = omega (arith, h, f, s)
 leb_is : (m n : ℕ) → m ≤ n → nat_le m n ≡ true
 leb_is m n h = grind arith
 
-count_in_range : (bytes : List ℕ) (c : Count) (w : WritesCount bytes c) → in_range w.ends ≡ true
+pub count_in_range : (bytes : List ℕ) (c : Count) (w : WritesCount bytes c) → in_range w.ends ≡ true
 count_in_range bytes c w = rw (w.least, w.greatest, leb_is 1 (least_of c) c.positive, leb_is (least_of c) (greatest_of c) c.ordered, leb_is (greatest_of c) 255 (omega (arith, c.is_byte))) refl
 
 pub leads_refuses : (a b : Place) (es fs : List Expected) (e : PlanError) → Leads a es b fs → Refuses b fs e → Refuses a es e

@@ -30,7 +30,7 @@ abbrev pub is_comment_part : ℕ → Bool
 is_comment_part byte = not (byte == 10) && nat_lt byte 128
 
 -- the tokens of a byte of this class and those after it, outside and inside a comment
-abbrev raw_at : Class → Dots → ℕ → ℕ → List ℕ → Tokens
+abbrev pub raw_at : Class → Dots → ℕ → ℕ → List ℕ → Tokens
 raw_at k dots line byte bytes =
     elim k as (λ _. Tokens) [
       | line_feed ↦ raw_tokens dots (line + 1) bytes
@@ -45,7 +45,7 @@ raw_at k dots line byte bytes =
       | stray_byte ↦ last stray line
     ]
 
-abbrev comment_at : Class → Dots → ℕ → List ℕ → Tokens
+abbrev pub comment_at : Class → Dots → ℕ → List ℕ → Tokens
 comment_at k dots line bytes =
     elim k as (λ _. Tokens) [
       | line_feed ↦ raw_tokens dots (line + 1) bytes
@@ -138,7 +138,7 @@ parts dots bytes = prefix_len (is_word_part (dots_now dots)) bytes
 abbrev BeginsWord : Dots → ℕ → ℕ → List ℕ → Type 0
 BeginsWord dots line byte bytes = is_word_part (dots_now dots) byte ≡ true → raw_tokens dots line (byte ∷ bytes) ≡ word_then (parts dots bytes) dots line byte bytes
 
-abbrev part_at : Bool → Dots → ℕ → ℕ → List ℕ → Tokens
+abbrev pub part_at : Bool → Dots → ℕ → ℕ → List ℕ → Tokens
 part_at t dots line byte bytes =
     elim t as (λ _. Tokens) [
       | true ↦ put_before byte (raw_tokens dots line bytes)

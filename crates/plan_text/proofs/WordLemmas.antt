@@ -76,10 +76,10 @@ known_digits (suc n) known value h i within =
     let top = known_from_symbol (bit_at known n) (bit_at value n) (bit_at-lt known n) parts.0 in
     elim (cases_eq i n) [ inl e ↦ ap (bit_at known) e ∙ top | inr other ↦ known_digits n known value parts.1 i (omega arith) ]
 
-all_ones : (known value : ℕ) → known < 2 ^ 7 → list_all is_known_bit (map bit_symbol (bits_below 7 known value)) ≡ true → known ≡ 127
+pub all_ones : (known value : ℕ) → known < 2 ^ 7 → list_all is_known_bit (map bit_symbol (bits_below 7 known value)) ≡ true → known ≡ 127
 all_ones known value small h = same_from_bits_below 7 known 127 small (lit< tt) (λ i within. known_digits 7 known value h i within ∙ sym (bit_at_ones 7 i within))
 
-all_known : (n value : ℕ) → n ≤ 7 → list_all is_known_bit (map bit_symbol (bits_below n 127 value)) ≡ true
+pub all_known : (n value : ℕ) → n ≤ 7 → list_all is_known_bit (map bit_symbol (bits_below n 127 value)) ≡ true
 all_known zero value h = refl
 all_known (suc n) value h = and_from _ _ (symbol_of_known (bit_at 127 n) (bit_at value n) (bit_at_ones 7 n (omega arith))) (all_known n value (omega arith))
 

@@ -7,6 +7,7 @@
 
 pub mod errors;
 mod items;
+pub mod laws;
 mod messages;
 pub mod print;
 mod sources;
