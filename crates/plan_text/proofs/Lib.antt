@@ -10,3 +10,4 @@ pub mod RefusedLemmas
 pub mod EitherWords
 pub mod EitherMessages
 pub mod EitherItems
+pub mod ReadLemmas

@@ -30,7 +30,7 @@ mutual
       refusal plan from nodes (frame above ∷ more) ≡ refusal plan to (nodes + frame_nodes f) more
   frame_passes (write a p t) plan above nodes more from to s path room =
       let header : refusal plan from nodes (frame above ∷ more) ≡ refusal plan s.2.0 (nodes + 1) (payload (above + 1) ∷ (else_word ∷ (tail (above + 1) ∷ more))) =
-          rw (s.1.1, s.2.1.1, address_is_pattern a, byte_fits above nodes (omega arith) (omega arith)) refl in
+      rw (s.1.1, s.2.1.1, address_is_pattern a, byte_fits above nodes (omega arith) (omega arith)) refl in
       let first = payload_passes p plan (above + 1) (nodes + 1) (else_word ∷ (tail (above + 1) ∷ more)) s.2.0 s.2.2.0 s.2.2.1 (omega arith) (omega arith) in
       let middle : refusal plan s.2.2.0 (nodes + 1 + payload_nodes p) (else_word ∷ (tail (above + 1) ∷ more)) ≡ refusal plan s.2.2.2.0 (nodes + 1 + payload_nodes p) (tail (above + 1) ∷ more) = rw s.2.2.2.1.1 refl in
       let second = tail_passes t plan (above + 1) (nodes + 1 + payload_nodes p) more s.2.2.2.0 to s.2.2.2.2 (omega arith) (omega arith) in
@@ -40,9 +40,9 @@ mutual
       let w = s.2.2.1.2 in
       let fits : read_refusal (above + 1) (number w.ends.1) ≡ None = rw w.greatest (read_fits (above + 1) (greatest_of c) (omega arith)) in
       let header : refusal plan from nodes (frame above ∷ more) ≡ refusal plan s.2.0 (nodes + 1) (count (above + 1) ∷ more) =
-          rw (s.1.1, s.2.1.1, address_is_pattern a, byte_fits above nodes (omega arith) (omega arith)) refl in
+      rw (s.1.1, s.2.1.1, address_is_pattern a, byte_fits above nodes (omega arith) (omega arith)) refl in
       let counted : refusal plan s.2.0 (nodes + 1) (count (above + 1) ∷ more) ≡ refusal plan s.2.2.0 (nodes + 1) (tail (above + 1 + greatest_of c) ∷ (else_word ∷ (tail (above + 1) ∷ more))) =
-          rw (s.2.2.1.1.1, w.form, count_in_range _ c w, fits, w.greatest) refl in
+      rw (s.2.2.1.1.1, w.form, count_in_range _ c w, fits, w.greatest) refl in
       let first = tail_passes v plan (above + 1 + greatest_of c) (nodes + 1) (else_word ∷ (tail (above + 1) ∷ more)) s.2.2.0 s.2.2.2.0 s.2.2.2.1 (omega arith) (omega arith) in
       let middle : refusal plan s.2.2.2.0 (nodes + 1 + tail_nodes v) (else_word ∷ (tail (above + 1) ∷ more)) ≡ refusal plan s.2.2.2.2.0 (nodes + 1 + tail_nodes v) (tail (above + 1) ∷ more) = rw s.2.2.2.2.1.1 refl in
       let second = tail_passes t plan (above + 1) (nodes + 1 + tail_nodes v) more s.2.2.2.2.0 to s.2.2.2.2.2 (omega arith) (omega arith) in
@@ -53,7 +53,7 @@ mutual
       refusal plan from nodes (payload above ∷ more) ≡ refusal plan to (nodes + payload_nodes f) more
   payload_passes (byte b p t) plan above nodes more from to s path room =
       let header : refusal plan from nodes (payload above ∷ more) ≡ refusal plan s.0 (nodes + 1) (payload (above + 1) ∷ (else_word ∷ (tail (above + 1) ∷ more))) =
-          rw (s.1.1, pattern_is_pattern b, byte_fits above nodes (omega arith) (omega arith)) refl in
+      rw (s.1.1, pattern_is_pattern b, byte_fits above nodes (omega arith) (omega arith)) refl in
       let first = payload_passes p plan (above + 1) (nodes + 1) (else_word ∷ (tail (above + 1) ∷ more)) s.0 s.2.0 s.2.1 (omega arith) (omega arith) in
       let middle : refusal plan s.2.0 (nodes + 1 + payload_nodes p) (else_word ∷ (tail (above + 1) ∷ more)) ≡ refusal plan s.2.2.0 (nodes + 1 + payload_nodes p) (tail (above + 1) ∷ more) = rw s.2.2.1.1 refl in
       let second = tail_passes t plan (above + 1) (nodes + 1 + payload_nodes p) more s.2.2.0 to s.2.2.2 (omega arith) (omega arith) in

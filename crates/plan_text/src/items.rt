@@ -1,6 +1,6 @@
 // The items of a plan text, a function for each of them, and the plan that they make up.
 
-ghost use Rattle.std.specs.Prelude.{◌≡◌, ◌<◌, ◌≤◌, ◌+◌, ◌⊎◌, ℕ, List, [], ◌∷◌, Some, None, true, false, Ok, IfOk, IfErr, OnOk, IsTrue, length, map};
+ghost use Rattle.std.specs.Prelude.{◌≡◌, ◌<◌, ◌≤◌, ◌+◌, ◌⊎◌, ℕ, List, [], ◌∷◌, Some, None, true, false, Ok, IfOk, IfErr, OnOk, MatchResult, IsTrue, length, map};
 ghost use Rattle.plan_core.specs.BuilderContents.{builder_contents};
 ghost use Rattle.plan_core.specs.Building.{Answers, list_refusal};
 ghost use Rattle.plan_core.specs.NameBytes.{name_bytes};
@@ -27,7 +27,24 @@ use plan_core::{BuildError, Builder, Name, Plan};
 use std::alloc::Global;
 
 /// Reads a plan text, or answers its first refusal.
+///
+/// # Errors
+///
+/// P1 to P8 as `PlanError` has them: the first in the order of the text, with its line. `NoMemory` where memory is refused
+/// before another refusal is met.
 pub fn read_plan(alloc: Global, text: &[u8]) -> Result<Plan, PlanError>
+    // What is answered is right.
+    ensures spelled { IfOk result (λ plan. Spells text.now (plan_contents plan)) }
+    ensures refused { IfErr result (λ e. (e ≡ PlanError.NoMemory) ⊎ First text.now e) }
+    // What is right is answered, unless memory is refused.
+    ensures plans { (plan : Contents) → Spells text.now plan → MatchResult result (λ it. plan_contents it ≡ plan) (λ e. e ≡ PlanError.NoMemory) }
+    ensures refusals { (due : PlanError) → First text.now due → MatchResult result (λ it. ⊥) (λ e. (e ≡ PlanError.NoMemory) ⊎ (e ≡ due)) }
+{
+    read(alloc, text)
+}
+
+// The same, by the first two clauses.
+fn read(alloc: Global, text: &[u8]) -> Result<Plan, PlanError>
     ensures spelled { IfOk result (λ plan. Spells text.now (plan_contents plan)) }
     ensures refused { IfErr result (λ e. (e ≡ PlanError.NoMemory) ⊎ First text.now e) }
 {

@@ -1,4 +1,4 @@
-// What holds of every text. The function is a law: it does nothing, and its contract is the theorem.
+// What holds of every text. A law does nothing: its contract is the theorem.
 
 ghost use Rattle.std.specs.Prelude.{◌≡◌, ℕ, ◌⊎◌, List};
 ghost use Rattle.plan_core.specs.Contents.{Contents};
@@ -6,8 +6,8 @@ ghost use Rattle.plan_text.specs.declared.errors.PlanError.{PlanError};
 ghost use Rattle.plan_text.specs.Grammar.{Spells};
 ghost use Rattle.plan_text.specs.Refusals.{First};
 
-/// A text spells one plan and has no first refusal, or it has one first refusal and spells no plan.
-pub fn one_plan()
+/// A text spells exactly one plan and has no first refusal, or it has exactly one first refusal and spells no plan.
+pub fn texts_have_one_reading()
     ensures one_plan { (text : List ℕ) (P Q : Contents) → Spells text P → Spells text Q → P ≡ Q }
     ensures one_refusal { (text : List ℕ) (e f : PlanError) → First text e → First text f → e ≡ f }
     ensures not_both { (text : List ℕ) (P : Contents) (e : PlanError) → Spells text P → First text e → ⊥ }

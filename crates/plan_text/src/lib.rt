@@ -1,8 +1,9 @@
 //! The text of a plan: `read_plan` reads it, `print_plan` writes its canonical spelling.
 //!
-//! A text is cut into tokens, one at a time, each with its line (`tokens`). What a single token says is in `words`,
-//! what the names and limits of a plan allow at one token in `limits`. `grammar` has a function for each rule of the
-//! grammar.
+//! A text is cut into tokens, one at a time, each with its line (`tokens`, `symbols`). Its first two say its version
+//! (`versions`). What a single word says is in `words`, the parts of items that are one token in `sources`. `messages` has
+//! a function for each rule of the grammar of a message, `items` one for each kind of item. `laws` says of every text
+//! that it has one reading.
 #![tactic(auto)]
 
 pub mod errors;

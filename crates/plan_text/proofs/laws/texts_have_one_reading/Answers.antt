@@ -1,11 +1,10 @@
-use Rattle.plan_text.specs.Tokens.{text_end}
-use Rattle.plan_text.proofs.SpelledVersions.{front_same, stops_at_end}
+use Rattle.plan_text.proofs.ReadLemmas.{one_plan}
 use Rattle.plan_text.proofs.RefusedLemmas.{first_same, spelled_not_refused}
 use Rattle.plan_text.proofs.EitherItems.{answered}
-use Rattle.plan_text.proofs.laws.one_plan.Goals as goal
+use Rattle.plan_text.proofs.laws.texts_have_one_reading.Goals as goal
 
 pub returns-clause-one_plan : goal.returns-clause-one_plan
-returns-clause-one_plan c text P Q s r = (front_same text s.version r.version P Q _ _ s.whole r.whole (stops_at_end s.version P text_end s.line) (stops_at_end r.version Q text_end r.line)).1
+returns-clause-one_plan c = one_plan
 
 pub returns-clause-one_refusal : goal.returns-clause-one_refusal
 returns-clause-one_refusal c = first_same

@@ -1,7 +1,7 @@
 use Rattle.plan_text.specs.Grammar.{SpellsFront}
 use Rattle.plan_text.specs.Reading.{unread}
 use Rattle.plan_text.specs.Readers.{so_far, ahead}
-use Rattle.plan_text.proofs.items.read_plan.Given as goal
+use Rattle.plan_text.proofs.items.read.Given as goal
 
 -- the items so far make up the plan so far
 abbrev pub invariant-loop-reader : goal.invariant-loop-reader
