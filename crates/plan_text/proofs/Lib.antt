@@ -4,3 +4,7 @@ pub mod WordLemmas
 pub mod TokenLemmas
 pub mod ItemLemmas
 pub mod FrontLemmas
+pub mod CanonicalWords
+pub mod CanonicalPhrases
+pub mod CanonicalItems
+pub mod CanonicalSpelling

@@ -5,6 +5,7 @@
 //! grammar.
 #![tactic(auto)]
 
+pub mod canonical_laws;
 pub mod errors;
 mod items;
 mod messages;
