@@ -11,3 +11,7 @@ pub mod EitherWords
 pub mod EitherMessages
 pub mod EitherItems
 pub mod ReadLemmas
+pub mod CanonicalWords
+pub mod CanonicalPhrases
+pub mod CanonicalItems
+pub mod CanonicalSpelling

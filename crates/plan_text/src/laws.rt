@@ -2,7 +2,9 @@
 
 ghost use Rattle.std.specs.Prelude.{◌≡◌, ℕ, ◌⊎◌, List};
 ghost use Rattle.plan_core.specs.Contents.{Contents};
+ghost use Rattle.plan_core.specs.Limits.{IsWithinLimits};
 ghost use Rattle.plan_text.specs.declared.errors.PlanError.{PlanError};
+ghost use Rattle.plan_text.specs.Canonical.{plan_text};
 ghost use Rattle.plan_text.specs.Grammar.{Spells};
 ghost use Rattle.plan_text.specs.Refusals.{First};
 
@@ -12,4 +14,9 @@ pub fn texts_have_one_reading()
     ensures one_refusal { (text : List ℕ) (e f : PlanError) → First text e → First text f → e ≡ f }
     ensures not_both { (text : List ℕ) (P : Contents) (e : PlanError) → Spells text P → First text e → ⊥ }
     ensures one_of_both { (text : List ℕ) → ((P : Contents) × Spells text P) ⊎ ((e : PlanError) × First text e) }
+{}
+
+/// The canonical spelling of a plan spells that plan.
+pub fn canonical_spellings_are_read()
+    ensures { (plan : Contents) → IsWithinLimits plan → Spells (plan_text plan) plan }
 {}

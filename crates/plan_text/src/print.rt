@@ -6,6 +6,7 @@ ghost use Rattle.message_tree.specs.Trees.{frame_tree, payload_tree, tail_tree};
 ghost use Rattle.plan_core.specs.Labels.{name_at};
 ghost use Rattle.plan_core.specs.PlanContents.{plan_contents};
 ghost use Rattle.plan_text.specs.Canonical.{Adds, address_word, pattern_word, count_word, frame_words, payload_words, tail_words, bit_symbol, frame_has_range, payload_has_range, tail_has_range, item_line, message_line, controller_line, interrupt_line, never_line, version_line, plan_text};
+ghost use Rattle.plan_text.specs.Grammar.{Spells};
 
 use message_tree::{Address, Bit, Count, Frame, Pattern, Payload, Tail};
 use plan_core::Plan;
@@ -13,8 +14,18 @@ use std::alloc::{AllocError, Global};
 
 /// The canonical spelling: the version on the first line, then the messages, the controllers, the interrupts and the
 /// `never` items, each on a line of its own and in the order of its kind, with one space between two tokens.
-#[tactic(auto, unfolding(crate::specs::Canonical::plan_text))]
+///
+/// Reading it gives the plan back.
 pub fn print_plan(alloc: Global, plan: &Plan) -> Result<Vec<u8>, AllocError>
+    ensures canonical { IfOk result (λ text. text.items ≡ plan_text (plan_contents plan.now)) }
+    ensures read_back { IfOk result (λ text. Spells text.items (plan_contents plan.now)) }
+{
+    print(alloc, plan)
+}
+
+// The canonical spelling.
+#[tactic(auto, unfolding(crate::specs::Canonical::plan_text))]
+fn print(alloc: Global, plan: &Plan) -> Result<Vec<u8>, AllocError>
     ensures { IfOk result (λ text. text.items ≡ plan_text (plan_contents plan.now)) }
 {
     let mut text = String::new(alloc);
