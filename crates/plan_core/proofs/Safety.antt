@@ -10,7 +10,7 @@ use Rattle.message_tree.specs.Items.{kind_of, KindsClash, Clash}
 use Rattle.message_tree.proofs.KindLemmas.{one_kind}
 use Rattle.plan_core.specs.Contents.{Contents}
 use Rattle.plan_core.specs.Participants.{Text, participant_count}
-use Rattle.plan_core.specs.Lawful.{Set, In, IsLawful}
+use Rattle.plan_core.specs.Lawful.{Set, In}
 use Rattle.plan_core.specs.Rounds.{Follows, Offers, IsRound, NoClash, IsWire, survivors}
 use Rattle.plan_core.specs.Runs.{IsReached, HasEnded}
 use Rattle.plan_core.specs.Faults.{IsSafe}

@@ -1,5 +1,5 @@
 -- Items: what has been read of them leads on, and the whole is read where its parts are.
-use Rattle.std.proofs.Common.{◌≡◌, ℕ, zero, suc, ◌+◌, ◌≤◌, ◌<◌, Bool, true, false, ◌&&◌, List, [], ◌∷◌, ◌++◌, Option, Some, None, map, refl, sym, ap, ◌∙◌, subst, arith, append_assoc}
+use Rattle.std.proofs.Common.{◌≡◌, ℕ, zero, suc, ◌+◌, ◌≤◌, ◌<◌, Bool, true, false, List, [], ◌∷◌, ◌++◌, Option, Some, None, refl, sym, ◌∙◌, subst, arith, append_assoc}
 use Rattle.std.specs.Prelude.{Result, Ok, Err, IfOk, OnOk, not, nat_le, nat_lt, ◌||◌, length, if◌then◌else◌}
 use Rattle.std.specs.Int.{bit_at}
 use Rattle.std.proofs.lemmas.Bool.{and_parts, false_from_ne_true, le-ltb}
@@ -24,11 +24,11 @@ use Rattle.plan_text.specs.declared.symbols.Keyword.TheVariants as keywords
 use Rattle.plan_text.specs.declared.versions.Version.{Version}
 use Rattle.plan_text.specs.declared.versions.Version.TheVariants as versions
 use Rattle.plan_text.specs.Grammar.{SpellsNames, message, controller, interrupt, never_both}
-use Rattle.plan_text.specs.Items.{ItemRead, RestRead}
+use Rattle.plan_text.specs.Items.{RestRead}
 use Rattle.plan_text.specs.declared.errors.PlanError.TheVariants as errors
-use Rattle.plan_text.specs.Reading.{Place, FrameRead, Fails}
+use Rattle.plan_text.specs.Reading.{FrameRead, Fails}
 use Rattle.plan_text.specs.Refusals.{Expected, refusal, interrupt_name, known_address, item_end}
-use Rattle.plan_text.specs.Tokens.{keyword, word, semicolon, Tokens, next}
+use Rattle.plan_text.specs.Tokens.{word, semicolon, Tokens, next}
 use Rattle.plan_text.specs.Words.{is_known_bit, is_known_address}
 
 -- ---- what a call answers

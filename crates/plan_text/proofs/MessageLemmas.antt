@@ -1,5 +1,5 @@
 -- Parts of messages: what has been read of them leads on, and the whole is read where its parts are.
-use Rattle.std.proofs.Common.{◌≡◌, ℕ, ◌+◌, ◌≤◌, ◌<◌, Bool, true, false, ◌&&◌, List, [], ◌∷◌, ◌++◌, Option, Some, None, map, refl, sym, ap, ◌∙◌, subst, arith, Bor}
+use Rattle.std.proofs.Common.{◌≡◌, ℕ, ◌+◌, ◌≤◌, ◌<◌, true, List, [], ◌∷◌, ◌++◌, None, map, refl, sym, ap, ◌∙◌, subst, arith, Bor}
 use Rattle.std.specs.Prelude.{max, nat_le, Result, Ok, Err, IfOk, IfErr}
 use Rattle.std.specs.List.{list_all}
 use Rattle.message_tree.specs.declared.bits.Bit.{Bit}
@@ -9,7 +9,7 @@ use Rattle.message_tree.specs.declared.bits.Pattern.{Pattern}
 use Rattle.message_tree.specs.declared.counts.Count.{Count}
 use Rattle.message_tree.specs.Counts.{least_of, greatest_of}
 use Rattle.message_tree.specs.Patterns.{address_bits, pattern_bits}
-use Rattle.message_tree.specs.Trees.{FrameTree, write, read, PayloadTree, byte, last, TailTree, stop, again}
+use Rattle.message_tree.specs.Trees.{write, read, PayloadTree, TailTree}
 use Rattle.plan_core.specs.Contents.{Contents}
 use Rattle.plan_text.specs.Canonical.{bit_symbol, address_word, pattern_word}
 use Rattle.plan_text.specs.declared.errors.PlanError.{PlanError}
@@ -18,10 +18,10 @@ use Rattle.plan_text.specs.declared.symbols.Keyword.TheVariants as keywords
 use Rattle.plan_text.specs.declared.symbols.Symbol.TheVariants as symbols
 use Rattle.plan_text.specs.declared.symbols.Token.{Token}
 use Rattle.plan_text.specs.declared.symbols.Symbol.{Symbol}
-use Rattle.plan_text.specs.Reading.{Place, Fails, Leads, Refuses, PartRead, FrameRead, PayloadRead, TailRead, TokenRead, NodeRead, CountRead, TookKeyword, Took, with_symbol}
-use Rattle.plan_text.specs.Refusals.{Expected, frame, write_address, read_address, count, payload, tail, else_word, refusal, byte_refusal, read_refusal}
-use Rattle.plan_text.specs.Tokens.{keyword, word, Tokens, next}
-use Rattle.plan_text.specs.Words.{WritesCount, is_bit, is_pattern, in_range, number, count_ends}
+use Rattle.plan_text.specs.Reading.{Place, Fails, Leads, Refuses, FrameRead, PayloadRead, TailRead, TokenRead, NodeRead, CountRead, TookKeyword, Took, with_symbol}
+use Rattle.plan_text.specs.Refusals.{Expected, frame, count, payload, tail, else_word, refusal, byte_refusal, read_refusal}
+use Rattle.plan_text.specs.Tokens.{keyword}
+use Rattle.plan_text.specs.Words.{WritesCount, is_bit, is_pattern, in_range, number}
 
 all_bits : (bits : List Bit) → list_all is_bit (map bit_symbol bits) ≡ true
 all_bits [] = refl

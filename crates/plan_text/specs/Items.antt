@@ -8,7 +8,7 @@ use Rattle.plan_text.specs.declared.symbols.Keyword.{Keyword}
 use Rattle.plan_text.specs.declared.versions.Version.{Version}
 use Rattle.plan_text.specs.Grammar.{Item, SpellsItem, Fits, with_item}
 use Rattle.plan_text.specs.Refusals.{ends_early}
-use Rattle.plan_text.specs.Tokens.{Token, keyword, word, Tokens, next, last}
+use Rattle.plan_text.specs.Tokens.{keyword, word, Tokens, next, last}
 
 -- an item stands between two places of a text, and makes one plan into another
 pub record ItemRead (version : Version) (plan : Contents) (from : Tokens) (whole : Contents) (to : Tokens) : Type 0 where

@@ -1,6 +1,6 @@
 -- The first refusal of a text that spells no plan, from token to token: each token takes the place of what is expected
 -- there, and says what is expected after it, or is refused. `PlanError` in src/errors.rt has the codes P1 to P8.
-use Rattle.std.specs.Prelude.{◌≡◌, ℕ, ◌+◌, Bool, true, false, ◌||◌, nat_le, nat_lt, ◌==◌, List, [], ◌∷◌, ◌++◌, length, Option, Some, None, Result, Ok, Err, codes, ◌⊎◌, if◌then◌else◌}
+use Rattle.std.specs.Prelude.{◌≡◌, ℕ, ◌+◌, Bool, false, ◌||◌, nat_le, nat_lt, List, [], ◌∷◌, ◌++◌, Option, Some, None, Result, Ok, Err, codes, ◌⊎◌, if◌then◌else◌}
 use Rattle.std.specs.Str.{bytes_eq}
 use Rattle.plan_core.specs.Contents.{Contents}
 use Rattle.plan_core.specs.Names.{is_name}
@@ -10,10 +10,9 @@ use Rattle.plan_core.specs.declared.builder.BuildError.TheVariants as build
 use Rattle.plan_text.specs.declared.errors.PlanError.{PlanError}
 use Rattle.plan_text.specs.declared.errors.PlanError.TheVariants as errors
 use Rattle.plan_text.specs.declared.errors.PlanError.TheVariants.{NotAscii, Unexpected, BadCount, TooLong, TooMany, Twice, Unknown, NoMemory}
-use Rattle.plan_text.specs.declared.symbols.Keyword.{Keyword}
 use Rattle.plan_text.specs.declared.symbols.Keyword.TheVariants as keywords
 use Rattle.plan_text.specs.declared.versions.Version.{Version}
-use Rattle.plan_text.specs.declared.versions.Version.TheVariants.{One, Two}
+use Rattle.plan_text.specs.declared.versions.Version.TheVariants.{Two}
 use Rattle.plan_text.specs.Grammar.{SpellsFront}
 use Rattle.plan_text.specs.Tokens.{Token, keyword, word, semicolon, Ending, text_end, foreign, stray, Tokens, next, last, tokens_of, no_dots}
 use Rattle.plan_text.specs.Words.{is_pattern, is_known_address, count_ends, in_range, number}

@@ -1,12 +1,10 @@
 -- The words of patterns, addresses and counts.
-use Rattle.std.specs.Prelude.{◌≡◌, ℕ, Bool, true, false, ◌&&◌, ◌||◌, ◌==◌, not, nat_le, List, [], ◌∷◌, length, map, Option, Some, None, if◌then◌else◌}
+use Rattle.std.specs.Prelude.{◌≡◌, ℕ, Bool, false, ◌&&◌, ◌||◌, ◌==◌, nat_le, List, [], ◌∷◌, length, Option, Some, None, if◌then◌else◌}
 use Rattle.std.specs.Char.{is_ascii_digit}
 use Rattle.std.specs.List.{list_all}
 use Rattle.std.specs.Str.Parse.{digits_value}
 use Rattle.message_tree.specs.declared.counts.Count.{Count}
-use Rattle.message_tree.specs.Bits.{bits_below}
 use Rattle.message_tree.specs.Counts.{least_of, greatest_of}
-use Rattle.plan_text.specs.Canonical.{bit_symbol}
 
 -- `0`, `1` or `x`
 abbrev pub is_bit : ℕ → Bool

@@ -1,5 +1,5 @@
 -- The lines of a list of verdicts, one by one.
-use Rattle.std.proofs.Common.{◌≡◌, ℕ, zero, suc, ◌+◌, ◌<◌, Option, Some, List, [], ◌∷◌, ◌++◌, length, get_or, slice_get, drop, refl, ap, sym, ◌∙◌, subst, append_assoc, add-one, arith}
+use Rattle.std.proofs.Common.{◌≡◌, ℕ, zero, suc, ◌+◌, ◌<◌, Some, List, [], ◌∷◌, ◌++◌, length, get_or, slice_get, drop, refl, ap, sym, ◌∙◌, append_assoc, add-one, arith}
 use Rattle.certificate.specs.declared.values.Fault.{Fault}
 use Rattle.pair_walk.specs.declared.walk_pair.Outcome.{Outcome}
 use Rattle.pair_walk.specs.declared.walk_pair.Outcome.TheVariants.{Safe, Unsafe}

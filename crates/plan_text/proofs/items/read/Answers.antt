@@ -1,21 +1,6 @@
-use Rattle.std.proofs.Common.{rules, ◌≡◌, ◌<◌, ◌≤◌, ◌+◌, ◌⊎◌, ℕ, List, [], ◌∷◌, Some, None, true, false, Ok, IfOk, IfErr, OnOk, IsTrue, length, map, ◌-◌, ◌*◌, ◌/◌, ◌%◌, Bool, nat_eq, nat_lt, ◌++◌, slice_index_or, slice_set, bit_and, bit_or, Fits, w8, w32, w64, Bor, MutBor}
-use Rattle.plan_core.specs.BuilderContents.{builder_contents}
-use Rattle.plan_core.specs.Building.{Answers, list_refusal}
-use Rattle.plan_core.specs.NameBytes.{name_bytes}
-use Rattle.plan_core.specs.Names.{IsName}
-use Rattle.plan_core.specs.PlanContents.{plan_contents}
-use Rattle.plan_core.specs.Contents.{Contents}
-use Rattle.plan_core.specs.declared.builder.BuildError.{BuildError}
-use Rattle.plan_text.specs.declared.symbols.Keyword.TheVariants as keywords
-use Rattle.plan_text.specs.declared.versions.Version.TheVariants as versions
+use Rattle.std.proofs.Common.{[]}
 use Rattle.plan_text.specs.declared.versions.Version.{Version}
-use Rattle.plan_text.specs.Grammar.{Spells, SpellsNames}
-use Rattle.plan_text.specs.Items.{ItemRead, RestRead, name_refusal}
-use Rattle.plan_text.specs.Reading.{Fails, left, unread, taken, with_token}
-use Rattle.plan_text.specs.Refusals.{First, refusal, item_refusal, refused_at}
-use Rattle.plan_text.specs.Refusals as expect
-use Rattle.plan_text.specs.Tokens as spec
-use Rattle.plan_text.specs.Canonical.{interrupt_word}
+use Rattle.plan_text.specs.Reading.{left}
 use Rattle.std.proofs.Common.{refl, sym, subst}
 use Rattle.plan_text.specs.declared.tokens.Tokens.{Tokens}
 use Rattle.plan_text.specs.Grammar.{Begins, SpellsFront}

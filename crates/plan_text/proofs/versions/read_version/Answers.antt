@@ -1,9 +1,8 @@
-use Rattle.std.proofs.Common.{rules, ◌≡◌, Some, None, is_some, IfOk, IfErr, IfSome, ℕ, ◌+◌, ◌-◌, ◌*◌, ◌<◌, ◌≤◌, length, ◌/◌, ◌%◌, Bool, true, false, nat_eq, nat_lt, List, [], ◌∷◌, ◌++◌, slice_index_or, slice_set, bit_and, bit_or, Fits, w8, w32, w64, Bor, MutBor}
-use Rattle.plan_text.specs.Grammar.{version_word, Begins}
-use Rattle.plan_text.specs.Refusals.{is_version, version_refusal}
+use Rattle.std.proofs.Common.{rules, ◌≡◌, Some, IfSome, ℕ, Bool, List}
+use Rattle.plan_text.specs.Grammar.{version_word}
 use Rattle.plan_text.specs.Reading.{left}
 use Rattle.plan_text.specs.Tokens as spec
-use Rattle.std.proofs.Common.{refl, sym, ap, subst, ◌∙◌, Option, codes}
+use Rattle.std.proofs.Common.{sym, ap, subst, ◌∙◌, Option, codes}
 use Rattle.plan_text.specs.declared.symbols.Keyword.TheVariants as keywords
 use Rattle.plan_text.specs.declared.symbols.Symbol.{Symbol}
 use Rattle.plan_text.specs.declared.symbols.Symbol.TheVariants as symbols

@@ -1,9 +1,9 @@
-use Rattle.std.proofs.Common.{arith, length, string_bytes, ◌<◌, ◌≡◌, ap, subst, sym, ◌∙◌}
+use Rattle.std.proofs.Common.{arith, length, string_bytes, ◌<◌, ◌≡◌, ap, ◌∙◌}
 use Rattle.pair_walk.specs.declared.walk_pair.Outcome.TheVariants.{Unsafe}
 use Rattle.pair_walk.specs.declared.walk_pair.Verdict.{Verdict}
 use Rattle.plan_core.specs.PlanContents.{plan_contents}
 use Rattle.plan_core.specs.Pairs.{pairs_of}
-use Rattle.report.specs.Lines.{outcome_lines, faulty, fault_count}
+use Rattle.report.specs.Lines.{outcome_lines, faulty}
 use Rattle.report.proofs.LineLemmas.{safe_step, fault_step, count_step}
 use Rattle.report.proofs.lines.check_report.Goals as goal
 use Rattle.report.proofs.lines.check_report.Goals.{in-Safe, in-Unsafe+in_ok-push_fault-in-Unsafe}

@@ -1,4 +1,4 @@
-use Rattle.std.proofs.Common.{◌≡◌, ◌+◌, ◌≤◌, ◌++◌, drop, length, string_bytes}
+use Rattle.std.proofs.Common.{◌≡◌, ◌+◌, ◌≤◌, ◌++◌, drop, string_bytes}
 use Rattle.plan_core.specs.PlanContents.{plan_contents}
 use Rattle.plan_core.specs.Pairs.{pairs_of}
 use Rattle.report.specs.Lines.{outcome_lines, fault_count}

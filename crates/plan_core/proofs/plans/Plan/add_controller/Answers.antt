@@ -1,12 +1,12 @@
-use Rattle.std.proofs.Common.{◌≡◌, ◌≤◌, length, map, position, sym, ◌∙◌, ap, subst, refl}
+use Rattle.std.proofs.Common.{◌≤◌, length, map, position, sym, ◌∙◌, ap, subst, refl}
 use Rattle.std.specs.Str.{bytes_eq}
 use Rattle.plan_core.specs.NameBytes.{name_bytes}
-use Rattle.plan_core.specs.Building.{with_sender, controller_refusal}
+use Rattle.plan_core.specs.Building.{with_sender}
 use Rattle.plan_core.specs.Parts.{contents_of, controller_of}
 use Rattle.plan_core.specs.PlanContents.{plan_contents}
 use Rattle.plan_core.proofs.BuildingLemmas.{controller_allowed}
 use Rattle.plan_core.proofs.EntryLemmas.{keys_of-viewed}
-use Rattle.plan_core.proofs.PlanLemmas.{limits_of, participants_are}
+use Rattle.plan_core.proofs.PlanLemmas.{limits_of}
 use Rattle.plan_core.proofs.StepLemmas.{IsNumbered, IsNumbered-controller, IsNumbered-few, IsPairTable-same, contents_of-controller}
 use Rattle.plan_core.proofs.plans.Plan.add_controller.Goals as goal
 

@@ -1,7 +1,6 @@
-use Rattle.std.proofs.Common.{◌≡◌, ◌≤◌, length, position, sym, ◌∙◌, ap, subst, refl}
+use Rattle.std.proofs.Common.{◌≤◌, length, position, sym, ◌∙◌, ap, subst, refl}
 use Rattle.std.specs.Str.{bytes_eq}
 use Rattle.plan_core.specs.NameBytes.{name_bytes}
-use Rattle.plan_core.specs.Building.{with_interrupt}
 use Rattle.plan_core.specs.Parts.{contents_of, interrupt_of}
 use Rattle.plan_core.specs.PlanContents.{plan_contents}
 use Rattle.plan_core.proofs.BuildingLemmas.{interrupt_allowed}

@@ -8,7 +8,7 @@ use Rattle.plan_core.specs.PlanContents.{plan_contents}
 use Rattle.plan_core.proofs.BuildingLemmas.{either, message_allowed}
 use Rattle.plan_core.proofs.EntryLemmas.{keys_of-viewed}
 use Rattle.plan_core.proofs.PlanLemmas.{limits_of, participants_are}
-use Rattle.plan_core.proofs.StepLemmas.{IsNumbered, IsNumbered-message, contents_of-message, contents_of-messages}
+use Rattle.plan_core.proofs.StepLemmas.{IsNumbered-message, contents_of-message, contents_of-messages}
 use Rattle.plan_core.proofs.plans.Plan.add_message.Goals as goal
 
 pub push_entry-requires : goal.push_entry-requires

@@ -1,11 +1,10 @@
-use Rattle.std.proofs.Common.{◌≡◌, ◌≤◌, ◌++◌, ◌∷◌, [], Option, Some, ℕ, is_some, unwrap_or, length, sym, ◌∙◌, ap, subst}
+use Rattle.std.proofs.Common.{◌≡◌, ◌≤◌, ◌++◌, ◌∷◌, [], is_some, unwrap_or, length, sym, ◌∙◌, ap, subst}
 use Rattle.plan_core.specs.NameBytes.{name_bytes}
-use Rattle.plan_core.specs.Building.{number_of, controller_number, with_never}
+use Rattle.plan_core.specs.Building.{controller_number}
 use Rattle.plan_core.specs.Limits.{IsWithinLimits}
 use Rattle.plan_core.specs.Participants.{participants_of}
-use Rattle.plan_core.specs.Parts.{contents_of}
 use Rattle.plan_core.specs.PlanContents.{plan_contents}
-use Rattle.plan_core.proofs.BuildingLemmas.{NeverAllowed, never_allowed, limits-never}
+use Rattle.plan_core.proofs.BuildingLemmas.{never_allowed, limits-never}
 use Rattle.plan_core.proofs.PlanLemmas.{limits_of, participants_are, participants_few}
 use Rattle.plan_core.proofs.StepLemmas.{IsPairTable-same, contents_of-never, participants_of-never}
 use Rattle.plan_core.proofs.plans.Plan.add_never.Goals as goal

@@ -1,7 +1,7 @@
-use Rattle.std.proofs.Common.{◌≡◌, ℕ, Bool, false, Option, Some, slice_get, ap, sym, ◌∙◌, refl}
+use Rattle.std.proofs.Common.{◌≡◌, ℕ, Some, slice_get, ap, sym, ◌∙◌}
 use Rattle.std.specs.List.{list_any}
 use Rattle.plan_core.specs.declared.plans.Participant.{Participant}
-use Rattle.plan_core.specs.declared.plans.Participant.TheVariants.{Sending, Interrupt}
+use Rattle.plan_core.specs.declared.plans.Participant.TheVariants.{Interrupt}
 use Rattle.plan_core.specs.Contents.{Contents}
 use Rattle.plan_core.specs.Parts.{contents_of}
 use Rattle.plan_core.specs.PlanContents.{plan_contents}

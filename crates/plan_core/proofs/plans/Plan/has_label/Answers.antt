@@ -1,5 +1,4 @@
-use Rattle.std.proofs.Common.{◌≡◌, ◌++◌, ◌∷◌, Some, sym, ◌∙◌, ap}
-use Rattle.plan_core.specs.Labels.{label_of}
+use Rattle.std.proofs.Common.{Some, sym, ◌∙◌, ap}
 use Rattle.plan_core.specs.PlanContents.{plan_contents}
 use Rattle.plan_core.proofs.LabelLemmas.{label_of-sending, label_of-interrupt}
 use Rattle.plan_core.proofs.plans.Plan.has_label.Goals as goal

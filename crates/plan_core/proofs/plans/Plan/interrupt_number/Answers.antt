@@ -1,4 +1,4 @@
-use Rattle.std.proofs.Common.{◌≡◌, ◌≤◌, length, position, sym, ◌∙◌, ap, refl, arith}
+use Rattle.std.proofs.Common.{position, sym, ◌∙◌, ap, refl}
 use Rattle.std.specs.Str.{bytes_eq}
 use Rattle.plan_core.specs.NameBytes.{name_bytes}
 use Rattle.plan_core.specs.Parts.{contents_of, interrupt_of}

@@ -1,4 +1,4 @@
-use Rattle.std.proofs.Common.{◌≡◌, List, true, false, Option, Some, None, ℕ, Bool, cond, sym, ◌∙◌, ap}
+use Rattle.std.proofs.Common.{◌≡◌, List, true, false, Some, None, ℕ, Bool, cond, sym, ◌∙◌, ap}
 use Rattle.std.specs.List.{list_any}
 use Rattle.std.specs.Str.{bytes_eq}
 use Rattle.plan_core.specs.Building.{number_of, never_refusal, two_refusal}
@@ -6,7 +6,6 @@ use Rattle.plan_core.specs.Contents.{Contents}
 use Rattle.plan_core.specs.Participants.{is_never, names_both}
 use Rattle.plan_core.specs.Parts.{contents_of}
 use Rattle.plan_core.specs.PlanContents.{plan_contents}
-use Rattle.plan_core.specs.declared.builder.BuildError.{BuildError}
 use Rattle.plan_core.specs.declared.builder.BuildError.TheVariants.{Twice}
 use Rattle.plan_core.proofs.plans.Plan.never_refusal.Goals as goal
 

@@ -1,7 +1,5 @@
-use Rattle.std.proofs.Common.{◌≡◌, ℕ, ◌<◌, ◌+◌, ◌-◌, get_or, length, arith, ap, sym, ◌∙◌, subst, Some}
-use Rattle.std.specs.Vec.{vec_len}
+use Rattle.std.proofs.Common.{◌<◌, ◌+◌, ◌-◌, length, arith, ap, sym, ◌∙◌, Some}
 use Rattle.std.proofs.lemmas.List.{get_or_default}
-use Rattle.plan_core.specs.declared.pairs.Row.{Row}
 use Rattle.plan_core.proofs.PlanLemmas.{HoldsPair, HoldsPair-pair, holds_pair, participants_few, partners_few, pair_count_is}
 use Rattle.plan_core.proofs.PairLemmas.{AreRows-ordered, AreRows-some, AreRows-zero}
 use Rattle.plan_core.proofs.plans.Plan.pair.Goals as goal

@@ -1,4 +1,4 @@
-use Rattle.std.proofs.Common.{◌≡◌, Some, slice_get, sym, ◌∙◌, ap, arith, length, ◌<◌}
+use Rattle.std.proofs.Common.{slice_get, sym, ◌∙◌, ap, arith, length, ◌<◌}
 use Rattle.std.proofs.lemmas.Option.{slice_get_read}
 use Rattle.plan_core.specs.PlanContents.{plan_contents}
 use Rattle.plan_core.proofs.ContentsLemmas.{participant_known}

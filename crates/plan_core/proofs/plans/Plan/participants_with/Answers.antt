@@ -1,6 +1,5 @@
-use Rattle.std.proofs.Common.{◌≡◌, ◌++◌, [], map, take, length, min, sym, ◌∙◌, ap, arith, length-take}
+use Rattle.std.proofs.Common.{◌≡◌, ◌++◌, map, take, length, sym, ◌∙◌, ap, arith, length-take}
 use Rattle.std.specs.List.{range_with_len}
-use Rattle.plan_core.specs.Limits.{sending_count}
 use Rattle.plan_core.specs.PlanContents.{plan_contents}
 use Rattle.plan_core.specs.declared.plans.Participant.TheVariants.{Sending, Interrupt}
 use Rattle.plan_core.specs.Participants.{sendings_from}

@@ -1,25 +1,9 @@
-use Rattle.std.proofs.Common.{rules, ◌≡◌, ◌<◌, ◌≤◌, ◌+◌, ◌⊎◌, ℕ, List, [], ◌∷◌, Some, None, true, false, IfOk, IfErr, OnOk, IsTrue, length, map, ◌-◌, ◌*◌, ◌/◌, ◌%◌, Bool, nat_eq, nat_lt, ◌++◌, slice_index_or, slice_set, bit_and, bit_or, Fits, w8, w32, w64, Bor, MutBor}
-use Rattle.plan_core.specs.BuilderContents.{builder_contents}
-use Rattle.plan_core.specs.Building.{Answers, list_refusal}
+use Rattle.std.proofs.Common.{ℕ}
 use Rattle.plan_core.specs.NameBytes.{name_bytes}
-use Rattle.plan_core.specs.Names.{IsName}
-use Rattle.plan_core.specs.PlanContents.{plan_contents}
-use Rattle.plan_core.specs.Contents.{Contents}
-use Rattle.plan_core.specs.declared.builder.BuildError.{BuildError}
-use Rattle.plan_text.specs.declared.symbols.Keyword.TheVariants as keywords
-use Rattle.plan_text.specs.declared.versions.Version.TheVariants as versions
-use Rattle.plan_text.specs.declared.versions.Version.{Version}
-use Rattle.plan_text.specs.Grammar.{Spells, SpellsNames}
-use Rattle.plan_text.specs.Items.{ItemRead, RestRead, name_refusal}
-use Rattle.plan_text.specs.Reading.{Fails, left, unread, taken, with_token}
-use Rattle.plan_text.specs.Refusals.{First, refusal, item_refusal, refused_at}
-use Rattle.plan_text.specs.Refusals as expect
-use Rattle.plan_text.specs.Tokens as spec
-use Rattle.plan_text.specs.Canonical.{interrupt_word}
+use Rattle.plan_text.specs.Reading.{left}
 use Rattle.plan_text.specs.Readers.{so_far, ahead}
 use Rattle.std.proofs.lemmas.Result.{err_from_is_err_and}
-use Rattle.std.proofs.Common.{refl, sym, ap, subst, ◌∙◌, arith, Option}
-use Rattle.plan_text.specs.Sources.{place}
+use Rattle.std.proofs.Common.{sym, ap, ◌∙◌, arith}
 use Rattle.plan_text.proofs.ItemLemmas as lemmas
 use Rattle.plan_core.specs.Building.{with_interrupt}
 use Rattle.plan_text.proofs.items.Reader.interrupt.Goals as goal

@@ -2,7 +2,7 @@ use Rattle.std.proofs.Common.{◌≡◌, ◌≤◌, [], ◌∷◌, map, None}
 use Rattle.plan_core.specs.Building.{list_refusal}
 use Rattle.plan_core.specs.NameBytes.{name_bytes}
 use Rattle.plan_text.specs.Grammar.{SpellsNames}
-use Rattle.plan_text.specs.Reading.{unread, left}
+use Rattle.plan_text.specs.Reading.{unread}
 use Rattle.plan_text.specs.Readers.{so_far, ahead}
 use Rattle.plan_text.specs.Refusals.{refusal, messages_after}
 use Rattle.plan_text.proofs.items.Reader.sendings.Given as goal

@@ -1,13 +1,11 @@
-use Rattle.std.proofs.Common.{rules, ◌≡◌, ◌<◌, ◌≤◌, ◌+◌, [], ◌∷◌, Some, IfOk, IfErr, OnOk, ℕ, ◌-◌, ◌*◌, length, ◌/◌, ◌%◌, Bool, true, false, nat_eq, nat_lt, List, ◌++◌, slice_index_or, slice_set, bit_and, bit_or, Fits, w8, w32, w64, Bor, MutBor}
+use Rattle.std.proofs.Common.{rules, ◌≡◌, [], ◌∷◌}
 use Rattle.message_tree.specs.Trees.{frame_tree, payload_tree, tail_tree}
 use Rattle.plan_text.specs.declared.symbols.Keyword.TheVariants as keywords
 use Rattle.plan_text.specs.declared.symbols.Symbol.{Symbol}
 use Rattle.plan_text.specs.declared.symbols.Symbol.TheVariants as symbols
-use Rattle.plan_text.specs.Canonical.{address_word}
 use Rattle.plan_text.specs.Refusals as expect
 use Rattle.plan_text.specs.Tokens as spec
-use Rattle.plan_core.specs.declared.builder.BuildError.TheVariants as build
-use Rattle.plan_text.specs.Reading.{Place, FrameRead, PayloadRead, TailRead, TokenRead, NodeRead, CountRead, Took, TookKeyword, Refuses, Fails, left, with_symbol, unread, taken}
+use Rattle.plan_text.specs.Reading.{FrameRead, PayloadRead, TailRead, Took, Refuses, Fails, left, with_symbol}
 use Rattle.plan_text.specs.Sources.{place}
 use Rattle.std.proofs.Common.{refl, subst, sym, ap, ◌∙◌, arith}
 use Rattle.std.proofs.lemmas.Result.{err_from_is_err_and}

@@ -1,12 +1,5 @@
-use Rattle.std.proofs.Common.{rules, ◌≡◌, ◌<◌, ◌≤◌, ◌+◌, List, ℕ, [], ◌∷◌, Some, IfOk, IfErr, OnOk, ◌-◌, ◌*◌, length, ◌/◌, ◌%◌, Bool, true, false, nat_eq, nat_lt, ◌++◌, slice_index_or, slice_set, bit_and, bit_or, Fits, w8, w32, w64, Bor, MutBor}
-use Rattle.plan_core.specs.Contents.{Contents}
-use Rattle.plan_core.specs.NameBytes.{name_bytes}
-use Rattle.plan_text.specs.Refusals as expect
-use Rattle.plan_text.specs.Tokens as spec
-use Rattle.plan_text.specs.Canonical.{interrupt_word}
-use Rattle.plan_text.specs.Items.{name_refusal}
-use Rattle.plan_text.specs.Reading.{Fails, left, unread, taken, with_token}
-use Rattle.std.proofs.Common.{refl, sym, ap}
+use Rattle.std.proofs.Common.{◌≡◌, false}
+use Rattle.std.proofs.Common.{refl}
 use Rattle.plan_core.specs.Names.{is_name}
 use Rattle.plan_text.proofs.ItemLemmas.{no_name}
 use Rattle.plan_text.proofs.sources.Source.name_of.Goals as goal
