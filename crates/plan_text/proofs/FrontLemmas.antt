@@ -5,11 +5,11 @@ use Rattle.plan_core.specs.Contents.{Contents}
 use Rattle.plan_text.specs.declared.errors.PlanError.{PlanError}
 use Rattle.plan_text.specs.declared.errors.PlanError.TheVariants as errors
 use Rattle.plan_text.specs.declared.versions.Version.{Version}
-use Rattle.plan_text.specs.Grammar.{Item, SpellsItem, SpellsItems, SpellsFront, Spells, Fits, with_item}
+use Rattle.plan_text.specs.Grammar.{Item, SpellsItem, SpellsItems, SpellsFront, Fits, with_item}
 use Rattle.plan_text.specs.Items.{ItemRead}
 use Rattle.plan_text.specs.Reading.{Fails}
 use Rattle.plan_text.specs.Refusals.{First, item_refusal}
-use Rattle.plan_text.specs.Tokens.{Tokens, last, text_end}
+use Rattle.plan_text.specs.Tokens.{Tokens}
 
 items_more : (v : Version) (items : List Item) (item : Item) (plan : Contents) (from : Tokens) (between : Contents) (mid : Tokens) (whole : Contents) (to : Tokens)
     → SpellsItems v items plan from between mid → Fits between item → SpellsItem v item mid to → whole ≡ with_item between item → SpellsItems v (items ++ item ∷ []) plan from whole to
@@ -28,10 +28,6 @@ front_more text v plan mid whole to front read =
       begins = front.begins;
       spelled = items_more v front.items read.item _ front.start plan mid whole to front.spelled read.fits read.spelled read.added;
     }
-
-pub spells : (text : List ℕ) (v : Version) (plan : Contents) (to : Tokens) (line : ℕ) → SpellsFront text v plan to → to ≡ last text_end line → Spells text plan
-spells text v plan to line front ended =
-    record { version = v; line = line; whole = subst (λ (t : Tokens). SpellsFront text v plan t) ended front }
 
 pub first : (text : List ℕ) (v : Version) (plan : Contents) (to : Tokens) (e : PlanError) → SpellsFront text v plan to → Fails e (item_refusal v plan to) → (e ≡ errors.NoMemory) ⊎ First text e
 first text v plan to errors.NoMemory front fails = inl refl

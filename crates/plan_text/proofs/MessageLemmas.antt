@@ -55,12 +55,6 @@ count_in_range bytes c w = rw (w.least, w.greatest, leb_is 1 (least_of c) c.posi
 pub leads_refuses : (a b : Place) (es fs : List Expected) (e : PlanError) → Leads a es b fs → Refuses b fs e → Refuses a es e
 leads_refuses a b es fs e leads refuses plan more = subst (Fails e) (sym (leads plan more)) (refuses plan more)
 
-pub leads_then : (a b c : Place) (es fs gs : List Expected) → Leads a es b fs → Leads b fs c gs → Leads a es c gs
-leads_then a b c es fs gs first second plan more = first plan more ∙ second plan more
-
-pub leads_more : (a b : Place) (e : Expected) (es : List Expected) → Leads a (e ∷ []) b [] → Leads a (e ∷ es) b es
-leads_more a b e es leads plan more = leads plan (es ++ more)
-
 pub refuses_more : (a : Place) (x : Expected) (xs : List Expected) (e : PlanError) → Refuses a (x ∷ []) e → Refuses a (x ∷ xs) e
 refuses_more a x xs e refuses plan more = refuses plan (xs ++ more)
 

@@ -1,10 +1,8 @@
 // The items of a plan text, a function for each of them, and the plan that they make up.
 
-ghost use Rattle.std.specs.Prelude.{◌≡◌, ◌<◌, ◌≤◌, ◌+◌, ◌⊎◌, ℕ, List, [], ◌∷◌, Some, None, true, false, Ok, IfOk, IfErr, OnOk, MatchResult, IsTrue, length, map};
-ghost use Rattle.plan_core.specs.BuilderContents.{builder_contents};
+ghost use Rattle.std.specs.Prelude.{◌≡◌, ◌<◌, ◌≤◌, ◌⊎◌, ℕ, [], ◌∷◌, Some, None, false, Ok, IfOk, IfErr, OnOk, MatchResult, IsTrue, map};
 ghost use Rattle.plan_core.specs.Building.{Answers, list_refusal};
 ghost use Rattle.plan_core.specs.NameBytes.{name_bytes};
-ghost use Rattle.plan_core.specs.Names.{IsName};
 ghost use Rattle.plan_core.specs.PlanContents.{plan_contents};
 ghost use Rattle.plan_core.specs.Contents.{Contents};
 ghost use Rattle.plan_core.specs.declared.builder.BuildError.{BuildError};
@@ -12,12 +10,11 @@ ghost use Rattle.plan_text.specs.declared.symbols.Keyword.TheVariants as keyword
 ghost use Rattle.plan_text.specs.declared.versions.Version.TheVariants as versions;
 ghost use Rattle.plan_text.specs.declared.versions.Version.{Version};
 ghost use Rattle.plan_text.specs.Grammar.{Spells, SpellsNames};
-ghost use Rattle.plan_text.specs.Items.{ItemRead, RestRead, name_refusal};
-ghost use Rattle.plan_text.specs.Reading.{Fails, left, unread, taken, with_token};
+ghost use Rattle.plan_text.specs.Items.{ItemRead, RestRead};
+ghost use Rattle.plan_text.specs.Reading.{Fails, left, unread};
 ghost use Rattle.plan_text.specs.Refusals.{First, refusal, item_refusal, refused_at};
 ghost use Rattle.plan_text.specs.Refusals as expect;
 ghost use Rattle.plan_text.specs.Tokens as spec;
-ghost use Rattle.plan_text.specs.Canonical.{interrupt_word};
 
 use crate::errors::PlanError;
 use crate::sources::Source;

@@ -1,4 +1,4 @@
-// What holds of every text. A law does nothing: its contract is the theorem.
+// What holds of every text, and of every plan's canonical spelling. A law does nothing: its contract is the theorem.
 
 ghost use Rattle.std.specs.Prelude.{◌≡◌, ℕ, ◌⊎◌, List};
 ghost use Rattle.plan_core.specs.Contents.{Contents};

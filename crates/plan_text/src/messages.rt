@@ -21,7 +21,7 @@ const PATH_BYTES: u32 = 256;
 const NODES: u32 = 4096;
 
 impl Source<'_> {
-    ghost use Rattle.plan_text.specs.Reading.{Place, FrameRead, PayloadRead, TailRead, TokenRead, NodeRead, CountRead, Took, TookKeyword, Refuses, unread, taken};
+    ghost use Rattle.plan_text.specs.Reading.{Place, FrameRead, PayloadRead, TailRead, TokenRead, NodeRead, CountRead, Took, TookKeyword, Refuses, unread};
     ghost use Rattle.plan_text.specs.Sources.{place};
 
     /// The frame of a whole message.

@@ -1,6 +1,6 @@
 // What is left of a plan text, and the parts of items that are one token.
 
-ghost use Rattle.std.specs.Prelude.{◌≡◌, ◌<◌, ◌≤◌, ◌+◌, List, ℕ, [], ◌∷◌, Some, IfOk, IfErr, OnOk};
+ghost use Rattle.std.specs.Prelude.{◌≡◌, ◌<◌, ◌≤◌, ◌+◌, List, ℕ, ◌∷◌, Some, IfOk, IfErr, OnOk};
 ghost use Rattle.plan_core.specs.Contents.{Contents};
 ghost use Rattle.plan_core.specs.NameBytes.{name_bytes};
 ghost use Rattle.plan_text.specs.Refusals as expect;

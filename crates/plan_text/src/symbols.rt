@@ -61,7 +61,7 @@ impl<'a> Token<'a> {
     }
 
     /// The refusal of this token in the place of `plan`, or of the version after it.
-    pub(crate) fn is_no_version(&self) -> PlanError
+    pub(crate) fn no_version(&self) -> PlanError
         ensures { (rest : tokens.Tokens) → result ≡ no_version (with_token self.now rest) }
     {
         match self.symbol {

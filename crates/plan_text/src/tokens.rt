@@ -1,6 +1,6 @@
 // The tokens of a plan text, one at a time, each with its line.
 
-ghost use Rattle.std.specs.Prelude.{◌≡◌, ℕ, ◌<◌, ◌≤◌, ◌+◌, ◌^◌, length, true, false, not, ◌&&◌, ◌==◌, Some};
+ghost use Rattle.std.specs.Prelude.{◌≡◌, ℕ, ◌<◌, ◌≤◌, ◌+◌, ◌^◌, length, true, false, not, ◌&&◌, ◌==◌};
 ghost use Rattle.std.specs.Char.{is_ascii};
 ghost use Rattle.std.specs.List.{prefix_len};
 ghost use Rattle.plan_text.specs.Tokens.{Dots, tokens_of, dots_now, one_later, is_word_part, raw_tokens, in_comment};

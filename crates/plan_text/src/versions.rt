@@ -27,11 +27,11 @@ pub(crate) fn read_version(text: &[u8]) -> Result<(Version, Tokens<'_>), PlanErr
     let mut tokens = Tokens::new(text);
     let first = tokens.next();
     let Symbol::Keyword(Keyword::Plan) = first.symbol else {
-        return Err(first.is_no_version());
+        return Err(first.no_version());
     };
     let second = tokens.next();
     let Symbol::Word(word) = second.symbol else {
-        return Err(second.is_no_version());
+        return Err(second.no_version());
     };
     match version_of(word) {
         Some(Version::One) => Ok((Version::One, tokens)),
@@ -39,7 +39,7 @@ pub(crate) fn read_version(text: &[u8]) -> Result<(Version, Tokens<'_>), PlanErr
             tokens.allow_dots();
             Ok((Version::Two, tokens))
         }
-        None => Err(second.is_no_version()),
+        None => Err(second.no_version()),
     }
 }
 

@@ -1,4 +1,4 @@
-// What the words of a frame say, each by its form alone.
+// What the words of addresses, data bytes and counts say, each by its form alone.
 
 ghost use Rattle.std.specs.Prelude.{◌≡◌, ◌<◌, ◌≤◌, ◌^◌, length, map, is_some, IfSome, MatchOption, nat_le, true};
 ghost use Rattle.std.specs.List.{list_all};

@@ -11,33 +11,32 @@ use Rattle.report.specs.declared.checks.Status.{Status}
 use Rattle.report.specs.declared.errors.RunError.{RunError}
 use Rattle.report.specs.declared.errors.RunError.TheVariants as error
 use Rattle.plan_text.specs.Grammar.{Spells}
-use Rattle.report.specs.Checks.{status_of, Judges, Gives, Reports, Leaves, Refuses}
+use Rattle.report.specs.Checks.{status_of, Judges, Checked, lines_of, Reports, Leaves, Refuses}
 
 judges : (plan : Contents) (safe : Bool) → (IsTrue safe ↔ IsSafe plan) → Judges (status_of safe) plan
 judges plan true h = h.0 refl
 judges plan false h = λ s. let c = h.1 s in cc
 
-module _ (before after old new : Option (List ℕ)) where
-  pub reports : (r : Result Status RunError) (text : List ℕ) (plan : Contents) (verdicts : List Verdict) (bytes : List ℕ) (safe : Bool) → Gives before after text → Spells text plan → OnOk r (Appends old new bytes) → IfOk r (λ s. s ≡ status_of safe) → bytes ≡ check_lines plan verdicts → AreVerdicts plan verdicts → (IsTrue safe ↔ IsSafe plan) → IfOk r (λ s. Reports before after old new s)
-  reports (Ok s) text plan verdicts bytes safe given spelled w e b v h =
+module _ (before after old new : Option (List ℕ)) (checked : Checked before after) where
+  pub reports : (r : Result Status RunError) (bytes : List ℕ) (safe : Bool) → bytes ≡ lines_of checked → OnOk r (Appends old new bytes) → IfOk r (λ s. s ≡ status_of safe) → (IsTrue safe ↔ IsSafe checked.plan) → IfOk r (λ s. Reports before after old new s)
+  reports (Ok s) bytes safe b w e h =
       record {
-        text = text;
-        given = given;
-        spelled = spelled;
-        plan = plan;
-        verdicts = verdicts;
-        right = v;
+        checked = checked;
         written = subst (Appends old new) b w;
-        judged = subst (λ (t : Status). Judges t plan) (sym e) (judges plan safe h);
+        judged = subst (λ (t : Status). Judges t checked.plan) (sym e) (judges checked.plan safe h);
       }
-  reports (Err e) text plan verdicts bytes safe given spelled w s b v h = tt
+  reports (Err e) bytes safe b w s h = tt
 
-module _ (old new : Option (List ℕ)) where
-  pub leaves : (r : Result Status RunError) (bytes : List ℕ) → IfErr r (λ e. (e ≡ error.Write) × AppendsFront old new bytes) → IfErr r (λ e. Leaves old new e)
-  leaves (Ok s) bytes h = tt
-  leaves (Err e) bytes h = subst (Leaves old new) (sym h.0) (bytes, h.1)
+  pub leaves : (r : Result Status RunError) (bytes : List ℕ) → bytes ≡ lines_of checked → IfErr r (λ e. (e ≡ error.Write) × AppendsFront old new bytes) → IfErr r (λ e. Leaves before after old new e)
+  leaves (Ok s) bytes b h = tt
+  leaves (Err e) bytes b h = subst (Leaves before after old new) (sym h.0) (checked, subst (AppendsFront old new) b h.1)
 
 -- a write fault is no refusal of a plan
 pub writes : (before after : Option (List ℕ)) (r : Result Status RunError) (X : Type 0) → IfErr r (λ e. (e ≡ error.Write) × X) → IfErr r (λ e. Refuses before after e)
 writes before after (Ok s) X h = tt
 writes before after (Err e) X h = subst (Refuses before after) (sym h.0) tt
+
+-- what holds in any case holds where the call succeeds
+pub always : (X : Type 0) (r : Result Status RunError) → X → OnOk r X
+always X (Ok s) x = x
+always X (Err e) x = tt

@@ -28,22 +28,29 @@ Judges Refused plan = ⊥
 abbrev pub Gives : Option (List ℕ) → Option (List ℕ) → List ℕ → Type 0
 Gives before after text = Consumes before after text × IsAtEnd after
 
--- The reader has given a text, which spells a plan; the writer has taken the lines for the verdicts of this plan, and the
--- status judges of it.
-pub record Reports (before after old new : Option (List ℕ)) (status : Status) : Type 0 where
+-- the reader has given a text, which spells this plan, of which these are the verdicts
+pub record Checked (before after : Option (List ℕ)) : Type 0 where
   pub text : List ℕ
   pub given : Gives before after text
   pub plan : Contents
   pub spelled : Spells text plan
   pub verdicts : List Verdict
   pub right : AreVerdicts plan verdicts
-  pub written : Appends old new (check_lines plan verdicts)
-  pub judged : Judges status plan
 
--- only a write fault leaves a part of a report, its first bytes; every other refusal leaves the writer as it was
-abbrev pub Leaves : Option (List ℕ) → Option (List ℕ) → RunError → Type 0
-Leaves old new error.Write = (report : List ℕ) × AppendsFront old new report
-Leaves old new _ = new ≡ old
+-- the lines of its report
+abbrev pub lines_of : {before after : Option (List ℕ)} → Checked before after → List ℕ
+lines_of checked = check_lines checked.plan checked.verdicts
+
+-- the writer has taken the lines for the plan that was checked, and the status judges of it
+pub record Reports (before after old new : Option (List ℕ)) (status : Status) : Type 0 where
+  pub checked : Checked before after
+  pub written : Appends old new (lines_of checked)
+  pub judged : Judges status checked.plan
+
+-- only a write fault leaves a part of the report, its first bytes; every other refusal leaves the writer as it was
+abbrev pub Leaves : Option (List ℕ) → Option (List ℕ) → Option (List ℕ) → Option (List ℕ) → RunError → Type 0
+Leaves before after old new error.Write = (checked : Checked before after) × AppendsFront old new (lines_of checked)
+Leaves before after old new _ = new ≡ old
 
 -- where a plan is refused, this is the first refusal of the text that the reader has given
 abbrev pub Refuses : Option (List ℕ) → Option (List ℕ) → RunError → Type 0

@@ -1,6 +1,6 @@
 // The run of a check.
 
-ghost use Rattle.std.specs.Prelude.{◌≡◌, ◌≢◌, ◌↔◌, IfOk, IfErr, OnOk};
+ghost use Rattle.std.specs.Prelude.{◌≡◌, ◌≢◌, ◌↔◌, false, IfOk, IfErr, OnOk};
 ghost use Rattle.std.specs.Io.KnownBytes.{Appends};
 ghost use Rattle.report.specs.Devices.{AppendsFront};
 ghost use Rattle.report.specs.Checks.{status_of, Reports, Leaves, Refuses};
@@ -25,7 +25,13 @@ pub enum Status {
 
 /// Checks the plan that the reader gives, and writes the verdicts of its unsafe pairs and their number.
 ///
-/// The number of workers is looked at before the first read. The report is complete before its first byte is written.
+/// The number of workers is looked at before the first read. The report is complete before its first byte is written. The
+/// status is `Good` or `Bad`.
+///
+/// # Errors
+///
+/// `Workers` for every number but 1. Then `Read` where the reader failed or gave no end, `Plan` with the first refusal of
+/// the plan text, and `Write` where the writer failed or took no bytes. `NoMemory` where memory is refused.
 pub fn run_check<R, I: Input, O: Output>(
     _rt: &R,
     alloc: Global,
@@ -35,7 +41,8 @@ pub fn run_check<R, I: Input, O: Output>(
 ) -> Result<Status, RunError>
     ensures report { IfOk result (λ status. Reports (I.remaining plan.old) (I.remaining plan.new) (O.contents out.old) (O.contents out.new) status) }
     ensures refusal { IfErr result (λ error. Refuses (I.remaining plan.old) (I.remaining plan.new) error) }
-    ensures left { IfErr result (λ error. Leaves (O.contents out.old) (O.contents out.new) error) }
+    ensures left { IfErr result (λ error. Leaves (I.remaining plan.old) (I.remaining plan.new) (O.contents out.old) (O.contents out.new) error) }
+    ensures sound { OnOk result (I.has_failed plan.new ≡ false) }
     ensures workers { result ≡ Err RunError.Workers ↔ (workers ≢ 1) }
     ensures unread { workers ≢ 1 → I.remaining plan.new ≡ I.remaining plan.old }
 {
@@ -55,14 +62,10 @@ fn write_check<O: Output>(out: &mut O, report: &[u8], safe: bool) -> Result<Stat
     ensures status { IfOk result (λ status. status ≡ status_of safe) }
     ensures left { IfErr result (λ error. (error ≡ RunError.Write) × AppendsFront (O.contents out.old) (O.contents out.new) report.now) }
 {
-    match write_report(out, report) {
-        Ok(()) => {
-            if safe {
-                Ok(Status::Good)
-            } else {
-                Ok(Status::Bad)
-            }
-        }
-        Err(error) => Err(error),
+    write_report(out, report)?;
+    if safe {
+        Ok(Status::Good)
+    } else {
+        Ok(Status::Bad)
     }
 }

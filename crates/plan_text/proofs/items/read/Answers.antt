@@ -8,7 +8,6 @@ use Rattle.plan_text.specs.Readers.{so_far, ahead}
 use Rattle.plan_text.proofs.FrontLemmas.{front_more}
 use Rattle.plan_text.proofs.items.read.Goals as goal
 
--- src/items.rt:40:5
 pub loop-reader-init : goal.loop-reader-init
 loop-reader-init c =
     record {

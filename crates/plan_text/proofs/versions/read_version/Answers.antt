@@ -10,7 +10,6 @@ use Rattle.plan_text.specs.declared.versions.Version.{Version}
 use Rattle.plan_text.specs.Reading.{left_of, with_symbol, dots_from}
 use Rattle.plan_text.proofs.versions.read_version.Goals as goal
 
--- src/versions.rt:23:1
 pub returns-in-Some-Two-clause-begins : goal.returns-in-Some-Two-clause-begins
 returns-in-Some-Two-clause-begins c =
     let first = c.next-first.ensures.tokens (spec.dots_after 2) (sym c.new-tokens.ensures.dots) in

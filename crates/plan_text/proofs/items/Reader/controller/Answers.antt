@@ -9,7 +9,6 @@ use Rattle.std.proofs.Common.{refl, sym, subst, ◌∙◌, Option}
 use Rattle.plan_text.proofs.ItemLemmas as lemmas
 use Rattle.plan_text.proofs.items.Reader.controller.Goals as goal
 
--- src/items.rt:103:9
 pub built-requires : goal.built-requires
 built-requires c =
     let same = c.in_ok-messages.ensures.same.0 in
@@ -17,7 +16,6 @@ built-requires c =
     let none : controller_refusal (builder_contents c.sendings.new.self.builder) (name_bytes c.in_ok-named.named.name) (map name_bytes c.as_slice.result.now) ≡ None = rw (same, c.as_slice.ensures.value) fits in
     subst (λ (due : Option BuildError). Answers due c.controller.result) none c.controller.ensures.answer
 
--- src/items.rt:91:5
 pub returns-clause-read : goal.returns-clause-read
 returns-clause-read c =
     let same = c.in_ok-messages.ensures.same.0 in

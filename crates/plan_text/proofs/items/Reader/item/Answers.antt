@@ -9,7 +9,6 @@ use Rattle.plan_text.specs.declared.symbols.Symbol.TheVariants as symbols
 use Rattle.plan_text.specs.Reading.{with_symbol}
 use Rattle.plan_text.proofs.items.Reader.item.Goals as goal
 
--- src/items.rt:57:5
 pub returns-in_ok-never-in-Keyword-Never-clause-read :
     goal.returns-in_ok-never-in-Keyword-Never-clause-read
 returns-in_ok-never-in-Keyword-Never-clause-read c = λ more.

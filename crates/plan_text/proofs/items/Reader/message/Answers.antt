@@ -8,13 +8,11 @@ use Rattle.plan_text.proofs.ItemLemmas as lemmas
 use Rattle.message_tree.specs.Trees.{frame_tree}
 use Rattle.plan_text.proofs.items.Reader.message.Goals as goal
 
--- src/items.rt:87:9
 pub built-requires : goal.built-requires
 built-requires c =
     let fits = lemmas.message_fits (so_far c.args.self.now) (name_bytes c.in_ok-named.named.name) (frame_tree c.in_ok-frame.frame) (sym c.message_name_refusal.ensures ∙ c.in_ok-allowed.ensures.allowed) (omega (arith, c.in_ok-frame.ensures.read.path)) (omega (arith, c.in_ok-frame.ensures.read.nodes_then, c.message_frame.new.self.nodes_fit)) in
     subst (λ (due : Option BuildError). Answers due c.message.result) fits c.message.ensures.answer
 
--- src/items.rt:77:5
 pub returns-clause-read : goal.returns-clause-read
 returns-clause-read c =
     lemmas.on_ok _ _ c.built.result (λ added version. lemmas.message_read (so_far c.args.self.now) _ (name_bytes c.in_ok-named.named.name) (frame_tree c.in_ok-frame.frame) c.message_frame.new.self.nodes c.in_ok-named.named.line (ahead c.args.self.now) (left c.name.new.self.tokens) (left c.message_frame.new.self.tokens) (left c.semicolon.new.self.tokens) c.in_ok-named.ensures.read c.in_ok-named.named.name.is_name (sym c.message_name_refusal.ensures ∙ c.in_ok-allowed.ensures.allowed) c.in_ok-frame.ensures.read c.message_frame.new.self.nodes_fit c.in_ok-semicolon.ensures.read added version)

@@ -10,7 +10,6 @@ use Rattle.std.proofs.lemmas.List.{map_push}
 use Rattle.plan_core.specs.declared.names.Name.{Name}
 use Rattle.plan_text.proofs.items.Reader.sendings.Goals as goal
 
--- src/items.rt:115:9
 pub names-preserved : goal.names-preserved
 names-preserved c =
     let i = c.names.invariant in

@@ -4,7 +4,6 @@ use Rattle.plan_core.specs.Names.{is_name}
 use Rattle.plan_text.proofs.ItemLemmas.{no_name}
 use Rattle.plan_text.proofs.sources.Source.name_of.Goals as goal
 
--- src/sources.rt:80:13
 pub returns-in_default-from_utf8-clause-refused : goal.returns-in_default-from_utf8-clause-refused
 returns-in_default-from_utf8-clause-refused c = λ rest.
     let none : is_name c.in-Word.word.now ≡ false = no_name c.in-Word.word.now c.in_default-from_utf8.ensures.cases.0 in
