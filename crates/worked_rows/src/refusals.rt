@@ -366,3 +366,47 @@ fn a_plan_has_at_most_512_sendings(rt: HostRuntime) -> Result<(), Fail> {
     );
     Ok(())
 }
+
+#[test]
+fn at_one_token_its_form_comes_first_then_its_name_then_the_limits(
+    rt: HostRuntime,
+) -> Result<(), Fail> {
+    // A 33rd controller, whose name is none, or stands already.
+    let full = many(rt.alloc(), "controller", "", 32)?;
+    let last = [
+        ("controller 1a ;", PlanError::Unexpected(34)),
+        ("controller n0 ;", PlanError::Twice(34)),
+        ("controller a ;", PlanError::TooMany(34)),
+    ];
+    for (item, wanted) in last {
+        let text = format!(in rt.alloc(); "{full}{item}")?;
+        assert_eq!(rt;
+            refusal(rt.alloc(), text.as_bytes()),
+            Some(wanted),
+            "{item}"
+        );
+    }
+    Ok(())
+}
+
+#[test]
+fn a_token_is_judged_before_the_byte_that_ends_it(rt: HostRuntime) {
+    let texts = [
+        // A name that stands already, and a count that makes a path too long, each before a dot of the first version.
+        (
+            "plan 1\ncontroller a ;\ncontroller a.b ;",
+            Some(PlanError::Twice(3)),
+        ),
+        (
+            "plan 1\nmessage m write 1001000 again read 1001000 255..300 stop",
+            Some(PlanError::TooLong(2)),
+        ),
+        // A character that is no token, in the place of the first.
+        ("\u{0}plan 1", Some(PlanError::Unexpected(1))),
+        // A carriage return before each line feed.
+        ("plan 1\r\ncontroller a\r\n;\r\n", None),
+    ];
+    for (text, wanted) in texts {
+        assert_eq!(rt; refusal(rt.alloc(), text.as_bytes()), wanted, "{text:?}");
+    }
+}
