@@ -2,6 +2,7 @@
 
 ghost use Rattle.std.specs.Prelude.{◌≡◌};
 ghost use Rattle.message_tree.specs.Items.{kind_of};
+ghost use Rattle.message_tree.specs.Symbols.{symbol_of, kind_word};
 
 /// What one participant does with one slot.
 #[derive(Clone, Copy, PartialEq, Eq, Debug)]
@@ -45,6 +46,36 @@ impl Item {
             Item::Again => Kind::Again,
             Item::Stop => Kind::Stop,
             Item::Claim => Kind::Claim,
+        }
+    }
+
+    /// The character that stands for the item in a wire: `0`, `1`, `l`, `h`, `r`, `s` or `c`.
+    pub fn symbol(&self) -> char
+        ensures { result ≡ symbol_of self.now }
+    {
+        match self {
+            Item::Sent(false) => '0',
+            Item::Sent(true) => '1',
+            Item::Heard(false) => 'l',
+            Item::Heard(true) => 'h',
+            Item::Again => 'r',
+            Item::Stop => 's',
+            Item::Claim => 'c',
+        }
+    }
+}
+
+impl Kind {
+    /// The word for the kind: `data`, `answer`, `restart`, `stop` or `claim`.
+    pub fn word(&self) -> &'static str
+        ensures { result.now ≡ kind_word self.now }
+    {
+        match self {
+            Kind::Sent => "data",
+            Kind::Heard => "answer",
+            Kind::Again => "restart",
+            Kind::Stop => "stop",
+            Kind::Claim => "claim",
         }
     }
 }

@@ -1,10 +1,7 @@
 -- The lines of a check's report.
 use Rattle.std.specs.Prelude.{ℕ, ◌+◌, ◌==◌, true, false, List, [], ◌∷◌, ◌++◌, length, map, codes, if◌then◌else◌}
 use Rattle.std.specs.Fmt.{decimal}
-use Rattle.message_tree.specs.declared.items.Item.{Item}
-use Rattle.message_tree.specs.declared.items.Item.TheVariants as item
-use Rattle.message_tree.specs.declared.items.Kind.{Kind}
-use Rattle.message_tree.specs.declared.items.Kind.TheVariants as kind
+use Rattle.message_tree.specs.Symbols.{wire_text, kind_word}
 use Rattle.certificate.specs.declared.values.Fault.{Fault}
 use Rattle.plan_core.specs.Contents.{Contents}
 use Rattle.plan_core.specs.Labels.{label_of}
@@ -13,27 +10,10 @@ use Rattle.pair_walk.specs.declared.walk_pair.Outcome.{Outcome}
 use Rattle.pair_walk.specs.declared.walk_pair.Outcome.TheVariants.{Safe, Unsafe}
 use Rattle.pair_walk.specs.declared.walk_pair.Verdict.{Verdict}
 
--- one character for each item of a wire
-abbrev pub symbol_of : Item → ℕ
-symbol_of (item.Sent false) = 48
-symbol_of (item.Sent true) = 49
-symbol_of (item.Heard false) = 108
-symbol_of (item.Heard true) = 104
-symbol_of item.Again = 114
-symbol_of item.Stop = 115
-symbol_of item.Claim = 99
-
-abbrev pub kind_word : Kind → List ℕ
-kind_word kind.Sent = codes "data"
-kind_word kind.Heard = codes "answer"
-kind_word kind.Again = codes "restart"
-kind_word kind.Stop = codes "stop"
-kind_word kind.Claim = codes "claim"
-
 -- pair I X Y: KIND against KIND after WIRE
 unfoldable pub fault_text : ℕ → List ℕ → List ℕ → Fault → List ℕ
 fault_text i first second fault =
-    codes "pair " ++ (decimal i ++ (codes " " ++ (first ++ (codes " " ++ (second ++ (codes ": " ++ (kind_word fault.first ++ (codes " against " ++ (kind_word fault.second ++ (codes " after " ++ (map symbol_of fault.wire.items ++ codes "\n")))))))))))
+    codes "pair " ++ (decimal i ++ (codes " " ++ (first ++ (codes " " ++ (second ++ (codes ": " ++ (kind_word fault.first ++ (codes " against " ++ (kind_word fault.second ++ (codes " after " ++ (wire_text fault.wire.items ++ codes "\n")))))))))))
 
 abbrev pub fault_line : Contents → ℕ → ℕ × ℕ → Fault → List ℕ
 fault_line plan i p fault = fault_text i (label_of plan p.0) (label_of plan p.1) fault

@@ -1,12 +1,13 @@
 // The lines of the reports.
 
-ghost use Rattle.std.specs.Prelude.{◌≡◌, ℕ, ◌<◌, ◌++◌, [], ◌∷◌, length, map, slice_get, Some, string_bytes, IfOk, OnOk};
+ghost use Rattle.std.specs.Prelude.{◌≡◌, ℕ, ◌<◌, ◌++◌, [], ◌∷◌, length, slice_get, Some, string_bytes, IfOk, OnOk};
 ghost use Rattle.plan_core.specs.PlanContents.{plan_contents};
 ghost use Rattle.plan_core.specs.Pairs.{pairs_of};
-ghost use Rattle.report.specs.Lines.{symbol_of, kind_word, fault_text, fault_line, last_line, check_lines};
+ghost use Rattle.message_tree.specs.Symbols.{wire_text};
+ghost use Rattle.report.specs.Lines.{fault_text, fault_line, last_line, check_lines};
 
 use certificate::Fault;
-use message_tree::{Item, Kind};
+use message_tree::Item;
 use pair_walk::{Outcome, Verdict};
 use plan_core::Plan;
 use std::alloc::{AllocError, Global};
@@ -64,8 +65,8 @@ fn push_fault_text(
 ) -> Result<(), AllocError>
     ensures { OnOk result (string_bytes report.new ≡ string_bytes report.old ++ fault_text i first.now second.now fault.now) }
 {
-    let first_kind = kind_word(fault.first);
-    let second_kind = kind_word(fault.second);
+    let first_kind = fault.first.word();
+    let second_kind = fault.second.word();
     write!(
         report,
         "pair {i} {first} {second}: {first_kind} against {second_kind} after "
@@ -77,10 +78,10 @@ fn push_fault_text(
 
 // The symbols of a wire.
 fn push_wire(report: &mut String, wire: &[Item]) -> Result<(), AllocError>
-    ensures { OnOk result (string_bytes report.new ≡ string_bytes report.old ++ map symbol_of wire.now) }
+    ensures { OnOk result (string_bytes report.new ≡ string_bytes report.old ++ wire_text wire.now) }
 {
     for item in wire {
-        report.push(symbol(*item))?;
+        report.push(item.symbol())?;
     }
     Ok(())
 }
@@ -94,31 +95,5 @@ fn push_count(report: &mut String, pairs: u32, faults: u32) -> Result<(), AllocE
         writeln!(report, "safe: {pairs} pairs")
     } else {
         writeln!(report, "unsafe: {faults} of {pairs} pairs")
-    }
-}
-
-fn kind_word(kind: Kind) -> &'static str
-    ensures { result.now ≡ kind_word kind }
-{
-    match kind {
-        Kind::Sent => "data",
-        Kind::Heard => "answer",
-        Kind::Again => "restart",
-        Kind::Stop => "stop",
-        Kind::Claim => "claim",
-    }
-}
-
-fn symbol(item: Item) -> char
-    ensures { result ≡ symbol_of item }
-{
-    match item {
-        Item::Sent(false) => '0',
-        Item::Sent(true) => '1',
-        Item::Heard(false) => 'l',
-        Item::Heard(true) => 'h',
-        Item::Again => 'r',
-        Item::Stop => 's',
-        Item::Claim => 'c',
     }
 }

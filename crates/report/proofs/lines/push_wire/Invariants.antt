@@ -1,5 +1,5 @@
 use Rattle.std.proofs.Common.{◌≡◌, ◌++◌, map, take, string_bytes}
-use Rattle.report.specs.Lines.{symbol_of}
+use Rattle.message_tree.specs.Symbols.{symbol_of}
 use Rattle.report.proofs.lines.push_wire.Given as goal
 
 -- the symbols so far
