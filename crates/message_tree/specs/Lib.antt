@@ -7,4 +7,5 @@ pub mod Symbols
 pub mod Trees
 pub mod Texts
 pub mod Sizes
+pub mod Drops
 pub mod Laws

@@ -1,6 +1,7 @@
 -- How large a message is.
-use Rattle.std.specs.Prelude.{◌≡◌, ℕ, ◌+◌, ◌*◌, ◌^◌, ◌-◌, ◌≤◌, max, min, List, length}
+use Rattle.std.specs.Prelude.{◌≡◌, ℕ, ◌+◌, ◌*◌, ◌^◌, ◌-◌, ◌≤◌, max, min, List, [], ◌∷◌, length}
 use Rattle.message_tree.specs.declared.items.Item.{Item}
+use Rattle.message_tree.specs.declared.items.Item.TheVariants.{Sent, Heard}
 use Rattle.message_tree.specs.Counts.{greatest_of}
 use Rattle.message_tree.specs.Texts.{Language}
 use Rattle.message_tree.specs.Trees.{FrameTree, write, read, PayloadTree, byte, last, TailTree, stop, again}
@@ -47,10 +48,21 @@ abbrev mutual
   tail_slots stop = 1
   tail_slots (again frame) = frame_slots frame + 1
 
--- n is the length of a longest one of these lists: one is that long, and none is longer
-pub record IsLongest (P : Language) (n : ℕ) : Type 0 where
-  pub reached : (u : List Item) × P u × (length u ≡ n)
-  pub bound : (u : List Item) → P u → length u ≤ n
+-- n is the most that these lists have of something: one has that much, and none has more
+pub record IsMost (amount : List Item → ℕ) (P : Language) (n : ℕ) : Type 0 where
+  pub reached : (u : List Item) × P u × (amount u ≡ n)
+  pub bound : (u : List Item) → P u → amount u ≤ n
+
+-- n is the length of a longest one of these lists
+abbrev pub IsLongest : Language → ℕ → Type 0
+IsLongest P n = IsMost length P n
+
+-- the bits on a wire: eight and an acknowledge for each byte (UM10204, 3.1.5 and 3.1.6)
+abbrev pub bits_in : List Item → ℕ
+bits_in [] = 0
+bits_in (Sent b ∷ u) = bits_in u + 1
+bits_in (Heard b ∷ u) = bits_in u + 1
+bits_in (_ ∷ u) = bits_in u
 
 -- n, or u32::MAX where that is less
 abbrev pub capped : ℕ → ℕ

@@ -9,19 +9,20 @@ ghost use Rattle.message_tree.specs.declared.items.Item.TheVariants.{Stop, Claim
 ghost use Rattle.message_tree.specs.declared.tree.Frame.{Frame};
 ghost use Rattle.message_tree.specs.Trees.{FrameTree};
 ghost use Rattle.message_tree.specs.Texts.{FrameText, InterruptText};
-ghost use Rattle.message_tree.specs.Sizes.{IsLongest, frame_slots, frame_bytes};
+ghost use Rattle.message_tree.specs.Sizes.{IsMost, IsLongest, bits_in, frame_slots, frame_bytes};
 ghost use Rattle.message_tree.specs.Laws.{HasText, EndsWith, HearsBoth, NeverHears, NoneBeginsAnother};
 
 /// Every message has a text. A text ends with its only STOP and has no claim. Where a target answers, it may answer
-/// either bit. No text is a proper beginning of another. The longest has the slots that `Frame::slots` counts,
-/// at most ten for each byte of the longest path.
+/// either bit. No text is a proper beginning of another. The longest has the slots that `Frame::slots` counts. The most
+/// bits in a text are nine for each of the bytes that `Frame::longest` counts, and it has at most ten slots for each.
 pub fn texts_of_messages()
     ensures some { (f : FrameTree) → HasText (FrameText f) }
     ensures stop { (f : FrameTree) → EndsWith Stop (FrameText f) }
     ensures answers { (f : FrameTree) → HearsBoth (FrameText f) }
     ensures whole { (f : FrameTree) → NoneBeginsAnother (FrameText f) }
     ensures longest { (f : FrameTree) → IsLongest (FrameText f) (frame_slots f) }
-    ensures bytes { (f : FrameTree) → frame_slots f ≤ 10 * frame_bytes f }
+    ensures bytes { (f : FrameTree) → IsMost bits_in (FrameText f) (9 * frame_bytes f) }
+    ensures slots { (f : FrameTree) → frame_slots f ≤ 10 * frame_bytes f }
 {}
 
 /// Every interrupt has a text. A text ends with its only claim and has no STOP, and no target answers in it.

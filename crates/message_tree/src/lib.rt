@@ -2,9 +2,11 @@
 #![tactic(auto)]
 
 pub mod bits;
+mod copies;
 pub mod counts;
 pub mod items;
 pub mod laws;
+mod sizes;
 pub mod tree;
 
 pub use bits::{Address, Bit, Pattern};

@@ -1,17 +1,16 @@
 // A message as a tree: each node is a header or a byte, with what follows each answer to it.
 
-ghost use Rattle.std.specs.Prelude.{◌≡◌, IfOk};
-ghost use Rattle.message_tree.specs.Texts.{FrameText};
-ghost use Rattle.message_tree.specs.Trees.{frame_tree, payload_tree, tail_tree};
-ghost use Rattle.message_tree.specs.Sizes.{frame_bytes, payload_bytes, tail_bytes, frame_nodes, payload_nodes, tail_nodes, frame_slots, payload_slots, tail_slots, capped, IsLongest};
+ghost use Rattle.std.specs.Prelude.{◌≡◌, ◌+◌, ◌*◌, ◌<◌, ◌≤◌, MatchOption};
+ghost use Rattle.message_tree.specs.Trees.{frame_tree, payload_tree, tail_tree, stop, again, last};
+ghost use Rattle.message_tree.specs.Drops.{frame_weight, payload_weight, tail_weight, refused_of, with_refused, rest_of, HasNoRefused, IsBare};
 
 use crate::bits::{Address, Pattern};
 use crate::counts::Count;
-use std::alloc::{AllocError, Global};
+use std::mem;
 
 /// How a message goes on after its last byte, or after an answer that refuses.
 #[cycle(message)]
-#[derive(Debug, Drop)]
+#[derive(Debug)]
 pub enum Tail {
     /// A STOP (UM10204, 3.1.4), which ends the message.
     Stop,
@@ -44,7 +43,7 @@ pub enum Frame {
 
 /// What a controller writes after an acknowledge.
 #[cycle(message)]
-#[derive(Debug, Drop)]
+#[derive(Debug)]
 pub enum Payload {
     /// A data byte (UM10204, 3.1.5).
     Byte {
@@ -58,200 +57,150 @@ pub enum Payload {
     Last(Tail),
 }
 
+// A message is let go in loops that take no memory, however deep its tree is: a derived drop would call itself once for
+// each level. The first frame in what follows the acknowledge becomes the outer one, and the frame that was outer hangs
+// behind its refusal, until nothing follows the acknowledge.
+
+impl Drop for Tail {
+    #[cycle(drops)]
+    fn drop(mut self) {
+        loop {
+            match self {
+                Tail::Stop => return,
+                Tail::Again(frame) => self = less(frame),
+            }
+        }
+    }
+}
+
+impl Drop for Payload {
+    #[cycle(drops)]
+    fn drop(mut self) {
+        while let Some(frame) = self.unhook() {
+            drop(Tail::Again(frame));
+        }
+        match self {
+            Payload::Last(_) => {}
+            Payload::Byte { .. } => unreachable!(),
+        }
+    }
+}
+
+// The frame turned by one step, or what follows its refusal where nothing follows its acknowledge.
+#[cycle(drops)]
+fn less(mut outer: Box<Frame>) -> Tail
+    ensures { tail_weight (tail_tree result) < frame_weight (frame_tree outer.value) }
+{
+    match outer.unhook() {
+        Some(mut inner) => {
+            drop(inner.hang(Tail::Again(outer)));
+            Tail::Again(inner)
+        }
+        None => outer_refused(outer),
+    }
+}
+
+// What follows the refusal of a frame that has nothing behind its acknowledge.
+#[cycle(drops)]
+fn outer_refused(outer: Box<Frame>) -> Tail
+    requires { IsBare (frame_tree outer.value) }
+    ensures { tail_tree result ≡ refused_of (frame_tree outer.value) }
+{
+    match Box::into_inner(outer) {
+        Frame::Write { acked, refused, .. } => {
+            drop(Box::into_inner(acked));
+            refused
+        }
+        Frame::Read { refused, .. } => refused,
+    }
+}
+
 impl Frame {
-    /// The same message in memory of its own.
-    #[cycle(copy)]
-    pub fn copy(&self, alloc: Global) -> Result<Frame, AllocError>
-        ensures { IfOk result (λ copy. frame_tree copy ≡ frame_tree self.now) }
+    // Takes the first frame out of what follows the acknowledge.
+    #[cycle(drops)]
+    fn unhook(&mut self) -> Option<Box<Frame>>
+        ensures found { MatchOption result (IsBare (frame_tree self.new)) (λ frame. refused_of (frame_tree frame.value) ≡ stop) }
+        ensures refused { refused_of (frame_tree self.new) ≡ refused_of (frame_tree self.old) }
+        ensures less { MatchOption result (frame_weight (frame_tree self.new) ≤ frame_weight (frame_tree self.old)) (λ frame. frame_weight (frame_tree self.new) + 2 * frame_weight (frame_tree frame.value) ≤ frame_weight (frame_tree self.old)) }
     {
         match self {
-            Frame::Write {
-                address,
-                acked,
-                refused,
-            } => Ok(Frame::Write {
-                address: *address,
-                acked: Box::new(alloc, acked.copy(alloc)?)?,
-                refused: refused.copy(alloc)?,
-            }),
-            Frame::Read {
-                address,
-                count,
-                after,
-                refused,
-            } => Ok(Frame::Read {
-                address: *address,
-                count: *count,
-                after: after.copy(alloc)?,
-                refused: refused.copy(alloc)?,
-            }),
+            Frame::Write { acked, .. } => acked.unhook(),
+            Frame::Read { after, .. } => after.unhook(),
         }
     }
 
-    /// The bytes on the longest path: headers, written bytes, and as many read bytes as each range allows.
-    #[cycle(longest)]
-    pub fn longest(&self) -> u32
-        ensures { result ≡ capped (frame_bytes (frame_tree self.now)) }
+    // Hangs this behind the refusal, and gives what hung there.
+    fn hang(&mut self, refused: Tail) -> Tail
+        ensures new { frame_tree self.new ≡ with_refused (frame_tree self.old) (tail_tree refused) }
+        ensures old { tail_tree result ≡ refused_of (frame_tree self.old) }
     {
         match self {
-            Frame::Write { acked, refused, .. } => {
-                acked.longest().max(refused.longest()).saturating_add(1)
-            }
-            Frame::Read {
-                count,
-                after,
-                refused,
-                ..
-            } => after
-                .longest()
-                .saturating_add(count.greatest() as u32)
-                .max(refused.longest())
-                .saturating_add(1),
-        }
-    }
-
-    /// The nodes of the message: headers and written bytes.
-    #[cycle(nodes)]
-    pub fn nodes(&self) -> u32
-        ensures { result ≡ capped (frame_nodes (frame_tree self.now)) }
-    {
-        match self {
-            Frame::Write { acked, refused, .. } => {
-                acked
-                    .nodes()
-                    .saturating_add(refused.nodes())
-                    .saturating_add(1)
-            }
-            Frame::Read { after, refused, .. } => {
-                after
-                    .nodes()
-                    .saturating_add(refused.nodes())
-                    .saturating_add(1)
-            }
-        }
-    }
-
-    /// The slots of the message's longest text.
-    #[cycle(slots)]
-    pub fn slots(&self) -> u32
-        ensures value { result ≡ capped (frame_slots (frame_tree self.now)) }
-        ensures longest { IsLongest (FrameText (frame_tree self.now)) (frame_slots (frame_tree self.now)) }
-    {
-        match self {
-            Frame::Write { acked, refused, .. } => {
-                acked.slots().max(refused.slots()).saturating_add(9)
-            }
-            Frame::Read {
-                count,
-                after,
-                refused,
-                ..
-            } => after
-                .slots()
-                .saturating_add(9 * count.greatest() as u32)
-                .max(refused.slots())
-                .saturating_add(9),
+            Frame::Write { refused: place, .. } => mem::replace(place, refused),
+            Frame::Read { refused: place, .. } => mem::replace(place, refused),
         }
     }
 }
 
 impl Payload {
-    #[cycle(copy)]
-    fn copy(&self, alloc: Global) -> Result<Payload, AllocError>
-        ensures { IfOk result (λ copy. payload_tree copy ≡ payload_tree self.now) }
+    // Takes the first frame out, and drops the bytes before it.
+    #[cycle(drops)]
+    fn unhook(&mut self) -> Option<Box<Frame>>
+        ensures found { MatchOption result (payload_tree self.new ≡ last stop) (λ frame. refused_of (frame_tree frame.value) ≡ stop) }
+        ensures less { MatchOption result (payload_weight (payload_tree self.new) ≤ payload_weight (payload_tree self.old)) (λ frame. payload_weight (payload_tree self.new) + frame_weight (frame_tree frame.value) ≤ payload_weight (payload_tree self.old)) }
+    {
+        loop {
+            match self {
+                Payload::Byte { acked, refused, .. } => {
+                    if let Some(frame) = refused.unhook() {
+                        return Some(frame);
+                    }
+                    let rest = mem::replace(self, Payload::Last(Tail::Stop)).rest();
+                    *self = rest;
+                }
+                Payload::Last(tail) => return tail.unhook(),
+            }
+        }
+    }
+
+    // What follows the acknowledge of a byte that has nothing behind its refusal.
+    #[cycle(drops)]
+    fn rest(self) -> Payload
+        requires { HasNoRefused (payload_tree self) }
+        ensures { payload_tree result ≡ rest_of (payload_tree self) }
     {
         match self {
             Payload::Byte {
-                bits,
+                bits: _,
                 acked,
                 refused,
-            } => Ok(Payload::Byte {
-                bits: *bits,
-                acked: Box::new(alloc, acked.copy(alloc)?)?,
-                refused: refused.copy(alloc)?,
-            }),
-            Payload::Last(tail) => Ok(Payload::Last(tail.copy(alloc)?)),
-        }
-    }
-
-    #[cycle(longest)]
-    fn longest(&self) -> u32
-        ensures { result ≡ capped (payload_bytes (payload_tree self.now)) }
-    {
-        match self {
-            Payload::Byte { acked, refused, .. } => {
-                acked.longest().max(refused.longest()).saturating_add(1)
+            } => {
+                drop(refused);
+                Box::into_inner(acked)
             }
-            Payload::Last(tail) => tail.longest(),
-        }
-    }
-
-    #[cycle(nodes)]
-    fn nodes(&self) -> u32
-        ensures { result ≡ capped (payload_nodes (payload_tree self.now)) }
-    {
-        match self {
-            Payload::Byte { acked, refused, .. } => {
-                acked
-                    .nodes()
-                    .saturating_add(refused.nodes())
-                    .saturating_add(1)
-            }
-            Payload::Last(tail) => tail.nodes(),
-        }
-    }
-
-    #[cycle(slots)]
-    fn slots(&self) -> u32
-        ensures { result ≡ capped (payload_slots (payload_tree self.now)) }
-    {
-        match self {
-            Payload::Byte { acked, refused, .. } => {
-                acked.slots().max(refused.slots()).saturating_add(9)
-            }
-            Payload::Last(tail) => tail.slots(),
+            Payload::Last(tail) => Payload::Last(tail),
         }
     }
 }
 
 impl Tail {
-    #[cycle(copy)]
-    fn copy(&self, alloc: Global) -> Result<Tail, AllocError>
-        ensures { IfOk result (λ copy. tail_tree copy ≡ tail_tree self.now) }
+    // Takes the frame out, and leaves what follows its refusal in its place.
+    #[cycle(drops)]
+    fn unhook(&mut self) -> Option<Box<Frame>>
+        ensures found { MatchOption result (tail_tree self.new ≡ stop) (λ frame. refused_of (frame_tree frame.value) ≡ stop) }
+        ensures less { MatchOption result (tail_tree self.new ≡ tail_tree self.old) (λ frame. tail_weight (tail_tree self.new) + frame_weight (frame_tree frame.value) ≡ tail_weight (tail_tree self.old)) }
     {
-        match self {
-            Tail::Stop => Ok(Tail::Stop),
-            Tail::Again(frame) => Ok(Tail::Again(Box::new(alloc, frame.copy(alloc)?)?)),
-        }
+        let mut frame = mem::replace(self, Tail::Stop).frame()?;
+        let refused = frame.hang(Tail::Stop);
+        *self = refused;
+        Some(frame)
     }
 
-    #[cycle(longest)]
-    fn longest(&self) -> u32
-        ensures { result ≡ capped (tail_bytes (tail_tree self.now)) }
+    fn frame(self) -> Option<Box<Frame>>
+        ensures { MatchOption result (tail_tree self ≡ stop) (λ frame. tail_tree self ≡ again (frame_tree frame.value)) }
     {
         match self {
-            Tail::Stop => 0,
-            Tail::Again(frame) => frame.longest(),
-        }
-    }
-
-    #[cycle(nodes)]
-    fn nodes(&self) -> u32
-        ensures { result ≡ capped (tail_nodes (tail_tree self.now)) }
-    {
-        match self {
-            Tail::Stop => 0,
-            Tail::Again(frame) => frame.nodes(),
-        }
-    }
-
-    #[cycle(slots)]
-    fn slots(&self) -> u32
-        ensures { result ≡ capped (tail_slots (tail_tree self.now)) }
-    {
-        match self {
-            Tail::Stop => 1,
-            Tail::Again(frame) => frame.slots().saturating_add(1),
+            Tail::Stop => None,
+            Tail::Again(frame) => Some(frame),
         }
     }
 }

@@ -2,7 +2,7 @@ use Rattle.std.proofs.Common.{refl}
 use Rattle.message_tree.specs.declared.items.Item.TheVariants.{Stop}
 use Rattle.message_tree.specs.Texts.{FrameText}
 use Rattle.message_tree.proofs.TextLaws.{lawful_frame, whole}
-use Rattle.message_tree.proofs.TextLengths.{longest_frame, frame_slots_le}
+use Rattle.message_tree.proofs.TextLengths.{longest_frame, most_bits_frame, frame_slots_le}
 use Rattle.message_tree.proofs.laws.texts_of_messages.Goals as goal
 
 pub returns-clause-some : goal.returns-clause-some
@@ -21,4 +21,7 @@ pub returns-clause-longest : goal.returns-clause-longest
 returns-clause-longest c f = longest_frame f
 
 pub returns-clause-bytes : goal.returns-clause-bytes
-returns-clause-bytes c f = frame_slots_le f
+returns-clause-bytes c f = most_bits_frame f
+
+pub returns-clause-slots : goal.returns-clause-slots
+returns-clause-slots c f = frame_slots_le f
