@@ -5,7 +5,7 @@ use Rattle.std.specs.List.{list_any, cons_option, position_or_len}
 use Rattle.std.specs.Map.{keys_of}
 use Rattle.std.specs.Result.{OnOk, OnErr}
 use Rattle.std.specs.Str.{bytes_eq}
-use Rattle.std.proofs.lemmas.Bool.{leb-false, ltb-false, or_cases, cases_Bool}
+use Rattle.std.proofs.lemmas.Bool.{leb-false, ltb-false, le-ltb, or_cases, cases_Bool}
 use Rattle.std.proofs.lemmas.Bool.Decides.{nat_tests}
 use Rattle.std.proofs.lemmas.List.{length_push, length-map, map_push}
 use Rattle.std.proofs.lemmas.List.Elements.{All-push, All-nil, All-cons}
@@ -15,7 +15,8 @@ use Rattle.std.proofs.lemmas.List.Sums.{fails_before_first, sum_by_push}
 use Rattle.std.proofs.lemmas.Slice.Eq.{bytes_eq-Decides}
 use Rattle.message_tree.specs.Sizes.{frame_bytes, frame_nodes}
 use Rattle.message_tree.specs.Trees.{FrameTree}
-use Rattle.plan_core.specs.Building.{Answers, number_of, has_name, message_refusal, with_message, interrupt_refusal, with_interrupt, controller_refusal, with_controller, with_sender, list_refusal, numbers_of, never_refusal, with_never, two_refusal, controller_number}
+use Rattle.plan_core.specs.Building.{RefusesExactly, or_else, number_of, has_name, message_name_refusal, size_refusal, controller_name_refusal, message_refusal, with_message, interrupt_refusal, with_interrupt, controller_refusal, with_controller, with_sender, list_refusal, numbers_of, never_refusal, with_never, two_refusal, controller_number}
+use Rattle.plan_core.specs.declared.limits.TheConstants.{MOST_MESSAGES, MOST_CONTROLLERS, MOST_INTERRUPTS, MOST_SENDINGS, MOST_BYTES, MOST_NODES, ADDRESSES}
 use Rattle.plan_core.specs.Contents.{Contents}
 use Rattle.plan_core.specs.Limits.{AreNames, IsWithinLimits, sending_count}
 use Rattle.plan_core.specs.Names.{IsName}
@@ -64,14 +65,44 @@ AreNames-push names name are is none = record {
 AreNames-keys : {X : Type 0} (entries : List (List ℕ × X)) (name : List ℕ) (x : X) → AreNames (keys_of entries) → IsName name → number_of name entries ≡ None → AreNames (keys_of (entries ++ (name, x) ∷ []))
 AreNames-keys entries name x are is none = subst AreNames (sym (map_push (λ e. e.0) entries (name, x))) (AreNames-push (keys_of entries) name are is none)
 
-pub message_allowed : (plan : Contents) (name : List ℕ) (frame : FrameTree) → message_refusal plan name frame ≡ None → (number_of name plan.messages ≡ None) × (length plan.messages < 256) × (frame_bytes frame ≤ 256) × (frame_nodes frame ≤ 4096)
-unfolding message_refusal
-message_allowed plan name frame none =
+-- where neither refuses
+or_else_none : (first later : Option BuildError) → or_else first later ≡ None → (first ≡ None) × (later ≡ None)
+or_else_none (Some e) later h = absurd cc
+or_else_none None later h = (refl, h)
+
+pub message_name_allowed : (plan : Contents) (name : List ℕ) → message_name_refusal plan name ≡ None → (number_of name plan.messages ≡ None) × (length plan.messages < MOST_MESSAGES)
+unfolding message_name_refusal
+message_name_allowed plan name none =
     let first = passes (has_name name plan.messages) Twice _ none in
-    let second = passes (nat_le 256 (length plan.messages)) TooMany _ first.1 in
-    let third = passes (nat_lt 256 (frame_bytes frame) || nat_lt 4096 (frame_nodes frame)) TooLong _ second.1 in
-    let sizes = neither (nat_lt 256 (frame_bytes frame)) (nat_lt 4096 (frame_nodes frame)) third.0 in
-    (none_from_is_some (number_of name plan.messages) first.0, leb-false 256 (length plan.messages) second.0, ltb-false 256 (frame_bytes frame) sizes.0, ltb-false 4096 (frame_nodes frame) sizes.1)
+    let second = passes (nat_le MOST_MESSAGES (length plan.messages)) TooMany _ first.1 in
+    (none_from_is_some (number_of name plan.messages) first.0, leb-false MOST_MESSAGES (length plan.messages) second.0)
+
+pub size_allowed : (frame : FrameTree) → size_refusal frame ≡ None → (frame_bytes frame ≤ MOST_BYTES) × (frame_nodes frame ≤ MOST_NODES)
+unfolding size_refusal
+size_allowed frame none =
+    let sizes = neither (nat_lt MOST_NODES (frame_nodes frame)) (nat_lt MOST_BYTES (frame_bytes frame)) (passes (nat_lt MOST_NODES (frame_nodes frame) || nat_lt MOST_BYTES (frame_bytes frame)) TooLong _ none).0 in
+    (ltb-false MOST_BYTES (frame_bytes frame) sizes.1, ltb-false MOST_NODES (frame_nodes frame) sizes.0)
+
+-- a frame within its bounds is not refused
+pub size_fits : (frame : FrameTree) → frame_bytes frame ≤ MOST_BYTES → frame_nodes frame ≤ MOST_NODES → size_refusal frame ≡ None
+unfolding size_refusal
+size_fits frame bytes nodes = rw (le-ltb _ _ nodes, le-ltb _ _ bytes) refl
+
+-- a message whose name and whose frame are not refused is not refused, and the other way round
+pub message_fits : (plan : Contents) (name : List ℕ) (frame : FrameTree) → message_name_refusal plan name ≡ None → frame_bytes frame ≤ MOST_BYTES → frame_nodes frame ≤ MOST_NODES → message_refusal plan name frame ≡ None
+unfolding message_refusal
+message_fits plan name frame allowed bytes nodes = rw (allowed, size_fits frame bytes nodes) refl
+
+pub message_parts : (plan : Contents) (name : List ℕ) (frame : FrameTree) → message_refusal plan name frame ≡ None → (message_name_refusal plan name ≡ None) × (size_refusal frame ≡ None)
+unfolding message_refusal
+message_parts plan name frame none = or_else_none (message_name_refusal plan name) (size_refusal frame) none
+
+pub message_allowed : (plan : Contents) (name : List ℕ) (frame : FrameTree) → message_refusal plan name frame ≡ None → (number_of name plan.messages ≡ None) × (length plan.messages < MOST_MESSAGES) × (frame_bytes frame ≤ MOST_BYTES) × (frame_nodes frame ≤ MOST_NODES)
+message_allowed plan name frame none =
+    let parts = message_parts plan name frame none in
+    let named = message_name_allowed plan name parts.0 in
+    let sized = size_allowed frame parts.1 in
+    (named.0, named.1, sized.0, sized.1)
 
 pub limits-message : (plan : Contents) (name : List ℕ) (frame : FrameTree) → IsWithinLimits plan → IsName name → message_refusal plan name frame ≡ None → IsWithinLimits (with_message plan name frame)
 unfolding with_message
@@ -86,8 +117,8 @@ limits-message plan name frame limits is none =
       controller_count = limits.controller_count;
       interrupt_count = limits.interrupt_count;
       sendings = limits.sendings;
-      bytes = All-push (λ (m : List ℕ × FrameTree). frame_bytes m.1 ≤ 256) plan.messages (name, frame) limits.bytes allowed.2;
-      nodes = All-push (λ (m : List ℕ × FrameTree). frame_nodes m.1 ≤ 4096) plan.messages (name, frame) limits.nodes allowed.3;
+      bytes = All-push (λ (m : List ℕ × FrameTree). frame_bytes m.1 ≤ MOST_BYTES) plan.messages (name, frame) limits.bytes allowed.2;
+      nodes = All-push (λ (m : List ℕ × FrameTree). frame_nodes m.1 ≤ MOST_NODES) plan.messages (name, frame) limits.nodes allowed.3;
       known = λ c d h k e g. omega (arith, size, limits.known c d h k e g);
       once = limits.once;
       addresses = limits.addresses;
@@ -96,14 +127,14 @@ limits-message plan name frame limits is none =
       never_once = limits.never_once;
     }
 
-pub interrupt_allowed : (plan : Contents) (name : List ℕ) → interrupt_refusal plan name ≡ None → (number_of name plan.interrupts ≡ None) × (length plan.interrupts < 32)
+pub interrupt_allowed : (plan : Contents) (name : List ℕ) → interrupt_refusal plan name ≡ None → (number_of name plan.interrupts ≡ None) × (length plan.interrupts < MOST_INTERRUPTS)
 unfolding interrupt_refusal
 interrupt_allowed plan name none =
     let first = passes (has_name name plan.interrupts) Twice _ none in
-    let second = passes (nat_le 32 (length plan.interrupts)) TooMany _ first.1 in
-    (none_from_is_some (number_of name plan.interrupts) first.0, leb-false 32 (length plan.interrupts) second.0)
+    let second = passes (nat_le MOST_INTERRUPTS (length plan.interrupts)) TooMany _ first.1 in
+    (none_from_is_some (number_of name plan.interrupts) first.0, leb-false MOST_INTERRUPTS (length plan.interrupts) second.0)
 
-pub limits-interrupt : (plan : Contents) (name : List ℕ) (address : ℕ) → IsWithinLimits plan → IsName name → address < 128 → interrupt_refusal plan name ≡ None → IsWithinLimits (with_interrupt plan name address)
+pub limits-interrupt : (plan : Contents) (name : List ℕ) (address : ℕ) → IsWithinLimits plan → IsName name → address < ADDRESSES → interrupt_refusal plan name ≡ None → IsWithinLimits (with_interrupt plan name address)
 unfolding with_interrupt
 limits-interrupt plan name address limits is small none =
     let allowed = interrupt_allowed plan name none in
@@ -120,38 +151,53 @@ limits-interrupt plan name address limits is small none =
       nodes = limits.nodes;
       known = limits.known;
       once = limits.once;
-      addresses = All-push (λ (t : List ℕ × ℕ). t.1 < 128) plan.interrupts (name, address) limits.addresses small;
+      addresses = All-push (λ (t : List ℕ × ℕ). t.1 < ADDRESSES) plan.interrupts (name, address) limits.addresses small;
       never_known = limits.never_known;
       never_two = limits.never_two;
       never_once = limits.never_once;
     }
 
 -- the call that answers a refusal
-pub Answers-due : (T : Type 0) (due : Option BuildError) (e : BuildError) → due ≡ Some e → Answers {T = T} due (Err e)
-Answers-due T due e is = subst (λ d. Answers {T = T} d (Err e)) (sym is) refl
+pub RefusesExactly-due : (T : Type 0) (due : Option BuildError) (e : BuildError) → due ≡ Some e → RefusesExactly {T = T} due (Err e)
+RefusesExactly-due T due e is = subst (λ d. RefusesExactly {T = T} d (Err e)) (sym is) refl
 
 -- what holds in both outcomes
 pub either : {T E P Q : Type 0} (r : Result T E) → OnOk r P → OnErr r Q → P ⊎ Q
 either (Ok x) p q = inl p
 either (Err e) p q = inr q
 
-pub controller_allowed : (plan : Contents) (name : List ℕ) (names : List (List ℕ)) → controller_refusal plan name names ≡ None → (number_of name plan.controllers ≡ None) × (length plan.controllers < 32) × (list_refusal plan [] names ≡ None)
+-- a controller whose name and whose list are not refused is not refused, and the other way round
+pub controller_fits : (plan : Contents) (name : List ℕ) (names : List (List ℕ)) → controller_name_refusal plan name ≡ None → list_refusal plan [] names ≡ None → controller_refusal plan name names ≡ None
 unfolding controller_refusal
-controller_allowed plan name names none =
+controller_fits plan name names allowed known = rw (allowed, known) refl
+
+pub controller_parts : (plan : Contents) (name : List ℕ) (names : List (List ℕ)) → controller_refusal plan name names ≡ None → (controller_name_refusal plan name ≡ None) × (list_refusal plan [] names ≡ None)
+unfolding controller_refusal
+controller_parts plan name names none = or_else_none (controller_name_refusal plan name) (list_refusal plan [] names) none
+
+controller_name_allowed : (plan : Contents) (name : List ℕ) → controller_name_refusal plan name ≡ None → (number_of name plan.controllers ≡ None) × (length plan.controllers < MOST_CONTROLLERS)
+unfolding controller_name_refusal
+controller_name_allowed plan name none =
     let first = passes (has_name name plan.controllers) Twice _ none in
-    let second = passes (nat_le 32 (length plan.controllers)) TooMany _ first.1 in
-    (none_from_is_some (number_of name plan.controllers) first.0, leb-false 32 (length plan.controllers) second.0, second.1)
+    let second = passes (nat_le MOST_CONTROLLERS (length plan.controllers)) TooMany _ first.1 in
+    (none_from_is_some (number_of name plan.controllers) first.0, leb-false MOST_CONTROLLERS (length plan.controllers) second.0)
+
+pub controller_allowed : (plan : Contents) (name : List ℕ) (names : List (List ℕ)) → controller_refusal plan name names ≡ None → (number_of name plan.controllers ≡ None) × (length plan.controllers < MOST_CONTROLLERS) × (list_refusal plan [] names ≡ None)
+controller_allowed plan name names none =
+    let parts = controller_parts plan name names none in
+    let named = controller_name_allowed plan name parts.0 in
+    (named.0, named.1, parts.1)
 
 -- what one name of a list is allowed by
-pub name_allowed : (plan : Contents) (before : List (List ℕ)) (name : List ℕ) (names : List (List ℕ)) → list_refusal plan before (name ∷ names) ≡ None → ((k : ℕ) × (number_of name plan.messages ≡ Some k)) × (list_any (λ other. bytes_eq other name) before ≡ false) × (sending_count plan.controllers + length before < 512) × (list_refusal plan (before ++ name ∷ []) names ≡ None)
+pub name_allowed : (plan : Contents) (before : List (List ℕ)) (name : List ℕ) (names : List (List ℕ)) → list_refusal plan before (name ∷ names) ≡ None → ((k : ℕ) × (number_of name plan.messages ≡ Some k)) × (list_any (λ other. bytes_eq other name) before ≡ false) × (sending_count plan.controllers + length before < MOST_SENDINGS) × (list_refusal plan (before ++ name ∷ []) names ≡ None)
 name_allowed plan before name names none =
     let first = passes (not (has_name name plan.messages)) Unknown _ none in
     let second = passes (list_any (λ other. bytes_eq other name) before) Twice _ first.1 in
-    let third = passes (nat_le 512 (sending_count plan.controllers + length before)) TooMany _ second.1 in
-    (some_from_is_some (number_of name plan.messages) first.0, second.0, leb-false 512 (sending_count plan.controllers + length before) third.0, third.1)
+    let third = passes (nat_le MOST_SENDINGS (sending_count plan.controllers + length before)) TooMany _ second.1 in
+    (some_from_is_some (number_of name plan.messages) first.0, second.0, leb-false MOST_SENDINGS (sending_count plan.controllers + length before) third.0, third.1)
 
 -- the sendings fit
-pub list_fits : (plan : Contents) (before names : List (List ℕ)) → list_refusal plan before names ≡ None → sending_count plan.controllers + length before ≤ 512 → sending_count plan.controllers + length before + length names ≤ 512
+pub list_fits : (plan : Contents) (before names : List (List ℕ)) → list_refusal plan before names ≡ None → sending_count plan.controllers + length before ≤ MOST_SENDINGS → sending_count plan.controllers + length before + length names ≤ MOST_SENDINGS
 list_fits plan before [] none fits = omega (arith, fits)
 list_fits plan before (name ∷ names) none fits =
     let allowed = name_allowed plan before name names none in

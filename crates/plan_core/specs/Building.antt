@@ -5,11 +5,24 @@ use Rattle.std.specs.Map.{keys_of}
 use Rattle.std.specs.Str.{bytes_eq}
 use Rattle.message_tree.specs.Sizes.{frame_bytes, frame_nodes}
 use Rattle.message_tree.specs.Trees.{FrameTree}
+use Rattle.plan_core.specs.declared.limits.TheConstants.{MOST_MESSAGES, MOST_CONTROLLERS, MOST_INTERRUPTS, MOST_SENDINGS, MOST_BYTES, MOST_NODES}
 use Rattle.plan_core.specs.Contents.{Contents}
 use Rattle.plan_core.specs.Limits.{sending_count}
 use Rattle.plan_core.specs.Participants.{is_never}
 use Rattle.plan_core.specs.declared.builder.BuildError.{BuildError}
 use Rattle.plan_core.specs.declared.builder.BuildError.TheVariants.{Twice, Unknown, TooMany, TooLong, NoMemory}
+
+-- The answer of a call that may refuse: the refusal that is due; where none is due, it succeeds, or there is no memory.
+abbrev pub RefusesExactly : {T : Type 0} → Option BuildError → Result T BuildError → Type 0
+RefusesExactly (Some due) (Ok done) = ⊥
+RefusesExactly (Some due) (Err e) = e ≡ due
+RefusesExactly None (Ok done) = Unit {0}
+RefusesExactly None (Err e) = e ≡ NoMemory
+
+-- the first of two refusals, where there is one
+abbrev pub or_else : Option BuildError → Option BuildError → Option BuildError
+or_else (Some e) later = Some e
+or_else None later = later
 
 -- the number of the entry with this name
 abbrev pub number_of : {X : Type 0} → List ℕ → List (List ℕ × X) → Option ℕ
@@ -22,23 +35,23 @@ has_name name entries = is_some (number_of name entries)
 unfoldable pub message_name_refusal : Contents → List ℕ → Option BuildError
 message_name_refusal plan name =
     if has_name name plan.messages then Some Twice
-    else if nat_le 256 (length plan.messages) then Some TooMany
+    else if nat_le MOST_MESSAGES (length plan.messages) then Some TooMany
     else None
 
 -- the same of a controller, whatever its messages
 unfoldable pub controller_name_refusal : Contents → List ℕ → Option BuildError
 controller_name_refusal plan name =
     if has_name name plan.controllers then Some Twice
-    else if nat_le 32 (length plan.controllers) then Some TooMany
+    else if nat_le MOST_CONTROLLERS (length plan.controllers) then Some TooMany
     else None
 
--- why a message is refused: its name stands already, there are as many as there may be, or it is too long
+-- why a frame is refused: it has too many nodes, or a path with too many bytes
+unfoldable pub size_refusal : FrameTree → Option BuildError
+size_refusal frame = if nat_lt MOST_NODES (frame_nodes frame) || nat_lt MOST_BYTES (frame_bytes frame) then Some TooLong else None
+
+-- why a message is refused: for its name, or for its frame
 unfoldable pub message_refusal : Contents → List ℕ → FrameTree → Option BuildError
-message_refusal plan name frame =
-    if has_name name plan.messages then Some Twice
-    else if nat_le 256 (length plan.messages) then Some TooMany
-    else if nat_lt 256 (frame_bytes frame) || nat_lt 4096 (frame_nodes frame) then Some TooLong
-    else None
+message_refusal plan name frame = or_else (message_name_refusal plan name) (size_refusal frame)
 
 unfoldable pub with_message : Contents → List ℕ → FrameTree → Contents
 with_message plan name frame = record plan { messages = plan.messages ++ (name, frame) ∷ [] }
@@ -50,15 +63,12 @@ list_refusal plan before [] = None
 list_refusal plan before (name ∷ names) =
     if not (has_name name plan.messages) then Some Unknown
     else if list_any (λ other. bytes_eq other name) before then Some Twice
-    else if nat_le 512 (sending_count plan.controllers + length before) then Some TooMany
+    else if nat_le MOST_SENDINGS (sending_count plan.controllers + length before) then Some TooMany
     else list_refusal plan (before ++ name ∷ []) names
 
--- why a controller is refused: its name stands already, there are as many as there may be, or for its list
+-- why a controller is refused: for its name, or for its list
 unfoldable pub controller_refusal : Contents → List ℕ → List (List ℕ) → Option BuildError
-controller_refusal plan name messages =
-    if has_name name plan.controllers then Some Twice
-    else if nat_le 32 (length plan.controllers) then Some TooMany
-    else list_refusal plan [] messages
+controller_refusal plan name messages = or_else (controller_name_refusal plan name) (list_refusal plan [] messages)
 
 -- the numbers of the messages with these names
 abbrev pub numbers_of : Contents → List (List ℕ) → List ℕ
@@ -75,7 +85,7 @@ with_controller plan name messages = with_sender plan name (numbers_of plan mess
 unfoldable pub interrupt_refusal : Contents → List ℕ → Option BuildError
 interrupt_refusal plan name =
     if has_name name plan.interrupts then Some Twice
-    else if nat_le 32 (length plan.interrupts) then Some TooMany
+    else if nat_le MOST_INTERRUPTS (length plan.interrupts) then Some TooMany
     else None
 
 unfoldable pub with_interrupt : Contents → List ℕ → ℕ → Contents
@@ -98,10 +108,3 @@ controller_number plan name = unwrap_or (number_of name plan.controllers) 0
 
 unfoldable pub with_never : Contents → List ℕ → List ℕ → Contents
 with_never plan first second = record plan { nevers = plan.nevers ++ (controller_number plan first, controller_number plan second) ∷ [] }
-
--- where a refusal is due, the call answers it; where none is, it succeeds, or there is no memory
-abbrev pub Answers : {T : Type 0} → Option BuildError → Result T BuildError → Type 0
-Answers (Some due) (Ok done) = ⊥
-Answers (Some due) (Err e) = e ≡ due
-Answers None (Ok done) = Unit {0}
-Answers None (Err e) = e ≡ NoMemory

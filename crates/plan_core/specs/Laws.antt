@@ -5,6 +5,7 @@ use Rattle.message_tree.specs.declared.items.Item.TheVariants.{Claim}
 use Rattle.message_tree.specs.declared.items.Kind.{Kind}
 use Rattle.message_tree.specs.Items.{KindsClash}
 use Rattle.message_tree.specs.Sizes.{frame_bytes}
+use Rattle.plan_core.specs.declared.limits.TheConstants.{MOST_BYTES}
 use Rattle.plan_core.specs.Contents.{Contents}
 use Rattle.plan_core.specs.Lawful.{Set, In, pair}
 use Rattle.plan_core.specs.Rounds.{IsSlot, IsWire}
@@ -15,9 +16,9 @@ use Rattle.plan_core.specs.Faults.{OffersKind}
 abbrev pub IsNumbered : Contents → Type 0
 IsNumbered plan = All (λ controller. All (λ m. m < length plan.messages) controller.1) plan.controllers
 
--- no path of a message has more than 256 bytes
+-- no path of a message has more bytes than it may have
 abbrev pub IsShort : Contents → Type 0
-IsShort plan = All (λ message. frame_bytes message.1 ≤ 256) plan.messages
+IsShort plan = All (λ message. frame_bytes message.1 ≤ MOST_BYTES) plan.messages
 
 -- no interrupt has claimed
 abbrev pub NoClaim : List Item → Type 0

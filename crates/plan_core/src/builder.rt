@@ -1,7 +1,7 @@
 // How a plan is put together.
 #![tactic(auto, unfolding(crate::specs::BuilderContents::builder_contents, crate::specs::PlanContents::plan_contents, crate::specs::Parts::contents_of))]
 
-ghost use Rattle.std.specs.Prelude.{◌≡◌, ◌%◌, ◌≤◌, [], ◌∷◌, ◌++◌, length, map, position, ℕ, List, ◌<◌, None, OnOk, OnErr, IfOk, IfErr};
+ghost use Rattle.std.specs.Prelude.{◌≡◌, ◌%◌, ◌≤◌, [], ◌∷◌, ◌++◌, length, map, position, ℕ, List, ◌<◌, None, OnOk, OnErr, IfOk};
 ghost use Rattle.std.specs.List.{range_with_len};
 ghost use Rattle.std.specs.Str.{bytes_eq};
 ghost use Rattle.indexmap.specs.IndexMap.{index_map_len, keys};
@@ -9,11 +9,12 @@ ghost use Rattle.message_tree.specs.Trees.{frame_tree};
 ghost use Rattle.plan_core.specs.Contents.{empty};
 ghost use Rattle.plan_core.specs.NameBytes.{name_bytes};
 ghost use Rattle.plan_core.specs.declared.builder.BuildError.TheVariants.{NoMemory};
-ghost use Rattle.plan_core.specs.Building.{Answers, number_of, numbers_of, has_name, message_name_refusal, message_refusal, with_message, controller_name_refusal, controller_refusal, list_refusal, with_controller, with_sender, interrupt_refusal, with_interrupt, never_refusal, with_never};
+ghost use Rattle.plan_core.specs.Building.{RefusesExactly, number_of, numbers_of, has_name, message_name_refusal, message_refusal, with_message, controller_name_refusal, controller_refusal, list_refusal, with_controller, with_sender, interrupt_refusal, with_interrupt, never_refusal, with_never};
 ghost use Rattle.plan_core.specs.Limits.{sending_count};
 ghost use Rattle.plan_core.specs.Participants.{participants_of};
 ghost use Rattle.plan_core.specs.declared.plans.Participant.TheVariants.{Sending, Interrupt};
 
+use crate::limits::{MOST_BYTES, MOST_CONTROLLERS, MOST_INTERRUPTS, MOST_MESSAGES, MOST_NODES, MOST_SENDINGS};
 use crate::names::Name;
 use crate::pairs::{PairTable, is_never};
 use crate::plans::{Participant, Plan};
@@ -77,14 +78,30 @@ impl Builder {
     /// `Twice` where a message has this name, then `TooMany` where there are 256 messages, then `TooLong` where `frame`
     /// has more than 256 bytes on a path or more than 4096 nodes, then `NoMemory`.
     pub fn message(&mut self, name: Name, frame: Frame) -> Result<(), BuildError>
-        ensures answer { Answers (message_refusal (builder_contents self.old) (name_bytes name) (frame_tree frame)) result }
+        ensures answer { RefusesExactly (message_refusal (builder_contents self.old) (name_bytes name) (frame_tree frame)) result }
         ensures added { OnOk result (builder_contents self.new ≡ with_message (builder_contents self.old) (name_bytes name) (frame_tree frame)) }
         ensures unchanged { OnErr result (builder_contents self.new ≡ builder_contents self.old) }
     {
         match self.plan.message_refusal(&name, &frame) {
             Some(refusal) => Err(refusal),
-            None => self.plan.add_message(name, frame),
+            None => {
+                self.add_message(name, frame)?;
+                Ok(())
+            }
         }
+    }
+
+    /// Adds a message that is not refused, as `message` does, without asking again.
+    ///
+    /// # Errors
+    ///
+    /// Where memory is refused. The builder is then as it was.
+    pub fn add_message(&mut self, name: Name, frame: Frame) -> Result<(), AllocError>
+        requires { message_refusal (builder_contents self.old) (name_bytes name) (frame_tree frame) ≡ None }
+        ensures added { OnOk result (builder_contents self.new ≡ with_message (builder_contents self.old) (name_bytes name) (frame_tree frame)) }
+        ensures unchanged { OnErr result (builder_contents self.new ≡ builder_contents self.old) }
+    {
+        self.plan.add_message(name, frame)
     }
 
     /// Why a message of this name would be refused, whatever its frame: `Twice` where a message has this name, then
@@ -103,14 +120,30 @@ impl Builder {
     /// turn `Unknown` where there is no such message, `Twice` where the name stands before in `messages`, and `TooMany`
     /// where the plan would have more than 512 sendings. At last `NoMemory`.
     pub fn controller(&mut self, name: Name, messages: &[Name]) -> Result<(), BuildError>
-        ensures answer { Answers (controller_refusal (builder_contents self.old) (name_bytes name) (map name_bytes messages.now)) result }
+        ensures answer { RefusesExactly (controller_refusal (builder_contents self.old) (name_bytes name) (map name_bytes messages.now)) result }
         ensures added { OnOk result (builder_contents self.new ≡ with_controller (builder_contents self.old) (name_bytes name) (map name_bytes messages.now)) }
         ensures unchanged { OnErr result (builder_contents self.new ≡ builder_contents self.old) }
     {
         match self.plan.controller_refusal(&name, messages) {
             Some(refusal) => Err(refusal),
-            None => self.plan.add_controller(self.alloc, name, messages),
+            None => {
+                self.add_controller(name, messages)?;
+                Ok(())
+            }
         }
+    }
+
+    /// Adds a controller that is not refused, as `controller` does, without asking again.
+    ///
+    /// # Errors
+    ///
+    /// Where memory is refused. The builder is then as it was.
+    pub fn add_controller(&mut self, name: Name, messages: &[Name]) -> Result<(), AllocError>
+        requires { controller_refusal (builder_contents self.old) (name_bytes name) (map name_bytes messages.now) ≡ None }
+        ensures added { OnOk result (builder_contents self.new ≡ with_controller (builder_contents self.old) (name_bytes name) (map name_bytes messages.now)) }
+        ensures unchanged { OnErr result (builder_contents self.new ≡ builder_contents self.old) }
+    {
+        self.plan.add_controller(self.alloc, name, messages)
     }
 
     /// Why a controller of this name would be refused, whatever its messages: `Twice` where a controller has this name,
@@ -143,14 +176,30 @@ impl Builder {
     ///
     /// `Twice` where an interrupt has this name, then `TooMany` where there are 32 interrupts, then `NoMemory`.
     pub fn interrupt(&mut self, name: Name, address: u8) -> Result<(), BuildError>
-        ensures answer { Answers (interrupt_refusal (builder_contents self.old) (name_bytes name)) result }
+        ensures answer { RefusesExactly (interrupt_refusal (builder_contents self.old) (name_bytes name)) result }
         ensures added { OnOk result (builder_contents self.new ≡ with_interrupt (builder_contents self.old) (name_bytes name) (address % 128)) }
         ensures unchanged { OnErr result (builder_contents self.new ≡ builder_contents self.old) }
     {
         match self.plan.interrupt_refusal(&name) {
             Some(refusal) => Err(refusal),
-            None => self.plan.add_interrupt(self.alloc, name, address % 128),
+            None => {
+                self.add_interrupt(name, address)?;
+                Ok(())
+            }
         }
+    }
+
+    /// Adds an interrupt that is not refused, as `interrupt` does, without asking again.
+    ///
+    /// # Errors
+    ///
+    /// Where memory is refused. The builder is then as it was.
+    pub fn add_interrupt(&mut self, name: Name, address: u8) -> Result<(), AllocError>
+        requires { interrupt_refusal (builder_contents self.old) (name_bytes name) ≡ None }
+        ensures added { OnOk result (builder_contents self.new ≡ with_interrupt (builder_contents self.old) (name_bytes name) (address % 128)) }
+        ensures unchanged { OnErr result (builder_contents self.new ≡ builder_contents self.old) }
+    {
+        self.plan.add_interrupt(self.alloc, name, address % 128)
     }
 
     /// Why an interrupt of this name would be refused, whatever its address: `Twice` where an interrupt has this name,
@@ -169,14 +218,30 @@ impl Builder {
     /// no controller has the name `second`, then `Twice` where the two stand together already, in either order, then
     /// `NoMemory`.
     pub fn never(&mut self, first: &Name, second: &Name) -> Result<(), BuildError>
-        ensures answer { Answers (never_refusal (builder_contents self.old) (name_bytes first.now) (name_bytes second.now)) result }
+        ensures answer { RefusesExactly (never_refusal (builder_contents self.old) (name_bytes first.now) (name_bytes second.now)) result }
         ensures added { OnOk result (builder_contents self.new ≡ with_never (builder_contents self.old) (name_bytes first.now) (name_bytes second.now)) }
         ensures unchanged { OnErr result (builder_contents self.new ≡ builder_contents self.old) }
     {
         match self.plan.never_refusal(first, second) {
             Some(refusal) => Err(refusal),
-            None => self.plan.add_never(self.alloc, first, second),
+            None => {
+                self.add_never(first, second)?;
+                Ok(())
+            }
         }
+    }
+
+    /// Adds a `never` that is not refused, as `never` does, without asking again.
+    ///
+    /// # Errors
+    ///
+    /// Where memory is refused. The builder is then as it was.
+    pub fn add_never(&mut self, first: &Name, second: &Name) -> Result<(), AllocError>
+        requires { never_refusal (builder_contents self.old) (name_bytes first.now) (name_bytes second.now) ≡ None }
+        ensures added { OnOk result (builder_contents self.new ≡ with_never (builder_contents self.old) (name_bytes first.now) (name_bytes second.now)) }
+        ensures unchanged { OnErr result (builder_contents self.new ≡ builder_contents self.old) }
+    {
+        self.plan.add_never(self.alloc, first, second)
     }
 
     /// Why a `never` of these two would be refused: `Unknown` where no controller has the name `first`, then `Twice` where
@@ -224,7 +289,7 @@ impl Plan {
     {
         if self.message_number(name).is_some() {
             Some(BuildError::Twice)
-        } else if self.messages() >= 256 {
+        } else if self.messages() >= MOST_MESSAGES {
             Some(BuildError::TooMany)
         } else {
             None
@@ -232,22 +297,23 @@ impl Plan {
     }
 
     // Why this message is refused, apart from want of memory.
-    #[tactic(auto, unfolding(crate::specs::Building::message_refusal, crate::specs::Building::message_name_refusal))]
+    #[tactic(auto, unfolding(crate::specs::Building::message_refusal, crate::specs::Building::message_name_refusal, crate::specs::Building::size_refusal))]
     fn message_refusal(&self, name: &Name, frame: &Frame) -> Option<BuildError>
         ensures { result ≡ message_refusal (plan_contents self.now) (name_bytes name.now) (frame_tree frame.now) }
     {
         match self.message_name_refusal(name) {
             Some(refusal) => Some(refusal),
-            None if frame.longest() > 256 || frame.nodes() > 4096 => Some(BuildError::TooLong),
+            None if frame.room_left(MOST_NODES).is_none() || frame.longest() > MOST_BYTES => {
+                Some(BuildError::TooLong)
+            }
             None => None,
         }
     }
 
-    fn add_message(&mut self, name: Name, frame: Frame) -> Result<(), BuildError>
+    fn add_message(&mut self, name: Name, frame: Frame) -> Result<(), AllocError>
         requires { message_refusal (plan_contents self.old) (name_bytes name) (frame_tree frame) ≡ None }
         ensures added { OnOk result (plan_contents self.new ≡ with_message (plan_contents self.old) (name_bytes name) (frame_tree frame)) }
         ensures unchanged { OnErr result (plan_contents self.new ≡ plan_contents self.old) }
-        ensures memory { IfErr result (λ e. e ≡ BuildError.NoMemory) }
     {
         push_entry(&mut self.messages, name, frame)?;
         Ok(())
@@ -260,7 +326,7 @@ impl Plan {
     {
         if self.controller_number(name).is_some() {
             Some(BuildError::Twice)
-        } else if self.controllers() >= 32 {
+        } else if self.controllers() >= MOST_CONTROLLERS {
             Some(BuildError::TooMany)
         } else {
             None
@@ -298,7 +364,7 @@ impl Plan {
             Some(BuildError::Unknown)
         } else if before.contains(name) {
             Some(BuildError::Twice)
-        } else if self.sendings() + before.len() >= 512 {
+        } else if self.sendings() + before.len() >= MOST_SENDINGS as usize {
             Some(BuildError::TooMany)
         } else {
             None
@@ -317,11 +383,10 @@ impl Plan {
         alloc: Global,
         name: Name,
         messages: &[Name],
-    ) -> Result<(), BuildError>
+    ) -> Result<(), AllocError>
         requires { controller_refusal (plan_contents self.old) (name_bytes name) (map name_bytes messages.now) ≡ None }
         ensures added { OnOk result (plan_contents self.new ≡ with_controller (plan_contents self.old) (name_bytes name) (map name_bytes messages.now)) }
         ensures unchanged { OnErr result (plan_contents self.new ≡ plan_contents self.old) }
-        ensures memory { IfErr result (λ e. e ≡ BuildError.NoMemory) }
     {
         let numbers = self.numbers_of(alloc, messages)?;
         let participants = self.participants_with(alloc, &numbers)?;
@@ -366,19 +431,18 @@ impl Plan {
     {
         if self.interrupt_number(name).is_some() {
             Some(BuildError::Twice)
-        } else if self.interrupts() >= 32 {
+        } else if self.interrupts() >= MOST_INTERRUPTS {
             Some(BuildError::TooMany)
         } else {
             None
         }
     }
 
-    fn add_interrupt(&mut self, alloc: Global, name: Name, address: u8) -> Result<(), BuildError>
+    fn add_interrupt(&mut self, alloc: Global, name: Name, address: u8) -> Result<(), AllocError>
         requires allowed { interrupt_refusal (plan_contents self.old) (name_bytes name) ≡ None }
         requires address { address < 128 }
         ensures added { OnOk result (plan_contents self.new ≡ with_interrupt (plan_contents self.old) (name_bytes name) address) }
         ensures unchanged { OnErr result (plan_contents self.new ≡ plan_contents self.old) }
-        ensures memory { IfErr result (λ e. e ≡ BuildError.NoMemory) }
     {
         let interrupt = Participant::Interrupt(self.interrupts());
         let participants = copied_with(alloc, &self.participants, interrupt)?;
@@ -405,11 +469,10 @@ impl Plan {
         }
     }
 
-    fn add_never(&mut self, alloc: Global, first: &Name, second: &Name) -> Result<(), BuildError>
+    fn add_never(&mut self, alloc: Global, first: &Name, second: &Name) -> Result<(), AllocError>
         requires { never_refusal (plan_contents self.old) (name_bytes first.now) (name_bytes second.now) ≡ None }
         ensures added { OnOk result (plan_contents self.new ≡ with_never (plan_contents self.old) (name_bytes first.now) (name_bytes second.now)) }
         ensures unchanged { OnErr result (plan_contents self.new ≡ plan_contents self.old) }
-        ensures memory { IfErr result (λ e. e ≡ BuildError.NoMemory) }
     {
         let c = self.controller_number(first).unwrap();
         let d = self.controller_number(second).unwrap();
@@ -431,7 +494,7 @@ impl From<AllocError> for BuildError {
 
 // The number of the entry with this name.
 fn index_of<V>(entries: &IndexMap<Name, V>, name: &Name) -> Option<u32>
-    requires { index_map_len entries.now ≤ 256 }
+    requires { index_map_len entries.now ≤ MOST_MESSAGES }
     ensures { result ≡ position (bytes_eq (name_bytes name.now)) (map name_bytes (keys entries.now)) }
 {
     match entries.get_index_of(name) {

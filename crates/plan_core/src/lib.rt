@@ -4,6 +4,7 @@
 pub mod builder;
 mod labels;
 pub mod laws;
+pub mod limits;
 pub mod names;
 pub mod pair_laws;
 mod pairs;

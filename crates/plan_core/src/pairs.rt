@@ -7,6 +7,7 @@ ghost use Rattle.plan_core.specs.declared.plans.Participant.{Participant};
 ghost use Rattle.plan_core.specs.PairTables.{apart_in, partners_in};
 ghost use Rattle.plan_core.specs.Participants.{names_both, one_controller};
 
+use crate::limits::MOST_PARTICIPANTS;
 use crate::plans::Participant;
 use std::alloc::{AllocError, Global};
 
@@ -49,7 +50,7 @@ impl PairTable {
         participants: &[Participant],
         nevers: &[(u32, u32)],
     ) -> Result<PairTable, AllocError>
-        requires { length participants.now ≤ 544 }
+        requires { length participants.now ≤ MOST_PARTICIPANTS }
         ensures { IfOk result (IsPairTable nevers.now participants.now) }
     {
         let mut table = PairTable::empty(alloc);
@@ -66,7 +67,7 @@ impl PairTable {
         nevers: &[(u32, u32)],
         x: usize,
     ) -> Result<(), AllocError>
-        requires few { length participants.now ≤ 544 }
+        requires few { length participants.now ≤ MOST_PARTICIPANTS }
         requires within { x < length participants.now }
         requires below { IsTableBelow nevers.now participants.now x self.old }
         ensures { OnOk result (IsTableBelow nevers.now participants.now (x + 1) self.new) }
@@ -84,7 +85,7 @@ impl PairTable {
         nevers: &[(u32, u32)],
         x: usize,
     ) -> Result<Row, AllocError>
-        requires few { length participants.now ≤ 544 }
+        requires few { length participants.now ≤ MOST_PARTICIPANTS }
         requires within { x < length participants.now }
         requires below { IsTableBelow nevers.now participants.now x self.old }
         ensures row { IfOk result (IsRow nevers.now participants.now self.new.partners.items x) }
@@ -129,7 +130,7 @@ fn push_partners(
     nevers: &[(u32, u32)],
     x: usize,
 ) -> Result<(), AllocError>
-    requires few { length participants.now ≤ 544 }
+    requires few { length participants.now ≤ MOST_PARTICIPANTS }
     requires within { x < length participants.now }
     ensures { OnOk result (all.new.items ≡ all.old.items ++ partners_in nevers.now participants.now x) }
 {

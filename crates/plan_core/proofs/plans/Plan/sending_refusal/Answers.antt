@@ -32,22 +32,22 @@ returns-then-contains c =
     let twice = among c.args.before.now name true (sym c.if-contains.true ∙ c.contains.ensures.value) in
     answer plan before name true true (nat_le 512 (sending_count plan.controllers + length before)) known twice (λ i. nat_le 512 (sending_count plan.controllers + length before))
 
-pub returns-then-sendings-before-ge512 : goal.returns-then-sendings-before-ge512
-returns-then-sendings-before-ge512 c =
+pub returns-then-sendings-before : goal.returns-then-sendings-before
+returns-then-sendings-before c =
     let plan = plan_contents c.args.self.now in
     let before = map name_bytes c.args.before.now in
     let name = name_bytes c.args.name.now in
     let known : has_name name plan.messages ≡ true = ap is_some (sym c.message_number.ensures) ∙ c.if-is_none.ensures in
     let fresh = among c.args.before.now name false (sym c.if-contains.false ∙ c.contains.ensures.value) in
-    let many : 512 ≤ sending_count plan.controllers + length before = omega (arith, length-map {B = List ℕ} c.args.before.now name_bytes, c.if-sendings-before-ge512.true, c.sendings.ensures) in
+    let many : 512 ≤ sending_count plan.controllers + length before = omega (arith, length-map {B = List ℕ} c.args.before.now name_bytes, c.if-sendings-before.true, c.sendings.ensures) in
     answer plan before name true false true known fresh (le-leb 512 (sending_count plan.controllers + length before) many)
 
-pub returns-else-sendings-before-ge512 : goal.returns-else-sendings-before-ge512
-returns-else-sendings-before-ge512 c =
+pub returns-else-sendings-before : goal.returns-else-sendings-before
+returns-else-sendings-before c =
     let plan = plan_contents c.args.self.now in
     let before = map name_bytes c.args.before.now in
     let name = name_bytes c.args.name.now in
     let known : has_name name plan.messages ≡ true = ap is_some (sym c.message_number.ensures) ∙ c.if-is_none.ensures in
     let fresh = among c.args.before.now name false (sym c.if-contains.false ∙ c.contains.ensures.value) in
-    let few : sending_count plan.controllers + length before < 512 = omega (arith, length-map {B = List ℕ} c.args.before.now name_bytes, c.if-sendings-before-ge512.false, c.sendings.ensures) in
+    let few : sending_count plan.controllers + length before < 512 = omega (arith, length-map {B = List ℕ} c.args.before.now name_bytes, c.if-sendings-before.false, c.sendings.ensures) in
     answer plan before name true false false known fresh (lt-leb 512 (sending_count plan.controllers + length before) few)
