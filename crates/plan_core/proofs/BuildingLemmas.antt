@@ -110,21 +110,21 @@ limits-message plan name frame limits is none =
     let allowed = message_allowed plan name frame none in
     let size = length_push plan.messages (name, frame) in
     record {
-      message_names = AreNames-keys plan.messages name frame limits.message_names is allowed.0;
-      controller_names = limits.controller_names;
-      interrupt_names = limits.interrupt_names;
-      message_count = omega (arith, size, allowed.1);
-      controller_count = limits.controller_count;
-      interrupt_count = limits.interrupt_count;
-      sendings = limits.sendings;
-      bytes = All-push (λ (m : List ℕ × FrameTree). frame_bytes m.1 ≤ MOST_BYTES) plan.messages (name, frame) limits.bytes allowed.2;
-      nodes = All-push (λ (m : List ℕ × FrameTree). frame_nodes m.1 ≤ MOST_NODES) plan.messages (name, frame) limits.nodes allowed.3;
-      known = λ c d h k e g. omega (arith, size, limits.known c d h k e g);
-      once = limits.once;
-      addresses = limits.addresses;
-      never_known = limits.never_known;
-      never_two = limits.never_two;
-      never_once = limits.never_once;
+      messages = record {
+        names = AreNames-keys plan.messages name frame limits.messages.names is allowed.0;
+        count = omega (arith, size, allowed.1);
+        bytes = All-push (λ (m : List ℕ × FrameTree). frame_bytes m.1 ≤ MOST_BYTES) plan.messages (name, frame) limits.messages.bytes allowed.2;
+        nodes = All-push (λ (m : List ℕ × FrameTree). frame_nodes m.1 ≤ MOST_NODES) plan.messages (name, frame) limits.messages.nodes allowed.3;
+      };
+      controllers = record {
+        names = limits.controllers.names;
+        count = limits.controllers.count;
+        sendings = limits.controllers.sendings;
+        known = λ c d h k e g. omega (arith, size, limits.controllers.known c d h k e g);
+        once = limits.controllers.once;
+      };
+      interrupts = limits.interrupts;
+      nevers = limits.nevers;
     }
 
 pub interrupt_allowed : (plan : Contents) (name : List ℕ) → interrupt_refusal plan name ≡ None → (number_of name plan.interrupts ≡ None) × (length plan.interrupts < MOST_INTERRUPTS)
@@ -140,21 +140,14 @@ limits-interrupt plan name address limits is small none =
     let allowed = interrupt_allowed plan name none in
     let size = length_push plan.interrupts (name, address) in
     record {
-      message_names = limits.message_names;
-      controller_names = limits.controller_names;
-      interrupt_names = AreNames-keys plan.interrupts name address limits.interrupt_names is allowed.0;
-      message_count = limits.message_count;
-      controller_count = limits.controller_count;
-      interrupt_count = omega (arith, size, allowed.1);
-      sendings = limits.sendings;
-      bytes = limits.bytes;
-      nodes = limits.nodes;
-      known = limits.known;
-      once = limits.once;
-      addresses = All-push (λ (t : List ℕ × ℕ). t.1 < ADDRESSES) plan.interrupts (name, address) limits.addresses small;
-      never_known = limits.never_known;
-      never_two = limits.never_two;
-      never_once = limits.never_once;
+      messages = limits.messages;
+      controllers = limits.controllers;
+      interrupts = record {
+        names = AreNames-keys plan.interrupts name address limits.interrupts.names is allowed.0;
+        count = omega (arith, size, allowed.1);
+        addresses = All-push (λ (t : List ℕ × ℕ). t.1 < ADDRESSES) plan.interrupts (name, address) limits.interrupts.addresses small;
+      };
+      nevers = limits.nevers;
     }
 
 -- the call that answers a refusal
@@ -294,23 +287,22 @@ limits-controller plan name names limits is none =
     let numbers = numbers_of plan names in
     let size = length_push plan.controllers (name, numbers) in
     let sendings = sum_by_push (λ (c : List ℕ × List ℕ). length c.1) plan.controllers (name, numbers) in
-    let fits = list_fits plan [] names allowed.2 (omega (arith, limits.sendings)) in
+    let fits = list_fits plan [] names allowed.2 (omega (arith, limits.controllers.sendings)) in
     record {
-      message_names = limits.message_names;
-      controller_names = AreNames-keys plan.controllers name numbers limits.controller_names is allowed.0;
-      interrupt_names = limits.interrupt_names;
-      message_count = limits.message_count;
-      controller_count = omega (arith, size, allowed.1);
-      interrupt_count = limits.interrupt_count;
-      sendings = omega (arith, sendings, fits, length-numbers_of plan names);
-      bytes = limits.bytes;
-      nodes = limits.nodes;
-      known = All-push (λ (c : List ℕ × List ℕ). All (λ k. k < length plan.messages) c.1) plan.controllers (name, numbers) limits.known (numbers_known plan names);
-      once = All-push (λ (c : List ℕ × List ℕ). AllPairs ◌≢◌ c.1) plan.controllers (name, numbers) limits.once (numbers_once plan [] names allowed.2);
-      addresses = limits.addresses;
-      never_known = λ n d h. (omega (arith, size, (limits.never_known n d h).0), omega (arith, size, (limits.never_known n d h).1));
-      never_two = limits.never_two;
-      never_once = limits.never_once;
+      messages = limits.messages;
+      controllers = record {
+        names = AreNames-keys plan.controllers name numbers limits.controllers.names is allowed.0;
+        count = omega (arith, size, allowed.1);
+        sendings = omega (arith, sendings, fits, length-numbers_of plan names);
+        known = All-push (λ (c : List ℕ × List ℕ). All (λ k. k < length plan.messages) c.1) plan.controllers (name, numbers) limits.controllers.known (numbers_known plan names);
+        once = All-push (λ (c : List ℕ × List ℕ). AllPairs ◌≢◌ c.1) plan.controllers (name, numbers) limits.controllers.once (numbers_once plan [] names allowed.2);
+      };
+      interrupts = limits.interrupts;
+      nevers = record {
+        known = λ n d h. (omega (arith, size, (limits.nevers.known n d h).0), omega (arith, size, (limits.nevers.known n d h).1));
+        two = limits.nevers.two;
+        once = limits.nevers.once;
+      };
     }
 
 -- why a `never` is allowed
@@ -358,22 +350,15 @@ limits-never plan first second limits none =
     let is_c : controller_number plan first ≡ allowed.c = ap (λ o. unwrap_or o 0) allowed.at_first in
     let is_d : controller_number plan second ≡ allowed.d = ap (λ o. unwrap_or o 0) allowed.at_second in
     record {
-      message_names = limits.message_names;
-      controller_names = limits.controller_names;
-      interrupt_names = limits.interrupt_names;
-      message_count = limits.message_count;
-      controller_count = limits.controller_count;
-      interrupt_count = limits.interrupt_count;
-      sendings = limits.sendings;
-      bytes = limits.bytes;
-      nodes = limits.nodes;
-      known = limits.known;
-      once = limits.once;
-      addresses = limits.addresses;
-      never_known = All-push (λ (n : ℕ × ℕ). (n.0 < length plan.controllers) × (n.1 < length plan.controllers)) plan.nevers never limits.never_known
-          (omega (arith, is_c, number_within first plan.controllers allowed.c allowed.at_first), omega (arith, is_d, number_within second plan.controllers allowed.d allowed.at_second));
-      never_two = All-push (λ (n : ℕ × ℕ). n.0 ≢ n.1) plan.nevers never limits.never_two (λ same. allowed.two (sym is_c ∙ same ∙ is_d));
-      never_once = all_pairs_push (λ (m n : ℕ × ℕ). names_both m.0 m.1 n ≡ false) plan.nevers never limits.never_once
-          (λ k e h. names_both-turned (controller_number plan first) (controller_number plan second) (get_or plan.nevers k e).0 (get_or plan.nevers k e).1
-          (ap (λ c. names_both c (controller_number plan second) (get_or plan.nevers k e)) is_c ∙ ap (λ d. names_both allowed.c d (get_or plan.nevers k e)) is_d ∙ none_names allowed.c allowed.d plan.nevers allowed.new k e h));
+      messages = limits.messages;
+      controllers = limits.controllers;
+      interrupts = limits.interrupts;
+      nevers = record {
+        known = All-push (λ (n : ℕ × ℕ). (n.0 < length plan.controllers) × (n.1 < length plan.controllers)) plan.nevers never limits.nevers.known
+            (omega (arith, is_c, number_within first plan.controllers allowed.c allowed.at_first), omega (arith, is_d, number_within second plan.controllers allowed.d allowed.at_second));
+        two = All-push (λ (n : ℕ × ℕ). n.0 ≢ n.1) plan.nevers never limits.nevers.two (λ same. allowed.two (sym is_c ∙ same ∙ is_d));
+        once = all_pairs_push (λ (m n : ℕ × ℕ). names_both m.0 m.1 n ≡ false) plan.nevers never limits.nevers.once
+            (λ k e h. names_both-turned (controller_number plan first) (controller_number plan second) (get_or plan.nevers k e).0 (get_or plan.nevers k e).1
+            (ap (λ c. names_both c (controller_number plan second) (get_or plan.nevers k e)) is_c ∙ ap (λ d. names_both allowed.c d (get_or plan.nevers k e)) is_d ∙ none_names allowed.c allowed.d plan.nevers allowed.new k e h));
+      };
     }

@@ -36,7 +36,7 @@ participant_count-is plan =
     ∙ omega (arith, length-sendings_from 0 plan.controllers, length-map {B = Participant} (range_with_len 0 (length plan.interrupts)) Interrupt, length-range_with_len 0 (length plan.interrupts))
 
 pub participant_count-few : (plan : Contents) → IsWithinLimits plan → participant_count plan ≤ 544
-participant_count-few plan limits = omega (arith, participant_count-is plan, limits.sendings, limits.interrupt_count)
+participant_count-few plan limits = omega (arith, participant_count-is plan, limits.controllers.sendings, limits.interrupts.count)
 
 apart_in-is : (plan : Contents) (p q : Option Participant) → one_controller p q || forbids_both plan p q ≡ apart_in plan.nevers p q
 apart_in-is plan None q = refl
@@ -78,7 +78,7 @@ pub nevers_few : (plan : Contents) → IsWithinLimits plan → length plan.never
 unfolding code_of
 nevers_few plan limits =
     let codes = map code_of plan.nevers in
-    let below : All (λ k. k < 1024) codes = All-map (λ k. k < 1024) code_of plan.nevers (λ k d h. omega (arith, limits.never_known k d h, limits.controller_count)) in
+    let below : All (λ k. k < 1024) codes = All-map (λ k. k < 1024) code_of plan.nevers (λ k d h. omega (arith, limits.nevers.known k d h, limits.controllers.count)) in
     let apart : AllPairs (λ x y. x ≢ y) codes = λ i j d lt within same. differ i j lt (omega (arith, length-map plan.nevers code_of, within)) (sym (code_at i d (omega (arith, length-map plan.nevers code_of, within))) ∙ same ∙ code_at j d (omega (arith, length-map plan.nevers code_of, within))) in
     omega (arith, length-map plan.nevers code_of, length-le_from_distinct_below codes 1024 (IsDistinct-from_AllPairs Decides-eqb codes apart) (λ q h. below_from_any codes 1024 q below h))
   where
@@ -92,29 +92,37 @@ nevers_few plan limits =
     differ i j lt within same =
         let m = get_or plan.nevers i none in
         let n = get_or plan.nevers j none in
-        let known_m = limits.never_known i none (omega arith) in
-        let known_n = limits.never_known j none within in
-        let first : n.0 ≡ m.0 = omega (arith, same, known_m, known_n, limits.controller_count) in
-        let second : n.1 ≡ m.1 = omega (arith, same, known_m, known_n, limits.controller_count) in
-        true≢false (sym (ap (λ b. b || (eqb n.0 m.1 && eqb n.1 m.0)) (ap (λ b. b && eqb n.1 m.1) (eq-eqb n.0 m.0 first) ∙ eq-eqb n.1 m.1 second)) ∙ limits.never_once i j none lt within)
+        let known_m = limits.nevers.known i none (omega arith) in
+        let known_n = limits.nevers.known j none within in
+        let first : n.0 ≡ m.0 = omega (arith, same, known_m, known_n, limits.controllers.count) in
+        let second : n.1 ≡ m.1 = omega (arith, same, known_m, known_n, limits.controllers.count) in
+        true≢false (sym (ap (λ b. b || (eqb n.0 m.1 && eqb n.1 m.0)) (ap (λ b. b && eqb n.1 m.1) (eq-eqb n.0 m.0 first) ∙ eq-eqb n.1 m.1 second)) ∙ limits.nevers.once i j none lt within)
 
 pub empty_within : IsWithinLimits empty
 empty_within = record {
-  message_names = record { formed = λ k d h. absurd (omega arith); distinct = λ i j d lt h. absurd (omega arith) };
-  controller_names = record { formed = λ k d h. absurd (omega arith); distinct = λ i j d lt h. absurd (omega arith) };
-  interrupt_names = record { formed = λ k d h. absurd (omega arith); distinct = λ i j d lt h. absurd (omega arith) };
-  message_count = omega arith;
-  controller_count = omega arith;
-  interrupt_count = omega arith;
-  sendings = omega arith;
-  bytes = λ k d h. absurd (omega arith);
-  nodes = λ k d h. absurd (omega arith);
-  known = λ k d h. absurd (omega arith);
-  once = λ k d h. absurd (omega arith);
-  addresses = λ k d h. absurd (omega arith);
-  never_known = λ k d h. absurd (omega arith);
-  never_two = λ k d h. absurd (omega arith);
-  never_once = λ i j d lt h. absurd (omega arith);
+  messages = record {
+    names = record { formed = λ k d h. absurd (omega arith); distinct = λ i j d lt h. absurd (omega arith) };
+    count = omega arith;
+    bytes = λ k d h. absurd (omega arith);
+    nodes = λ k d h. absurd (omega arith);
+  };
+  controllers = record {
+    names = record { formed = λ k d h. absurd (omega arith); distinct = λ i j d lt h. absurd (omega arith) };
+    count = omega arith;
+    sendings = omega arith;
+    known = λ k d h. absurd (omega arith);
+    once = λ k d h. absurd (omega arith);
+  };
+  interrupts = record {
+    names = record { formed = λ k d h. absurd (omega arith); distinct = λ i j d lt h. absurd (omega arith) };
+    count = omega arith;
+    addresses = λ k d h. absurd (omega arith);
+  };
+  nevers = record {
+    known = λ k d h. absurd (omega arith);
+    two = λ k d h. absurd (omega arith);
+    once = λ i j d lt h. absurd (omega arith);
+  };
 }
 
 pub contents_of-empty : {Z : Type 0} (messages : List (Name × Frame)) (controllers : List (Name × Vec ℕ Z)) (interrupts : List (Name × ℕ)) (nevers : List (ℕ × ℕ)) → messages ≡ [] → controllers ≡ [] → interrupts ≡ [] → nevers ≡ [] → contents_of messages controllers interrupts nevers ≡ empty
@@ -159,5 +167,5 @@ known_interrupts plan = All-map (IsKnown plan) Interrupt (range_with_len 0 (leng
 
 pub participant_known : (plan : Contents) → IsWithinLimits plan → (x : ℕ) (p : Participant) → slice_get (participants_of plan) x ≡ Some p → IsKnown plan p
 participant_known plan limits x p at =
-    let all = All-append (IsKnown plan) (sendings_from 0 plan.controllers) (map Interrupt (range_with_len 0 (length plan.interrupts))) (known_sendings plan 0 plan.controllers (omega arith) limits.known) (known_interrupts plan) in
+    let all = All-append (IsKnown plan) (sendings_from 0 plan.controllers) (map Interrupt (range_with_len 0 (length plan.interrupts))) (known_sendings plan 0 plan.controllers (omega arith) limits.controllers.known) (known_interrupts plan) in
     subst (IsKnown plan) (get_or_from_slice_get (participants_of plan) x p p at) (all x p (slice_get_within (participants_of plan) x p at))

@@ -15,7 +15,7 @@ holds_at P (y ∷ xs) (suc k) x h e = holds_at P xs k x h.1 e
 pub never_known : (plan : Plan) (k : ℕ) (n : ℕ × ℕ) → slice_get (plan_contents plan).nevers k ≡ Some n → (n.0 < length (plan_contents plan).controllers) × (n.1 < length (plan_contents plan).controllers)
 never_known plan k n e =
     let P : ℕ × ℕ → Type 0 = λ m. (m.0 < length (plan_contents plan).controllers) × (m.1 < length (plan_contents plan).controllers) in
-    holds_at P (plan_contents plan).nevers k n (recursion_from_All P (plan_contents plan).nevers (limits_of plan).never_known) e
+    holds_at P (plan_contents plan).nevers k n (recursion_from_All P (plan_contents plan).nevers (limits_of plan).nevers.known) e
 
 value_holds_at : (P : List ℕ → Type 0) (xs : List (List ℕ × List ℕ)) (k : ℕ) (v : List ℕ) → AllByRecursion (λ c. P c.1) xs → slice_get (values_of xs) k ≡ Some v → P v
 value_holds_at P [] k v h e = cc
@@ -25,4 +25,4 @@ value_holds_at P (x ∷ xs) (suc k) v h e = value_holds_at P xs k v h.1 e
 pub messages_known : (plan : Plan) (k : ℕ) (ms : List ℕ) → slice_get (values_of (plan_contents plan).controllers) k ≡ Some ms → All (λ m. m < length (plan_contents plan).messages) ms
 messages_known plan k ms e =
     let P : List ℕ → Type 0 = All (λ m. m < length (plan_contents plan).messages) in
-    value_holds_at P (plan_contents plan).controllers k ms (recursion_from_All (λ c. P c.1) (plan_contents plan).controllers (limits_of plan).known) e
+    value_holds_at P (plan_contents plan).controllers k ms (recursion_from_All (λ c. P c.1) (plan_contents plan).controllers (limits_of plan).controllers.known) e

@@ -70,16 +70,16 @@ module _ {X : Type 0} (entries : List (List ℕ × X)) (are : AreNames (keys_of 
 -- participants with one label are one
 label_is : (plan : Contents) → IsWithinLimits plan → (p q : Participant) → IsKnown plan p → IsKnown plan q → participant_label plan (Some p) ≡ participant_label plan (Some q) → p ≡ q
 label_is plan limits (Sending c m) (Sending d n) kp kq same =
-    let words = λ (k : ℕ) (h : k < length plan.controllers). (name_word (name_at plan.controllers k) (name_is plan.controllers limits.controller_names k h)).1 in
+    let words = λ (k : ℕ) (h : k < length plan.controllers). (name_word (name_at plan.controllers k) (name_is plan.controllers limits.controllers.names k h)).1 in
     let parts = parts_of_label (name_at plan.controllers c) (name_at plan.controllers d) (name_at plan.messages m) (name_at plan.messages n) (words c kp.0) (words d kq.0) same in
-    λ i. Sending (number_is plan.controllers limits.controller_names c d kp.0 kq.0 parts.0 i) (number_is plan.messages limits.message_names m n kp.1 kq.1 parts.1 i)
+    λ i. Sending (number_is plan.controllers limits.controllers.names c d kp.0 kq.0 parts.0 i) (number_is plan.messages limits.messages.names m n kp.1 kq.1 parts.1 i)
 label_is plan limits (Sending c m) (Interrupt k) kp kq same =
-    absurd (no_mark (name_at plan.controllers c) (name_at plan.messages m) (name_at plan.interrupts k) (name_word (name_at plan.controllers c) (name_is plan.controllers limits.controller_names c kp.0)).0 same)
+    absurd (no_mark (name_at plan.controllers c) (name_at plan.messages m) (name_at plan.interrupts k) (name_word (name_at plan.controllers c) (name_is plan.controllers limits.controllers.names c kp.0)).0 same)
 label_is plan limits (Interrupt k) (Sending c m) kp kq same =
-    absurd (no_mark (name_at plan.controllers c) (name_at plan.messages m) (name_at plan.interrupts k) (name_word (name_at plan.controllers c) (name_is plan.controllers limits.controller_names c kq.0)).0 (sym same))
+    absurd (no_mark (name_at plan.controllers c) (name_at plan.messages m) (name_at plan.interrupts k) (name_word (name_at plan.controllers c) (name_is plan.controllers limits.controllers.names c kq.0)).0 (sym same))
 label_is plan limits (Interrupt j) (Interrupt k) kp kq same =
     let names : name_at plan.interrupts j ≡ name_at plan.interrupts k = cc in
-    ap Interrupt (number_is plan.interrupts limits.interrupt_names j k kp kq names)
+    ap Interrupt (number_is plan.interrupts limits.interrupts.names j k kp kq names)
 
 -- each participant stands once
 controller_from : ℕ → Participant → Type 0
@@ -110,7 +110,7 @@ participants_once : (plan : Contents) → IsWithinLimits plan → AllPairs ◌�
 unfolding controller_from
 participants_once plan limits =
     let interrupts = map Interrupt (range_with_len 0 (length plan.interrupts)) in
-    AllPairs-append ◌≢◌ (sendings_from 0 plan.controllers) interrupts (sendings_once 0 plan.controllers limits.once) (interrupts_once (length plan.interrupts))
+    AllPairs-append ◌≢◌ (sendings_from 0 plan.controllers) interrupts (sendings_once 0 plan.controllers limits.controllers.once) (interrupts_once (length plan.interrupts))
     (All-weaker (controller_from 0) (λ p. All (λ q. p ≢ q) interrupts)
     (λ p is. All-map (λ q. p ≢ q) Interrupt (range_with_len 0 (length plan.interrupts)) (λ k d h same. subst (controller_from 0) same is))
     (sendings_from 0 plan.controllers) (sendings_above 0 0 plan.controllers (omega arith)))

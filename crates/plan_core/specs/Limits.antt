@@ -3,6 +3,7 @@ use Rattle.std.specs.Prelude.{◌≡◌, ◌≢◌, ℕ, ◌<◌, ◌≤◌, fal
 use Rattle.std.specs.List.{sum_by}
 use Rattle.std.specs.Map.{keys_of}
 use Rattle.message_tree.specs.Sizes.{frame_bytes, frame_nodes}
+use Rattle.message_tree.specs.Trees.{FrameTree}
 use Rattle.plan_core.specs.declared.limits.TheConstants.{MOST_MESSAGES, MOST_CONTROLLERS, MOST_INTERRUPTS, MOST_SENDINGS, MOST_BYTES, MOST_NODES, ADDRESSES}
 use Rattle.plan_core.specs.Contents.{Contents}
 use Rattle.plan_core.specs.Names.{IsName}
@@ -19,25 +20,37 @@ pub record AreNames (names : List (List ℕ)) : Type 0 where
 abbrev pub sending_count : List (List ℕ × List ℕ) → ℕ
 sending_count controllers = sum_by (λ c. length c.1) controllers
 
-pub record IsWithinLimits (plan : Contents) : Type 0 where
-  pub message_names : AreNames (keys_of plan.messages)
-  pub controller_names : AreNames (keys_of plan.controllers)
-  pub interrupt_names : AreNames (keys_of plan.interrupts)
-  pub message_count : length plan.messages ≤ MOST_MESSAGES
-  pub controller_count : length plan.controllers ≤ MOST_CONTROLLERS
-  pub interrupt_count : length plan.interrupts ≤ MOST_INTERRUPTS
-  pub sendings : sending_count plan.controllers ≤ MOST_SENDINGS
+pub record MessagesFit (messages : List (List ℕ × FrameTree)) : Type 0 where
+  pub names : AreNames (keys_of messages)
+  pub count : length messages ≤ MOST_MESSAGES
   -- the bytes on one path of a message, and its nodes
-  pub bytes : All (λ m. frame_bytes m.1 ≤ MOST_BYTES) plan.messages
-  pub nodes : All (λ m. frame_nodes m.1 ≤ MOST_NODES) plan.messages
-  -- a controller sends messages of the plan, each once
-  pub known : All (λ c. All (λ k. k < length plan.messages) c.1) plan.controllers
-  pub once : All (λ c. AllPairs ◌≢◌ c.1) plan.controllers
-  pub addresses : All (λ t. t.1 < ADDRESSES) plan.interrupts
-  -- a `never` names two controllers of the plan, and no other one names the same two
-  pub never_known : All (λ n. (n.0 < length plan.controllers) × (n.1 < length plan.controllers)) plan.nevers
-  pub never_two : All (λ n. n.0 ≢ n.1) plan.nevers
-  pub never_once : AllPairs (λ m n. names_both m.0 m.1 n ≡ false) plan.nevers
+  pub bytes : All (λ m. frame_bytes m.1 ≤ MOST_BYTES) messages
+  pub nodes : All (λ m. frame_nodes m.1 ≤ MOST_NODES) messages
+
+-- a controller sends messages of the plan, by their numbers, each once
+pub record ControllersFit (message_count : ℕ) (controllers : List (List ℕ × List ℕ)) : Type 0 where
+  pub names : AreNames (keys_of controllers)
+  pub count : length controllers ≤ MOST_CONTROLLERS
+  pub sendings : sending_count controllers ≤ MOST_SENDINGS
+  pub known : All (λ c. All (λ k. k < message_count) c.1) controllers
+  pub once : All (λ c. AllPairs ◌≢◌ c.1) controllers
+
+pub record InterruptsFit (interrupts : List (List ℕ × ℕ)) : Type 0 where
+  pub names : AreNames (keys_of interrupts)
+  pub count : length interrupts ≤ MOST_INTERRUPTS
+  pub addresses : All (λ t. t.1 < ADDRESSES) interrupts
+
+-- a `never` names two controllers of the plan, by their numbers, and no other one names the same two
+pub record NeversFit (controller_count : ℕ) (nevers : List (ℕ × ℕ)) : Type 0 where
+  pub known : All (λ n. (n.0 < controller_count) × (n.1 < controller_count)) nevers
+  pub two : All (λ n. n.0 ≢ n.1) nevers
+  pub once : AllPairs (λ m n. names_both m.0 m.1 n ≡ false) nevers
+
+pub record IsWithinLimits (plan : Contents) : Type 0 where
+  pub messages : MessagesFit plan.messages
+  pub controllers : ControllersFit (length plan.messages) plan.controllers
+  pub interrupts : InterruptsFit plan.interrupts
+  pub nevers : NeversFit (length plan.controllers) plan.nevers
 
 -- what the participant names stands in the plan
 abbrev pub IsKnown : Contents → Participant → Type 0

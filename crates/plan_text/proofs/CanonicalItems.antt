@@ -124,25 +124,25 @@ module _ (plan : Contents) (limits : IsWithinLimits plan) where
     pub message_fits : message_refusal (up_to_messages before) x.0 x.1 ≡ None
     unfolding message_refusal
     message_fits =
-        let bytes : frame_bytes x.1 ≤ 256 = All-here before x after plan.messages split (λ m. frame_bytes m.1 ≤ 256) limits.bytes in
-        let nodes : frame_nodes x.1 ≤ 4096 = All-here before x after plan.messages split (λ m. frame_nodes m.1 ≤ 4096) limits.nodes in
+        let bytes : frame_bytes x.1 ≤ 256 = All-here before x after plan.messages split (λ m. frame_bytes m.1 ≤ 256) limits.messages.bytes in
+        let nodes : frame_nodes x.1 ≤ 4096 = All-here before x after plan.messages split (λ m. frame_nodes m.1 ≤ 4096) limits.messages.nodes in
         let sizes : (if nat_lt 256 (frame_bytes x.1) || nat_lt 4096 (frame_nodes x.1) then Some TooLong else None) ≡ None = rw (le-ltb _ _ bytes, le-ltb _ _ nodes) refl in
-        passed (number_of x.0 before) 256 (length before) _ (new_name before x after plan.messages split limits.message_names) (omega (arith, within before x after plan.messages split, limits.message_count)) sizes
+        passed (number_of x.0 before) 256 (length before) _ (new_name before x after plan.messages split limits.messages.names) (omega (arith, within before x after plan.messages split, limits.messages.count)) sizes
 
     pub message_adds : up_to_messages (before ++ (x ∷ [])) ≡ with_message (up_to_messages before) x.0 x.1
     unfolding with_message
     message_adds = refl
 
     pub message_named : IsName x.0
-    message_named = named before x after plan.messages split limits.message_names
+    message_named = named before x after plan.messages split limits.messages.names
 
   -- interrupts
   module _ (before : List (List ℕ × ℕ)) (x : List ℕ × ℕ) (after : List (List ℕ × ℕ)) (split : before ++ (x ∷ after) ≡ plan.interrupts) where
     pub interrupt_fits : (interrupt_refusal (up_to_interrupts plan before) x.0 ≡ None) × (x.1 < 128)
     unfolding interrupt_refusal
     interrupt_fits = (
-      passed (number_of x.0 before) 32 (length before) None (new_name before x after plan.interrupts split limits.interrupt_names) (omega (arith, within before x after plan.interrupts split, limits.interrupt_count)) refl,
-      All-here before x after plan.interrupts split (λ t. t.1 < 128) limits.addresses,
+      passed (number_of x.0 before) 32 (length before) None (new_name before x after plan.interrupts split limits.interrupts.names) (omega (arith, within before x after plan.interrupts split, limits.interrupts.count)) refl,
+      All-here before x after plan.interrupts split (λ t. t.1 < 128) limits.interrupts.addresses,
     )
 
     pub interrupt_adds : up_to_interrupts plan (before ++ (x ∷ [])) ≡ with_interrupt (up_to_interrupts plan before) x.0 x.1
@@ -150,12 +150,12 @@ module _ (plan : Contents) (limits : IsWithinLimits plan) where
     interrupt_adds = refl
 
     pub interrupt_named : IsName x.0
-    interrupt_named = named before x after plan.interrupts split limits.interrupt_names
+    interrupt_named = named before x after plan.interrupts split limits.interrupts.names
 
   -- controllers
   module _ (before : List (List ℕ × List ℕ)) (x : List ℕ × List ℕ) (after : List (List ℕ × List ℕ)) (split : before ++ (x ∷ after) ≡ plan.controllers) where
     known : All (λ k. k < length plan.messages) x.1
-    known = All-here before x after plan.controllers split (λ c. All (λ k. k < length plan.messages) c.1) limits.known
+    known = All-here before x after plan.controllers split (λ c. All (λ k. k < length plan.messages) c.1) limits.controllers.known
 
     list_passes : (done todo : List ℕ) → done ++ todo ≡ x.1 → list_refusal (up_to_controllers plan before) (map (name_at plan.messages) done) (map (name_at plan.messages) todo) ≡ None
     list_passes done [] e = refl
@@ -163,27 +163,27 @@ module _ (plan : Contents) (limits : IsWithinLimits plan) where
         let name = name_at plan.messages k in
         let names = map (name_at plan.messages) done in
         let is_known : k < length plan.messages = All-here done k ks x.1 e (λ n. n < length plan.messages) known in
-        let old : not (has_name name plan.messages) ≡ false = ap (λ o. not (is_some o)) (number_at plan.messages k limits.message_names is_known) in
+        let old : not (has_name name plan.messages) ≡ false = ap (λ o. not (is_some o)) (number_at plan.messages k limits.messages.names is_known) in
         let before_known = All-before done k ks x.1 e (λ n. n < length plan.messages) known in
-        let others = AllPairs-here done k ks x.1 e ◌≢◌ (All-here before x after plan.controllers split (λ c. AllPairs ◌≢◌ c.1) limits.once) in
+        let others = AllPairs-here done k ks x.1 e ◌≢◌ (All-here before x after plan.controllers split (λ c. AllPairs ◌≢◌ c.1) limits.controllers.once) in
         let new : list_any (λ other. bytes_eq other name) names ≡ false =
         none_passes (λ other. bytes_eq other name) names (All-map (λ other. bytes_eq other name ≡ false) (name_at plan.messages) done
-        (λ j d h. not_equal (name_at plan.messages (get_or done j d)) name (names_differ plan.messages (get_or done j d) k limits.message_names (before_known j d h) is_known (others j d h)))) in
+        (λ j d h. not_equal (name_at plan.messages (get_or done j d)) name (names_differ plan.messages (get_or done j d) k limits.messages.names (before_known j d h) is_known (others j d h)))) in
         let sends : sending_count plan.controllers ≡ sending_count before + (length x.1 + sending_count after) = sym (ap sending_count split) ∙ sum_by-append (λ c. length c.1) before (x ∷ after) ∙ ap (λ n. sending_count before + n) (sum_by-cons (λ c. length c.1) x after) in
         let few : nat_le 512 (sending_count before + length names) ≡ false =
-        lt-leb 512 (sending_count before + length names) (omega (arith, sends, limits.sendings, length-map done (name_at plan.messages), length-append done (k ∷ ks), ap length e)) in
+        lt-leb 512 (sending_count before + length names) (omega (arith, sends, limits.controllers.sendings, length-map done (name_at plan.messages), length-append done (k ∷ ks), ap length e)) in
         let more = list_passes (done ++ (k ∷ [])) ks (append_assoc done (k ∷ []) ks ∙ e) in
         rw (old, new, few) (subst (λ l. list_refusal (up_to_controllers plan before) l (map (name_at plan.messages) ks) ≡ None) (map-append (name_at plan.messages) done (k ∷ [])) more)
 
     pub controller_fits : controller_refusal (up_to_controllers plan before) x.0 (map (name_at plan.messages) x.1) ≡ None
     unfolding controller_refusal
     controller_fits =
-        passed (number_of x.0 before) 32 (length before) _ (new_name before x after plan.controllers split limits.controller_names) (omega (arith, within before x after plan.controllers split, limits.controller_count)) (list_passes [] x.1 refl)
+        passed (number_of x.0 before) 32 (length before) _ (new_name before x after plan.controllers split limits.controllers.names) (omega (arith, within before x after plan.controllers split, limits.controllers.count)) (list_passes [] x.1 refl)
 
     numbers_same : (numbers : List ℕ) → All (λ k. k < length plan.messages) numbers → numbers_of (up_to_controllers plan before) (map (name_at plan.messages) numbers) ≡ numbers
     numbers_same [] all = refl
     numbers_same (k ∷ ks) all =
-        let here = number_at plan.messages k limits.message_names (All-head (λ n. n < length plan.messages) k ks all) in
+        let here = number_at plan.messages k limits.messages.names (All-head (λ n. n < length plan.messages) k ks all) in
         ap (λ o. cons_option o (numbers_of (up_to_controllers plan before) (map (name_at plan.messages) ks))) here
         ∙ ap (λ l. k ∷ l) (numbers_same ks (All-tail (λ n. n < length plan.messages) k ks all))
 
@@ -192,28 +192,28 @@ module _ (plan : Contents) (limits : IsWithinLimits plan) where
     controller_adds = ap (λ numbers. up_to_controllers plan (before ++ ((x.0, numbers) ∷ []))) (sym (numbers_same x.1 known))
 
     pub controller_named : IsName x.0
-    controller_named = named before x after plan.controllers split limits.controller_names
+    controller_named = named before x after plan.controllers split limits.controllers.names
 
     pub sent_named : All IsName (map (name_at plan.messages) x.1)
-    sent_named = All-map IsName (name_at plan.messages) x.1 (λ j d h. name_at-is plan.messages (get_or x.1 j d) limits.message_names (known j d h))
+    sent_named = All-map IsName (name_at plan.messages) x.1 (λ j d h. name_at-is plan.messages (get_or x.1 j d) limits.messages.names (known j d h))
 
   -- nevers
   module _ (before : List (ℕ × ℕ)) (x : ℕ × ℕ) (after : List (ℕ × ℕ)) (split : before ++ (x ∷ after) ≡ plan.nevers) where
     both_known : (x.0 < length plan.controllers) × (x.1 < length plan.controllers)
-    both_known = All-here before x after plan.nevers split (λ n. (n.0 < length plan.controllers) × (n.1 < length plan.controllers)) limits.never_known
+    both_known = All-here before x after plan.nevers split (λ n. (n.0 < length plan.controllers) × (n.1 < length plan.controllers)) limits.nevers.known
 
     first_number : number_of (name_at plan.controllers x.0) plan.controllers ≡ Some x.0
-    first_number = number_at plan.controllers x.0 limits.controller_names both_known.0
+    first_number = number_at plan.controllers x.0 limits.controllers.names both_known.0
 
     second_number : number_of (name_at plan.controllers x.1) plan.controllers ≡ Some x.1
-    second_number = number_at plan.controllers x.1 limits.controller_names both_known.1
+    second_number = number_at plan.controllers x.1 limits.controllers.names both_known.1
 
     pub never_fits : never_refusal (up_to_nevers plan before) (name_at plan.controllers x.0) (name_at plan.controllers x.1) ≡ None
     unfolding never_refusal
     never_fits =
-        let two = All-here before x after plan.nevers split (λ n. n.0 ≢ n.1) limits.never_two in
-        let differ = not_equal (name_at plan.controllers x.0) (name_at plan.controllers x.1) (names_differ plan.controllers x.0 x.1 limits.controller_names both_known.0 both_known.1 two) in
-        let others = AllPairs-here before x after plan.nevers split (λ m n. names_both m.0 m.1 n ≡ false) limits.never_once in
+        let two = All-here before x after plan.nevers split (λ n. n.0 ≢ n.1) limits.nevers.two in
+        let differ = not_equal (name_at plan.controllers x.0) (name_at plan.controllers x.1) (names_differ plan.controllers x.0 x.1 limits.controllers.names both_known.0 both_known.1 two) in
+        let others = AllPairs-here before x after plan.nevers split (λ m n. names_both m.0 m.1 n ≡ false) limits.nevers.once in
         let new : is_never (up_to_nevers plan before) x.0 x.1 ≡ false = none_passes (names_both x.0 x.1) before (λ j d h. turned (get_or before j d) x (others j d h)) in
         rw (first_number, differ, second_number, new) refl
 
@@ -222,4 +222,4 @@ module _ (plan : Contents) (limits : IsWithinLimits plan) where
     never_adds = λ i. up_to_nevers plan (before ++ ((unwrap_or (sym first_number i) 0, unwrap_or (sym second_number i) 0) ∷ []))
 
     pub both_named : IsName (name_at plan.controllers x.0) × IsName (name_at plan.controllers x.1)
-    both_named = (name_at-is plan.controllers x.0 limits.controller_names both_known.0, name_at-is plan.controllers x.1 limits.controller_names both_known.1)
+    both_named = (name_at-is plan.controllers x.0 limits.controllers.names both_known.0, name_at-is plan.controllers x.1 limits.controllers.names both_known.1)
