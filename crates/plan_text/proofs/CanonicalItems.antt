@@ -11,8 +11,10 @@ use Rattle.std.proofs.lemmas.List.Elements.{All-head, All-tail, All-map}
 use Rattle.std.proofs.lemmas.List.Sums.{position_or_len_is, sum_by-append, sum_by-cons}
 use Rattle.message_tree.specs.Sizes.{frame_bytes, frame_nodes}
 use Rattle.message_tree.specs.Trees.{FrameTree}
+use Rattle.plan_core.proofs.BuildingLemmas as building
 use Rattle.plan_core.proofs.BuildingLemmas.{bytes_eq-same, same-bytes_eq}
-use Rattle.plan_core.specs.Building.{number_of, has_name, message_refusal, with_message, controller_refusal, list_refusal, numbers_of, with_controller, with_sender, interrupt_refusal, with_interrupt, never_refusal, with_never}
+use Rattle.plan_core.specs.declared.limits.TheConstants.{MOST_MESSAGES, MOST_CONTROLLERS, MOST_BYTES, MOST_NODES}
+use Rattle.plan_core.specs.Building.{number_of, has_name, message_name_refusal, message_refusal, with_message, controller_name_refusal, controller_refusal, list_refusal, numbers_of, with_controller, with_sender, interrupt_refusal, with_interrupt, never_refusal, with_never}
 use Rattle.plan_core.specs.Contents.{Contents}
 use Rattle.plan_core.specs.Labels.{name_at}
 use Rattle.plan_core.specs.Limits.{AreNames, IsWithinLimits, sending_count}
@@ -121,13 +123,15 @@ up_to_nevers plan nevers = record { messages = plan.messages; controllers = plan
 module _ (plan : Contents) (limits : IsWithinLimits plan) where
   -- messages
   module _ (before : List (List ℕ × FrameTree)) (x : List ℕ × FrameTree) (after : List (List ℕ × FrameTree)) (split : before ++ (x ∷ after) ≡ plan.messages) where
+    message_name_fits : message_name_refusal (up_to_messages before) x.0 ≡ None
+    unfolding message_name_refusal
+    message_name_fits = passed (number_of x.0 before) MOST_MESSAGES (length before) None (new_name before x after plan.messages split limits.messages.names) (omega (arith, within before x after plan.messages split, limits.messages.count)) refl
+
     pub message_fits : message_refusal (up_to_messages before) x.0 x.1 ≡ None
-    unfolding message_refusal
     message_fits =
-        let bytes : frame_bytes x.1 ≤ 256 = All-here before x after plan.messages split (λ m. frame_bytes m.1 ≤ 256) limits.messages.bytes in
-        let nodes : frame_nodes x.1 ≤ 4096 = All-here before x after plan.messages split (λ m. frame_nodes m.1 ≤ 4096) limits.messages.nodes in
-        let sizes : (if nat_lt 256 (frame_bytes x.1) || nat_lt 4096 (frame_nodes x.1) then Some TooLong else None) ≡ None = rw (le-ltb _ _ bytes, le-ltb _ _ nodes) refl in
-        passed (number_of x.0 before) 256 (length before) _ (new_name before x after plan.messages split limits.messages.names) (omega (arith, within before x after plan.messages split, limits.messages.count)) sizes
+        let bytes : frame_bytes x.1 ≤ MOST_BYTES = All-here before x after plan.messages split (λ m. frame_bytes m.1 ≤ MOST_BYTES) limits.messages.bytes in
+        let nodes : frame_nodes x.1 ≤ MOST_NODES = All-here before x after plan.messages split (λ m. frame_nodes m.1 ≤ MOST_NODES) limits.messages.nodes in
+        building.message_fits (up_to_messages before) x.0 x.1 message_name_fits bytes nodes
 
     pub message_adds : up_to_messages (before ++ (x ∷ [])) ≡ with_message (up_to_messages before) x.0 x.1
     unfolding with_message
@@ -175,10 +179,13 @@ module _ (plan : Contents) (limits : IsWithinLimits plan) where
         let more = list_passes (done ++ (k ∷ [])) ks (append_assoc done (k ∷ []) ks ∙ e) in
         rw (old, new, few) (subst (λ l. list_refusal (up_to_controllers plan before) l (map (name_at plan.messages) ks) ≡ None) (map-append (name_at plan.messages) done (k ∷ [])) more)
 
+    controller_name_fits : controller_name_refusal (up_to_controllers plan before) x.0 ≡ None
+    unfolding controller_name_refusal
+    controller_name_fits =
+        passed (number_of x.0 before) MOST_CONTROLLERS (length before) None (new_name before x after plan.controllers split limits.controllers.names) (omega (arith, within before x after plan.controllers split, limits.controllers.count)) refl
+
     pub controller_fits : controller_refusal (up_to_controllers plan before) x.0 (map (name_at plan.messages) x.1) ≡ None
-    unfolding controller_refusal
-    controller_fits =
-        passed (number_of x.0 before) 32 (length before) _ (new_name before x after plan.controllers split limits.controllers.names) (omega (arith, within before x after plan.controllers split, limits.controllers.count)) (list_passes [] x.1 refl)
+    controller_fits = building.controller_fits (up_to_controllers plan before) x.0 (map (name_at plan.messages) x.1) controller_name_fits (list_passes [] x.1 refl)
 
     numbers_same : (numbers : List ℕ) → All (λ k. k < length plan.messages) numbers → numbers_of (up_to_controllers plan before) (map (name_at plan.messages) numbers) ≡ numbers
     numbers_same [] all = refl

@@ -10,6 +10,7 @@ use Rattle.message_tree.specs.Trees.{FrameTree}
 use Rattle.plan_core.specs.Contents.{Contents, empty}
 use Rattle.plan_core.specs.Limits.{sending_count}
 use Rattle.plan_core.specs.Names.{is_name}
+use Rattle.plan_core.proofs.BuildingLemmas.{message_fits, controller_fits}
 use Rattle.plan_core.specs.Building.{has_name, message_name_refusal, controller_name_refusal, message_refusal, list_refusal, controller_refusal, interrupt_refusal, never_refusal}
 use Rattle.plan_core.specs.declared.builder.BuildError.{BuildError}
 use Rattle.plan_text.specs.declared.errors.PlanError.{PlanError}
@@ -97,23 +98,6 @@ address_there plan more (next (word bytes) line rest) h = address_by (is_known_a
 address_there plan more (next token line rest) h = absurd cc
 
 -- ---- what a builder takes
-
-within_limits : (bytes nodes : ℕ) → bytes ≤ 256 → nodes ≤ 4096 → (nat_lt 256 bytes || nat_lt 4096 nodes) ≡ false
-within_limits bytes nodes path room = grind (arith, nat_tests)
-
-message_fits : (plan : Contents) (name : List ℕ) (f : FrameTree) → message_name_refusal plan name ≡ None → frame_bytes f ≤ 256 → frame_nodes f ≤ 4096 → message_refusal plan name f ≡ None
-unfolding message_refusal message_name_refusal
-message_fits plan name f h path room =
-    let twice = if_none (has_name name plan.messages) _ _ h in
-    let many = if_none (nat_le 256 (length plan.messages)) _ _ twice.1 in
-    rw (twice.0, many.0, within_limits (frame_bytes f) (frame_nodes f) path room) refl
-
-controller_fits : (plan : Contents) (name : List ℕ) (names : List (List ℕ)) → controller_name_refusal plan name ≡ None → list_refusal plan [] names ≡ None → controller_refusal plan name names ≡ None
-unfolding controller_refusal controller_name_refusal
-controller_fits plan name names h list =
-    let twice = if_none (has_name name plan.controllers) _ _ h in
-    let many = if_none (nat_le 32 (length plan.controllers)) _ _ twice.1 in
-    rw (twice.0, many.0) list
 
 list_fits : (plan : Contents) (before : List (List ℕ)) (name : List ℕ) (names : List (List ℕ)) → list_refusal plan before (name ∷ []) ≡ None → list_refusal plan (before ++ name ∷ []) names ≡ None →
     list_refusal plan before (name ∷ names) ≡ None

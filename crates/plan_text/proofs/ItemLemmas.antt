@@ -14,6 +14,7 @@ use Rattle.std.proofs.lemmas.List.{append-nil}
 use Rattle.message_tree.specs.Bits.{bit_from}
 use Rattle.message_tree.specs.Sizes.{frame_bytes, frame_nodes}
 use Rattle.message_tree.specs.Trees.{FrameTree}
+use Rattle.plan_core.proofs.BuildingLemmas.{message_fits, controller_fits}
 use Rattle.plan_core.specs.Building.{message_refusal, message_name_refusal, with_message, controller_refusal, controller_name_refusal, list_refusal, with_controller, interrupt_refusal, with_interrupt, never_refusal, with_never, has_name}
 use Rattle.plan_core.specs.Contents.{Contents}
 use Rattle.plan_core.specs.Names.{IsName, is_name, is_name_byte}
@@ -34,10 +35,6 @@ use Rattle.plan_text.specs.Words.{is_known_bit, is_known_address}
 -- ---- what a call answers
 
 module _ (X : Type 0) where
-  pub added_then : (r : Result (Unit {0}) PlanError) (s : Result (Unit {0}) BuildError) → IfOk r (λ it. s ≡ Ok it) → OnOk s X → OnOk r X
-  added_then (Ok it) s e h = subst (λ (q : Result (Unit {0}) BuildError). OnOk q X) e h
-  added_then (Err e) s is h = tt
-
   pub on_ok : (Y : Type 0) {E T : Type 0} (r : Result T E) → (X → Y) → OnOk r X → OnOk r Y
   on_ok Y (Ok it) f h = f h
   on_ok Y (Err e) f h = tt
@@ -88,18 +85,6 @@ list_more plan before (n ∷ names) name first second =
 
 -- ---- a message
 
-pub message_fits : (plan : Contents) (name : List ℕ) (f : FrameTree) → message_name_refusal plan name ≡ None → frame_bytes f ≤ 256 → frame_nodes f ≤ 4096 → message_refusal plan name f ≡ None
-unfolding message_refusal message_name_refusal
-message_fits plan name f allowed bytes nodes = by (has_name name plan.messages) (nat_le 256 (length plan.messages)) allowed
-  where
-    none : (nat_lt 256 (frame_bytes f) || nat_lt 4096 (frame_nodes f)) ≡ false
-    none = rw (le-ltb _ _ bytes, le-ltb _ _ nodes) refl
-
-    by : (old many : Bool) → (if old then Some Twice else if many then Some TooMany else None) ≡ None → (if old then Some Twice else if many then Some TooMany else if (nat_lt 256 (frame_bytes f) || nat_lt 4096 (frame_nodes f)) then Some TooLong else None) ≡ None
-    by true many h = absurd cc
-    by false true h = absurd cc
-    by false false h = rw none refl
-
 pub message_read : (plan whole : Contents) (name : List ℕ) (f : FrameTree) (n line : ℕ) (t0 t1 t2 t3 : Tokens) → t0 ≡ next (word name) line t1 → IsName name → message_name_refusal plan name ≡ None
     → FrameRead 0 f (record { tokens = t1; nodes = 0 }) (record { tokens = t2; nodes = n }) → n ≤ 4096 → (l : ℕ) × (t2 ≡ next semicolon l t3) → whole ≡ with_message plan name f → (version : Version) → RestRead keywords.Message version plan t0 whole t3
 message_read plan whole name f n line t0 t1 t2 t3 named is allowed framed fits ended added version start l begun =
@@ -111,15 +96,6 @@ message_read plan whole name f n line t0 t1 t2 t3 named is allowed framed fits e
     }
 
 -- ---- a controller
-
-pub controller_fits : (plan : Contents) (name : List ℕ) (names : List (List ℕ)) → controller_name_refusal plan name ≡ None → list_refusal plan [] names ≡ None → controller_refusal plan name names ≡ None
-unfolding controller_refusal controller_name_refusal
-controller_fits plan name names allowed known = by (has_name name plan.controllers) (nat_le 32 (length plan.controllers)) allowed
-  where
-    by : (old many : Bool) → (if old then Some Twice else if many then Some TooMany else None) ≡ None → (if old then Some Twice else if many then Some TooMany else list_refusal plan [] names) ≡ None
-    by true many h = absurd cc
-    by false true h = absurd cc
-    by false false h = known
 
 pub controller_read : (plan whole : Contents) (name : List ℕ) (names : List (List ℕ)) (line : ℕ) (t0 t1 t2 t3 : Tokens) → t0 ≡ next (word name) line t1 → IsName name → controller_name_refusal plan name ≡ None
     → SpellsNames names t1 t2 → list_refusal plan [] names ≡ None → (l : ℕ) × (t2 ≡ next semicolon l t3) → whole ≡ with_controller plan name names → (version : Version) → RestRead keywords.Controller version plan t0 whole t3

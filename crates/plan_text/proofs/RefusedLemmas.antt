@@ -10,6 +10,7 @@ use Rattle.message_tree.specs.Sizes.{frame_bytes, payload_bytes, tail_bytes, fra
 use Rattle.message_tree.specs.Trees.{FrameTree, write, read, PayloadTree, byte, last, TailTree, stop, again}
 use Rattle.plan_core.specs.Contents.{Contents}
 use Rattle.plan_core.specs.Limits.{sending_count}
+use Rattle.plan_core.proofs.BuildingLemmas.{message_parts, controller_parts, size_allowed}
 use Rattle.plan_core.specs.Building.{has_name, message_name_refusal, controller_name_refusal, message_refusal, list_refusal, controller_refusal, never_refusal, two_refusal}
 use Rattle.plan_core.specs.declared.builder.BuildError.{BuildError}
 use Rattle.plan_text.specs.declared.errors.PlanError.{PlanError}
@@ -81,34 +82,6 @@ pub if_none : (t : Bool) (cause : BuildError) (more : Option BuildError) → (if
 if_none true cause more h = absurd cc
 if_none false cause more h = (refl, h)
 
-record MessageTaken (plan : Contents) (name : List ℕ) (f : FrameTree) : Type 0 where
-  by_name : message_name_refusal plan name ≡ None
-  path : frame_bytes f ≤ 256
-  room : frame_nodes f ≤ 4096
-
-limits_kept : (bytes nodes : ℕ) → (nat_lt 256 bytes || nat_lt 4096 nodes) ≡ false → (bytes ≤ 256) × (nodes ≤ 4096)
-limits_kept bytes nodes h = (grind (arith, nat_tests), grind (arith, nat_tests))
-
-message_taken : (plan : Contents) (name : List ℕ) (f : FrameTree) → message_refusal plan name f ≡ None → MessageTaken plan name f
-unfolding message_refusal message_name_refusal
-message_taken plan name f h =
-    let twice = if_none (has_name name plan.messages) _ _ h in
-    let many = if_none (nat_le 256 (length plan.messages)) _ _ twice.1 in
-    let long = if_none _ _ _ many.1 in
-    let kept = limits_kept (frame_bytes f) (frame_nodes f) long.0 in
-    record { by_name = rw (twice.0, many.0) refl; path = kept.0; room = kept.1 }
-
-record ControllerTaken (plan : Contents) (name : List ℕ) (names : List (List ℕ)) : Type 0 where
-  by_name : controller_name_refusal plan name ≡ None
-  by_list : list_refusal plan [] names ≡ None
-
-controller_taken : (plan : Contents) (name : List ℕ) (names : List (List ℕ)) → controller_refusal plan name names ≡ None → ControllerTaken plan name names
-unfolding controller_refusal controller_name_refusal
-controller_taken plan name names h =
-    let twice = if_none (has_name name plan.controllers) _ _ h in
-    let many = if_none (nat_le 32 (length plan.controllers)) _ _ twice.1 in
-    record { by_name = rw (twice.0, many.0) refl; by_list = many.1 }
-
 list_taken : (plan : Contents) (before : List (List ℕ)) (name : List ℕ) (names : List (List ℕ)) → list_refusal plan before (name ∷ names) ≡ None →
     (list_refusal plan before (name ∷ []) ≡ None) × (list_refusal plan (before ++ name ∷ []) names ≡ None)
 list_taken plan before name names h =
@@ -142,14 +115,15 @@ names_pass (n ∷ names) plan before nodes from between to line h s e =
 
 pub item_passes : (version : Version) (i : Item) (plan : Contents) (from to : Tokens) → Fits plan i → SpellsItem version i from to → item_refusal version plan from ≡ None
 item_passes version (message n f) plan from to fits s =
-    let taken = message_taken plan n f fits in
-    let first : item_refusal version plan from ≡ refusal plan s.2.0 0 (frame 0 ∷ (item_end ∷ [])) = rw (s.1.1, s.2.1.0.1, s.2.1.1, taken.by_name) refl in
-    let whole = frame_passes f plan 0 0 (item_end ∷ []) s.2.0 s.2.2.0 s.2.2.1 (let h = taken.path in omega arith) (let h = taken.room in omega arith) in
+    let taken = message_parts plan n f fits in
+    let sized = size_allowed f taken.1 in
+    let first : item_refusal version plan from ≡ refusal plan s.2.0 0 (frame 0 ∷ (item_end ∷ [])) = rw (s.1.1, s.2.1.0.1, s.2.1.1, taken.0) refl in
+    let whole = frame_passes f plan 0 0 (item_end ∷ []) s.2.0 s.2.2.0 s.2.2.1 (let h = sized.0 in omega arith) (let h = sized.1 in omega arith) in
     first ∙ whole ∙ rw s.2.2.2.1 refl
 item_passes version (controller n names) plan from to fits s =
-    let taken = controller_taken plan n names fits in
-    let first : item_refusal version plan from ≡ refusal plan s.2.0 0 (messages_after [] ∷ []) = rw (s.1.1, s.2.1.0.1, s.2.1.1, taken.by_name) refl in
-    first ∙ names_pass names plan [] 0 s.2.0 s.2.2.0 to _ taken.by_list s.2.2.1 s.2.2.2.1
+    let taken = controller_parts plan n names fits in
+    let first : item_refusal version plan from ≡ refusal plan s.2.0 0 (messages_after [] ∷ []) = rw (s.1.1, s.2.1.0.1, s.2.1.1, taken.0) refl in
+    first ∙ names_pass names plan [] 0 s.2.0 s.2.2.0 to _ taken.1 s.2.2.1 s.2.2.2.1
 item_passes version (interrupt n address) plan from to fits s =
     rw (s.1.1, s.2.1.0.1, s.2.1.1, fits.0, s.2.2.1.1, is_known address, s.2.2.2.1) refl
 item_passes versions.One (never_both first second) plan from to fits s = absurd s

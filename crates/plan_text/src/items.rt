@@ -1,7 +1,7 @@
 // The items of a plan text, a function for each of them, and the plan that they make up.
 
 ghost use Rattle.std.specs.Prelude.{◌≡◌, ◌<◌, ◌≤◌, ◌⊎◌, ℕ, [], ◌∷◌, Some, None, false, Ok, IfOk, IfErr, OnOk, MatchResult, IsTrue, map};
-ghost use Rattle.plan_core.specs.Building.{Answers, list_refusal};
+ghost use Rattle.plan_core.specs.Building.{list_refusal};
 ghost use Rattle.plan_core.specs.NameBytes.{name_bytes};
 ghost use Rattle.plan_core.specs.PlanContents.{plan_contents};
 ghost use Rattle.plan_core.specs.Contents.{Contents};
@@ -98,7 +98,8 @@ impl<'a> Reader<'a> {
         allowed(self.builder.message_name_refusal(&named.name), named.line)?;
         let frame = self.source.message_frame()?;
         self.source.semicolon()?;
-        built(self.builder.message(named.name, frame))
+        self.builder.add_message(named.name, frame)?;
+        Ok(())
     }
 
     // NAME NAME* ;
@@ -114,7 +115,8 @@ impl<'a> Reader<'a> {
             named.line,
         )?;
         let messages = self.sendings()?;
-        built(self.builder.controller(named.name, messages.as_slice()))
+        self.builder.add_controller(named.name, messages.as_slice())?;
+        Ok(())
     }
 
     // NAME* ; with the names of messages that one controller may send.
@@ -151,7 +153,8 @@ impl<'a> Reader<'a> {
         allowed(self.builder.interrupt_refusal(&named.name), named.line)?;
         let address = self.source.interrupt_address()?;
         self.source.semicolon()?;
-        built(self.builder.interrupt(named.name, address))
+        self.builder.add_interrupt(named.name, address)?;
+        Ok(())
     }
 
     // NAME NAME ;
@@ -171,7 +174,8 @@ impl<'a> Reader<'a> {
             second.line,
         )?;
         self.source.semicolon()?;
-        built(self.builder.never(&first.name, &second.name))
+        self.builder.add_never(&first.name, &second.name)?;
+        Ok(())
     }
 }
 
@@ -187,17 +191,5 @@ fn allowed(refusal: Option<BuildError>, line: u64) -> Result<(), PlanError>
         Some(BuildError::Twice) => Err(PlanError::Twice(line)),
         Some(BuildError::Unknown) => Err(PlanError::Unknown(line)),
         Some(BuildError::NoMemory) => Err(PlanError::NoMemory),
-    }
-}
-
-// What the builder answers for an item that it does not refuse: that it is added, or that there is no memory.
-fn built(answer: Result<(), BuildError>) -> Result<(), PlanError>
-    requires { Answers None answer }
-    ensures added { IfOk result (λ it. answer ≡ Ok it) }
-    ensures memory { IfErr result (λ e. e ≡ PlanError.NoMemory) }
-{
-    match answer {
-        Ok(()) => Ok(()),
-        Err(_) => Err(PlanError::NoMemory),
     }
 }

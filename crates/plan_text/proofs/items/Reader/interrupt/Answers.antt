@@ -14,7 +14,6 @@ returns-in_err-semicolon-clause-refused c =
     rw (p.1, p.2) (let e = c.in_err-semicolon.field-0.0 in let h = lemmas.interrupt_end_refused (so_far c.args.self.now) (name_bytes c.in_ok-named.named.name) c.in_ok-address.address c.in_ok-named.named.line (ahead c.args.self.now) (left c.name.new.self.tokens) (left c.interrupt_address.new.self.tokens) e c.in_ok-named.ensures.read c.in_ok-named.named.name.is_name (sym c.interrupt_refusal.ensures ∙ c.in_ok-allowed.ensures.allowed) c.in_ok-address.ensures.read.1 (c.in_err-semicolon.ensures.refused (so_far c.args.self.now)) in lemmas.fails e _ h)
 
 pub returns-clause-read : goal.returns-clause-read
-returns-clause-read c =
+returns-clause-read c version =
     let low = c.in_ok-address.ensures.read.0 in
-    lemmas.on_ok _ _ c.built.result (λ added version. lemmas.interrupt_read (so_far c.args.self.now) _ (name_bytes c.in_ok-named.named.name) c.in_ok-address.address c.in_ok-named.named.line (ahead c.args.self.now) (left c.name.new.self.tokens) (left c.interrupt_address.new.self.tokens) (left c.semicolon.new.self.tokens) c.in_ok-named.ensures.read c.in_ok-named.named.name.is_name (sym c.interrupt_refusal.ensures ∙ c.in_ok-allowed.ensures.allowed) low c.in_ok-address.ensures.read.1 c.in_ok-semicolon.ensures.read (added ∙ ap (λ (a : ℕ). with_interrupt (so_far c.args.self.now) (name_bytes c.in_ok-named.named.name) a) (omega (arith, low))) version)
-    (lemmas.added_then _ c.built.result c.interrupt.result c.built.ensures.added c.interrupt.ensures.added)
+    lemmas.interrupt_read (so_far c.args.self.now) _ (name_bytes c.in_ok-named.named.name) c.in_ok-address.address c.in_ok-named.named.line (ahead c.args.self.now) (left c.name.new.self.tokens) (left c.interrupt_address.new.self.tokens) (left c.semicolon.new.self.tokens) c.in_ok-named.ensures.read c.in_ok-named.named.name.is_name (sym c.interrupt_refusal.ensures ∙ c.in_ok-allowed.ensures.allowed) low c.in_ok-address.ensures.read.1 c.in_ok-semicolon.ensures.read (c.in_ok-add_interrupt.ensures.added ∙ ap (λ (a : ℕ). with_interrupt (so_far c.args.self.now) (name_bytes c.in_ok-named.named.name) a) (omega (arith, low))) version
