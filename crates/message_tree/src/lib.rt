@@ -13,6 +13,3 @@ pub use bits::{Address, Bit, Pattern};
 pub use counts::Count;
 pub use items::{Item, Kind};
 pub use tree::{Frame, Payload, Tail};
-
-#[cfg(test)]
-mod tests;

@@ -9,8 +9,6 @@ pub mod names;
 pub mod pair_laws;
 mod pairs;
 pub mod plans;
-#[cfg(test)]
-mod tests;
 
 pub use builder::{BuildError, Builder};
 pub use labels::labels_differ;

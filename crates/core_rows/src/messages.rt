@@ -1,4 +1,6 @@
-use crate::{Address, Bit, Count, Frame, Item, Kind, Pattern, Payload, Tail};
+// Bits, counts, items, sizes and texts of messages, by tables of cases.
+
+use message_tree::{Address, Bit, Count, Frame, Item, Kind, Pattern, Payload, Tail};
 use std::alloc::{AllocError, Global};
 use std::process::Abort;
 use std::test::Fail;
@@ -612,5 +614,75 @@ fn texts_of_a_read_of_a_range(rt: HostRuntime) -> Result<(), Fail> {
     let frame = read(Count::between(2, 4).ok_or("no count")?, Tail::Stop);
     let texts = frame_texts(alloc, &frame)?;
     assert_texts(&rt, &texts, 4, frame.slots());
+    Ok(())
+}
+
+// ---- messages of any depth
+
+// A message of `n` repeated STARTs, each behind the refusal of the header before it.
+fn behind_refusals(alloc: Global, n: u32) -> Result<Frame, AllocError> {
+    let mut tail = Tail::Stop;
+    for _ in 0..n {
+        tail = again(alloc, write(alloc, Payload::Last(Tail::Stop), tail)?)?;
+    }
+    write(alloc, Payload::Last(Tail::Stop), tail)
+}
+
+// The same, each behind what is written after the acknowledge of the header before it.
+fn behind_acknowledges(alloc: Global, n: u32) -> Result<Frame, AllocError> {
+    let mut tail = Tail::Stop;
+    for _ in 0..n {
+        tail = again(alloc, write(alloc, Payload::Last(tail), Tail::Stop)?)?;
+    }
+    write(alloc, Payload::Last(tail), Tail::Stop)
+}
+
+// The same, each behind the refusal of a data byte.
+fn behind_bytes(alloc: Global, n: u32) -> Result<Frame, AllocError> {
+    let mut tail = Tail::Stop;
+    for _ in 0..n {
+        let payload = byte(
+            alloc,
+            Pattern::new(0xff, 0),
+            Payload::Last(Tail::Stop),
+            tail,
+        )?;
+        tail = again(alloc, write(alloc, payload, Tail::Stop)?)?;
+    }
+    write(alloc, Payload::Last(tail), Tail::Stop)
+}
+
+// `n` data bytes, one behind the acknowledge of the other.
+fn in_bytes(alloc: Global, n: u32) -> Result<Frame, AllocError> {
+    let mut payload = Payload::Last(Tail::Stop);
+    for _ in 0..n {
+        payload = byte(alloc, Pattern::new(0xff, 0), payload, Tail::Stop)?;
+    }
+    write(alloc, payload, Tail::Stop)
+}
+
+#[test]
+fn messages_of_300_000_levels_are_measured_and_dropped(rt: HostRuntime) -> Result<(), Fail> {
+    let alloc = rt.alloc();
+    for deep in [
+        behind_refusals(alloc, 300_000)?,
+        behind_acknowledges(alloc, 300_000)?,
+        behind_bytes(alloc, 300_000)?,
+        in_bytes(alloc, 300_000)?,
+    ] {
+        assert_eq!(rt; deep.room_left(4096), None);
+    }
+    Ok(())
+}
+
+#[test]
+fn room_is_left_by_small_messages(rt: HostRuntime) -> Result<(), Fail> {
+    let alloc = rt.alloc();
+    let three = in_bytes(alloc, 2)?;
+    assert_eq!(rt; three.room_left(2), None);
+    assert_eq!(rt; three.room_left(3), Some(0));
+    assert_eq!(rt; three.room_left(10), Some(7));
+    assert_eq!(rt; behind_bytes(alloc, 1)?.room_left(4), Some(1));
+    assert_eq!(rt; behind_refusals(alloc, 3)?.room_left(4), Some(0));
     Ok(())
 }

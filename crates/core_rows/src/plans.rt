@@ -1,5 +1,7 @@
-use crate::{BuildError, Builder, Name, NameError, Participant, Plan};
+// Builders and plans: what is refused, and what a plan then holds.
+
 use message_tree::{Address, Frame, Pattern, Payload, Tail};
+use plan_core::{BuildError, Builder, Name, NameError, Participant, Plan};
 use std::alloc::{AllocError, Global};
 use std::process::Abort;
 use std::test::Fail;
