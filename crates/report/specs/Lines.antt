@@ -1,5 +1,5 @@
 -- The lines of a check's report.
-use Rattle.std.specs.Prelude.{ℕ, ◌+◌, ◌==◌, true, false, List, [], ◌∷◌, ◌++◌, length, map, codes, if◌then◌else◌}
+use Rattle.std.specs.Prelude.{ℕ, ◌+◌, ◌==◌, List, [], ◌∷◌, ◌++◌, length, codes, if◌then◌else◌}
 use Rattle.std.specs.Fmt.{decimal}
 use Rattle.message_tree.specs.Symbols.{wire_text, kind_word}
 use Rattle.certificate.specs.declared.values.Fault.{Fault}
