@@ -1,5 +1,6 @@
 // Readers and writers that say whether they failed, and the two loops over them.
 
+pub mod faulty;
 pub mod opened;
 pub mod reading;
 pub mod traits;

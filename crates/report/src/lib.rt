@@ -8,6 +8,7 @@ mod lines;
 pub mod runs;
 
 pub use checks::run_check;
+pub use devices::faulty::{FaultyReader, FaultyWriter};
 pub use devices::opened::Opened;
 pub use devices::reading::read_within;
 pub use devices::traits::{Input, Output};

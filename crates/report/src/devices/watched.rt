@@ -25,6 +25,13 @@ impl<D> Watched<D> {
             failed: false,
         }
     }
+
+    /// The device.
+    pub fn into_inner(self) -> D
+        ensures { result ≡ self.device }
+    {
+        self.device
+    }
 }
 
 impl<R: Read> Input for Watched<R> {
