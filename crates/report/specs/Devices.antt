@@ -1,5 +1,6 @@
 -- What a reader and a writer say of themselves, and what calls to them have done.
-use Rattle.std.specs.Prelude.{◌≡◌, ℕ, zero, suc, ◌<◌, Bool, false, List, [], ◌++◌, length, take, drop, Option, None, Some, Result, Ok, Err}
+use Rattle.std.specs.Prelude.{◌≡◌, ℕ, zero, suc, ◌<◌, Bool, false, List, [], ◌++◌, length, take, drop}
+use Rattle.std.specs.Prelude.{Option, None, Some, Result, Ok, Err}
 
 -- what is known of a reader of this type
 pub record Reader (D : Type 0) : Type 1 where

@@ -20,7 +20,8 @@ Answer = List ℕ → List ℕ → Status → Type 0
 
 module _ {D W : Type 0} (reader : Reader D) (writer : Writer W) where
   -- the run has read a text, and written the report that is due for it
-  pub record Reports (Due : Answer) (input : D) (output : W) (status : Status) (input_now : D) (output_now : W) : Type 0 where
+  pub record Reports (Due : Answer) (input : D) (output : W) (status : Status) (input_now : D) (output_now : W)
+      : Type 0 where
     pub text : List ℕ
     pub read : ReadsAll reader most_reads input text input_now
     pub report : List ℕ

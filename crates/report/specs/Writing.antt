@@ -14,7 +14,8 @@ module _ {D : Type 0} (writer : Writer D) (start : D) (report : List ℕ) where
   -- the last write answered an error, or took none of the bytes that it was given
   abbrev pub WriteFails : D → List ℕ → D → Type 0
   WriteFails last left now =
-      (writer.takes last left None now × (writer.has_failed now ≡ true)) ⊎ (writer.takes last left (Some 0) now × (writer.has_failed now ≡ false))
+      (writer.takes last left None now × (writer.has_failed now ≡ true))
+      ⊎ (writer.takes last left (Some 0) now × (writer.has_failed now ≡ false))
 
   -- the writer took the front of the report, and then failed
   pub record WritesFront (now : D) : Type 0 where

@@ -17,14 +17,15 @@ use verdicts::{Table, table};
 
 /// Checks the plan that the reader gives, and writes the verdicts of its unsafe pairs and their number.
 ///
-/// The number of workers is looked at before the first read. The report is complete before its first byte is written. The
-/// status is `Good` or `Bad`.
+/// The number of workers is looked at before the first read. The report is complete before its first byte is written.
+/// The status is `Good` or `Bad`.
 ///
 /// # Errors
 ///
-/// `Workers` for every number but 1. Then `Read` where the reader failed or gave no end, `Plan` with the first refusal of
-/// the plan text, and `Write` where the writer failed or took no bytes. `NoMemory` where memory is refused. Only after
-/// `Write` has a part of the report been written: its first bytes. After every other error the writer was not called.
+/// `Workers` for every number but 1. Then `Read` where the reader failed or gave no end, `Plan` with the first refusal
+/// of the plan text, and `Write` where the writer failed or took no bytes. `NoMemory` where memory is refused. Only
+/// after `Write` has a part of the report been written: its first bytes. After every other error the writer was not
+/// called.
 pub fn run_check<R, I: Input, O: Output>(
     _rt: &R,
     alloc: Global,
@@ -32,8 +33,10 @@ pub fn run_check<R, I: Input, O: Output>(
     out: &mut O,
     workers: u32,
 ) -> Result<Status, RunError>
-    ensures report { IfOk result (λ status. Reports I.reader O.writer Checked plan.old out.old status plan.new out.new) }
-    ensures stops { workers ≡ 1 → IfErr result (λ error. Stops I.reader O.writer RefusesPlan Checked plan.old out.old error plan.new out.new) }
+    ensures report { IfOk result (λ status.
+        Reports I.reader O.writer Checked plan.old out.old status plan.new out.new) }
+    ensures stops { workers ≡ 1 → IfErr result (λ error.
+        Stops I.reader O.writer RefusesPlan Checked plan.old out.old error plan.new out.new) }
     ensures workers { result ≡ Err RunError.Workers ↔ (workers ≢ 1) }
     ensures unread { workers ≢ 1 → (plan.new ≡ plan.old) × (out.new ≡ out.old) }
 {

@@ -16,8 +16,8 @@ pub struct FaultyReader<'a> {
 }
 
 impl<'a> FaultyReader<'a> {
-    /// A reader that gives at most so many bytes in a call, but at least one, and whose call number `fails_at` answers an
-    /// error: the first call has the number 1. The other calls read on, as if that call had not been.
+    /// A reader that gives at most so many bytes in a call, but at least one, and whose call number `fails_at` answers
+    /// an error: the first call has the number 1. The other calls read on, as if that call had not been.
     pub fn new(bytes: &'a [u8], piece: usize, fails_at: u32) -> Self {
         FaultyReader {
             rest: bytes,

@@ -38,9 +38,9 @@ impl<R: Read> Input for Watched<R> {
     ghost reader = { watched_reader R.remaining };
 
     fn read(&mut self, buf: &mut [u8]) -> io::Result<usize> {
-        let result = self.device.read(buf);
-        self.failed = result.is_err();
-        result
+        let count = self.device.read(buf);
+        self.failed = count.is_err();
+        count
     }
 
     fn failed(&self) -> bool {
@@ -52,9 +52,9 @@ impl<W: Write> Output for Watched<W> {
     ghost writer = { watched_writer W.contents };
 
     fn write(&mut self, buf: &[u8]) -> io::Result<usize> {
-        let result = self.device.write(buf);
-        self.failed = result.is_err();
-        result
+        let written = self.device.write(buf);
+        self.failed = written.is_err();
+        written
     }
 
     fn failed(&self) -> bool {
