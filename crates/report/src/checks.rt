@@ -2,7 +2,7 @@
 
 ghost use Rattle.std.specs.Prelude.{◌≡◌, ◌≢◌, ◌↔◌, IfOk, IfErr};
 ghost use Rattle.report.specs.Checks.{Judges, Checked, RefusesPlan};
-ghost use Rattle.report.specs.Runs.{Reports, Stops};
+ghost use Rattle.report.specs.Runs.{ReadsText, HaltsAtText, Reports, Stops};
 ghost use Rattle.plan_core.specs.PlanContents.{plan_contents};
 ghost use Rattle.verdicts.specs.Tables.{IsTable};
 
@@ -34,9 +34,10 @@ pub fn run_check<R, I: Input, O: Output>(
     workers: u32,
 ) -> Result<Status, RunError>
     ensures report { IfOk result (λ status.
-        Reports I.reader O.writer Checked plan.old out.old status plan.new out.new) }
+        Reports (ReadsText I.reader) Checked O.writer plan.old out.old status plan.new out.new) }
     ensures stops { workers ≡ 1 → IfErr result (λ error.
-        Stops I.reader O.writer RefusesPlan Checked plan.old out.old error plan.new out.new) }
+        Stops (ReadsText I.reader) Checked O.writer (HaltsAtText I.reader RefusesPlan)
+        plan.old out.old error plan.new out.new) }
     ensures workers { result ≡ Err RunError.Workers ↔ (workers ≢ 1) }
     ensures unread { workers ≢ 1 → (plan.new ≡ plan.old) × (out.new ≡ out.old) }
 {
