@@ -68,10 +68,14 @@ run "safe plan" check safe.plan
 run "safe plan with one worker" check --workers 1 safe.plan
 run "safe plan with leading zeros in the number of workers" check safe.plan --workers 001
 run "safe plan from standard input" check /dev/stdin <safe.plan
+run "safe plan after --" check -- safe.plan
 
 want 1 "$unsafe_report" ""
 run "unsafe plan" check unsafe.plan
 run "unsafe plan from a pipe" check /dev/stdin < <(cat unsafe.plan)
+mkfifo plan.fifo
+cat unsafe.plan >plan.fifo &
+run "unsafe plan from a FIFO" check plan.fifo
 
 # Refused plans.
 
@@ -103,15 +107,22 @@ run "empty plan" check empty.plan
 want 2 "" "refused read"
 run "missing file" check missing.plan
 run "missing file before a number of workers" check missing.plan --workers 0
+run "empty path" check ""
+run "missing file whose name is that of an option" check -- --workers
 mkdir directory
 run "directory" check directory
 run "closed standard input" check /dev/stdin <&-
+run "closed standard input before a number of workers" check /dev/stdin --workers 0 <&-
 
 want 2 "" "refused workers"
 run "no worker" check safe.plan --workers 0
 run "nine workers" check safe.plan --workers 9
+run "seven workers, with leading zeros" check safe.plan --workers 007
+run "three workers, with a sign" check safe.plan --workers +3
 run "no worker with a refused plan" check empty.plan --workers 0
 run "no worker with a directory" check directory --workers 0
+run "no worker with standard input" check /dev/stdin --workers 0 <safe.plan
+run "no worker with a pipe" check /dev/stdin --workers 0 < <(cat safe.plan)
 
 # Standard output that takes nothing.
 
@@ -129,6 +140,27 @@ if [[ -c /dev/full ]]; then
     "$twire" check unsafe.plan >/dev/full 2>err
     echo "$?" >status
     compare "full device"
+fi
+
+# A pipe that nobody reads any more.
+mkfifo report.fifo
+(
+    exec 3<>report.fifo 4>report.fifo 3<&-
+    exec "$twire" check unsafe.plan >&4 2>err
+)
+echo "$?" >status
+compare "broken pipe"
+
+# Memory that is refused: a limit that leaves room for the program, and not for the text. A trial build cannot run below
+# any limit.
+want 2 "" "refused memory"
+if { (ulimit -v 32768 && exec "$twire" --version); } >/dev/null 2>&1; then
+    (cat safe.plan && head -c 67108864 /dev/zero | tr '\0' '#') >long.plan
+    (ulimit -v 32768 && exec "$twire" check long.plan) >out 2>err
+    echo "$?" >status
+    compare "a plan of 64 MiB with 32 MiB of memory"
+else
+    echo "left out: a plan of 64 MiB with 32 MiB of memory (not the proved build)"
 fi
 
 # With a closed standard error the status is left.
@@ -151,6 +183,9 @@ run "help on check as a subcommand" help check
 want 2 "" "$(cat help.txt)"
 run "no argument"
 
+want 2 "" "error: an argument is not UTF-8"
+run "argument that is not UTF-8" check $'\xff.plan'
+
 want 2 "" "error: unexpected argument '--bogus' found
 
   tip: to pass '--bogus' as a value, use '-- --bogus'
@@ -167,6 +202,7 @@ Usage: twire check <PLAN>
 
 For more information, try '--help'."
 run "no plan" check
+run "no plan after --" check --
 
 want 2 "" "error: unrecognized subcommand 'chek'
 
@@ -176,6 +212,11 @@ Usage: twire <COMMAND>
 
 For more information, try '--help'."
 run "unknown subcommand" chek safe.plan
+
+want 2 "" "error: invalid value '' for '--workers <N>': cannot parse integer from empty string
+
+For more information, try '--help'."
+run "empty number of workers" check safe.plan --workers ""
 
 # Each of these ends with status 2 and a message that is not compared.
 for words in "--workers x" "--workers" "--workers=" "--workers -1" "--workers 4294967296" "--workers 1 --workers 1" "other.plan"; do

@@ -1,42 +1,29 @@
--- From what was written to what a check leaves.
-use Rattle.std.proofs.Common.{◌≡◌, ℕ, Bool, true, false, List, Option, Result, Ok, Err, IfOk, IfErr, OnOk, IsTrue, ◌↔◌, refl, sym, subst}
-use Rattle.std.specs.Io.KnownBytes.{Appends}
+-- What a check knows of a plan text that is refused, and of one that is not.
+use Rattle.std.proofs.Common.{◌≡◌, ◌⊎◌, List, ℕ, inl, inr, subst}
 use Rattle.plan_core.specs.Contents.{Contents}
-use Rattle.plan_core.specs.Faults.{IsSafe}
 use Rattle.pair_walk.specs.declared.walk_pair.Verdict.{Verdict}
-use Rattle.verdicts.specs.Verdicts.{AreVerdicts}
-use Rattle.report.specs.Devices.{AppendsFront}
-use Rattle.report.specs.Lines.{check_lines}
-use Rattle.report.specs.declared.checks.Status.{Status}
-use Rattle.report.specs.declared.errors.RunError.{RunError}
-use Rattle.report.specs.declared.errors.RunError.TheVariants as error
 use Rattle.plan_text.specs.Grammar.{Spells}
-use Rattle.report.specs.Checks.{status_of, Judges, Checked, lines_of, Reports, Leaves, Refuses}
+use Rattle.plan_text.specs.Refusals.{First}
+use Rattle.plan_text.specs.declared.errors.PlanError.{PlanError}
+use Rattle.plan_text.specs.declared.errors.PlanError.TheVariants as plan
+use Rattle.verdicts.specs.Verdicts.{AreVerdicts}
+use Rattle.report.specs.Checks.{Judges, Checked, RefusesPlan}
+use Rattle.report.specs.Lines.{check_lines}
+use Rattle.report.specs.declared.runs.Status.{Status}
+use Rattle.report.specs.RunErrors.{run_error}
 
-judges : (plan : Contents) (safe : Bool) → (IsTrue safe ↔ IsSafe plan) → Judges (status_of safe) plan
-judges plan true h = h.0 refl
-judges plan false h = λ s. let c = h.1 s in cc
+pub refuses_plan : (text : List ℕ) (e : PlanError) → (e ≡ plan.NoMemory) ⊎ First text e → RefusesPlan text (run_error e)
+refuses_plan text plan.NoMemory h = tt
+refuses_plan text e (inl same) = cc
+refuses_plan text e (inr first) = first
 
-module _ (before after old new : Option (List ℕ)) (checked : Checked before after) where
-  pub reports : (r : Result Status RunError) (bytes : List ℕ) (safe : Bool) → bytes ≡ lines_of checked → OnOk r (Appends old new bytes) → IfOk r (λ s. s ≡ status_of safe) → (IsTrue safe ↔ IsSafe checked.plan) → IfOk r (λ s. Reports before after old new s)
-  reports (Ok s) bytes safe b w e h =
-      record {
-        checked = checked;
-        written = subst (Appends old new) b w;
-        judged = subst (λ (t : Status). Judges t checked.plan) (sym e) (judges checked.plan safe h);
-      }
-  reports (Err e) bytes safe b w s h = tt
-
-  pub leaves : (r : Result Status RunError) (bytes : List ℕ) → bytes ≡ lines_of checked → IfErr r (λ e. (e ≡ error.Write) × AppendsFront old new bytes) → IfErr r (λ e. Leaves before after old new e)
-  leaves (Ok s) bytes b h = tt
-  leaves (Err e) bytes b h = subst (Leaves before after old new) (sym h.0) (checked, subst (AppendsFront old new) b h.1)
-
--- a write fault is no refusal of a plan
-pub writes : (before after : Option (List ℕ)) (r : Result Status RunError) (X : Type 0) → IfErr r (λ e. (e ≡ error.Write) × X) → IfErr r (λ e. Refuses before after e)
-writes before after (Ok s) X h = tt
-writes before after (Err e) X h = subst (Refuses before after) (sym h.0) tt
-
--- what holds in any case holds where the call succeeds
-pub always : (X : Type 0) (r : Result Status RunError) → X → OnOk r X
-always X (Ok s) x = x
-always X (Err e) x = tt
+-- what a run knows of the plan that it has read, and of the report that it writes
+pub checks : (text slice report : List ℕ) (plan : Contents) (verdicts : List Verdict) (status : Status) → slice ≡ text → Spells slice plan → AreVerdicts plan verdicts → report ≡ check_lines plan verdicts → Judges status plan → Checked text report status
+checks text slice report plan verdicts status same spelled right lines judged = record {
+  plan = plan;
+  spelled = subst (λ (t : List ℕ). Spells t plan) same spelled;
+  verdicts = verdicts;
+  right = right;
+  lines = lines;
+  judged = judged;
+}

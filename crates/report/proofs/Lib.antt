@@ -1,2 +1,4 @@
+pub mod DeviceLemmas
 pub mod LineLemmas
+pub mod RunLemmas
 pub mod CheckLemmas

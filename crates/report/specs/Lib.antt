@@ -1,4 +1,9 @@
 pub mod Devices
+pub mod WatchedDevices
+pub mod OpenedReaders
+pub mod Reading
+pub mod Writing
+pub mod Runs
 pub mod Lines
 pub mod Checks
 pub mod RunErrors

@@ -1,5 +1,5 @@
 -- The lines of a check's report.
-use Rattle.std.specs.Prelude.{ℕ, ◌+◌, ◌==◌, true, false, List, [], ◌∷◌, ◌++◌, length, map, codes, if◌then◌else◌}
+use Rattle.std.specs.Prelude.{ℕ, ◌+◌, ◌==◌, List, [], ◌∷◌, ◌++◌, length, codes, if◌then◌else◌}
 use Rattle.std.specs.Fmt.{decimal}
 use Rattle.message_tree.specs.Symbols.{wire_text, kind_word}
 use Rattle.certificate.specs.declared.values.Fault.{Fault}
@@ -13,7 +13,9 @@ use Rattle.pair_walk.specs.declared.walk_pair.Verdict.{Verdict}
 -- pair I X Y: KIND against KIND after WIRE
 unfoldable pub fault_text : ℕ → List ℕ → List ℕ → Fault → List ℕ
 fault_text i first second fault =
-    codes "pair " ++ (decimal i ++ (codes " " ++ (first ++ (codes " " ++ (second ++ (codes ": " ++ (kind_word fault.first ++ (codes " against " ++ (kind_word fault.second ++ (codes " after " ++ (wire_text fault.wire.items ++ codes "\n")))))))))))
+    codes "pair " ++ (decimal i ++ (codes " " ++ (first ++ (codes " " ++ (second ++ (codes ": " ++
+    (kind_word fault.first ++ (codes " against " ++ (kind_word fault.second ++ (codes " after " ++
+    (wire_text fault.wire.items ++ codes "\n")))))))))))
 
 abbrev pub fault_line : Contents → ℕ → ℕ × ℕ → Fault → List ℕ
 fault_line plan i p fault = fault_text i (label_of plan p.0) (label_of plan p.1) fault
@@ -25,7 +27,8 @@ outcome_line plan i p (Unsafe fault) = fault_line plan i p fault
 
 -- the lines of these verdicts, of which the first is that of pair i
 abbrev pub outcome_lines : Contents → ℕ → List Verdict → List (ℕ × ℕ) → List ℕ
-outcome_lines plan i (v ∷ verdicts) (p ∷ pairs) = outcome_line plan i p v.outcome ++ outcome_lines plan (i + 1) verdicts pairs
+outcome_lines plan i (v ∷ verdicts) (p ∷ pairs) =
+    outcome_line plan i p v.outcome ++ outcome_lines plan (i + 1) verdicts pairs
 outcome_lines plan i _ _ = []
 
 abbrev pub faulty : Outcome → ℕ

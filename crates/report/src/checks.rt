@@ -1,37 +1,31 @@
 // The run of a check.
 
-ghost use Rattle.std.specs.Prelude.{◌≡◌, ◌≢◌, ◌↔◌, false, IfOk, IfErr, OnOk};
-ghost use Rattle.std.specs.Io.KnownBytes.{Appends};
-ghost use Rattle.report.specs.Devices.{AppendsFront};
-ghost use Rattle.report.specs.Checks.{status_of, Reports, Leaves, Refuses};
+ghost use Rattle.std.specs.Prelude.{◌≡◌, ◌≢◌, ◌↔◌, IfOk, IfErr};
+ghost use Rattle.report.specs.Checks.{Judges, Checked, RefusesPlan};
+ghost use Rattle.report.specs.Runs.{ReadsText, HaltsAtText, Reports, Stops};
+ghost use Rattle.plan_core.specs.PlanContents.{plan_contents};
+ghost use Rattle.verdicts.specs.Tables.{IsTable};
 
-use crate::devices::{Input, Output, READS, read_within, write_report};
+use crate::devices::reading::{READS, read_within};
+use crate::devices::traits::{Input, Output};
 use crate::errors::RunError;
 use crate::lines::check_report;
+use crate::runs::{Status, write_lines};
 use plan_text::read_plan;
 use std::alloc::Global;
-use verdicts::table;
-
-/// How a run ended that wrote its whole report.
-#[derive(Clone, Copy, Debug, PartialEq, Eq)]
-pub enum Status {
-    /// The plan is safe.
-    Good,
-    /// The plan is not safe.
-    Bad,
-    /// What was given is refused.
-    Refused,
-}
+use verdicts::{Table, table};
 
 /// Checks the plan that the reader gives, and writes the verdicts of its unsafe pairs and their number.
 ///
-/// The number of workers is looked at before the first read. The report is complete before its first byte is written. The
-/// status is `Good` or `Bad`.
+/// The number of workers is looked at before the first read. The report is complete before its first byte is written.
+/// The status is `Good` or `Bad`.
 ///
 /// # Errors
 ///
-/// `Workers` for every number but 1. Then `Read` where the reader failed or gave no end, `Plan` with the first refusal of
-/// the plan text, and `Write` where the writer failed or took no bytes. `NoMemory` where memory is refused.
+/// `Workers` for every number but 1. Then `Read` where the reader failed or gave no end, `Plan` with the first refusal
+/// of the plan text, and `Write` where the writer failed or took no bytes. `NoMemory` where memory is refused. Only
+/// after `Write` has a part of the report been written: its first bytes. After every other error the writer was not
+/// called.
 pub fn run_check<R, I: Input, O: Output>(
     _rt: &R,
     alloc: Global,
@@ -39,12 +33,13 @@ pub fn run_check<R, I: Input, O: Output>(
     out: &mut O,
     workers: u32,
 ) -> Result<Status, RunError>
-    ensures report { IfOk result (λ status. Reports (I.remaining plan.old) (I.remaining plan.new) (O.contents out.old) (O.contents out.new) status) }
-    ensures refusal { IfErr result (λ error. Refuses (I.remaining plan.old) (I.remaining plan.new) error) }
-    ensures left { IfErr result (λ error. Leaves (I.remaining plan.old) (I.remaining plan.new) (O.contents out.old) (O.contents out.new) error) }
-    ensures sound { OnOk result (I.has_failed plan.new ≡ false) }
+    ensures report { IfOk result (λ status.
+        Reports (ReadsText I.reader) Checked O.writer plan.old out.old status plan.new out.new) }
+    ensures stops { workers ≡ 1 → IfErr result (λ error.
+        Stops (ReadsText I.reader) Checked O.writer (HaltsAtText I.reader RefusesPlan)
+        plan.old out.old error plan.new out.new) }
     ensures workers { result ≡ Err RunError.Workers ↔ (workers ≢ 1) }
-    ensures unread { workers ≢ 1 → I.remaining plan.new ≡ I.remaining plan.old }
+    ensures unread { workers ≢ 1 → (plan.new ≡ plan.old) × (out.new ≡ out.old) }
 {
     if workers != 1 {
         return Err(RunError::Workers);
@@ -53,19 +48,16 @@ pub fn run_check<R, I: Input, O: Output>(
     let plan = read_plan(alloc, text.as_slice())?;
     let table = table(alloc, &plan)?;
     let report = check_report(alloc, &plan, table.verdicts())?;
-    write_check(out, report.as_bytes(), table.is_safe())
+    write_lines(out, report.as_bytes(), status_of(&table))
 }
 
-// Writes the whole report, and says how the run has ended.
-fn write_check<O: Output>(out: &mut O, report: &[u8], safe: bool) -> Result<Status, RunError>
-    ensures written { OnOk result (Appends (O.contents out.old) (O.contents out.new) report.now) }
-    ensures status { IfOk result (λ status. status ≡ status_of safe) }
-    ensures left { IfErr result (λ error. (error ≡ RunError.Write) × AppendsFront (O.contents out.old) (O.contents out.new) report.now) }
+// Whether the plan is safe of which this is the table.
+fn status_of(table: &Table) -> Status
+    ensures { (plan : _) → IsTable plan table.now → Judges result plan }
 {
-    write_report(out, report)?;
-    if safe {
-        Ok(Status::Good)
+    if table.is_safe() {
+        Status::Good
     } else {
-        Ok(Status::Bad)
+        Status::Bad
     }
 }

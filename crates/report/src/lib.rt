@@ -5,7 +5,14 @@ pub mod checks;
 pub mod devices;
 pub mod errors;
 mod lines;
+pub mod runs;
 
-pub use checks::{Status, run_check};
-pub use devices::{Input, Output, read_within, write_report};
+pub use checks::run_check;
+pub use devices::faulty::{FaultyReader, FaultyWriter};
+pub use devices::opened::Opened;
+pub use devices::reading::read_within;
+pub use devices::traits::{Input, Output};
+pub use devices::watched::Watched;
+pub use devices::writing::write_report;
 pub use errors::RunError;
+pub use runs::Status;

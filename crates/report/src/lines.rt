@@ -1,6 +1,6 @@
 // The lines of the reports.
 
-ghost use Rattle.std.specs.Prelude.{◌≡◌, ℕ, ◌<◌, ◌++◌, [], ◌∷◌, length, slice_get, Some, string_bytes, IfOk, OnOk};
+ghost use Rattle.std.specs.Prelude.{◌≡◌, ℕ, ◌<◌, ◌++◌, length, slice_get, Some, string_bytes, IfOk, OnOk};
 ghost use Rattle.plan_core.specs.PlanContents.{plan_contents};
 ghost use Rattle.plan_core.specs.Pairs.{pairs_of};
 ghost use Rattle.message_tree.specs.Symbols.{wire_text};
@@ -12,7 +12,7 @@ use pair_walk::{Outcome, Verdict};
 use plan_core::Plan;
 use std::alloc::{AllocError, Global};
 
-/// The report of a check: a line for each pair that is not safe, in the order of the pairs, and a line that counts them.
+/// The report of a check: a line for each pair that is not safe, in the order of the pairs, and one that counts them.
 pub(crate) fn check_report(
     alloc: Global,
     plan: &Plan,
@@ -46,7 +46,8 @@ fn push_fault(
     fault: &Fault,
 ) -> Result<(), AllocError>
     requires { i < length (pairs_of (plan_contents plan.now)) }
-    ensures { OnOk result ((p : ℕ × ℕ) → slice_get (pairs_of (plan_contents plan.now)) i ≡ Some p → string_bytes report.new ≡ string_bytes report.old ++ fault_line (plan_contents plan.now) i p fault.now) }
+    ensures { OnOk result ((p : ℕ × ℕ) → slice_get (pairs_of (plan_contents plan.now)) i ≡ Some p →
+        string_bytes report.new ≡ string_bytes report.old ++ fault_line (plan_contents plan.now) i p fault.now) }
 {
     let (x, y) = plan.pair(i);
     let first = plan.label(alloc, x)?;
@@ -63,7 +64,8 @@ fn push_fault_text(
     second: &str,
     fault: &Fault,
 ) -> Result<(), AllocError>
-    ensures { OnOk result (string_bytes report.new ≡ string_bytes report.old ++ fault_text i first.now second.now fault.now) }
+    ensures { OnOk result (
+        string_bytes report.new ≡ string_bytes report.old ++ fault_text i first.now second.now fault.now) }
 {
     let first_kind = fault.first.word();
     let second_kind = fault.second.word();

@@ -2,7 +2,6 @@
 #![tactic(auto)]
 
 mod commands;
-mod devices;
 mod runs;
 
 use std::process::ExitCode;

@@ -1,11 +1,13 @@
 // What the program does, and the status that it ends with.
 
 use crate::commands::{Request, parse_request};
-use crate::devices::{Opened, Watched};
 use clap::error::ErrorKind;
-use report::{RunError, Status, run_check};
+use report::{Opened, RunError, Status, Watched, run_check};
 use std::rt::{Env, Files};
 use std::{env, fs, io};
+
+// What a path of the command line names: a file, or standard input.
+type Source<F, S> = Opened<Watched<F>, Watched<S>>;
 
 /// Does what the command line asks for, and answers the exit status.
 pub fn run<R: Files + Env + Input + Print + Eprint + AllocGlobal>(rt: &R) -> u8 {
@@ -54,18 +56,27 @@ fn status_of(status: Status) -> u8 {
     }
 }
 
-// Opens a file for reading. The path /dev/stdin is standard input itself, which needs no leave to open that file.
-fn open<R: Files + Input>(
-    rt: &R,
-    path: &str,
-) -> Result<Watched<Opened<R::File, R::Reader>>, RunError> {
+// Opens a file for reading.
+fn open<R: Files + Input>(rt: &R, path: &str) -> Result<Source<R::File, R::Reader>, RunError> {
     if path == "/dev/stdin" {
-        return Ok(Watched::new(Opened::Standard(rt.reader())));
+        return open_standard_input(rt, path);
     }
     match fs::open(rt, path) {
-        Ok(file) => Ok(Watched::new(Opened::File(file))),
+        Ok(file) => Ok(Opened::File(Watched::new(file))),
         Err(error) if error.kind() == io::ErrorKind::OutOfMemory => Err(RunError::NoMemory),
         Err(_) => Err(RunError::Read),
+    }
+}
+
+// This path is standard input itself, which needs no leave to open that file. There is none where it is closed, and the
+// path then names nothing.
+fn open_standard_input<R: Files + Input>(
+    rt: &R,
+    path: &str,
+) -> Result<Source<R::File, R::Reader>, RunError> {
+    match fs::metadata(rt, path) {
+        Err(error) if error.kind() == io::ErrorKind::NotFound => Err(RunError::Read),
+        _ => Ok(Opened::Standard(Watched::new(rt.reader()))),
     }
 }
 

@@ -1,43 +1,49 @@
-use Rattle.std.proofs.Common.{◌≡◌, ◌∙◌, ap, subst, ℕ, List, Option}
+use Rattle.std.proofs.Common.{◌∙◌, ap, subst, ℕ, List}
 use Rattle.plan_core.specs.PlanContents.{plan_contents}
-use Rattle.plan_text.specs.Grammar.{Spells}
 use Rattle.verdicts.specs.Tables.{table_verdicts}
-use Rattle.report.specs.Checks.{Checked}
+use Rattle.report.specs.Checks.{Checked, RefusesPlan}
 use Rattle.report.specs.Lines.{check_lines}
-use Rattle.report.proofs.CheckLemmas.{reports, leaves, writes, always}
+use Rattle.report.specs.Runs.{ReadsText, HaltsAtText, unread, refused}
+use Rattle.report.specs.RunErrors.{run_error}
+use Rattle.report.specs.declared.errors.RunError.TheVariants as error
+use Rattle.report.proofs.CheckLemmas.{refuses_plan, checks}
+use Rattle.report.proofs.RunLemmas.{halting_stops, writing_reports, writing_stops}
 use Rattle.report.proofs.checks.run_check.Goals as goal
+
+pub returns-in_err-text-clause-stops : goal.returns-in_err-text-clause-stops
+returns-in_err-text-clause-stops g c one =
+    let reader = g.I.Input.reader in
+    halting_stops (ReadsText reader) Checked g.O.Output.writer (HaltsAtText reader RefusesPlan) c.args.plan.now c.args.out.now _ c.from_residual.result c.in_err-text.field-0.0 c.from_residual.ensures.1 (unread c.in_err-text.ensures.stops)
+
+pub returns-in_err-plan-clause-stops : goal.returns-in_err-plan-clause-stops
+returns-in_err-plan-clause-stops g c one =
+    let reader = g.I.Input.reader in
+    let e = c.in_err-plan.field-0.0 in
+    let first = subst (λ (t : List ℕ). RefusesPlan t (run_error e)) c.as_slice.ensures.value (refuses_plan c.as_slice.result.now e c.in_err-plan.ensures.refused) in
+    halting_stops (ReadsText reader) Checked g.O.Output.writer (HaltsAtText reader RefusesPlan) c.args.plan.now c.args.out.now _ c.from_residual-in_err-plan.result (run_error e) c.from_residual-in_err-plan.ensures.1 (refused c.in_ok-text.ensures.all first)
+
+pub returns-in_err-table-clause-stops : goal.returns-in_err-table-clause-stops
+returns-in_err-table-clause-stops g c one =
+    let reader = g.I.Input.reader in
+    halting_stops (ReadsText reader) Checked g.O.Output.writer (HaltsAtText reader RefusesPlan) c.args.plan.now c.args.out.now _ c.from_residual-in_err-table.result error.NoMemory c.from_residual-in_err-table.ensures.1 (refused c.in_ok-text.ensures.all tt)
+
+pub returns-in_err-report-clause-stops : goal.returns-in_err-report-clause-stops
+returns-in_err-report-clause-stops g c one =
+    let reader = g.I.Input.reader in
+    halting_stops (ReadsText reader) Checked g.O.Output.writer (HaltsAtText reader RefusesPlan) c.args.plan.now c.args.out.now _ c.from_residual-in_err-report.result error.NoMemory c.from_residual-in_err-report.ensures.1 (refused c.in_ok-text.ensures.all tt)
 
 pub returns-clause-report : goal.returns-clause-report
 returns-clause-report g c =
+    let reader = g.I.Input.reader in
     let plan = plan_contents c.in_ok-plan.plan in
-    let verdicts = table_verdicts c.in_ok-table.table in
-    let checked : Checked (g.I.Read.remaining c.args.plan.now) (g.I.Read.remaining c.read_within.new.reader) = record {
-      text = c.in_ok-text.text.items;
-      given = (c.in_ok-text.ensures.bytes, c.in_ok-text.ensures.end);
-      plan = plan;
-      spelled = subst (λ (t : List ℕ). Spells t plan) c.as_slice.ensures.value c.in_ok-plan.ensures.spelled;
-      verdicts = verdicts;
-      right = c.in_ok-table.ensures;
-    } in
-    reports _ _ (g.O.Write.contents c.args.out.now) (g.O.Write.contents c.write_check.new.out) checked c.write_check.result c.as_bytes.result.now c.is_safe.result (c.as_bytes.ensures.value ∙ (c.in_ok-report.ensures ∙ ap (check_lines plan) c.verdicts.ensures)) c.write_check.ensures.written c.write_check.ensures.status (c.is_safe.ensures plan c.in_ok-table.ensures)
+    let lines = c.as_bytes.ensures.value ∙ (c.in_ok-report.ensures ∙ ap (check_lines plan) c.verdicts.ensures) in
+    let checked = checks c.in_ok-text.text.items c.as_slice.result.now c.as_bytes.result.now plan (table_verdicts c.in_ok-table.table) c.status_of.result c.as_slice.ensures.value c.in_ok-plan.ensures.spelled c.in_ok-table.ensures lines (c.status_of.ensures plan c.in_ok-table.ensures) in
+    writing_reports (ReadsText reader) Checked g.O.Output.writer (HaltsAtText reader RefusesPlan) c.args.plan.now c.args.out.now _ _ c.in_ok-text.ensures.all _ _ checked c.write_lines.new.out c.write_lines.result c.write_lines.ensures.status c.write_lines.ensures.all
 
-pub returns-clause-left : goal.returns-clause-left
-returns-clause-left g c =
+pub returns-clause-stops : goal.returns-clause-stops
+returns-clause-stops g c one =
+    let reader = g.I.Input.reader in
     let plan = plan_contents c.in_ok-plan.plan in
-    let verdicts = table_verdicts c.in_ok-table.table in
-    let checked : Checked (g.I.Read.remaining c.args.plan.now) (g.I.Read.remaining c.read_within.new.reader) = record {
-      text = c.in_ok-text.text.items;
-      given = (c.in_ok-text.ensures.bytes, c.in_ok-text.ensures.end);
-      plan = plan;
-      spelled = subst (λ (t : List ℕ). Spells t plan) c.as_slice.ensures.value c.in_ok-plan.ensures.spelled;
-      verdicts = verdicts;
-      right = c.in_ok-table.ensures;
-    } in
-    leaves _ _ (g.O.Write.contents c.args.out.now) (g.O.Write.contents c.write_check.new.out) checked c.write_check.result c.as_bytes.result.now (c.as_bytes.ensures.value ∙ (c.in_ok-report.ensures ∙ ap (check_lines plan) c.verdicts.ensures)) c.write_check.ensures.left
-
-pub returns-clause-refusal : goal.returns-clause-refusal
-returns-clause-refusal g c =
-    writes (g.I.Read.remaining c.args.plan.now) (g.I.Read.remaining c.read_within.new.reader) c.write_check.result _ c.write_check.ensures.left
-
-pub returns-clause-sound : goal.returns-clause-sound
-returns-clause-sound g c = always _ c.write_check.result c.in_ok-text.ensures.sound
+    let lines = c.as_bytes.ensures.value ∙ (c.in_ok-report.ensures ∙ ap (check_lines plan) c.verdicts.ensures) in
+    let checked = checks c.in_ok-text.text.items c.as_slice.result.now c.as_bytes.result.now plan (table_verdicts c.in_ok-table.table) c.status_of.result c.as_slice.ensures.value c.in_ok-plan.ensures.spelled c.in_ok-table.ensures lines (c.status_of.ensures plan c.in_ok-table.ensures) in
+    writing_stops (ReadsText reader) Checked g.O.Output.writer (HaltsAtText reader RefusesPlan) c.args.plan.now c.args.out.now _ _ c.in_ok-text.ensures.all _ _ checked c.write_lines.new.out c.write_lines.result c.write_lines.ensures.stops

@@ -1,0 +1,33 @@
+// What all runs have: a status, and the writing of their lines.
+
+ghost use Rattle.std.specs.Prelude.{◌≡◌, IfOk, IfErr, OnOk};
+ghost use Rattle.report.specs.Writing.{WritesAll, WritingStops};
+
+use crate::devices::traits::Output;
+use crate::devices::writing::write_report;
+use crate::errors::RunError;
+
+/// How a run ended that wrote its whole report.
+#[derive(Clone, Copy, Debug, PartialEq, Eq)]
+pub enum Status {
+    /// The plan is safe.
+    Good,
+    /// The plan is not safe.
+    Bad,
+    /// What was given is refused.
+    Refused,
+}
+
+// Writes the whole report of a run that ends with this status.
+pub(crate) fn write_lines<O: Output>(
+    out: &mut O,
+    report: &[u8],
+    status: Status,
+) -> Result<Status, RunError>
+    ensures status { IfOk result (λ it. it ≡ status) }
+    ensures all { OnOk result (WritesAll O.writer out.old report.now out.new) }
+    ensures stops { IfErr result (λ error. WritingStops O.writer out.old report.now error out.new) }
+{
+    write_report(out, report)?;
+    Ok(status)
+}
