@@ -1,1 +1,5 @@
+pub mod PlaceLemmas
+pub mod PrintLemmas
+pub mod ProofLemmas
 pub mod Soundness
+pub mod WordLemmas

@@ -1,8 +1,8 @@
 -- What the functions of the reader say of the bytes: what is left of them, and what is expected there.
 -- Only private contracts and proofs use this.
-use Rattle.std.specs.Prelude.{◌≡◌, ℕ, suc, ◌<◌, List, [], ◌∷◌, ◌++◌, length, Some, codes, decimal}
+use Rattle.std.specs.Prelude.{◌≡◌, ◌≢◌, ℕ, suc, ◌<◌, List, [], ◌∷◌, ◌++◌, length, Some, codes, decimal, All}
 use Rattle.message_tree.specs.declared.items.Item.{Item}
-use Rattle.message_tree.specs.declared.items.Kind.{Kind}
+use Rattle.message_tree.specs.Symbols.{wire_text}
 use Rattle.certificate.specs.declared.errors.CertError.{CertError}
 use Rattle.certificate.specs.declared.errors.CertError.TheVariants.{Wrong, NoMemory}
 use Rattle.certificate.specs.declared.errors.CertFault.TheVariants.{TooDeep, Format}
@@ -10,8 +10,8 @@ use Rattle.certificate.specs.declared.sources.Source.{Source}
 use Rattle.certificate.specs.declared.proofs.Token.{Token}
 use Rattle.certificate.specs.declared.proofs.Token.TheVariants as token
 use Rattle.certificate.specs.Proofs.{ProofTree}
-use Rattle.certificate.specs.Texts.{IsPrintableProof, proof_text, proof_line}
-use Rattle.certificate.specs.Refusals.{Expected, this, proof, place_digit, below, refusal, line_after}
+use Rattle.certificate.specs.Texts.{IsPrintableProof, GoesOn, proof_text, proof_line}
+use Rattle.certificate.specs.Refusals.{Expected, this, wire, symbols, proof, place_digit, below, refusal, line_after}
 
 -- a place in a text: the bytes that are left, and the line on which the first of them stands
 pub record Place : Type 0 where
@@ -76,6 +76,7 @@ pub record TokenRead (token : Token) (old new : Place) : Type 0 where
 -- the place of a bit behind `P`
 pub record PlaceRead (k : ℕ) (old new : Place) : Type 0 where
   pub small : k < 8
+  pub line_is : new.line ≡ old.line
   pub reads : (room : ℕ) → Reads (decimal k) old (place_digit (suc room) ∷ []) new []
   pub deep : Refuses old (place_digit 0 ∷ []) (Wrong (TooDeep new.line))
 
@@ -93,3 +94,9 @@ pub record BelowRead (room : ℕ) (tree : ProofTree) (old new : Place) : Type 0 
 pub record LineRead (tree : ProofTree) (old new : Place) : Type 0 where
   pub printable : IsPrintableProof 512 tree
   pub reads : Reads (proof_line tree) old (proof 512 ∷ (this 10 ∷ [])) new []
+
+-- the symbols so far of a wire
+pub record WireRead (items : List Item) (old new : Place) : Type 0 where
+  pub reads : Reads (wire_text items) old (wire ∷ []) new (symbols ∷ [])
+  pub some : items ≢ []
+  pub goes_on : All GoesOn items

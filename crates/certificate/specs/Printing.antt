@@ -7,3 +7,15 @@ use Rattle.certificate.specs.Texts.{proof_text}
 abbrev pub pending_text : List ProofTree → List ℕ
 pending_text [] = []
 pending_text (tree ∷ trees) = pending_text trees ++ (32 ∷ proof_text tree)
+
+abbrev pub nodes : ProofTree → ℕ
+nodes (part place) = 1
+nodes short = 1
+nodes (byte acked refused) = 1 + (nodes acked + nodes refused)
+nodes (read after refused) = 1 + (nodes after + nodes refused)
+nodes (again frames) = 1 + nodes frames
+nodes alike = 1
+
+abbrev pub pending_nodes : List ProofTree → ℕ
+pending_nodes [] = 0
+pending_nodes (tree ∷ trees) = nodes tree + pending_nodes trees

@@ -24,7 +24,7 @@ impl<'a> ProofLines<'a> {
 
     /// What is left behind the first two lines, which announce this number of proofs.
     pub(crate) fn new(source: Source<'a>, number: u32) -> Self
-        ensures source { result.source ≡ source }
+        ensures source { result.source ≡ source.entry }
         ensures number { result.number ≡ number }
         ensures seen { result.seen ≡ 0 }
     {

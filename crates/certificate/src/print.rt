@@ -1,11 +1,11 @@
 // The spelling of a certificate.
 
-ghost use Rattle.std.specs.Prelude.{◌≡◌, ◌++◌, ◌∷◌, [], IfOk, OnOk, string_bytes, codes, decimal, map, length};
+ghost use Rattle.std.specs.Prelude.{◌≡◌, ◌+◌, ◌++◌, ◌∷◌, [], IfOk, OnOk, string_bytes, codes, decimal, map, length};
 ghost use Rattle.std.specs.List.{flat_map};
 ghost use Rattle.message_tree.specs.Symbols.{wire_text};
 ghost use Rattle.certificate.specs.Certificates.{certificate_of};
 ghost use Rattle.certificate.specs.Proofs.{proof_tree};
-ghost use Rattle.certificate.specs.Printing.{pending_text};
+ghost use Rattle.certificate.specs.Printing.{nodes, pending_nodes, pending_text};
 ghost use Rattle.certificate.specs.Texts.{Spells, IsPrintable, cert_text, proofs_text, flaw_text, proof_line, proof_text};
 
 use crate::values::{Cert, CertText, Fault};
@@ -65,7 +65,10 @@ fn line(alloc: Global, text: &mut String, proof: &Cert) -> Result<(), AllocError
 }
 
 // The token of a node. The proofs below it come before what was pending, the first of them last in the list.
-fn node<'a>(text: &mut String, pending: &mut Vec<&'a Cert>, proof: &'a Cert) -> Result<(), AllocError> {
+fn node<'a>(text: &mut String, pending: &mut Vec<&'a Cert>, proof: &'a Cert) -> Result<(), AllocError>
+    ensures writes { OnOk result (string_bytes text.new ++ pending_text (map (λ p. proof_tree p.now) pending.new.items) ≡ string_bytes text.old ++ (proof_text (proof_tree proof.now) ++ pending_text (map (λ p. proof_tree p.now) pending.old.items))) }
+    ensures less { OnOk result (pending_nodes (map (λ p. proof_tree p.now) pending.new.items) + 1 ≡ pending_nodes (map (λ p. proof_tree p.now) pending.old.items) + nodes (proof_tree proof.now)) }
+{
     match proof {
         Cert::Part(place) => write!(text, "P{place}"),
         Cert::Short => text.push('R'),

@@ -96,7 +96,7 @@ impl Source<'_> {
 
 // The number with one more digit, where the byte is a digit and the number has room for it.
 fn with_digit(number: u32, byte: u8) -> Option<u32>
-    ensures { MatchOption result ((is_ascii_digit byte && nat_lt (number * 10 + (byte - 48)) (2 ^ 32)) ≡ false) (λ n. (is_ascii_digit byte ≡ true) × (n ≡ number * 10 + (byte - 48))) }
+    ensures { MatchOption result ((is_ascii_digit byte && nat_lt (number * 10 + (byte - 48)) (2 ^ 32)) ≡ false) (λ n. (is_ascii_digit byte ≡ true) × (n ≡ number * 10 + (byte - 48)) × (n < 2 ^ 32)) }
 {
     if !byte.is_ascii_digit() {
         return None;
