@@ -20,18 +20,33 @@ pub fn print_cert(alloc: Global, cert: &CertText) -> Result<Vec<u8>, AllocError>
     ensures spelling { IfOk result (λ text. text.items ≡ cert_text (certificate_of cert.now)) }
     ensures read_back { IsPrintable (certificate_of cert.now) → IfOk result (λ text. Spells text.items (certificate_of cert.now)) }
 {
+    print(alloc, cert)
+}
+
+// The spelling.
+fn print(alloc: Global, cert: &CertText) -> Result<Vec<u8>, AllocError>
+    ensures { IfOk result (λ text. text.items ≡ cert_text (certificate_of cert.now)) }
+{
     let mut text = String::new(alloc);
     text.push_str("cert 1\n")?;
     match cert {
         CertText::Proofs(proofs) => {
             write!(text, "pairs {}\n", proofs.len())?;
-            for proof in proofs {
-                line(alloc, &mut text, proof)?;
-            }
+            lines(alloc, &mut text, proofs)?;
         }
         CertText::Flaw(pair, fault) => flaw(&mut text, *pair, fault)?,
     }
     Ok(text.into_bytes())
+}
+
+// Each proof on a line of its own.
+fn lines(alloc: Global, text: &mut String, proofs: &[Cert]) -> Result<(), AllocError>
+    ensures { OnOk result (string_bytes text.new ≡ string_bytes text.old ++ flat_map proof_line (map proof_tree proofs.now)) }
+{
+    for proof in proofs {
+        line(alloc, text, proof)?;
+    }
+    Ok(())
 }
 
 fn flaw(text: &mut String, pair: u32, fault: &Fault) -> Result<(), AllocError>
