@@ -1,3 +1,4 @@
+pub mod HeadLemmas
 pub mod LineLemmas
 pub mod PlaceLemmas
 pub mod PrintLemmas
