@@ -1,1 +1,7 @@
+pub mod HeadLemmas
+pub mod LineLemmas
+pub mod PlaceLemmas
+pub mod PrintLemmas
+pub mod ProofLemmas
 pub mod Soundness
+pub mod WordLemmas
