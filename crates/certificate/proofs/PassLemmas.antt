@@ -76,20 +76,22 @@ symbol_known (item.Sent false) h = refl
 symbol_known (item.Heard true) h = refl
 symbol_known (item.Heard false) h = refl
 symbol_known item.Again h = refl
+symbol_known item.Stop h = elim h [ ]
+symbol_known item.Claim h = elim h [ ]
 
 symbol_apart : (it : Item) → symbol_of it ≢ 32
-symbol_apart (item.Sent true) e = cc
-symbol_apart (item.Sent false) e = cc
-symbol_apart (item.Heard true) e = cc
-symbol_apart (item.Heard false) e = cc
-symbol_apart item.Again e = cc
-symbol_apart item.Stop e = cc
-symbol_apart item.Claim e = cc
+symbol_apart (item.Sent true) e = omega arith
+symbol_apart (item.Sent false) e = omega arith
+symbol_apart (item.Heard true) e = omega arith
+symbol_apart (item.Heard false) e = omega arith
+symbol_apart item.Again e = omega arith
+symbol_apart item.Stop e = omega arith
+symbol_apart item.Claim e = omega arith
 
 symbols_pass : (items : List Item) (rest : List ℕ) (more : List Expected) → All GoesOn items → Passes more rest → Passes (symbols ∷ more) (wire_text items ++ (32 ∷ rest))
 symbols_pass [] rest more all h = pass 32 rest symbols [] more (λ line. refl) h
 symbols_pass (it ∷ items) rest more all h =
-    let one : item_of (symbol_of it) ≡ Some it = symbol_known it (all 0 it (lit< tt)) in
+    let one : item_of (symbol_of it) ≡ Some it = symbol_known it (all 0 it (omega arith)) in
     pass (symbol_of it) (wire_text items ++ (32 ∷ rest)) symbols (symbols ∷ []) more
     (λ line. rw (ne_eqb (symbol_of it) 32 (symbol_apart it)) (ap (symbol_step line) one))
     (symbols_pass items rest more (λ k d within. all (suc k) d (omega arith)) h)
@@ -97,7 +99,7 @@ symbols_pass (it ∷ items) rest more all h =
 pub wire_passes : (items : List Item) (rest : List ℕ) (more : List Expected) → items ≢ [] → All GoesOn items → Passes more rest → Passes (wire ∷ more) (wire_text items ++ (32 ∷ rest))
 wire_passes [] rest more some all h = absurd (some refl)
 wire_passes (it ∷ items) rest more some all h =
-    let one : item_of (symbol_of it) ≡ Some it = symbol_known it (all 0 it (lit< tt)) in
+    let one : item_of (symbol_of it) ≡ Some it = symbol_known it (all 0 it (omega arith)) in
     pass (symbol_of it) (wire_text items ++ (32 ∷ rest)) wire (symbols ∷ []) more (λ line. ap (symbol_step line) one)
     (symbols_pass items rest more (λ k d within. all (suc k) d (omega arith)) h)
 
@@ -116,6 +118,24 @@ place_passes k room rest more small h =
     subst (λ (ds : List ℕ). Passes (place_digit (suc room) ∷ more) (ds ++ rest)) (sym (decimal_digit k (omega arith)))
     (pass (48 + k) rest (place_digit (suc room)) [] more (λ line. rw is refl) h)
 
+two_pass : (letter room : ℕ) (p q : ProofTree) (rest : List ℕ) (more : List Expected) → ((line : ℕ) → step line (proof (suc room)) letter ≡ Ok (expect.below 2 room))
+    → ((after : List ℕ) (es : List Expected) → Passes es after → Passes (proof room ∷ es) (proof_text p ++ after)) → Passes (proof room ∷ more) (proof_text q ++ rest)
+    → Passes (proof (suc room) ∷ more) ((letter ∷ (32 ∷ (proof_text p ++ (32 ∷ proof_text q)))) ++ rest)
+two_pass letter room p q rest more stepped first second =
+    pass letter (32 ∷ ((proof_text p ++ (32 ∷ proof_text q)) ++ rest)) (proof (suc room)) (expect.below 2 room) more stepped
+    (pass 32 ((proof_text p ++ (32 ∷ proof_text q)) ++ rest) (this 32) [] (proof room ∷ (this 32 ∷ (proof room ∷ more))) (λ line. refl)
+    (subst (Passes (proof room ∷ (this 32 ∷ (proof room ∷ more)))) (sym (append_assoc (proof_text p) (32 ∷ proof_text q) rest))
+    (first (32 ∷ (proof_text q ++ rest)) (this 32 ∷ (proof room ∷ more))
+    (pass 32 (proof_text q ++ rest) (this 32) [] (proof room ∷ more) (λ line. refl) second))))
+
+some_height : (tree : ProofTree) → 0 < height tree
+some_height (part k) = lit< tt
+some_height short = lit< tt
+some_height alike = lit< tt
+some_height (again p) = omega arith
+some_height (byte p q) = omega arith
+some_height (read p q) = omega arith
+
 pub proof_passes : (room : ℕ) (tree : ProofTree) (rest : List ℕ) (more : List Expected) → HasPlaces tree → height tree ≤ room → Passes more rest → Passes (proof room ∷ more) (proof_text tree ++ rest)
 proof_passes (suc room) (part k) rest more places path h = pass 80 (decimal k ++ rest) (proof (suc room)) (place_digit (suc room) ∷ []) more (λ line. refl) (place_passes k room rest more places h)
 proof_passes (suc room) short rest more places path h = pass 82 rest (proof (suc room)) [] more (λ line. refl) h
@@ -126,4 +146,40 @@ proof_passes (suc room) (again frames) rest more places path h =
     (proof_passes room frames rest more places (omega arith) h))
 proof_passes (suc room) (byte p q) rest more places path h = two_pass 66 room p q rest more (λ line. refl) (λ after other. proof_passes room p after other places.0 (omega arith)) (proof_passes room q rest more places.1 (omega arith) h)
 proof_passes (suc room) (read p q) rest more places path h = two_pass 68 room p q rest more (λ line. refl) (λ after other. proof_passes room p after other places.0 (omega arith)) (proof_passes room q rest more places.1 (omega arith) h)
-proof_passes zero tree rest more places path h = absurd (no_height tree path)
+proof_passes zero tree rest more places path h = absurd (omega (arith, some_height tree, path))
+
+-- ---- lines
+
+not_empty : (front back : List ℕ) → (front ++ 10 ∷ []) ++ back ≢ []
+not_empty [] back e = cc
+not_empty (b ∷ front) back e = cc
+
+pub lines_pass : (trees : List ProofTree) → All (IsPrintableProof 512) trees → Passes (lines ∷ []) (flat_map proof_line trees)
+lines_pass [] all = λ line. refl
+lines_pass (t ∷ trees) all =
+    let rest = flat_map proof_line trees in
+    let first : IsPrintableProof 512 t = all 0 t (omega arith) in
+    let behind : Passes (this 10 ∷ (lines ∷ [])) (10 ∷ rest) =
+      pass 10 rest (this 10) [] (lines ∷ []) (λ line. refl) (lines_pass trees (λ k d within. all (suc k) d (omega arith))) in
+    let whole_line : Passes (proof 512 ∷ (this 10 ∷ (lines ∷ []))) (proof_line t ++ rest) =
+      subst (Passes (proof 512 ∷ (this 10 ∷ (lines ∷ [])))) (sym (append_assoc (proof_text t) (10 ∷ []) rest))
+      (proof_passes 512 t (10 ∷ rest) (this 10 ∷ (lines ∷ [])) first.places first.path behind) in
+    λ line. lines_go_on line (proof_line t ++ rest) [] (not_empty (proof_text t) rest) ∙ whole_line line
+
+-- ---- texts
+
+pub proofs_pass : (n : ℕ) (trees : List ProofTree) → n < 2 ^ 32 → All (IsPrintableProof 512) trees → Passes whole (codes "cert 1\n" ++ proofs_text n trees)
+proofs_pass n trees fits all = λ line. number_passes 10 refl n (flat_map proof_line trees) (lines ∷ []) fits (lines_pass trees all) (line + 1)
+
+pub flaw_passes : (n : ℕ) (items : List Item) (first second : Kind) → n < 2 ^ 32 → items ≢ [] → All GoesOn items → Passes whole (codes "cert 1\n" ++ flaw_text n items first second)
+flaw_passes n items first second fits some all = λ line.
+    number_passes 32 refl n (wire_text items ++ (32 ∷ (kind_word first ++ (32 ∷ (kind_word second ++ 10 ∷ []))))) (wire ∷ (kind ∷ (this 32 ∷ (kind ∷ (this 10 ∷ []))))) fits
+    (wire_passes items (kind_word first ++ (32 ∷ (kind_word second ++ 10 ∷ []))) (kind ∷ (this 32 ∷ (kind ∷ (this 10 ∷ [])))) some all
+    (kind_passes first (32 ∷ (kind_word second ++ 10 ∷ [])) (this 32 ∷ (kind ∷ (this 10 ∷ [])))
+    (pass 32 (kind_word second ++ 10 ∷ []) (this 32) [] (kind ∷ (this 10 ∷ [])) (λ line. refl)
+    (kind_passes second (10 ∷ []) (this 10 ∷ []) (λ line. refl)))))
+    (line + 1)
+
+pub spelled_passes : (text : List ℕ) (value : Certificate) → Spells text value → Passes whole text
+spelled_passes text (proofs trees) s = subst (Passes whole) (sym s.text_is) (proofs_pass (length trees) trees s.printable.1 s.printable.0)
+spelled_passes text (flaw n items first second) s = subst (Passes whole) (sym s.text_is) (flaw_passes n items first second s.printable.0 s.printable.1 s.printable.2)
