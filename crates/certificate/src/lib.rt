@@ -4,4 +4,4 @@
 pub mod laws;
 pub mod values;
 
-pub use values::{Cert, CertText, Fault};
+pub use values::{Cert, CertFault, CertText, Fault};

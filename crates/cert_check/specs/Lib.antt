@@ -1,0 +1,5 @@
+pub mod Proved
+pub mod PairFaults
+pub mod Starts
+pub mod Wires
+pub mod Holds
