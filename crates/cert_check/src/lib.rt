@@ -2,12 +2,13 @@
 //! is safe.
 //!
 //! `pairs` compares a proof with the two messages of its pair, node by node (`nodes`, `bits`). `faults` follows the wire of
-//! a fault through one participant at a time (`wires`). `accepted` checks the proofs of a whole plan. `laws` says what that
+//! a fault through one participant at a time (`wires`). `certified` checks the proofs of a whole plan, and `accepted` keeps a plan that they made safe. `laws` says what that
 //! is worth.
 #![tactic(auto)]
 
 pub mod accepted;
 mod bits;
+pub mod certified;
 pub mod faults;
 pub mod laws;
 mod nodes;
@@ -16,5 +17,6 @@ mod starts;
 mod wires;
 
 pub use accepted::Accepted;
+pub use certified::accept_plan;
 pub use faults::check_fault;
 pub use pairs::check_pair;

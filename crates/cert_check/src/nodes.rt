@@ -5,10 +5,11 @@ ghost use Rattle.std.specs.Prelude.{◌≡◌, ◌↔◌, IsTrue};
 ghost use Rattle.message_tree.specs.Trees.{frame_tree, payload_tree, tail_tree};
 ghost use Rattle.certificate.specs.Proofs.{proof_tree, short};
 ghost use Rattle.certificate.specs.Proves.{ProvesFrames, ProvesPayloads, ProvesTails};
+ghost use Rattle.cert_check.specs.Reads.{ProvesReads};
 
 use crate::bits::{are_split_at, byte_bits, frame_bits};
 use certificate::Cert;
-use message_tree::{Frame, Payload, Tail};
+use message_tree::{Count, Frame, Payload, Tail};
 
 /// Whether the proof proves the two frames.
 #[cycle(proved)]
@@ -44,19 +45,24 @@ pub(crate) fn frames_proved(f: &Frame, g: &Frame, cert: &Cert) -> bool
                     after: y,
                     refused: s,
                     ..
-                } => {
-                    let read = if c.meets(d) {
-                        tails_proved(x, y, p)
-                    } else {
-                        is_short(p)
-                    };
-                    read && tails_proved(r, s, q)
-                }
+                } => reads_proved(c, d, x, y, p) && tails_proved(r, s, q),
                 Frame::Write { .. } => false,
             },
             Frame::Write { .. } => false,
         },
         Cert::Short | Cert::Again(_) | Cert::Alike => false,
+    }
+}
+
+// Two reads, from the first byte on: they never end after the same number of bytes, or the proof proves what follows.
+#[cycle(proved)]
+fn reads_proved(c: &Count, d: &Count, x: &Tail, y: &Tail, cert: &Cert) -> bool
+    ensures { IsTrue result ↔ ProvesReads (proof_tree cert.now) c.now d.now (tail_tree x.now) (tail_tree y.now) }
+{
+    if c.meets(d) {
+        tails_proved(x, y, cert)
+    } else {
+        is_short(cert)
     }
 }
 

@@ -1,3 +1,17 @@
+// The proofs of a whole plan.
+
+ghost use Rattle.std.specs.Prelude.{◌≡◌, IfOk, IfErr, IsOk, Err, MatchOption, map};
+ghost use Rattle.certificate.specs.declared.values.CertFault.{CertFault};
+ghost use Rattle.certificate.specs.Proofs.{proof_tree};
+ghost use Rattle.plan_core.specs.PlanContents.{plan_contents};
+ghost use Rattle.cert_check.specs.Holds.{accepted_plan};
+ghost use Rattle.cert_check.specs.Proved.{Certifies, IsWrong};
+
+use crate::accepted::Accepted;
+use crate::pairs::check_pair;
+use certificate::{Cert, CertFault};
+use plan_core::Plan;
+
 /// Accepts a plan where each of its pairs has a proof that proves it, in the order of the pairs. Otherwise it hands the
 /// plan back. It takes no memory.
 ///

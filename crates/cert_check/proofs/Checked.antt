@@ -1,0 +1,82 @@
+-- Proofs of all pairs make a plan safe.
+use Rattle.std.proofs.Common.{◌≡◌, ◌≢◌, ℕ, zero, suc, ◌<◌, ◌≤◌, Option, Some, None, unwrap_or, List, [], ◌∷◌, length, get_or, slice_get, ◌++◌, refl, ap, sym, ◌∙◌, subst, arith, inl, inr, ◌⊎◌}
+use Rattle.message_tree.specs.declared.items.Item.{Item}
+use Rattle.message_tree.specs.declared.items.Kind.{Kind}
+use Rattle.message_tree.specs.Items.{kind_of, KindsClash}
+use Rattle.message_tree.specs.Texts.{Sender, SenderText}
+use Rattle.certificate.specs.Proofs.{ProofTree}
+use Rattle.certificate.specs.Proves.{Proves}
+use Rattle.certificate.proofs.Soundness.{sound}
+use Rattle.plan_core.specs.Contents.{Contents}
+use Rattle.plan_core.specs.Faults.{OffersKind, IsFaulty, IsSafe}
+use Rattle.plan_core.specs.Lawful.{pair, IsPair}
+use Rattle.plan_core.specs.Laws.{MayClash}
+use Rattle.plan_core.specs.Pairs.{pairs_of}
+use Rattle.plan_core.specs.Participants.{Text, TextOf, sender_at, participant_count}
+use Rattle.plan_core.proofs.Model.{safe_by_pairs, in_pair, still_in}
+use Rattle.plan_core.proofs.PairLaws.{to_pairs, from_pairs, parts_of_IsPair}
+use Rattle.cert_check.specs.Proved.{ProvesPair, AllProve, Certifies}
+
+module _ {X : Type 0} where
+  pub get_at : (xs : List X) (k : ℕ) (x : X) → k < length xs → get_or xs k x ≡ x → slice_get xs k ≡ Some x
+  get_at [] k x h e = absurd (omega arith)
+  get_at (y ∷ xs) zero x h e = ap Some e
+  get_at (y ∷ xs) (suc k) x h e = get_at xs k x (omega arith) e
+
+  pub at_get : (xs : List X) (k : ℕ) (x : X) → slice_get xs k ≡ Some x → (k < length xs) × (get_or xs k x ≡ x)
+  at_get [] k x e = cc
+  at_get (y ∷ xs) zero x e = (omega arith, cc)
+  at_get (y ∷ xs) (suc k) x e = let r = at_get xs k x e in (omega (arith, r.0), r.1)
+
+  pub some_at : (xs : List X) (k : ℕ) → k < length xs → (x : X) × (slice_get xs k ≡ Some x)
+  some_at [] k h = absurd (omega arith)
+  some_at (y ∷ xs) zero h = (y, refl)
+  some_at (y ∷ xs) (suc k) h = some_at xs k (omega arith)
+
+-- what the list of pairs has at a place
+pub pair_within : (plan : Contents) (i x y : ℕ) → slice_get (pairs_of plan) i ≡ Some (x, y) → (x < y) × (y < participant_count plan)
+pair_within plan i x y e =
+    let at = at_get (pairs_of plan) i (x, y) e in
+    let parts = from_pairs plan x y (i, at.0, at.1) in
+    (parts.0, parts.1)
+
+-- the two of one place
+pub same_pair : (plan : Contents) (i x y v w : ℕ) → slice_get (pairs_of plan) i ≡ Some (x, y) → slice_get (pairs_of plan) i ≡ Some (v, w) → (x ≡ v) × (y ≡ w)
+same_pair plan i x y v w e f =
+    let same : Some (x, y) ≡ Some (v, w) = sym e ∙ f in
+    (ap (λ (o : Option (ℕ × ℕ)). (unwrap_or o (x, y)).0) same, ap (λ (o : Option (ℕ × ℕ)). (unwrap_or o (x, y)).1) same)
+
+-- ---- a proved pair is not faulty
+
+-- who is in a fault of the pair
+first_is : (x y a b : ℕ) → x < y → a < b → (a ≡ x) ⊎ (a ≡ y) → (b ≡ x) ⊎ (b ≡ y) → (a ≡ x) × (b ≡ y)
+first_is x y a b l m (inl e) (inl f) = absurd (omega arith)
+first_is x y a b l m (inl e) (inr f) = (e, f)
+first_is x y a b l m (inr e) (inl f) = absurd (omega arith)
+first_is x y a b l m (inr e) (inr f) = absurd (omega arith)
+
+-- what a participant offers is a text of its sender
+pub offered_text : (plan : Contents) (p : ℕ) (s : Sender) (w : List Item) → sender_at plan p ≡ Some s → Text plan p w → SenderText s w
+offered_text plan p s w e t = subst (λ (o : Option Sender). TextOf o w) e t
+
+pub proved_is_not_faulty : (plan : Contents) (x y : ℕ) (s t : Sender) (p : ProofTree) → x < y → sender_at plan x ≡ Some s → sender_at plan y ≡ Some t → Proves p s t → IsFaulty plan (pair x y) → ⊥
+proved_is_not_faulty plan x y s t p lt e f h faulty =
+    let u = faulty.0 in
+    let fault = faulty.5 in
+    let a = fault.first_offers in
+    let b = fault.second_offers in
+    let who = first_is x y faulty.1 faulty.2 lt fault.in_order (in_pair x y faulty.1 (still_in fault.reached faulty.1 fault.first)) (in_pair x y faulty.2 (still_in fault.reached faulty.2 fault.second)) in
+    sound p s t h u a.1.0 b.1.0 a.0 b.0
+    (offered_text plan faulty.1 s (u ++ a.0 ∷ a.1.0) (ap (sender_at plan) who.0 ∙ e) a.1.1)
+    (offered_text plan faulty.2 t (u ++ b.0 ∷ b.1.0) (ap (sender_at plan) who.1 ∙ f) b.1.1)
+    (subst (λ (k : Kind). KindsClash (kind_of a.0) k) (sym b.2) (subst (λ (k : Kind). KindsClash k faulty.4) (sym a.2) fault.clash))
+
+pub certified_is_safe : (plan : Contents) (proofs : List ProofTree) → Certifies plan proofs → IsSafe plan
+certified_is_safe plan proofs h =
+    safe_by_pairs plan (λ x y p faulty.
+    let parts = parts_of_IsPair plan x y p in
+    let listed = to_pairs plan x y parts.0 parts.1 parts.2 in
+    let proof = some_at proofs listed.0 (omega (arith, listed.1, h.count)) in
+    let proves = h.each listed.0 proof.0 proof.1 in
+    let same = same_pair plan listed.0 proves.x proves.y x y proves.listed (get_at (pairs_of plan) listed.0 (x, y) listed.1 listed.2) in
+    proved_is_not_faulty plan x y proves.s proves.t proof.0 parts.0 (ap (sender_at plan) (sym same.0) ∙ proves.first) (ap (sender_at plan) (sym same.1) ∙ proves.second) proves.proved faulty)
