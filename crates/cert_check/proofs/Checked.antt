@@ -1,5 +1,5 @@
 -- Proofs of all pairs make a plan safe.
-use Rattle.std.proofs.Common.{◌≡◌, ◌≢◌, ℕ, zero, suc, ◌<◌, ◌≤◌, Option, Some, None, unwrap_or, List, [], ◌∷◌, length, get_or, slice_get, ◌++◌, refl, ap, sym, ◌∙◌, subst, arith, inl, inr, ◌⊎◌}
+use Rattle.std.proofs.Common.{◌≡◌, ◌≢◌, ℕ, zero, suc, ◌<◌, ◌≤◌, Option, Some, None, unwrap_or, List, [], ◌∷◌, length, get_or, slice_get, ◌++◌, refl, ap, sym, ◌∙◌, subst, arith, inl, inr, ◌⊎◌, ◌↔◌}
 use Rattle.message_tree.specs.declared.items.Item.{Item}
 use Rattle.message_tree.specs.declared.items.Kind.{Kind}
 use Rattle.message_tree.specs.Items.{kind_of, KindsClash}
@@ -13,8 +13,10 @@ use Rattle.plan_core.specs.Lawful.{pair, IsPair}
 use Rattle.plan_core.specs.Laws.{MayClash}
 use Rattle.plan_core.specs.Pairs.{pairs_of}
 use Rattle.plan_core.specs.Participants.{Text, TextOf, sender_at, participant_count}
-use Rattle.plan_core.proofs.Model.{safe_by_pairs, in_pair, still_in}
+use Rattle.plan_core.proofs.Model.{safe_by_pairs, in_pair, still_in, fault_of_pair, may_clash}
 use Rattle.plan_core.proofs.PairLaws.{to_pairs, from_pairs, parts_of_IsPair}
+use Rattle.cert_check.specs.PairFaults.{IsPairFault}
+use Rattle.cert_check.specs.Wires.{MayPut}
 use Rattle.cert_check.specs.Proved.{ProvesPair, AllProve, Certifies}
 
 module _ {X : Type 0} where
@@ -80,3 +82,43 @@ certified_is_safe plan proofs h =
     let proves = h.each listed.0 proof.0 proof.1 in
     let same = same_pair plan listed.0 proves.x proves.y x y proves.listed (get_at (pairs_of plan) listed.0 (x, y) listed.1 listed.2) in
     proved_is_not_faulty plan x y proves.s proves.t proof.0 parts.0 (ap (sender_at plan) (sym same.0) ∙ proves.first) (ap (sender_at plan) (sym same.1) ∙ proves.second) proves.proved faulty)
+
+-- ---- one pair
+
+same_sender : (s t : Sender) (o : Option Sender) → o ≡ Some s → o ≡ Some t → s ≡ t
+same_sender s t o e f = let same : Some s ≡ Some t = sym e ∙ f in cc
+
+-- a proof of the two senders is one of the pair
+pub pair_proved : (plan : Contents) (i x y : ℕ) (s t : Sender) (p : ProofTree) → slice_get (pairs_of plan) i ≡ Some (x, y) → sender_at plan x ≡ Some s → sender_at plan y ≡ Some t → Proves p s t ↔ ProvesPair plan i p
+pair_proved plan i x y s t p listed e f = (
+  λ h. record { x = x; y = y; listed = listed; s = s; t = t; first = e; second = f; proved = h },
+  λ r.
+    let same = same_pair plan i r.x r.y x y r.listed listed in
+    let first = same_sender r.s s (sender_at plan r.x) r.first (ap (sender_at plan) same.0 ∙ e) in
+    let second = same_sender r.t t (sender_at plan r.y) r.second (ap (sender_at plan) same.1 ∙ f) in
+    subst (λ (w : Sender). Proves p s w) second (subst (λ (v : Sender). Proves p v r.t) first r.proved),
+)
+
+may_offer : (plan : Contents) (p : ℕ) (s : Sender) (u : List Item) (k : Kind) → sender_at plan p ≡ Some s → MayPut (SenderText s) u k ↔ OffersKind plan p u k
+may_offer plan p s u k e = (
+  λ m. (m.0, (m.1.0, subst (λ (o : Option Sender). TextOf o (u ++ m.0 ∷ m.1.0)) (sym e) m.1.1), m.2),
+  λ m. (m.0, (m.1.0, offered_text plan p s (u ++ m.0 ∷ m.1.0) e m.1.1), m.2),
+)
+
+-- kinds that clash, and both may be put: that is a fault of the pair
+pub pair_faulty : (plan : Contents) (i x y : ℕ) (s t : Sender) (u : List Item) (j k : Kind) → slice_get (pairs_of plan) i ≡ Some (x, y) → sender_at plan x ≡ Some s → sender_at plan y ≡ Some t → (KindsClash j k × MayPut (SenderText s) u j × MayPut (SenderText t) u k) ↔ IsPairFault plan i u j k
+pair_faulty plan i x y s t u j k listed e f = (
+  λ h. record {
+    x = x;
+    y = y;
+    listed = listed;
+    fault = fault_of_pair plan x y u j k (pair_within plan i x y listed).0 ((may_offer plan x s u j e).0 h.1, (may_offer plan y t u k f).0 h.2, h.0);
+  },
+  λ r.
+    let same = same_pair plan i r.x r.y x y r.listed listed in
+    let m = may_clash plan (pair r.x r.y) r.x r.y u j k r.fault in (
+      m.2,
+      (may_offer plan x s u j e).1 (subst (λ (p : ℕ). OffersKind plan p u j) same.0 m.0),
+      (may_offer plan y t u k f).1 (subst (λ (p : ℕ). OffersKind plan p u k) same.1 m.1),
+    ),
+)

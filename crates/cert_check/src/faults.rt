@@ -12,7 +12,7 @@ ghost use Rattle.cert_check.specs.Wires.{MayPut};
 
 use crate::bits::{byte_bits, frame_bits, start_bits};
 use crate::starts::{Start, start_of};
-use crate::wires::{Along, along_bits, along_read};
+use crate::wires::{Along, Answered, along_bits, along_byte, along_read};
 use certificate::Fault;
 use message_tree::{Frame, Item, Kind, Payload, Tail};
 use plan_core::Plan;
@@ -55,31 +55,20 @@ fn may_put(start: &Start<'_>, wire: &[Item], kind: Kind) -> bool
 fn frame_may_put(frame: &Frame, wire: &[Item], kind: Kind) -> bool
     ensures { IsTrue result ↔ MayPut (FrameText (frame_tree frame.now)) wire.now kind }
 {
-    match along_bits(&frame_bits(frame), wire) {
-        Along::Off => false,
-        Along::Within(offered) => offered == kind,
-        Along::Behind(wire) => match frame {
-            Frame::Write { acked, refused, .. } => match wire {
-                [] => kind == Kind::Heard,
-                [Item::Heard(false), wire @ ..] => payload_may_put(acked, wire, kind),
-                [Item::Heard(true), wire @ ..] => tail_may_put(refused, wire, kind),
-                _ => false,
+    match along_byte(&frame_bits(frame), wire) {
+        Answered::Off => false,
+        Answered::Within(offered) => offered == kind,
+        Answered::Acked(wire) => match frame {
+            Frame::Write { acked, .. } => payload_may_put(acked, wire, kind),
+            Frame::Read { count, after, .. } => match along_read(count, 0, wire) {
+                Along::Off => false,
+                Along::Within(offered) => offered == kind,
+                Along::Behind(wire) => tail_may_put(after, wire, kind),
             },
-            Frame::Read {
-                count,
-                after,
-                refused,
-                ..
-            } => match wire {
-                [] => kind == Kind::Heard,
-                [Item::Heard(false), wire @ ..] => match along_read(count, 0, wire) {
-                    Along::Off => false,
-                    Along::Within(offered) => offered == kind,
-                    Along::Behind(wire) => tail_may_put(after, wire, kind),
-                },
-                [Item::Heard(true), wire @ ..] => tail_may_put(refused, wire, kind),
-                _ => false,
-            },
+        },
+        Answered::Refused(wire) => match frame {
+            Frame::Write { refused, .. } => tail_may_put(refused, wire, kind),
+            Frame::Read { refused, .. } => tail_may_put(refused, wire, kind),
         },
     }
 }
@@ -94,15 +83,11 @@ fn payload_may_put(payload: &Payload, wire: &[Item], kind: Kind) -> bool
             bits,
             acked,
             refused,
-        } => match along_bits(&byte_bits(bits), wire) {
-            Along::Off => false,
-            Along::Within(offered) => offered == kind,
-            Along::Behind(wire) => match wire {
-                [] => kind == Kind::Heard,
-                [Item::Heard(false), wire @ ..] => payload_may_put(acked, wire, kind),
-                [Item::Heard(true), wire @ ..] => tail_may_put(refused, wire, kind),
-                _ => false,
-            },
+        } => match along_byte(&byte_bits(bits), wire) {
+            Answered::Off => false,
+            Answered::Within(offered) => offered == kind,
+            Answered::Acked(wire) => payload_may_put(acked, wire, kind),
+            Answered::Refused(wire) => tail_may_put(refused, wire, kind),
         },
         Payload::Last(tail) => tail_may_put(tail, wire, kind),
     }
