@@ -1,10 +1,16 @@
 -- Proofs of all pairs make a plan safe.
-use Rattle.std.proofs.Common.{◌≡◌, ◌≢◌, ℕ, zero, suc, ◌<◌, ◌≤◌, Option, Some, None, unwrap_or, List, [], ◌∷◌, length, get_or, slice_get, ◌++◌, refl, ap, sym, ◌∙◌, subst, arith, inl, inr, ◌⊎◌, ◌↔◌}
+use Rattle.std.proofs.Common.{◌≡◌, ◌≢◌, ℕ, zero, suc, ◌+◌, ◌<◌, ◌≤◌, Option, Some, None, unwrap_or, List, [], ◌∷◌, length, get_or, slice_get, ◌++◌, refl, ap, sym, ◌∙◌, subst, arith, inl, inr, ◌⊎◌, ◌↔◌}
 use Rattle.message_tree.specs.declared.items.Item.{Item}
 use Rattle.message_tree.specs.declared.items.Kind.{Kind}
 use Rattle.message_tree.specs.Items.{kind_of, KindsClash}
 use Rattle.message_tree.specs.Texts.{Sender, SenderText}
-use Rattle.certificate.specs.Proofs.{ProofTree}
+use Rattle.std.proofs.Common.{map}
+use Rattle.std.proofs.lemmas.List.{length-map}
+use Rattle.std.proofs.lemmas.Bool.{cases_lt}
+use Rattle.certificate.specs.declared.values.Cert.{Cert}
+use Rattle.certificate.specs.declared.values.CertFault.{CertFault}
+use Rattle.certificate.specs.declared.values.CertFault.TheVariants.{Format, Count, TooDeep, Pair}
+use Rattle.certificate.specs.Proofs.{ProofTree, proof_tree}
 use Rattle.certificate.specs.Proves.{Proves}
 use Rattle.certificate.proofs.Soundness.{sound}
 use Rattle.plan_core.specs.Contents.{Contents}
@@ -16,8 +22,8 @@ use Rattle.plan_core.specs.Participants.{Text, TextOf, sender_at, participant_co
 use Rattle.plan_core.proofs.Model.{safe_by_pairs, in_pair, still_in, fault_of_pair, may_clash}
 use Rattle.plan_core.proofs.PairLaws.{to_pairs, from_pairs, parts_of_IsPair}
 use Rattle.cert_check.specs.PairFaults.{IsPairFault}
-use Rattle.cert_check.specs.Wires.{MayPut}
-use Rattle.cert_check.specs.Proved.{ProvesPair, AllProve, Certifies}
+use Rattle.cert_check.specs.Wires.{MayPut, ClashAfter}
+use Rattle.cert_check.specs.Proved.{ProvesPair, AllProve, Certifies, IsWrong}
 
 module _ {X : Type 0} where
   pub get_at : (xs : List X) (k : ℕ) (x : X) → k < length xs → get_or xs k x ≡ x → slice_get xs k ≡ Some x
@@ -106,7 +112,7 @@ may_offer plan p s u k e = (
 )
 
 -- kinds that clash, and both may be put: that is a fault of the pair
-pub pair_faulty : (plan : Contents) (i x y : ℕ) (s t : Sender) (u : List Item) (j k : Kind) → slice_get (pairs_of plan) i ≡ Some (x, y) → sender_at plan x ≡ Some s → sender_at plan y ≡ Some t → (KindsClash j k × MayPut (SenderText s) u j × MayPut (SenderText t) u k) ↔ IsPairFault plan i u j k
+pub pair_faulty : (plan : Contents) (i x y : ℕ) (s t : Sender) (u : List Item) (j k : Kind) → slice_get (pairs_of plan) i ≡ Some (x, y) → sender_at plan x ≡ Some s → sender_at plan y ≡ Some t → ClashAfter s t u j k ↔ IsPairFault plan i u j k
 pair_faulty plan i x y s t u j k listed e f = (
   λ h. record {
     x = x;
@@ -122,3 +128,81 @@ pair_faulty plan i x y s t u j k listed e f = (
       (may_offer plan y t u k f).1 (subst (λ (p : ℕ). OffersKind plan p u k) same.1 m.1),
     ),
 )
+
+-- ---- the proofs of a plan
+
+module _ (certs : List Cert) where
+  -- the tree at a place is that of the proof there
+  pub tree_at : (i : ℕ) (p : ProofTree) → slice_get (map proof_tree certs) i ≡ Some p → (cert : Cert) × (slice_get certs i ≡ Some cert) × (proof_tree cert ≡ p)
+  tree_at i p e = tree_in certs i p e
+    where
+      tree_in : (cs : List Cert) (i : ℕ) (p : ProofTree) → slice_get (map proof_tree cs) i ≡ Some p → (cert : Cert) × (slice_get cs i ≡ Some cert) × (proof_tree cert ≡ p)
+      tree_in [] i p e = cc
+      tree_in (c ∷ cs) zero p e = (c, refl, cc)
+      tree_in (c ∷ cs) (suc i) p e = tree_in cs i p e
+
+  pub here_is : (i : ℕ) (cert : Cert) → slice_get certs i ≡ Some cert → slice_get (map proof_tree certs) i ≡ Some (proof_tree cert)
+  here_is i cert e = here_in certs i cert e
+    where
+      here_in : (cs : List Cert) (i : ℕ) (cert : Cert) → slice_get cs i ≡ Some cert → slice_get (map proof_tree cs) i ≡ Some (proof_tree cert)
+      here_in [] i cert e = cc
+      here_in (c ∷ cs) zero cert e = let same : c ≡ cert = cc in ap (λ (d : Cert). Some (proof_tree d)) same
+      here_in (c ∷ cs) (suc i) cert e = here_in cs i cert e
+
+-- the first n prove their pairs
+abbrev pub ProvedBelow : Contents → List Cert → ℕ → Type 0
+ProvedBelow plan certs n = (k : ℕ) (cert : Cert) → k < n → slice_get certs k ≡ Some cert → ProvesPair plan k (proof_tree cert)
+
+pub one_more_proved : (plan : Contents) (certs : List Cert) (i : ℕ) (cert : Cert) → ProvedBelow plan certs i → slice_get certs i ≡ Some cert → ProvesPair plan i (proof_tree cert) → ProvedBelow plan certs (i + 1)
+one_more_proved plan certs i cert below here proves k c lt e =
+    elim (cases_lt k i) [
+      | inl less ↦ below k c less e
+      | inr more ↦
+          let same : k ≡ i = omega arith in
+          let is : Some cert ≡ Some c = sym here ∙ ap (slice_get certs) (sym same) ∙ e in
+          let one : cert ≡ c = cc in
+          subst (λ (n : ℕ). ProvesPair plan n (proof_tree c)) (sym same) (subst (λ (d : Cert). ProvesPair plan i (proof_tree d)) one proves)
+    ]
+
+pub all_proved : (plan : Contents) (certs : List Cert) → length certs ≡ length (pairs_of plan) → ProvedBelow plan certs (length certs) → Certifies plan (map proof_tree certs)
+all_proved plan certs count below = record {
+  count = omega (arith, length-map certs proof_tree, count);
+  each = λ i p e.
+    let cert = tree_at certs i p e in
+    subst (ProvesPair plan i) cert.2 (below i cert.0 (at_get certs i cert.0 cert.1).0 cert.1);
+}
+
+pub first_unproved : (plan : Contents) (certs : List Cert) (i : ℕ) (cert : Cert) → length certs ≡ length (pairs_of plan) → ProvedBelow plan certs i → slice_get certs i ≡ Some cert → (ProvesPair plan i (proof_tree cert) → ⊥) → IsWrong plan (map proof_tree certs) (Pair i)
+first_unproved plan certs i cert count below here not_proved = (
+  omega (arith, length-map certs proof_tree, count),
+  record {
+    proof = proof_tree cert;
+    here = here_is certs i cert here;
+    unproved = not_proved;
+    before = λ j p lt e. let c = tree_at certs j p e in subst (ProvesPair plan j) c.2 (below j c.0 lt c.1);
+  },
+)
+
+-- what is right is not wrong, and nothing is wrong in two ways
+pub not_wrong : (plan : Contents) (proofs : List ProofTree) (fault : CertFault) → Certifies plan proofs → IsWrong plan proofs fault → ⊥
+not_wrong plan proofs Count h w = w h.count
+not_wrong plan proofs (Pair i) h w = w.1.unproved (h.each i w.1.proof w.1.here)
+not_wrong plan proofs (Format line) h w = w
+not_wrong plan proofs (TooDeep line) h w = w
+
+pub wrong_once : (plan : Contents) (proofs : List ProofTree) (e f : CertFault) → IsWrong plan proofs e → IsWrong plan proofs f → e ≡ f
+wrong_once plan proofs Count Count w v = refl
+wrong_once plan proofs Count (Pair i) w v = absurd (w v.0)
+wrong_once plan proofs (Pair i) Count w v = absurd (v w.0)
+wrong_once plan proofs (Pair i) (Pair j) w v =
+    elim (cases_lt i j) [
+      | inl less ↦ absurd (w.1.unproved (v.1.before i w.1.proof less w.1.here))
+      | inr le ↦ elim (cases_lt j i) [
+        | inl more ↦ absurd (v.1.unproved (w.1.before j v.1.proof more v.1.here))
+        | inr ge ↦ let same : i ≡ j = omega arith in ap Pair same
+      ]
+    ]
+wrong_once plan proofs (Format line) f w v = absurd w
+wrong_once plan proofs (TooDeep line) f w v = absurd w
+wrong_once plan proofs e (Format line) w v = absurd v
+wrong_once plan proofs e (TooDeep line) w v = absurd v

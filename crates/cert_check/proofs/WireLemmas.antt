@@ -1,5 +1,6 @@
 -- A wire followed through the parts that a text is made of.
 use Rattle.std.proofs.Common.{◌≡◌, ℕ, zero, suc, ◌+◌, ◌-◌, ◌<◌, ◌≤◌, Bool, true, false, ◌==◌, IsTrue, List, [], ◌∷◌, ◌++◌, length, refl, ap, sym, ◌∙◌, subst, arith, inl, inr, ◌⊎◌, ◌↔◌}
+use Rattle.std.proofs.lemmas.Bool.{eqb-true}
 use Rattle.message_tree.specs.declared.bits.Bit.{Bit}
 use Rattle.message_tree.specs.declared.bits.Bit.TheVariants.{Zero, One, Either}
 use Rattle.message_tree.specs.declared.counts.Count.{Count}
@@ -13,11 +14,11 @@ use Rattle.message_tree.specs.Laws.{HasText}
 use Rattle.message_tree.specs.Trees as tree
 use Rattle.message_tree.specs.Trees.{FrameTree, PayloadTree, TailTree}
 use Rattle.message_tree.proofs.TextLaws.{lawful_frame, lawful_payload, lawful_tail}
-use Rattle.message_tree.specs.Texts.{Language, Allows, SentThen, HeardThen, AnswerThen, AgainThen, Only, ByteThen, BytesThen, ReadThen, FrameText, PayloadText, TailText, write_header, read_header}
+use Rattle.message_tree.specs.Texts.{Language, Allows, SentThen, HeardThen, AnswerThen, AgainThen, Only, ByteThen, BytesThen, ReadThen, FrameText, PayloadText, TailText, InterruptText, write_header, read_header}
 use Rattle.message_tree.specs.declared.bits.Pattern.{Pattern}
 use Rattle.message_tree.specs.declared.bits.Address.{Address}
 use Rattle.message_tree.specs.contracts.items.Kind.{the_type}
-use denote.Enum.Bare.{sameb}
+use denote.Enum.Bare.{sameb, same_true}
 use Rattle.message_tree.specs.Patterns.{pattern_bits}
 use Rattle.certificate.specs.Proves.{frame_header}
 use Rattle.cert_check.specs.Wires.{MayPut, Place, off, within, behind, LeadsTo, AnswerPlace, no_place, inside, acked, refused, LeadsOn, may_be_sent, after_bits, after_heard, after_answer, after_acknowledge, ReadOn}
@@ -292,16 +293,8 @@ pub never : IsTrue false ↔ ⊥
 never = (λ h. cc, λ n. absurd n)
 
 pub same_kind : (b : Bool) (j k : Kind) → b ≡ sameb the_type j k → IsTrue b ↔ (j ≡ k)
-same_kind b j k e = (λ h. one j k (sym e ∙ h), λ h. e ∙ subst (λ (i : Kind). sameb the_type j i ≡ true) h (itself j))
+same_kind b j k e = (λ h. same_true the_type tt j k (sym e ∙ h), λ h. e ∙ subst (λ (i : Kind). sameb the_type j i ≡ true) h (itself j))
   where
-    one : (j k : Kind) → sameb the_type j k ≡ true → j ≡ k
-    one kind.Sent kind.Sent h = refl
-    one kind.Heard kind.Heard h = refl
-    one kind.Again kind.Again h = refl
-    one kind.Stop kind.Stop h = refl
-    one kind.Claim kind.Claim h = refl
-    one _ _ h = cc
-
     itself : (k : Kind) → sameb the_type k k ≡ true
     itself kind.Sent = refl
     itself kind.Heard = refl
@@ -312,8 +305,17 @@ same_kind b j k e = (λ h. one j k (sym e ∙ h), λ h. e ∙ subst (λ (i : Kin
 -- an empty wire, by its test
 pub is_nil : (u : List Item) (b : Bool) → b ≡ (length u == 0) → b ≡ true → u ≡ []
 is_nil [] b e t = refl
-is_nil (x ∷ u) b e t = cc
+is_nil (x ∷ u) b e t = let none : length (x ∷ u) ≡ 0 = eqb-true (length (x ∷ u)) 0 (sym e ∙ t) in absurd (omega arith)
 
 pub is_not_nil : (u : List Item) (b : Bool) → b ≡ (length u == 0) → b ≡ false → u ≡ [] → ⊥
 is_not_nil [] b e f n = cc
 is_not_nil (x ∷ u) b e f n = cc
+
+-- the first header of an interrupt, and its claim
+pub claim_along : (a : List Bit) (bs : List Bit) (u : List Item) (k : Kind) (p : Place) → bs ≡ a ++ One ∷ [] → p ≡ after_bits bs u → LeadsTo p (Only Claim) k ↔ MayPut (InterruptText a) u k
+claim_along a bs u k p b e =
+    subst (λ (q : Place). LeadsTo q (Only Claim) k ↔ MayPut (InterruptText a) u k) (sym (e ∙ ap (λ (cs : List Bit). after_bits cs u) b))
+    (sent_from_leads (a ++ One ∷ []) (Only Claim) u k (Claim ∷ [], refl), leads_from_sent (a ++ One ∷ []) (Only Claim) u k)
+
+pub claim_is : (u : List Item) (k : Kind) → u ≡ [] → (k ≡ kind.Claim) ↔ MayPut (Only Claim) u k
+claim_is u k e = (λ is. claim_put u k e is, λ m. (claim_at u k m).1)

@@ -8,8 +8,8 @@ use Rattle.message_tree.specs.declared.items.Item.TheVariants as item
 use Rattle.message_tree.specs.declared.items.Kind.{Kind}
 use Rattle.message_tree.specs.declared.items.Kind.TheVariants as kind
 use Rattle.message_tree.specs.Counts.{InRange}
-use Rattle.message_tree.specs.Items.{kind_of}
-use Rattle.message_tree.specs.Texts.{Language, BytesThen, ByteThen}
+use Rattle.message_tree.specs.Items.{kind_of, KindsClash}
+use Rattle.message_tree.specs.Texts.{Language, Sender, SenderText, BytesThen, ByteThen}
 use Rattle.cert_check.specs.declared.wires.Along.{Along}
 use Rattle.cert_check.specs.declared.wires.Along.TheVariants as along
 use Rattle.cert_check.specs.declared.wires.Answered.{Answered}
@@ -18,6 +18,10 @@ use Rattle.cert_check.specs.declared.wires.Answered.TheVariants as answered
 -- after u, one of these lists goes on with an item of this kind
 abbrev pub MayPut : Language → List Item → Kind → Type 0
 MayPut P u k = (x : Item) × ((rest : List Item) × P (u ++ x ∷ rest)) × (kind_of x ≡ k)
+
+-- after u, the two may put items of these kinds, and these must not meet
+abbrev pub ClashAfter : Sender → Sender → List Item → Kind → Kind → Type 0
+ClashAfter s t u j k = KindsClash j k × MayPut (SenderText s) u j × MayPut (SenderText t) u k
 
 -- the item is a bit that may be sent where the pattern has this one
 abbrev pub may_be_sent : Bit → Item → Bool

@@ -8,7 +8,7 @@ ghost use Rattle.plan_core.specs.PlanContents.{plan_contents};
 ghost use Rattle.plan_core.specs.Pairs.{pairs_of};
 ghost use Rattle.cert_check.specs.PairFaults.{IsPairFault};
 ghost use Rattle.cert_check.specs.Starts.{start_sender};
-ghost use Rattle.cert_check.specs.Wires.{MayPut};
+ghost use Rattle.cert_check.specs.Wires.{MayPut, ClashAfter};
 
 use crate::bits::{byte_bits, frame_bits, start_bits};
 use crate::starts::{Start, start_of};
@@ -24,10 +24,17 @@ pub fn check_fault(plan: &Plan, i: u32, fault: &Fault) -> bool
     ensures { IsTrue result ↔ IsPairFault (plan_contents plan.now) i fault.now.wire.items fault.now.first fault.now.second }
 {
     let (x, y) = plan.pair(i);
+    may_clash(&start_of(plan, x), &start_of(plan, y), fault)
+}
+
+// Whether the two may put items of these kinds after this wire, and these must not meet.
+fn may_clash(s: &Start<'_>, t: &Start<'_>, fault: &Fault) -> bool
+    ensures { IsTrue result ↔ ClashAfter (start_sender s.now) (start_sender t.now) fault.now.wire.items fault.now.first fault.now.second }
+{
     let wire = fault.wire.as_slice();
     kinds_clash(fault.first, fault.second)
-        && may_put(&start_of(plan, x), wire, fault.first)
-        && may_put(&start_of(plan, y), wire, fault.second)
+        && may_put(s, wire, fault.first)
+        && may_put(t, wire, fault.second)
 }
 
 // Whether items of these kinds must not meet (UM10204, 3.1.8, and two claims).
