@@ -1,8 +1,14 @@
-// What a proof is worth. Each function is a law: it does nothing, and its contract is the theorem.
+// What a proof is worth, and that a text has one reading. Each function is a law: it does nothing, and its contract is
+// the theorem.
 
+ghost use Rattle.std.specs.Prelude.{◌≡◌, ◌⊎◌, ℕ, List};
 ghost use Rattle.message_tree.specs.Texts.{Sender, SenderText};
 ghost use Rattle.certificate.specs.Proofs.{ProofTree};
 ghost use Rattle.certificate.specs.Proves.{Proves, NeverClash, OneKind};
+ghost use Rattle.certificate.specs.declared.errors.CertFault.{CertFault};
+ghost use Rattle.certificate.specs.Certificates.{Certificate};
+ghost use Rattle.certificate.specs.Refusals.{First};
+ghost use Rattle.certificate.specs.Texts.{Spells};
 
 /// Where a proof proves two participants, no two of their texts go on, after the same beginning, with items that clash.
 pub fn proved_pairs_never_clash()
@@ -12,4 +18,13 @@ pub fn proved_pairs_never_clash()
 /// After one wire, a participant may send items of one kind only.
 pub fn a_sender_offers_one_kind()
     ensures { (s : Sender) → OneKind (SenderText s) }
+{}
+
+/// A text spells exactly one certificate and has no first refusal, or it has exactly one first refusal and spells no
+/// certificate.
+pub fn texts_have_one_reading()
+    ensures one_value { (text : List ℕ) (c d : Certificate) → Spells text c → Spells text d → c ≡ d }
+    ensures one_refusal { (text : List ℕ) (e f : CertFault) → First text e → First text f → e ≡ f }
+    ensures not_both { (text : List ℕ) (c : Certificate) (e : CertFault) → Spells text c → First text e → ⊥ }
+    ensures one_of_both { (text : List ℕ) → ((c : Certificate) × Spells text c) ⊎ ((e : CertFault) × First text e) }
 {}

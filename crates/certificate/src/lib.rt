@@ -1,7 +1,22 @@
 //! Certificates: proofs that pairs of participants never clash, and faults that show where one does.
+//!
+//! `values` has what a certificate says, `laws` what a proof is worth. `read_cert` reads the text of a certificate and
+//! `print_cert` writes it; `read_head` and `ProofLines` read it one proof at a time. `sources` has what is left of a text,
+//! byte by byte, `words` and `proofs` a function for each rule of the grammar.
 #![tactic(auto)]
 
+pub mod errors;
 pub mod laws;
+pub mod lines;
+pub mod print;
+mod proofs;
+pub mod read;
+mod sources;
 pub mod values;
+mod words;
 
-pub use values::{Cert, CertFault, CertText, Fault};
+pub use errors::{CertError, CertFault};
+pub use lines::ProofLines;
+pub use print::print_cert;
+pub use read::{Head, read_cert, read_head};
+pub use values::{Cert, CertText, Fault};

@@ -40,17 +40,3 @@ pub enum CertText {
     /// The fault of the pair with this number.
     Flaw(u32, Fault),
 }
-
-// Stopgap, until the reader of certificates brings its own: drop this on merge.
-/// What is wrong with a certificate.
-#[derive(Clone, Copy, Debug, PartialEq, Eq)]
-pub enum CertFault {
-    /// C1: the first place at which the text cannot go on as the grammar says, by its line.
-    Format(u64),
-    /// C2: the number of proofs is not the one that the text names, or not that of the plan's pairs.
-    Count,
-    /// C3: a node below 512 others, by its line.
-    TooDeep(u64),
-    /// C5: the first pair whose proof does not prove it, or whose fault is none.
-    Pair(u32),
-}

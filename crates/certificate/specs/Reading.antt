@@ -1,0 +1,47 @@
+-- What a certificate says as far as it has been read: the proofs so far, of which each stands on a line of its own.
+use Rattle.std.specs.Prelude.{◌≡◌, ℕ, List, [], ◌∷◌, ◌++◌, length, codes, All}
+use Rattle.certificate.specs.declared.errors.CertError.{CertError}
+use Rattle.certificate.specs.declared.errors.CertError.TheVariants.{Wrong, NoMemory}
+use Rattle.certificate.specs.declared.read.Head.{Head}
+use Rattle.certificate.specs.declared.read.Head.TheVariants.{Proofs, Flaw}
+use Rattle.certificate.specs.declared.lines.ProofLines.{ProofLines}
+use Rattle.certificate.specs.declared.values.Cert.{Cert}
+use Rattle.certificate.specs.Certificates.{proofs, flaw}
+use Rattle.certificate.specs.Places.{unread}
+use Rattle.certificate.specs.Proofs.{ProofTree, proof_tree}
+use Rattle.certificate.specs.Refusals.{First, refusal, whole, lines}
+use Rattle.certificate.specs.Texts.{IsPrintableProof, Spells, proofs_text}
+
+-- what was refused is the first refusal of the text, or memory was
+abbrev pub Fails : List ℕ → CertError → Type 0
+Fails text (Wrong fault) = First text fault
+Fails text NoMemory = Unit {0}
+
+-- These proofs and what is left make up the text, and what is left is refused where and as the text is.
+pub record ReadSoFar (text : List ℕ) (trees : List ProofTree) (left : ProofLines) : Type 0 where
+  pub printable : All (IsPrintableProof 512) trees
+  pub counted : length trees ≡ left.seen
+  pub text_is : text ≡ (codes "cert 1\n" ++ proofs_text left.number trees) ++ left.source.rest.now
+  pub refusal_is : refusal 1 whole text ≡ refusal left.source.line (lines ∷ []) left.source.rest.now
+
+-- the bytes that are left
+abbrev pub bytes_left : ProofLines → ℕ
+bytes_left left = unread left.source
+
+-- the front of a text: a fault is the whole text
+abbrev pub HeadRead : List ℕ → Head → Type 0
+HeadRead text (Proofs left) = ReadSoFar text [] left
+HeadRead text (Flaw pair fault) = Spells text (flaw pair fault.wire.items fault.first fault.second)
+
+-- one more proof has been read
+abbrev pub AddsProof : Cert → ProofLines → ProofLines → Type 0
+AddsProof proof old new =
+    (text : List ℕ) (trees : List ProofTree) → ReadSoFar text trees old → ReadSoFar text (trees ++ proof_tree proof ∷ []) new
+
+-- the proofs so far are the whole certificate
+abbrev pub EndsHere : ProofLines → Type 0
+EndsHere left = (text : List ℕ) (trees : List ProofTree) → ReadSoFar text trees left → Spells text (proofs trees)
+
+-- the text is refused, whatever has been read of it
+abbrev pub RefusedHere : ProofLines → CertError → Type 0
+RefusedHere left e = (text : List ℕ) (trees : List ProofTree) → ReadSoFar text trees left → Fails text e

@@ -1,0 +1,107 @@
+// Reading of certificate texts, whole or proof by proof.
+
+ghost use Rattle.std.specs.Prelude.{◌≡◌, ◌⊎◌, ◌++◌, codes, decimal, IfOk, IfErr, MatchResult};
+ghost use Rattle.certificate.specs.declared.errors.CertError.TheVariants.{NoMemory, Wrong};
+ghost use Rattle.certificate.specs.declared.errors.CertFault.{CertFault};
+ghost use Rattle.certificate.specs.Certificates.{Certificate, certificate_of};
+ghost use Rattle.certificate.specs.Reading.{Fails, HeadRead};
+ghost use Rattle.certificate.specs.Refusals.{First};
+ghost use Rattle.certificate.specs.Texts.{Spells};
+
+use crate::errors::CertError;
+use crate::lines::ProofLines;
+use crate::sources::Source;
+use crate::values::{CertText, Fault};
+use std::alloc::Global;
+
+/// Reads a certificate text, or answers its first refusal.
+///
+/// # Errors
+///
+/// C1 to C3 as `CertFault` has them: the first of C1 and C3 in the order of the text, with its line, else C2. `NoMemory`
+/// where memory is refused before another refusal is met. `Pair` is never answered.
+pub fn read_cert(alloc: Global, text: &[u8]) -> Result<CertText, CertError>
+    // What is answered is right.
+    ensures spelled { IfOk result (λ it. Spells text.now (certificate_of it)) }
+    ensures refused { IfErr result (λ e. Fails text.now e) }
+    // What is right is answered, unless memory is refused.
+    ensures values { (value : Certificate) → Spells text.now value → MatchResult result (λ it. certificate_of it ≡ value) (λ e. e ≡ NoMemory) }
+    ensures refusals { (fault : CertFault) → First text.now fault → MatchResult result (λ it. ⊥) (λ e. (e ≡ NoMemory) ⊎ (e ≡ Wrong fault)) }
+{
+    read(alloc, text)
+}
+
+// The same, by the first two clauses.
+fn read(alloc: Global, text: &[u8]) -> Result<CertText, CertError>
+    ensures spelled { IfOk result (λ it. Spells text.now (certificate_of it)) }
+    ensures refused { IfErr result (λ e. Fails text.now e) }
+{
+    match read_head(alloc, text)? {
+        Head::Proofs(mut lines) => {
+            let mut proofs = Vec::new(alloc);
+            while let Some(proof) = lines.next_proof(alloc)? {
+                proofs.push(proof)?;
+            }
+            Ok(CertText::Proofs(proofs))
+        }
+        Head::Flaw(pair, fault) => Ok(CertText::Flaw(pair, fault)),
+    }
+}
+
+/// The front of a certificate text.
+#[derive(Debug, Drop)]
+pub enum Head<'a> {
+    /// The proofs follow, each on a line of its own.
+    Proofs(ProofLines<'a>),
+    /// The fault of the pair with this number: the whole certificate.
+    Flaw(u32, Fault),
+}
+
+/// Reads the first two lines of a certificate text.
+///
+/// # Errors
+///
+/// C1 at the line where these two lines break the form, or at the line after a fault where the text goes on behind it.
+/// `NoMemory` where memory is refused for the wire of a fault before that.
+pub fn read_head(alloc: Global, text: &[u8]) -> Result<Head<'_>, CertError>
+    ensures read { IfOk result (λ head. HeadRead text.now head) }
+    ensures refused { IfErr result (λ e. Fails text.now e) }
+{
+    let mut source = Source::new(text);
+    source.each(b"cert 1\n")?;
+    let refusal = source.format();
+    match source.take()? {
+        b'p' => proof_lines(source),
+        b'f' => flaw(alloc, source),
+        _ => Err(refusal),
+    }
+}
+
+// `airs`, and how many there are.
+fn proof_lines(mut source: Source<'_>) -> Result<Head<'_>, CertError> {
+    source.each(b"airs ")?;
+    let number = source.number(b'\n')?;
+    Ok(Head::Proofs(ProofLines::new(source, number)))
+}
+
+// `ault`, its pair, its wire and its kinds, and the end of the text.
+fn flaw(alloc: Global, mut source: Source<'_>) -> Result<Head<'_>, CertError> {
+    source.each(b"ault ")?;
+    let pair = source.number(b' ')?;
+    let wire = source.wire(alloc)?;
+    let first = source.kind()?;
+    source.this(b' ')?;
+    let second = source.kind()?;
+    source.this(b'\n')?;
+    if !source.is_at_end() {
+        return Err(source.format());
+    }
+    Ok(Head::Flaw(
+        pair,
+        Fault {
+            wire,
+            first,
+            second,
+        },
+    ))
+}

@@ -1,0 +1,93 @@
+// What is left of a certificate text, byte by byte.
+
+ghost use Rattle.std.specs.Prelude.{◌≡◌, ◌<◌, ◌≤◌, ◌+◌, ◌^◌, [], ◌∷◌, ◌==◌, length, IfOk, IfErr, OnOk};
+ghost use Rattle.certificate.specs.declared.errors.CertFault.TheVariants.{Format, TooDeep};
+
+use crate::errors::{CertError, CertFault};
+
+/// What is left of a certificate text.
+#[derive(Clone, Copy, Debug)]
+pub(crate) struct Source<'a> {
+    rest: &'a [u8],
+    line: u64,
+    ghost lines_fit: { line + length rest.now < 2 ^ 64 },
+}
+
+impl<'a> Source<'a> {
+    ghost use Rattle.certificate.specs.Places.{place, unread, ByteTaken, Reads, Refuses};
+    ghost use Rattle.certificate.specs.Refusals.{this, each};
+
+    /// A whole text.
+    pub(crate) fn new(text: &'a [u8]) -> Self
+        ensures { place result ≡ record { line = 1; rest = text.now } }
+    {
+        Source {
+            rest: text,
+            line: 1,
+        }
+    }
+
+    /// Whether nothing is left.
+    pub(crate) fn is_at_end(&self) -> bool
+        ensures { result ≡ (unread self.now == 0) }
+    {
+        self.rest.is_empty()
+    }
+
+    /// What cannot stand here.
+    pub(crate) fn format(&self) -> CertError
+        ensures { result ≡ CertError.Wrong (Format (place self.now).line) }
+    {
+        CertError::Wrong(CertFault::Format(self.line))
+    }
+
+    /// A token for which its path has no room.
+    pub(crate) fn too_deep(&self) -> CertError
+        ensures { result ≡ CertError.Wrong (TooDeep (place self.now).line) }
+    {
+        CertError::Wrong(CertFault::TooDeep(self.line))
+    }
+
+    /// Takes the next byte.
+    pub(crate) fn take(&mut self) -> Result<u8, CertError>
+        ensures taken { IfOk result (λ b. ByteTaken b (place self.old) (place self.new)) }
+        ensures at_end { IfErr result (λ e. ((place self.old).rest ≡ []) × (e ≡ CertError.Wrong (Format (place self.old).line))) }
+        ensures less { OnOk result (unread self.new < unread self.old) }
+        ensures left { unread self.new ≤ unread self.old }
+    {
+        let [first, rest @ ..] = self.rest else {
+            return Err(self.format());
+        };
+        if *first == b'\n' {
+            self.line += 1;
+        }
+        self.rest = rest;
+        Ok(*first)
+    }
+
+    /// This byte.
+    pub(crate) fn this(&mut self, byte: u8) -> Result<(), CertError>
+        ensures read { OnOk result (Reads (byte ∷ []) (place self.old) (this byte ∷ []) (place self.new) []) }
+        ensures refused { IfErr result (λ e. Refuses (place self.old) (this byte ∷ []) e) }
+        ensures less { OnOk result (unread self.new < unread self.old) }
+        ensures left { unread self.new ≤ unread self.old }
+    {
+        let refusal = self.format();
+        if self.take()? != byte {
+            return Err(refusal);
+        }
+        Ok(())
+    }
+
+    /// Each of these bytes.
+    pub(crate) fn each(&mut self, bytes: &[u8]) -> Result<(), CertError>
+        ensures read { OnOk result (Reads bytes.now (place self.old) (each bytes.now) (place self.new) []) }
+        ensures refused { IfErr result (λ e. Refuses (place self.old) (each bytes.now) e) }
+        ensures left { unread self.new ≤ unread self.old }
+    {
+        for byte in bytes {
+            self.this(*byte)?;
+        }
+        Ok(())
+    }
+}
