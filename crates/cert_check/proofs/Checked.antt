@@ -8,8 +8,8 @@ use Rattle.std.proofs.Common.{map}
 use Rattle.std.proofs.lemmas.List.{length-map}
 use Rattle.std.proofs.lemmas.Bool.{cases_lt}
 use Rattle.certificate.specs.declared.values.Cert.{Cert}
-use Rattle.certificate.specs.declared.values.CertFault.{CertFault}
-use Rattle.certificate.specs.declared.values.CertFault.TheVariants.{Format, Count, TooDeep, Pair}
+use Rattle.certificate.specs.declared.errors.CertFault.{CertFault}
+use Rattle.certificate.specs.declared.errors.CertFault.TheVariants.{Format, Count, TooDeep, Pair}
 use Rattle.certificate.specs.Proofs.{ProofTree, proof_tree}
 use Rattle.certificate.specs.Proves.{Proves}
 use Rattle.certificate.proofs.Soundness.{sound}

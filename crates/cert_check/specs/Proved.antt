@@ -1,8 +1,8 @@
 -- Which proofs prove the pairs of a plan. What a proof proves of two participants stands with the proofs.
 use Rattle.std.specs.Prelude.{◌≡◌, ◌≢◌, ℕ, ◌<◌, List, length, Some, slice_get}
 use Rattle.message_tree.specs.Texts.{Sender}
-use Rattle.certificate.specs.declared.values.CertFault.{CertFault}
-use Rattle.certificate.specs.declared.values.CertFault.TheVariants.{Count, Pair}
+use Rattle.certificate.specs.declared.errors.CertFault.{CertFault}
+use Rattle.certificate.specs.declared.errors.CertFault.TheVariants.{Count, Pair}
 use Rattle.certificate.specs.Proofs.{ProofTree}
 use Rattle.certificate.specs.Proves.{Proves}
 use Rattle.plan_core.specs.Contents.{Contents}

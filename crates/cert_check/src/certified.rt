@@ -1,7 +1,7 @@
 // The proofs of a whole plan.
 
 ghost use Rattle.std.specs.Prelude.{◌≡◌, IfOk, IfErr, IsOk, Err, MatchOption, map};
-ghost use Rattle.certificate.specs.declared.values.CertFault.{CertFault};
+ghost use Rattle.certificate.specs.declared.errors.CertFault.{CertFault};
 ghost use Rattle.certificate.specs.Proofs.{proof_tree};
 ghost use Rattle.plan_core.specs.PlanContents.{plan_contents};
 ghost use Rattle.cert_check.specs.Holds.{accepted_plan};
