@@ -47,11 +47,18 @@ impl Tally {
         ensures { (trees : List ProofTree) → Tallies (plan_contents plan.now) trees self.now →
             FirstOf (plan_contents plan.now) (trees ++ proof_tree cert.now ∷ []) result }
     {
-        if self.unproved.is_some() || self.proofs >= u64::from(plan.pair_count()) {
-            return self.unproved;
+        match self.unproved {
+            Some(i) => Some(i),
+            None if self.proofs < u64::from(plan.pair_count()) => {
+                let i = self.proofs as u32;
+                if check_pair(plan, i, cert) {
+                    None
+                } else {
+                    Some(i)
+                }
+            }
+            None => None,
         }
-        let i = self.proofs as u32;
-        if check_pair(plan, i, cert) { None } else { Some(i) }
     }
 
     /// What these proofs are worth, where no more come.
