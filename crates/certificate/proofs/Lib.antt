@@ -1,6 +1,11 @@
+pub mod EitherText
+pub mod FoundLemmas
+pub mod HeadLemmas
 pub mod LineLemmas
+pub mod PassLemmas
 pub mod PlaceLemmas
 pub mod PrintLemmas
 pub mod ProofLemmas
+pub mod SameText
 pub mod Soundness
 pub mod WordLemmas

@@ -2,16 +2,17 @@
 -- Only private contracts and proofs use this.
 use Rattle.std.specs.Prelude.{◌≡◌, ◌≢◌, ℕ, suc, ◌<◌, List, [], ◌∷◌, ◌++◌, length, Some, codes, decimal, All}
 use Rattle.message_tree.specs.declared.items.Item.{Item}
-use Rattle.message_tree.specs.Symbols.{wire_text}
+use Rattle.message_tree.specs.declared.items.Kind.{Kind}
+use Rattle.message_tree.specs.Symbols.{wire_text, kind_word}
 use Rattle.certificate.specs.declared.errors.CertError.{CertError}
 use Rattle.certificate.specs.declared.errors.CertError.TheVariants.{Wrong, NoMemory}
-use Rattle.certificate.specs.declared.errors.CertFault.TheVariants.{TooDeep, Format}
+use Rattle.certificate.specs.declared.errors.CertFault.TheVariants.{TooDeep}
 use Rattle.certificate.specs.declared.sources.Source.{Source}
 use Rattle.certificate.specs.declared.proofs.Token.{Token}
 use Rattle.certificate.specs.declared.proofs.Token.TheVariants as token
 use Rattle.certificate.specs.Proofs.{ProofTree}
 use Rattle.certificate.specs.Texts.{IsPrintableProof, GoesOn, proof_text, proof_line}
-use Rattle.certificate.specs.Refusals.{Expected, this, wire, symbols, proof, place_digit, below, refusal, line_after}
+use Rattle.certificate.specs.Refusals.{Expected, this, each, whole, number, lines, wire, symbols, kind, proof, place_digit, below, refusal, line_after}
 
 -- a place in a text: the bytes that are left, and the line on which the first of them stands
 pub record Place : Type 0 where
@@ -39,6 +40,31 @@ pub record Reads (bytes : List ℕ) (old : Place) (expected : List Expected) (ne
 abbrev pub Refuses : Place → List Expected → CertError → Type 0
 Refuses old expected NoMemory = Unit {0}
 Refuses old expected (Wrong fault) = (more : List Expected) → refusal old.line (expected ++ more) old.rest ≡ Some fault
+
+-- the first place of a text
+abbrev pub start : List ℕ → Place
+start text = record { line = 1; rest = text }
+
+-- what is expected behind `cert 1` and the first letter of the second line
+abbrev pub proofs_expected : List Expected
+proofs_expected = each (codes "airs ") ++ (number 10 ∷ (lines ∷ []))
+
+abbrev pub fault_expected : List Expected
+fault_expected = wire ∷ (kind ∷ (this 32 ∷ (kind ∷ (this 10 ∷ []))))
+
+abbrev pub flaw_expected : List Expected
+flaw_expected = each (codes "ault ") ++ (number 32 ∷ fault_expected)
+
+-- a wire and two kinds, up to the end of the line
+abbrev pub fault_text : List Item → Kind → Kind → List ℕ
+fault_text items first second = wire_text items ++ (codes " " ++ (kind_word first ++ (codes " " ++ (kind_word second ++ codes "\n"))))
+
+-- the front of this text has been read up to the letter with which its second line begins
+abbrev pub BegunProofs : List ℕ → Place → Type 0
+BegunProofs text new = Reads (codes "cert 1\np") (start text) whole new proofs_expected
+
+abbrev pub BegunFlaw : List ℕ → Place → Type 0
+BegunFlaw text new = Reads (codes "cert 1\nf") (start text) whole new flaw_expected
 
 -- digits that go on with this number, and the byte that ends them
 pub record DigitsRead (before number end : ℕ) (old : Place) (expected : List Expected) (new : Place) : Type 0 where

@@ -1,17 +1,19 @@
 // Reading of certificate texts, whole or proof by proof.
 
-ghost use Rattle.std.specs.Prelude.{◌≡◌, ◌⊎◌, ◌++◌, codes, decimal, IfOk, IfErr, MatchResult};
+ghost use Rattle.std.specs.Prelude.{◌≡◌, ◌⊎◌, ℕ, List, [], map, IfOk, IfErr, MatchResult};
 ghost use Rattle.certificate.specs.declared.errors.CertError.TheVariants.{NoMemory, Wrong};
 ghost use Rattle.certificate.specs.declared.errors.CertFault.{CertFault};
-ghost use Rattle.certificate.specs.Certificates.{Certificate, certificate_of};
-ghost use Rattle.certificate.specs.Reading.{Fails, HeadRead};
+ghost use Rattle.certificate.specs.Certificates.{Certificate, certificate_of, proofs};
+ghost use Rattle.certificate.specs.Reading.{Fails, HeadRead, ReadSoFar};
+ghost use Rattle.certificate.specs.Places.{place, BegunProofs, BegunFlaw};
+ghost use Rattle.certificate.specs.Proofs.{proof_tree};
 ghost use Rattle.certificate.specs.Refusals.{First};
 ghost use Rattle.certificate.specs.Texts.{Spells};
 
 use crate::errors::CertError;
 use crate::lines::ProofLines;
 use crate::sources::Source;
-use crate::values::{CertText, Fault};
+use crate::values::{Cert, CertText, Fault};
 use std::alloc::Global;
 
 /// Reads a certificate text, or answers its first refusal.
@@ -37,15 +39,21 @@ fn read(alloc: Global, text: &[u8]) -> Result<CertText, CertError>
     ensures refused { IfErr result (λ e. Fails text.now e) }
 {
     match read_head(alloc, text)? {
-        Head::Proofs(mut lines) => {
-            let mut proofs = Vec::new(alloc);
-            while let Some(proof) = lines.next_proof(alloc)? {
-                proofs.push(proof)?;
-            }
-            Ok(CertText::Proofs(proofs))
-        }
+        Head::Proofs(lines) => Ok(CertText::Proofs(all_proofs(alloc, lines)?)),
         Head::Flaw(pair, fault) => Ok(CertText::Flaw(pair, fault)),
     }
+}
+
+// All proofs.
+fn all_proofs(alloc: Global, mut lines: ProofLines<'_>) -> Result<Vec<Cert>, CertError>
+    ensures read { IfOk result (λ it. (text : List ℕ) → ReadSoFar text [] lines.entry → Spells text (proofs (map proof_tree it.items))) }
+    ensures refused { IfErr result (λ e. (text : List ℕ) → ReadSoFar text [] lines.entry → Fails text e) }
+{
+    let mut proofs = Vec::new(alloc);
+    while let Some(proof) = lines.next_proof(alloc)? {
+        proofs.push(proof)?;
+    }
+    Ok(proofs)
 }
 
 /// The front of a certificate text.
@@ -78,30 +86,25 @@ pub fn read_head(alloc: Global, text: &[u8]) -> Result<Head<'_>, CertError>
 }
 
 // `airs`, and how many there are.
-fn proof_lines(mut source: Source<'_>) -> Result<Head<'_>, CertError> {
+fn proof_lines(mut source: Source<'_>) -> Result<Head<'_>, CertError>
+    ensures read { IfOk result (λ head. (text : List ℕ) → BegunProofs text (place source.entry) → HeadRead text head) }
+    ensures refused { IfErr result (λ e. (text : List ℕ) → BegunProofs text (place source.entry) → Fails text e) }
+{
     source.each(b"airs ")?;
     let number = source.number(b'\n')?;
     Ok(Head::Proofs(ProofLines::new(source, number)))
 }
 
 // `ault`, its pair, its wire and its kinds, and the end of the text.
-fn flaw(alloc: Global, mut source: Source<'_>) -> Result<Head<'_>, CertError> {
+fn flaw(alloc: Global, mut source: Source<'_>) -> Result<Head<'_>, CertError>
+    ensures read { IfOk result (λ head. (text : List ℕ) → BegunFlaw text (place source.entry) → HeadRead text head) }
+    ensures refused { IfErr result (λ e. (text : List ℕ) → BegunFlaw text (place source.entry) → Fails text e) }
+{
     source.each(b"ault ")?;
     let pair = source.number(b' ')?;
-    let wire = source.wire(alloc)?;
-    let first = source.kind()?;
-    source.this(b' ')?;
-    let second = source.kind()?;
-    source.this(b'\n')?;
+    let fault = source.fault(alloc)?;
     if !source.is_at_end() {
         return Err(source.format());
     }
-    Ok(Head::Flaw(
-        pair,
-        Fault {
-            wire,
-            first,
-            second,
-        },
-    ))
+    Ok(Head::Flaw(pair, fault))
 }

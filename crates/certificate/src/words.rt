@@ -9,11 +9,12 @@ ghost use Rattle.certificate.specs.Texts.{GoesOn};
 
 use crate::errors::CertError;
 use crate::sources::Source;
+use crate::values::Fault;
 use message_tree::{Item, Kind};
 use std::alloc::Global;
 
 impl Source<'_> {
-    ghost use Rattle.certificate.specs.Places.{place, unread, Reads, Refuses, DigitsRead};
+    ghost use Rattle.certificate.specs.Places.{place, unread, Reads, Refuses, DigitsRead, fault_text, fault_expected};
 
     /// A decimal number without leading zeros, below 2 to the power 32, and the byte that ends it.
     pub(crate) fn number(&mut self, end: u8) -> Result<u32, CertError>
@@ -79,6 +80,25 @@ impl Source<'_> {
         }
     }
 
+    /// A wire, two kinds and the end of the line.
+    pub(crate) fn fault(&mut self, alloc: Global) -> Result<Fault, CertError>
+        ensures read { IfOk result (λ it. Reads (fault_text it.wire.items it.first it.second) (place self.old) fault_expected (place self.new) []) }
+        ensures some { IfOk result (λ it. it.wire.items ≢ []) }
+        ensures goes_on { IfOk result (λ it. All GoesOn it.wire.items) }
+        ensures refused { IfErr result (λ e. Refuses (place self.old) fault_expected e) }
+    {
+        let wire = self.wire(alloc)?;
+        let first = self.kind()?;
+        self.this(b' ')?;
+        let second = self.kind()?;
+        self.this(b'\n')?;
+        Ok(Fault {
+            wire,
+            first,
+            second,
+        })
+    }
+
     /// The word of a kind.
     pub(crate) fn kind(&mut self) -> Result<Kind, CertError>
         ensures read { IfOk result (λ kind. Reads (kind_word kind) (place self.old) (expect.kind ∷ []) (place self.new) []) }
@@ -101,9 +121,7 @@ fn with_digit(number: u32, byte: u8) -> Option<u32>
     if !byte.is_ascii_digit() {
         return None;
     }
-    number
-        .checked_mul(10)?
-        .checked_add(u32::from(byte - b'0'))
+    number.checked_mul(10)?.checked_add(u32::from(byte - b'0'))
 }
 
 // The item of a wire that a symbol stands for.
