@@ -1,5 +1,5 @@
 -- A text that passes has the form: where something is expected and nothing is refused, the spelling of a value stands.
-use Rattle.std.proofs.Common.{◌≡◌, ◌≢◌, ◌<◌, ◌≤◌, ◌+◌, ◌-◌, ◌*◌, ◌^◌, ℕ, zero, suc, Bool, true, false, ◌==◌, ◌⊎◌, inl, inr, List, [], ◌∷◌, ◌++◌, length, map, max, Option, Some, None, refl, ap, sym, ◌∙◌, subst, arith, lit<, length-append, append_assoc, append-nil, codes}
+use Rattle.std.proofs.Common.{◌≡◌, ◌≢◌, ◌<◌, ◌≤◌, ◌+◌, ◌-◌, ◌*◌, ◌^◌, ℕ, zero, suc, Bool, true, false, ◌==◌, ◌⊎◌, inl, inr, List, [], ◌∷◌, ◌++◌, length, max, Option, Some, None, refl, ap, sym, ◌∙◌, subst, arith, lit<, length-append, append_assoc, codes}
 use Rattle.std.specs.Prelude.{Ok, Err, decimal, flat_map, All, if◌then◌else◌, nat_lt, drop}
 use Rattle.std.specs.Char.{is_ascii_digit}
 use Rattle.std.proofs.lemmas.Bool.{eqb-true, eqb-false, ltb-true}
@@ -12,7 +12,6 @@ use Rattle.message_tree.specs.declared.items.Kind.TheVariants as kinds
 use Rattle.message_tree.specs.Symbols.{symbol_of, wire_text, kind_word}
 use Rattle.certificate.specs.declared.errors.CertFault.{CertFault}
 use Rattle.certificate.specs.declared.errors.CertFault.TheVariants.{Format}
-use Rattle.certificate.specs.Certificates.{Certificate, proofs, flaw}
 use Rattle.certificate.specs.Proofs.{ProofTree, part, short, byte, read, again, alike}
 use Rattle.certificate.specs.Refusals as expect
 use Rattle.certificate.specs.Refusals.{Expected, Step, step, refusal, go_on, line_after, where_true, this, each, digits, number, proof, lines, symbols, wire, kind, whole, item_of, symbol_step, kind_of_letter, kind_step, node_step, proof_step, place_digit, below, is_place}
@@ -85,13 +84,13 @@ found_digits end n line (b ∷ bytes) more positive fits h =
     let s = stepped_on (step line (digits n end) b) after h in
     elim (digits_cases (b == end) (is_ascii_digit b) (nat_lt (n * 10 + (b - 48)) (2 ^ 32)) line (digits (n * 10 + (b - 48)) end ∷ []) s.next s.step_is) [
       | inl ended ↦ record {
-          value = n;
-          fits = fits;
-          rest = bytes;
-          line = line_after line b;
-          text_is = ap (λ (v : ℕ). decimal n ++ (v ∷ bytes)) (eqb-true b end ended.0);
-          passes = subst (λ (es : List Expected). after es ≡ None) ended.1 s.passes;
-        }
+        value = n;
+        fits = fits;
+        rest = bytes;
+        line = line_after line b;
+        text_is = ap (λ (v : ℕ). decimal n ++ (v ∷ bytes)) (eqb-true b end ended.0);
+        passes = subst (λ (es : List Expected). after es ≡ None) ended.1 s.passes;
+      }
       | inr on ↦
           let small : n * 10 + (b - 48) < 2 ^ 32 = ltb-true (n * 10 + (b - 48)) (2 ^ 32) on.1 in
           let others = found_digits end (n * 10 + (b - 48)) (line_after line b) bytes more (omega arith) small (subst (λ (es : List Expected). after es ≡ None) on.2 s.passes) in
@@ -101,9 +100,9 @@ found_digits end n line (b ∷ bytes) more positive fits h =
             rest = others.rest;
             line = others.line;
             text_is =
-              sym (append_assoc (decimal n) (b ∷ []) bytes)
-              ∙ ap (λ (ds : List ℕ). ds ++ bytes) (sym (digit_goes_on n b positive on.0 small))
-              ∙ others.text_is;
+                sym (append_assoc (decimal n) (b ∷ []) bytes)
+                ∙ ap (λ (ds : List ℕ). ds ++ bytes) (sym (digit_goes_on n b positive on.0 small))
+                ∙ others.text_is;
             passes = others.passes;
           }
     ]
@@ -193,15 +192,15 @@ found_symbols line (b ∷ bytes) more h =
     let s = stepped_on (step line symbols b) after h in
     elim (symbols_cases (b == 32) (symbol_step line (item_of b)) s.next s.step_is) [
       | inl ended ↦ record {
-          items = [];
-          goes_on = All-nil GoesOn;
-          behind = record {
-            rest = bytes;
-            line = line_after line b;
-            text_is = ap (λ (v : ℕ). v ∷ bytes) (eqb-true b 32 ended.0);
-            passes = subst (λ (es : List Expected). after es ≡ None) ended.1 s.passes;
-          };
-        }
+        items = [];
+        goes_on = All-nil GoesOn;
+        behind = record {
+          rest = bytes;
+          line = line_after line b;
+          text_is = ap (λ (v : ℕ). v ∷ bytes) (eqb-true b 32 ended.0);
+          passes = subst (λ (es : List Expected). after es ≡ None) ended.1 s.passes;
+        };
+      }
       | inr on ↦
           let symbol = symbol_ok line (item_of b) s.next on in
           (symbol_before b symbol.0 bytes more symbol.1 (found_symbols (line_after line b) bytes more (subst (λ (es : List Expected). after es ≡ None) symbol.2 s.passes))).wire
@@ -245,16 +244,18 @@ found_kind line (b ∷ bytes) more h =
     let s = stepped_on (kind_step line (kind_of_letter b)) after h in
     let word = kind_ok line (kind_of_letter b) s.next s.step_is in
     let k = word.0 in
-    let others = found_each (drop 1 (kind_word k)) (line_after line b) bytes more (subst (λ (es : List Expected). after es ≡ None) word.2 s.passes) in
-    (k, record {
-      rest = others.rest;
-      line = others.line;
-      text_is =
-        ap (λ (v : ℕ). v ∷ bytes) (letter_is b k word.1)
-        ∙ ap (λ (t : List ℕ). first_letter k ∷ t) others.text_is
-        ∙ ap (λ (t : List ℕ). t ++ others.rest) (word_is k);
-      passes = others.passes;
-    })
+    let others = found_each (drop 1 (kind_word k)) (line_after line b) bytes more (subst (λ (es : List Expected). after es ≡ None) word.2 s.passes) in (
+      k,
+      record {
+        rest = others.rest;
+        line = others.line;
+        text_is =
+            ap (λ (v : ℕ). v ∷ bytes) (letter_is b k word.1)
+            ∙ ap (λ (t : List ℕ). first_letter k ∷ t) others.text_is
+            ∙ ap (λ (t : List ℕ). t ++ others.rest) (word_is k);
+        passes = others.passes;
+      },
+    )
 
 -- ---- proofs
 
@@ -403,10 +404,10 @@ module _ (r b letter : ℕ) (bytes : List ℕ) (more : List Expected) (e : b ≡
     rest = second.behind.rest;
     line = second.behind.line;
     text_is =
-      led_by b letter bytes e
-      ∙ ap (λ (t : List ℕ). letter ∷ t) first.behind.text_is
-      ∙ ap (λ (t : List ℕ). letter ∷ (32 ∷ (proof_text first.tree ++ t))) second.behind.text_is
-      ∙ ap (λ (t : List ℕ). letter ∷ (32 ∷ t)) (sym (append_assoc (proof_text first.tree) (32 ∷ proof_text second.tree) second.behind.rest));
+        led_by b letter bytes e
+        ∙ ap (λ (t : List ℕ). letter ∷ t) first.behind.text_is
+        ∙ ap (λ (t : List ℕ). letter ∷ (32 ∷ (proof_text first.tree ++ t))) second.behind.text_is
+        ∙ ap (λ (t : List ℕ). letter ∷ (32 ∷ t)) (sym (append_assoc (proof_text first.tree) (32 ∷ proof_text second.tree) second.behind.rest));
     passes = second.behind.passes;
   }
 
@@ -491,9 +492,9 @@ lines_from (suc fuel) line (b ∷ bytes) fits h =
       trees = first.tree ∷ others.trees;
       printable = All-cons (IsPrintableProof 512) first.tree others.trees first.printable others.printable;
       text_is =
-        text_is
-        ∙ ap (λ (t : List ℕ). proof_text first.tree ++ (10 ∷ t)) others.text_is
-        ∙ sym (append_assoc (proof_text first.tree) (10 ∷ []) (flat_map proof_line others.trees));
+          text_is
+          ∙ ap (λ (t : List ℕ). proof_text first.tree ++ (10 ∷ t)) others.text_is
+          ∙ sym (append_assoc (proof_text first.tree) (10 ∷ []) (flat_map proof_line others.trees));
     }
 
 -- ---- texts
@@ -526,9 +527,9 @@ found_fault line text h =
     let second = found_kind space.line space.rest (this 10 ∷ []) space.passes in
     let end = found_this 10 second.1.line second.1.rest [] second.1.passes in
     let kinds_are : signals.rest ≡ kind_word first.0 ++ (32 ∷ (kind_word second.0 ++ 10 ∷ [])) =
-      first.1.text_is
-      ∙ ap (λ (t : List ℕ). kind_word first.0 ++ t) (space.text_is ∙ ap (λ (t : List ℕ). 32 ∷ t) (second.1.text_is
-      ∙ ap (λ (t : List ℕ). kind_word second.0 ++ t) (end.text_is ∙ ap (λ (t : List ℕ). 10 ∷ t) (nothing_left end.line end.rest end.passes)))) in
+    first.1.text_is
+    ∙ ap (λ (t : List ℕ). kind_word first.0 ++ t) (space.text_is ∙ ap (λ (t : List ℕ). 32 ∷ t) (second.1.text_is
+    ∙ ap (λ (t : List ℕ). kind_word second.0 ++ t) (end.text_is ∙ ap (λ (t : List ℕ). 10 ∷ t) (nothing_left end.line end.rest end.passes)))) in
     flaw_found pair.value some_wire.wire.items first.0 second.0 pair.fits some_wire.some some_wire.wire.goes_on
     (ap (λ (t : List ℕ). codes "cert 1\nf" ++ t) (word.text_is ∙ ap (λ (t : List ℕ). codes "ault " ++ t) (pair.text_is
     ∙ ap (λ (t : List ℕ). decimal pair.value ++ (32 ∷ t)) (signals.text_is ∙ append_assoc (wire_text some_wire.wire.items) (32 ∷ []) signals.rest

@@ -1,5 +1,5 @@
 -- The first two lines of a text.
-use Rattle.std.proofs.Common.{◌≡◌, ◌≢◌, ◌<◌, ◌^◌, ℕ, List, [], ◌∷◌, ◌++◌, refl, ap, sym, ◌∙◌, subst, append_assoc, append-nil, codes}
+use Rattle.std.proofs.Common.{◌≡◌, ◌≢◌, ◌<◌, ◌^◌, ℕ, List, [], ◌∷◌, ◌++◌, ap, ◌∙◌, subst, append_assoc, append-nil, codes}
 use Rattle.std.specs.Prelude.{decimal, All}
 use Rattle.message_tree.specs.declared.items.Item.{Item}
 use Rattle.message_tree.specs.declared.items.Kind.{Kind}
@@ -66,10 +66,10 @@ flaw_read text a b c d n items first second begun word pair fault none fits some
     record {
       printable = (fits, some, goes_on);
       text_is =
-        all.rest_is
-        ∙ ap (λ (t : List ℕ). (codes "cert 1\nfault " ++ ((decimal n ++ 32 ∷ []) ++ fault_text items first second)) ++ t) none
-        ∙ append-nil _
-        ∙ ap (λ (t : List ℕ). codes "cert 1\nfault " ++ t) (append_assoc (decimal n) (32 ∷ []) (fault_text items first second));
+          all.rest_is
+          ∙ ap (λ (t : List ℕ). (codes "cert 1\nfault " ++ ((decimal n ++ 32 ∷ []) ++ fault_text items first second)) ++ t) none
+          ∙ append-nil _
+          ∙ ap (λ (t : List ℕ). codes "cert 1\nfault " ++ t) (append_assoc (decimal n) (32 ∷ []) (fault_text items first second));
     }
 
 -- ---- a wire and two kinds

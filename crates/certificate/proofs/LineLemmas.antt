@@ -1,6 +1,6 @@
 -- Lines of proofs: what has been read and what is left are the text.
-use Rattle.std.proofs.Common.{◌≡◌, ◌≢◌, ◌<◌, ◌^◌, ℕ, zero, suc, ◌+◌, ◌-◌, ◌*◌, ◌==◌, Bool, true, false, List, [], ◌∷◌, ◌++◌, length, map, Option, Some, None, refl, ap, sym, ◌∙◌, subst, arith, append_assoc, append-nil, codes, length-append}
-use Rattle.std.specs.Prelude.{Ok, Err, IfErr, decimal, flat_map, All, if◌then◌else◌}
+use Rattle.std.proofs.Common.{◌≡◌, ◌≢◌, ℕ, zero, suc, ◌+◌, ◌-◌, ◌*◌, ◌==◌, Bool, true, false, List, [], ◌∷◌, ◌++◌, length, Option, Some, None, refl, ap, sym, ◌∙◌, subst, arith, append_assoc, append-nil, codes, length-append}
+use Rattle.std.specs.Prelude.{Ok, Err, IfErr, decimal, flat_map, if◌then◌else◌}
 use Rattle.std.specs.Char.{is_ascii_digit}
 use Rattle.message_tree.specs.declared.items.Item.{Item}
 use Rattle.message_tree.specs.declared.items.Kind.{Kind}
@@ -13,13 +13,12 @@ use Rattle.certificate.specs.declared.errors.CertFault.{CertFault}
 use Rattle.certificate.specs.declared.errors.CertFault.TheVariants.{Format, Count, TooDeep, Pair}
 use Rattle.certificate.specs.declared.lines.ProofLines.{ProofLines}
 use Rattle.certificate.specs.declared.values.Cert.{Cert}
-use Rattle.certificate.specs.Certificates.{proofs}
-use Rattle.certificate.specs.Places.{Place, place, LineRead, Refuses}
+use Rattle.certificate.specs.Places.{place, LineRead, Refuses}
 use Rattle.certificate.specs.Proofs.{ProofTree, proof_tree}
-use Rattle.certificate.specs.Reading.{ReadSoFar, AddsProof, EndsHere, RefusedHere, Fails}
+use Rattle.certificate.specs.Reading.{AddsProof, RefusedHere}
 use Rattle.certificate.specs.Refusals as expect
 use Rattle.certificate.specs.Refusals.{Expected, Step, First, Miscounts, refusal, whole, lines, this, proof, step, proof_step, node_step, where_true, then_expect, go_on, line_after, item_of, symbol_step, kind_of_letter, kind_step, digit_step, is_place, ends_early}
-use Rattle.certificate.specs.Texts.{Spells, IsPrintableProof, proofs_text, proof_line}
+use Rattle.certificate.specs.Texts.{IsPrintableProof, proofs_text, proof_line}
 
 -- ---- what a text is refused for by its form
 
@@ -120,7 +119,7 @@ lines_go_on line (b ∷ bytes) es some = then_on (proof_step line 512 b) (this 1
 pub proofs_more : (number : ℕ) (trees : List ProofTree) (tree : ProofTree) → codes "cert 1\n" ++ proofs_text number (trees ++ tree ∷ []) ≡ (codes "cert 1\n" ++ proofs_text number trees) ++ proof_line tree
 proofs_more number trees tree =
     let more : flat_map proof_line (trees ++ tree ∷ []) ≡ flat_map proof_line trees ++ proof_line tree =
-      flat_map-append proof_line trees (tree ∷ []) ∙ ap (λ (t : List ℕ). flat_map proof_line trees ++ t) (append-nil (proof_line tree)) in
+    flat_map-append proof_line trees (tree ∷ []) ∙ ap (λ (t : List ℕ). flat_map proof_line trees ++ t) (append-nil (proof_line tree)) in
     ap (λ (t : List ℕ). codes "cert 1\npairs " ++ (decimal number ++ (10 ∷ t))) more
     ∙ ap (λ (t : List ℕ). codes "cert 1\npairs " ++ t) (sym (append_assoc (decimal number) (10 ∷ flat_map proof_line trees) (proof_line tree)))
 
@@ -131,11 +130,11 @@ line_added old new it some number seen read = λ text trees so_far. record {
   printable = All-push (IsPrintableProof 512) trees (proof_tree it) so_far.printable read.printable;
   counted = let len = length-append trees (proof_tree it ∷ []) in omega (arith, len, so_far.counted);
   text_is =
-    so_far.text_is
-    ∙ ap (λ (t : List ℕ). (codes "cert 1\n" ++ proofs_text old.number trees) ++ t) read.reads.rest_is
-    ∙ sym (append_assoc (codes "cert 1\n" ++ proofs_text old.number trees) (proof_line (proof_tree it)) new.source.rest.now)
-    ∙ ap (λ (t : List ℕ). t ++ new.source.rest.now) (sym (proofs_more old.number trees (proof_tree it)))
-    ∙ ap (λ n. (codes "cert 1\n" ++ proofs_text n (trees ++ proof_tree it ∷ [])) ++ new.source.rest.now) (sym number);
+      so_far.text_is
+      ∙ ap (λ (t : List ℕ). (codes "cert 1\n" ++ proofs_text old.number trees) ++ t) read.reads.rest_is
+      ∙ sym (append_assoc (codes "cert 1\n" ++ proofs_text old.number trees) (proof_line (proof_tree it)) new.source.rest.now)
+      ∙ ap (λ (t : List ℕ). t ++ new.source.rest.now) (sym (proofs_more old.number trees (proof_tree it)))
+      ∙ ap (λ n. (codes "cert 1\n" ++ proofs_text n (trees ++ proof_tree it ∷ [])) ++ new.source.rest.now) (sym number);
   refusal_is = so_far.refusal_is ∙ lines_go_on old.source.line old.source.rest.now [] some ∙ read.reads.leads (lines ∷ []);
 }
 
@@ -144,28 +143,6 @@ pub line_refused : (left : ProofLines) (e : CertError) → left.source.rest.now 
 line_refused left NoMemory some refused = λ text trees so_far. tt
 line_refused left (Wrong fault) some refused = λ text trees so_far.
     first_by_form text fault (so_far.refusal_is ∙ lines_go_on left.source.line left.source.rest.now [] some ∙ refused (lines ∷ []))
-
--- the text ends here, with as many proofs as it announces
-pub ends_here : (left : ProofLines) → left.source.rest.now ≡ [] → left.seen ≡ left.number → left.number < 2 ^ 32 → EndsHere left
-ends_here left none same fits = λ text trees so_far.
-    let counted : length trees ≡ left.number = so_far.counted ∙ same in
-    record {
-      printable = (so_far.printable, omega (arith, counted));
-      text_is =
-        so_far.text_is ∙ ap (λ (t : List ℕ). (codes "cert 1\n" ++ proofs_text left.number trees) ++ t) none
-        ∙ append-nil _ ∙ ap (λ n. codes "cert 1\n" ++ proofs_text n trees) (sym counted);
-    }
-
--- and with another number of them
-pub miscounted : (left : ProofLines) → left.source.rest.now ≡ [] → left.seen ≢ left.number → left.number < 2 ^ 32 → RefusedHere left (Wrong Count)
-miscounted left none differs fits = λ text trees so_far. record {
-  number = left.number;
-  trees = trees;
-  number_fits = fits;
-  printable = so_far.printable;
-  text_is = so_far.text_is ∙ ap (λ (t : List ℕ). (codes "cert 1\n" ++ proofs_text left.number trees) ++ t) none ∙ append-nil _;
-  differs = λ same. differs (sym so_far.counted ∙ sym same);
-}
 
 pub none_left : (bytes : List ℕ) (at_end : Bool) → at_end ≡ (length bytes == 0) → at_end ≡ true → bytes ≡ []
 none_left [] at_end is h = refl

@@ -1,8 +1,8 @@
 -- A text that has the form passes: the spelling of each value stands where it is expected.
-use Rattle.std.proofs.Common.{◌≡◌, ◌≢◌, ◌<◌, ◌≤◌, ◌+◌, ◌-◌, ◌*◌, ◌/◌, ◌%◌, ◌^◌, ℕ, zero, suc, Bool, true, false, ◌==◌, List, [], ◌∷◌, ◌++◌, length, map, max, Option, Some, None, refl, ap, sym, ◌∙◌, subst, arith, lit<, append_assoc, append-nil, eq-eqb, codes, one-add}
-use Rattle.std.specs.Prelude.{Ok, Err, decimal, flat_map, All, if◌then◌else◌, nat_lt, drop}
+use Rattle.std.proofs.Common.{◌≡◌, ◌≢◌, ◌<◌, ◌≤◌, ◌+◌, ◌-◌, ◌*◌, ◌/◌, ◌%◌, ◌^◌, ℕ, zero, suc, true, false, List, [], ◌∷◌, ◌++◌, length, Some, None, refl, ap, sym, ◌∙◌, subst, arith, lit<, append_assoc, eq-eqb, codes}
+use Rattle.std.specs.Prelude.{Ok, decimal, flat_map, All}
 use Rattle.std.specs.Char.{is_ascii_digit}
-use Rattle.std.proofs.lemmas.Bool.{ne_eqb, lt-ltb}
+use Rattle.std.proofs.lemmas.Bool.{ne_eqb}
 use Rattle.std.proofs.lemmas.Bool.Decides.{nat_tests}
 use Rattle.std.proofs.lemmas.Fmt.{decimal_by_steps, decimal_digit}
 use Rattle.message_tree.specs.declared.items.Item.{Item}
@@ -10,12 +10,11 @@ use Rattle.message_tree.specs.declared.items.Item.TheVariants as item
 use Rattle.message_tree.specs.declared.items.Kind.{Kind}
 use Rattle.message_tree.specs.declared.items.Kind.TheVariants as kinds
 use Rattle.message_tree.specs.Symbols.{symbol_of, wire_text, kind_word}
-use Rattle.certificate.specs.declared.errors.CertFault.{CertFault}
 use Rattle.certificate.specs.Certificates.{Certificate, proofs, flaw}
 use Rattle.certificate.specs.Proofs.{ProofTree, part, short, byte, read, again, alike}
 use Rattle.certificate.specs.Refusals as expect
 use Rattle.certificate.specs.Refusals.{Expected, Step, step, refusal, go_on, line_after, this, each, digits, number, proof, lines, symbols, wire, kind, whole, item_of, symbol_step, node_step, place_digit}
-use Rattle.certificate.specs.Texts.{IsPrintableProof, HasPlaces, height, GoesOn, IsPrintable, Spells, proof_text, proof_line, proofs_text, flaw_text, cert_text}
+use Rattle.certificate.specs.Texts.{IsPrintableProof, HasPlaces, height, GoesOn, Spells, proof_text, proof_line, proofs_text, flaw_text}
 use Rattle.certificate.proofs.LineLemmas.{lines_go_on}
 use Rattle.certificate.proofs.WordLemmas.{digit_stepped, digits_ended}
 
@@ -54,9 +53,9 @@ module _ (end : ℕ) (no_digit : is_ascii_digit end ≡ false) where
       let small : n % 10 < 10 = omega arith in
       let same : n / 10 * 10 + (b - 48) ≡ n = omega arith in
       let one : Passes (digits (n / 10) end ∷ more) (b ∷ rest) =
-        pass b rest (digits (n / 10) end) (digits (n / 10 * 10 + (b - 48)) end ∷ []) more
-        (λ line. digit_stepped line (n / 10) end b (other_end b (digit_test (n % 10) small)) (digit_test (n % 10) small) (omega (arith, same)))
-        (subst (λ (m : ℕ). Passes (digits m end ∷ more) rest) (sym same) h) in
+      pass b rest (digits (n / 10) end) (digits (n / 10 * 10 + (b - 48)) end ∷ []) more
+      (λ line. digit_stepped line (n / 10) end b (other_end b (digit_test (n % 10) small)) (digit_test (n % 10) small) (omega (arith, same)))
+      (subst (λ (m : ℕ). Passes (digits m end ∷ more) rest) (sym same) h) in
       subst (Passes (number end ∷ more)) (sym (append_assoc ds (b ∷ []) rest)) (before (omega arith) (omega arith) (b ∷ rest) more one)
 
   pub number_passes : (n : ℕ) (rest : List ℕ) (more : List Expected) → n < 2 ^ 32 → Passes more rest → Passes (number end ∷ more) (decimal n ++ (end ∷ rest))
@@ -160,10 +159,10 @@ lines_pass (t ∷ trees) all =
     let rest = flat_map proof_line trees in
     let first : IsPrintableProof 512 t = all 0 t (omega arith) in
     let behind : Passes (this 10 ∷ (lines ∷ [])) (10 ∷ rest) =
-      pass 10 rest (this 10) [] (lines ∷ []) (λ line. refl) (lines_pass trees (λ k d within. all (suc k) d (omega arith))) in
+    pass 10 rest (this 10) [] (lines ∷ []) (λ line. refl) (lines_pass trees (λ k d within. all (suc k) d (omega arith))) in
     let whole_line : Passes (proof 512 ∷ (this 10 ∷ (lines ∷ []))) (proof_line t ++ rest) =
-      subst (Passes (proof 512 ∷ (this 10 ∷ (lines ∷ [])))) (sym (append_assoc (proof_text t) (10 ∷ []) rest))
-      (proof_passes 512 t (10 ∷ rest) (this 10 ∷ (lines ∷ [])) first.places first.path behind) in
+    subst (Passes (proof 512 ∷ (this 10 ∷ (lines ∷ [])))) (sym (append_assoc (proof_text t) (10 ∷ []) rest))
+    (proof_passes 512 t (10 ∷ rest) (this 10 ∷ (lines ∷ [])) first.places first.path behind) in
     λ line. lines_go_on line (proof_line t ++ rest) [] (not_empty (proof_text t) rest) ∙ whole_line line
 
 -- ---- texts

@@ -1,12 +1,11 @@
 -- From place to place: what is read one after the other, and what is refused after it.
-use Rattle.std.proofs.Common.{◌≡◌, ℕ, List, [], ◌∷◌, ◌++◌, Some, None, refl, ap, sym, ◌∙◌, append_assoc}
+use Rattle.std.proofs.Common.{◌≡◌, ℕ, List, [], ◌∷◌, ◌++◌, Some, refl, ap, sym, ◌∙◌, append_assoc}
 use Rattle.std.specs.Prelude.{Ok, Err}
 use Rattle.certificate.specs.declared.errors.CertError.{CertError}
 use Rattle.certificate.specs.declared.errors.CertError.TheVariants.{Wrong, NoMemory}
 use Rattle.certificate.specs.declared.errors.CertFault.{CertFault}
-use Rattle.certificate.specs.declared.errors.CertFault.TheVariants.{Format}
 use Rattle.certificate.specs.Places.{Place, ByteTaken, Reads, Refuses}
-use Rattle.certificate.specs.Refusals.{Expected, Step, step, refusal, go_on, ends_early, line_after}
+use Rattle.certificate.specs.Refusals.{Expected, Step, step, refusal, go_on, line_after}
 
 -- what is expected in the second place is read up to the third
 pub reads_on : (s t : List ℕ) (a b c : Place) (es fs gs : List Expected) → Reads s a es b fs → Reads t b fs c gs → Reads (s ++ t) a es c gs
@@ -51,9 +50,9 @@ taken_reads b old new expected es taken e =
     record {
       rest_is = taken.rest_is;
       leads = λ more.
-        ap (λ (bytes : List ℕ). refusal old.line (expected ∷ more) bytes) taken.rest_is
-        ∙ stepped old.line b new.rest expected es more e
-        ∙ ap (λ line. refusal line (es ++ more) new.rest) (sym taken.line_is);
+          ap (λ (bytes : List ℕ). refusal old.line (expected ∷ more) bytes) taken.rest_is
+          ∙ stepped old.line b new.rest expected es more e
+          ∙ ap (λ line. refusal line (es ++ more) new.rest) (sym taken.line_is);
     }
 
 -- and is refused there
@@ -61,11 +60,6 @@ pub taken_refused : (b : ℕ) (old new : Place) (expected : Expected) (fault : C
     → Refuses old (expected ∷ []) (Wrong fault)
 taken_refused b old new expected fault taken e =
     λ more. ap (λ (bytes : List ℕ). refusal old.line (expected ∷ more) bytes) taken.rest_is ∙ stepped_out old.line b new.rest expected more fault e
-
--- the text ends here
-pub end_refused : (old : Place) (expected : Expected) → old.rest ≡ [] → ends_early expected old.line ≡ Some (Format old.line)
-    → Refuses old (expected ∷ []) (Wrong (Format old.line))
-end_refused old expected none e = λ more. ap (λ (bytes : List ℕ). refusal old.line (expected ∷ more) bytes) none ∙ e
 
 -- nothing is read
 pub nothing_read : (a : Place) (es : List Expected) → Reads [] a es a es

@@ -1,13 +1,13 @@
 -- Proofs, from token to token.
-use Rattle.std.proofs.Common.{◌≡◌, ℕ, zero, suc, ◌+◌, ◌≤◌, ◌<◌, List, [], ◌∷◌, ◌++◌, refl, ap, sym, ◌∙◌, subst, arith, add-one, codes, max, append_assoc}
+use Rattle.std.proofs.Common.{◌≡◌, ℕ, suc, ◌+◌, ◌≤◌, List, [], ◌∷◌, ◌++◌, refl, sym, ◌∙◌, subst, arith, add-one, codes, max}
 use Rattle.std.specs.Prelude.{decimal}
 use Rattle.certificate.specs.declared.errors.CertError.{CertError}
 use Rattle.certificate.specs.declared.proofs.Token.{Token}
 use Rattle.certificate.specs.declared.proofs.Token.TheVariants as token
-use Rattle.certificate.specs.Places.{Place, ByteTaken, Reads, Refuses, TokenRead, PlaceRead, ProofRead, BelowRead, LineRead, HasPlace, token_text, branches}
+use Rattle.certificate.specs.Places.{Place, ByteTaken, Reads, Refuses, TokenRead, PlaceRead, ProofRead, BelowRead, HasPlace, token_text, branches}
 use Rattle.certificate.specs.Proofs.{ProofTree, part, short, byte, read, again, alike}
-use Rattle.certificate.specs.Refusals.{Expected, this, proof, place_digit, below}
-use Rattle.certificate.specs.Texts.{IsPrintableProof, proof_text, proof_line}
+use Rattle.certificate.specs.Refusals.{this, proof, place_digit, below}
+use Rattle.certificate.specs.Texts.{proof_text}
 use Rattle.certificate.proofs.PlaceLemmas.{reads_on, reads_both, refuses_on, refuses_more, refuses_after, taken_reads}
 
 -- `P` and the place of a bit

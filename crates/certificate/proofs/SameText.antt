@@ -1,5 +1,5 @@
 -- Equal texts are spellings of equal values: no spelling is the front of another.
-use Rattle.std.proofs.Common.{◌≡◌, ◌≢◌, ◌<◌, ◌≤◌, ◌+◌, ◌^◌, ℕ, zero, suc, Bool, true, false, List, [], ◌∷◌, ◌++◌, length, drop, map, refl, ap, sym, ◌∙◌, subst, arith, lit<, append_assoc, codes}
+use Rattle.std.proofs.Common.{◌≡◌, ◌≢◌, ◌<◌, ◌≤◌, ◌+◌, ◌^◌, ℕ, suc, true, false, List, [], ◌∷◌, ◌++◌, length, drop, refl, ap, sym, ◌∙◌, arith, append_assoc, codes}
 use Rattle.std.specs.Prelude.{decimal, flat_map, All}
 use Rattle.std.specs.Char.{is_ascii_digit}
 use Rattle.std.specs.List.{list_all}
@@ -15,7 +15,7 @@ use Rattle.message_tree.specs.declared.items.Kind.TheVariants as kinds
 use Rattle.message_tree.specs.Symbols.{symbol_of, wire_text, kind_word}
 use Rattle.certificate.specs.Certificates.{Certificate, proofs, flaw}
 use Rattle.certificate.specs.Proofs.{ProofTree, part, short, byte, read, again, alike}
-use Rattle.certificate.specs.Texts.{IsPrintableProof, HasPlaces, GoesOn, IsPrintable, Spells, proof_text, proof_line, proofs_text, flaw_text, cert_text}
+use Rattle.certificate.specs.Texts.{IsPrintableProof, HasPlaces, Spells, proof_text, proof_line, proofs_text, flaw_text}
 
 firsts : (b c : ℕ) (x y : List ℕ) → b ∷ x ≡ c ∷ y → b ≡ c
 firsts b c x y e = cc
@@ -202,7 +202,7 @@ same_lines (t ∷ ts) (u ∷ us) p q e =
     let one : IsPrintableProof 512 t = p 0 t (omega arith) in
     let two : IsPrintableProof 512 u = q 0 u (omega arith) in
     let both : proof_text t ++ (10 ∷ flat_map proof_line ts) ≡ proof_text u ++ (10 ∷ flat_map proof_line us) =
-      sym (append_assoc (proof_text t) (10 ∷ []) (flat_map proof_line ts)) ∙ e ∙ append_assoc (proof_text u) (10 ∷ []) (flat_map proof_line us) in
+    sym (append_assoc (proof_text t) (10 ∷ []) (flat_map proof_line ts)) ∙ e ∙ append_assoc (proof_text u) (10 ∷ []) (flat_map proof_line us) in
     let is = same_proof t u (10 ∷ flat_map proof_line ts) (10 ∷ flat_map proof_line us) one.places two.places both in
     let rest = same_lines ts us (λ k d within. p (suc k) d (omega arith)) (λ k d within. q (suc k) d (omega arith)) (others 10 10 _ _ is.1) in
     ap (λ (a : ProofTree). a ∷ ts) is.0 ∙ ap (λ (vs : List ProofTree). u ∷ vs) rest

@@ -1,18 +1,17 @@
 -- Words, byte by byte: the texts that stand in fixed places, numbers, wires and kinds.
-use Rattle.std.proofs.Common.{◌≡◌, ◌≢◌, ◌<◌, ◌≤◌, ◌+◌, ◌-◌, ◌*◌, ◌/◌, ◌%◌, ◌^◌, ℕ, zero, suc, Bool, true, false, ◌&&◌, ◌==◌, List, [], ◌∷◌, ◌++◌, length, take, drop, get_or, map, Some, refl, ap, sym, ◌∙◌, subst, arith, lit<, add-one, append_assoc, drop-cons, eq-eqb, codes}
+use Rattle.std.proofs.Common.{◌≡◌, ◌≢◌, ◌<◌, ◌≤◌, ◌+◌, ◌-◌, ◌*◌, ◌/◌, ◌%◌, ◌^◌, ℕ, suc, Bool, true, List, [], ◌∷◌, ◌++◌, length, take, drop, get_or, Some, refl, ap, sym, ◌∙◌, subst, arith, lit<, add-one, append_assoc, drop-cons, eq-eqb}
 use Rattle.std.proofs.lemmas.List.{take_all, drop_all, take_more}
-use Rattle.std.specs.Prelude.{Ok, Err, nat_lt, decimal, if◌then◌else◌, All}
+use Rattle.std.specs.Prelude.{Ok, decimal, if◌then◌else◌}
 use Rattle.std.specs.Char.{is_ascii_digit}
-use Rattle.std.proofs.lemmas.Bool.{ne_eqb, lt-ltb, and_parts}
+use Rattle.std.proofs.lemmas.Bool.{ne_eqb, lt-ltb}
 use Rattle.std.proofs.lemmas.Bool.Decides.{nat_tests}
 use Rattle.std.proofs.lemmas.Fmt.{decimal_step, decimal_digit}
 use Rattle.message_tree.specs.declared.items.Item.{Item}
-use Rattle.message_tree.specs.declared.items.Item.TheVariants as item
 use Rattle.message_tree.specs.Symbols.{symbol_of}
 use Rattle.certificate.specs.declared.errors.CertError.{CertError}
-use Rattle.certificate.specs.declared.errors.CertFault.TheVariants.{Format, TooDeep}
+use Rattle.certificate.specs.declared.errors.CertFault.TheVariants.{TooDeep}
 use Rattle.certificate.specs.Places.{Place, ByteTaken, Reads, Refuses, DigitsRead, PlaceRead}
-use Rattle.certificate.specs.Refusals.{Expected, this, each, step, number, digits, place_digit, is_place, node_step, item_of, where_true}
+use Rattle.certificate.specs.Refusals.{this, each, step, number, digits, place_digit, is_place, node_step, item_of}
 use Rattle.certificate.specs.Texts.{GoesOn}
 use Rattle.certificate.proofs.PlaceLemmas.{reads_on, refuses_on, refuses_more, taken_reads, taken_refused}
 
@@ -25,8 +24,8 @@ pub each_more : (bytes : List ℕ) (i : ℕ) (a b c : Place) → i < length byte
 each_more bytes i a b c h before here =
     let split : drop i bytes ≡ get_or bytes i 0 ∷ drop (i + 1) bytes = rw (add-one) (drop-cons bytes i 0 h) in
     let there : Reads (get_or bytes i 0 ∷ []) b (each (drop i bytes)) c (each (drop (i + 1) bytes)) =
-      subst (λ (ds : List ℕ). Reads (get_or bytes i 0 ∷ []) b (each ds) c (each (drop (i + 1) bytes))) (sym split)
-      record { rest_is = here.rest_is; leads = λ more. here.leads (each (drop (i + 1) bytes) ++ more) } in
+    subst (λ (ds : List ℕ). Reads (get_or bytes i 0 ∷ []) b (each ds) c (each (drop (i + 1) bytes))) (sym split)
+    record { rest_is = here.rest_is; leads = λ more. here.leads (each (drop (i + 1) bytes) ++ more) } in
     subst (λ (ds : List ℕ). Reads ds a (each bytes) c (each (drop (i + 1) bytes))) (sym (take_more bytes i 0 h))
     (reads_on (take i bytes) (get_or bytes i 0 ∷ []) a b c (each bytes) (each (drop i bytes)) (each (drop (i + 1) bytes)) before there)
 
@@ -36,7 +35,7 @@ pub each_refused : (bytes : List ℕ) (i : ℕ) (a b : Place) (e : CertError) �
 each_refused bytes i a b e h before here =
     let split : drop i bytes ≡ get_or bytes i 0 ∷ drop (i + 1) bytes = rw (add-one) (drop-cons bytes i 0 h) in
     let there : Refuses b (each (drop i bytes)) e =
-      subst (λ (ds : List ℕ). Refuses b (each ds) e) (sym split) (refuses_more b (this (get_or bytes i 0) ∷ []) (each (drop (i + 1) bytes)) e here) in
+    subst (λ (ds : List ℕ). Refuses b (each ds) e) (sym split) (refuses_more b (this (get_or bytes i 0) ∷ []) (each (drop (i + 1) bytes)) e here) in
     refuses_on (take i bytes) a b (each bytes) (each (drop i bytes)) e before there
 
 -- all of them stand there
@@ -63,9 +62,6 @@ digit_goes_on n b positive digit fits =
     let same : 48 + (b - 48) ≡ b = omega (arith, range) in
     decimal_more n (b - 48) positive (omega (arith, range)) (omega arith) ∙ ap (λ (d : ℕ). decimal n ++ d ∷ []) same
 
-pub no_end : (b end : ℕ) → is_ascii_digit end ≡ false → is_ascii_digit b ≡ true → b ≢ end
-no_end b end none digit e = let other : is_ascii_digit b ≡ false = ap is_ascii_digit e ∙ none in cc
-
 -- the number goes on with a digit
 pub digit_stepped : (line n end b : ℕ) → b ≢ end → is_ascii_digit b ≡ true → n * 10 + (b - 48) < 2 ^ 32 → step line (digits n end) b ≡ Ok (digits (n * 10 + (b - 48)) end ∷ [])
 digit_stepped line n end b other digit fits = rw (ne_eqb b end other, digit, lt-ltb (n * 10 + (b - 48)) (2 ^ 32) fits) refl
@@ -73,15 +69,6 @@ digit_stepped line n end b other digit fits = rw (ne_eqb b end other, digit, lt-
 -- and ends here
 pub digits_ended : (line n b end : ℕ) → b ≡ end → step line (digits n end) b ≡ Ok []
 digits_ended line n b end e = rw (eq-eqb b end e) refl
-
--- or is refused
-pub digit_refused : (line n end b : ℕ) → b ≢ end → (is_ascii_digit b && nat_lt (n * 10 + (b - 48)) (2 ^ 32)) ≡ false → step line (digits n end) b ≡ Err (Format line)
-digit_refused line n end b other none = rw (ne_eqb b end other) (refused (is_ascii_digit b) (nat_lt (n * 10 + (b - 48)) (2 ^ 32)) none)
-  where
-    refused : (s t : Bool) → (s && t) ≡ false → (if s then where_true t line (digits (n * 10 + (b - 48)) end ∷ []) else Err (Format line)) ≡ Err (Format line)
-    refused true true h = cc
-    refused true false h = refl
-    refused false t h = refl
 
 -- one more digit of a number
 pub digits_more : (first n end b : ℕ) (bytes : List ℕ) (a m c : Place) → Reads bytes a (digits first end ∷ []) m (digits n end ∷ []) → ByteTaken b m c

@@ -6,7 +6,7 @@ use Rattle.message_tree.specs.declared.items.Kind.{Kind}
 use Rattle.message_tree.specs.Symbols.{wire_text, kind_word}
 use Rattle.certificate.specs.declared.errors.CertError.{CertError}
 use Rattle.certificate.specs.declared.errors.CertError.TheVariants.{Wrong, NoMemory}
-use Rattle.certificate.specs.declared.errors.CertFault.TheVariants.{TooDeep, Format}
+use Rattle.certificate.specs.declared.errors.CertFault.TheVariants.{TooDeep}
 use Rattle.certificate.specs.declared.sources.Source.{Source}
 use Rattle.certificate.specs.declared.proofs.Token.{Token}
 use Rattle.certificate.specs.declared.proofs.Token.TheVariants as token

@@ -1,6 +1,6 @@
 -- The text of a certificate. Each value has one spelling: a line ends with one line feed, and between two tokens of a
 -- line stands one space. The form is ours.
-use Rattle.std.specs.Prelude.{◌≡◌, ◌≢◌, ℕ, ◌+◌, ◌<◌, ◌≤◌, ◌^◌, max, List, [], ◌∷◌, ◌++◌, length, codes, decimal, All}
+use Rattle.std.specs.Prelude.{◌≡◌, ◌≢◌, ℕ, ◌+◌, ◌<◌, ◌≤◌, ◌^◌, max, List, [], ◌++◌, length, codes, decimal, All}
 use Rattle.std.specs.List.{flat_map}
 use Rattle.message_tree.specs.declared.items.Item.{Item}
 use Rattle.message_tree.specs.declared.items.Item.TheVariants as item

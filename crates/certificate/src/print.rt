@@ -80,7 +80,11 @@ fn line(alloc: Global, text: &mut String, proof: &Cert) -> Result<(), AllocError
 }
 
 // The token of a node. The proofs below it come before what was pending, the first of them last in the list.
-fn node<'a>(text: &mut String, pending: &mut Vec<&'a Cert>, proof: &'a Cert) -> Result<(), AllocError>
+fn node<'a>(
+    text: &mut String,
+    pending: &mut Vec<&'a Cert>,
+    proof: &'a Cert,
+) -> Result<(), AllocError>
     ensures writes { OnOk result (string_bytes text.new ++ pending_text (map (λ p. proof_tree p.now) pending.new.items) ≡ string_bytes text.old ++ (proof_text (proof_tree proof.now) ++ pending_text (map (λ p. proof_tree p.now) pending.old.items))) }
     ensures less { OnOk result (pending_nodes (map (λ p. proof_tree p.now) pending.new.items) + 1 ≡ pending_nodes (map (λ p. proof_tree p.now) pending.old.items) + nodes (proof_tree proof.now)) }
 {

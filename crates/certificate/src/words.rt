@@ -121,9 +121,7 @@ fn with_digit(number: u32, byte: u8) -> Option<u32>
     if !byte.is_ascii_digit() {
         return None;
     }
-    number
-        .checked_mul(10)?
-        .checked_add(u32::from(byte - b'0'))
+    number.checked_mul(10)?.checked_add(u32::from(byte - b'0'))
 }
 
 // The item of a wire that a symbol stands for.

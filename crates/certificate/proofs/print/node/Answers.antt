@@ -1,4 +1,4 @@
-use Rattle.std.proofs.Common.{◌≡◌, ◌++◌, ◌∷◌, [], List, ℕ, ap, ◌∙◌, lit<, rules}
+use Rattle.std.proofs.Common.{◌++◌, List, ℕ, ap, ◌∙◌, lit<, rules}
 use Rattle.std.specs.Prelude.{string_bytes}
 use Rattle.certificate.specs.Proofs.{proof_tree}
 use Rattle.certificate.proofs.PrintLemmas.{again_written, again_less, both_written, both_less}

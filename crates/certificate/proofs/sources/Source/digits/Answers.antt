@@ -1,4 +1,4 @@
-use Rattle.std.proofs.Common.{◌≡◌, ◌<◌, ◌+◌, ◌-◌, ◌*◌, ◌^◌, ◌∷◌, [], ◌++◌, ℕ, refl, sym, subst, append-nil, arith, ◌∙◌, ap}
+use Rattle.std.proofs.Common.{◌<◌, ◌+◌, ◌-◌, ◌*◌, ◌^◌, ◌∷◌, [], ◌++◌, ℕ, sym, subst, append-nil, arith, ◌∙◌, ap}
 use Rattle.std.specs.Prelude.{decimal}
 use Rattle.certificate.specs.Places.{place, Reads}
 use Rattle.certificate.specs.Refusals.{digits}
@@ -18,11 +18,12 @@ digits-preserved c =
     let fits : n * 10 + (b - 48) < 2 ^ 32 = omega (arith, e.1, e.2) in
     let positive : 0 < c.in-Some.more = omega (arith, e.1, i.3) in
     let more = digits_more c.args.first n c.args.end b i.0 (place c.args.self.now) (place c.digits.self) (place c.take.new.self) i.1 c.in_ok-byte.ensures.taken c.if-byte-end.false e.0 fits in
-    let value = digits_value_more c.args.first n b i.0 i.2 i.3 e.0 fits in
-    (i.0 ++ b ∷ [],
-    subst (λ (m : ℕ). Reads (i.0 ++ b ∷ []) (place c.args.self.now) (digits c.args.first c.args.end ∷ []) (place c.take.new.self) (digits m c.args.end ∷ [])) (sym e.1) more,
-    ap decimal e.1 ∙ value,
-    positive)
+    let value = digits_value_more c.args.first n b i.0 i.2 i.3 e.0 fits in (
+      i.0 ++ b ∷ [],
+      subst (λ (m : ℕ). Reads (i.0 ++ b ∷ []) (place c.args.self.now) (digits c.args.first c.args.end ∷ []) (place c.take.new.self) (digits m c.args.end ∷ [])) (sym e.1) more,
+      ap decimal e.1 ∙ value,
+      positive,
+    )
 
 pub returns-then-byte-end-clause-read : goal.returns-then-byte-end-clause-read
 returns-then-byte-end-clause-read c =

@@ -1,4 +1,4 @@
-use Rattle.std.proofs.Common.{◌≡◌, ◌<◌, ◌^◌, ◌++◌, ◌∷◌, [], ℕ, List}
+use Rattle.std.proofs.Common.{◌≡◌, ◌<◌, ◌++◌, ◌∷◌, [], ℕ, List}
 use Rattle.std.specs.Prelude.{decimal}
 use Rattle.certificate.specs.Places.{place, unread, Reads}
 use Rattle.certificate.specs.Refusals.{digits}

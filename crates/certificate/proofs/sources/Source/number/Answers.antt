@@ -1,5 +1,5 @@
 use Rattle.std.proofs.Common.{◌≡◌, ◌-◌, ◌++◌, ◌∷◌, [], ℕ, arith, subst}
-use Rattle.std.specs.Prelude.{decimal, IfOk}
+use Rattle.std.specs.Prelude.{decimal}
 use Rattle.std.proofs.lemmas.Result.{IfOk-weaker}
 use Rattle.certificate.specs.Places.{place, Reads, DigitsRead}
 use Rattle.certificate.specs.Refusals as expect
@@ -16,5 +16,5 @@ returns-in-49-to-57-clause-read c =
     IfOk-weaker c.digits.result (λ (n : ℕ). DigitsRead c.from.result n c.args.end (place c.take.new.self) (expect.digits c.from.result c.args.end ∷ []) (place c.digits.new.self))
     (λ (n : ℕ). Reads (decimal n ++ c.args.end ∷ []) (place c.args.self.now) (expect.number c.args.end ∷ []) (place c.digits.new.self) [])
     (λ n read. number_digits c.args.end c.in_ok-digit.digit n (place c.args.self.now) (place c.take.new.self) (place c.digits.new.self) (omega arith) (omega arith) c.in_ok-digit.ensures.taken
-      (subst (λ (d : ℕ). DigitsRead d n c.args.end (place c.take.new.self) (expect.digits d c.args.end ∷ []) (place c.digits.new.self)) first read))
+    (subst (λ (d : ℕ). DigitsRead d n c.args.end (place c.take.new.self) (expect.digits d c.args.end ∷ []) (place c.digits.new.self)) first read))
     c.digits.ensures.read

@@ -1,0 +1,5 @@
+pub mod Senders
+pub mod Checked
+pub mod WireLemmas
+pub mod TallyLemmas
+pub mod AnswerLemmas

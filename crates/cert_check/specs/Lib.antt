@@ -1,0 +1,9 @@
+pub mod Proved
+pub mod PairFaults
+pub mod Accepts
+pub mod Holds
+pub mod Refused
+pub mod Starts
+pub mod Reads
+pub mod Wires
+pub mod Judged

@@ -1,0 +1,126 @@
+// A plan and its certificate, both as bytes.
+
+ghost use Rattle.std.specs.Prelude.{◌≡◌, ◌≤◌, ℕ, [], List, Bool, length, Ok, Err, IfOk, IfErr, MatchResult};
+ghost use Rattle.message_tree.specs.declared.items.Item.{Item};
+ghost use Rattle.message_tree.specs.declared.items.Item.TheVariants.{Heard};
+ghost use Rattle.certificate.specs.declared.errors.CertFault.{CertFault};
+ghost use Rattle.certificate.specs.Certificates.{proofs, flaw};
+ghost use Rattle.certificate.specs.Reading.{Fails, ReadSoFar};
+ghost use Rattle.plan_core.specs.Contents.{Contents};
+ghost use Rattle.plan_core.specs.PlanContents.{plan_contents};
+ghost use Rattle.plan_core.specs.Faults.{IsSafe};
+ghost use Rattle.plan_core.specs.Lawful.{Set, In};
+ghost use Rattle.plan_core.specs.Laws.{HasNext};
+ghost use Rattle.plan_core.specs.Rounds.{Offers, IsRound, NoClash};
+ghost use Rattle.plan_core.specs.Runs.{IsReached, HasEnded, Whole};
+ghost use Rattle.plan_text.specs.declared.errors.PlanError.{PlanError};
+ghost use Rattle.plan_text.specs.Grammar.{Spells};
+ghost use Rattle.plan_text.specs.Refusals.{First};
+ghost use Rattle.cert_check.specs.Accepts.{IsCertified, IsRefuted, IsMistaken, Answers, FoundSafe};
+ghost use Rattle.cert_check.specs.Judged.{Judges, IsJudged, IsRight};
+
+use crate::answers::{AcceptError, Answer};
+use crate::faults::check_fault;
+use crate::tallies::Tally;
+use certificate::{CertError, CertFault, Fault, Head, ProofLines, read_head};
+use plan_core::Plan;
+use plan_text::read_plan;
+use std::alloc::Global;
+
+/// Whether the certificate proves that the plan is safe, or shows that it is not.
+///
+/// The plan is read first, then the certificate, one proof at a time: a proof is read, its pair is checked, and the proof
+/// is dropped. So it takes memory for the plan and for one proof, however long the certificate is.
+///
+/// Where it answers `Safe`, no run of the bus has a fault, whatever participants start together and whatever the targets
+/// return: no repeated START or STOP meets another's data bit or each other (UM10204, 3.1.8), no controller shares a whole
+/// header with an interrupt, and every participant that has not lost arbitration stands whole on the wire at the end.
+///
+/// # Errors
+///
+/// `Plan` with the first refusal of the plan's text. `NoMemory` where memory is refused before another refusal is met. What
+/// is wrong with the certificate is an answer: first what is wrong with its text, by itself; then, of proofs, another
+/// number than that of the plan's pairs, and else the first pair that is not proved; of a fault, that its pair does not
+/// have it.
+pub fn accept(alloc: Global, plan: &[u8], cert: &[u8]) -> Result<Answer, AcceptError>
+    // What is answered is right.
+    ensures safe { result ≡ Ok Answer.Safe → IsCertified plan.now cert.now }
+    ensures not_safe { result ≡ Ok Answer.Unsafe → IsRefuted plan.now cert.now }
+    ensures wrong { (fault : CertFault) → result ≡ Ok (Answer.Wrong fault) → IsMistaken plan.now cert.now fault }
+    ensures refused { (e : PlanError) → result ≡ Err (AcceptError.Plan e) → First plan.now e }
+    // What is right is answered, unless memory is refused.
+    ensures finds_safe { IsCertified plan.now cert.now → Answers (Ok Answer.Safe) result }
+    ensures finds_unsafe { IsRefuted plan.now cert.now → Answers (Ok Answer.Unsafe) result }
+    ensures finds_wrong { (fault : CertFault) → IsMistaken plan.now cert.now fault → Answers (Ok (Answer.Wrong fault)) result }
+    ensures refuses { (e : PlanError) → First plan.now e → Answers (Err (AcceptError.Plan e)) result }
+    // What is found safe is safe: no lawful set ever gets to a fault.
+    ensures no_fault { (P : Contents) → FoundSafe plan.now P result → IsSafe P }
+    // No round of a state that a lawful set reaches clashes.
+    ensures no_clash { (P : Contents) (s live : Set) (u : List Item) (put : ℕ → Item) →
+        FoundSafe plan.now P result → IsReached P s u live → IsRound P u live put → NoClash live put }
+    // Each such state that has not ended has a next slot.
+    ensures next { (P : Contents) (s live : Set) (u : List Item) →
+        FoundSafe plan.now P result → IsReached P s u live → (HasEnded u → ⊥) → HasNext P u live }
+    // Where one live participant may hear a bit, all may, and the targets may send either.
+    ensures answers { (P : Contents) (s live : Set) (u : List Item) (p : ℕ) (b c : Bool) →
+        FoundSafe plan.now P result → IsReached P s u live → In p live → Offers P p u (Heard b) →
+        IsRound P u live (λ _. Heard c) }
+    // Somebody is always live.
+    ensures somebody { (P : Contents) (s live : Set) (u : List Item) →
+        FoundSafe plan.now P result → IsReached P s u live → (p : ℕ) × In p live }
+    // No run is longer than 2,560 slots.
+    ensures bound { (P : Contents) (s live : Set) (u : List Item) →
+        FoundSafe plan.now P result → IsReached P s u live → length u ≤ 2560 }
+    // Where a run has ended, each live participant stands whole on the wire.
+    ensures whole { (P : Contents) (s live : Set) (u : List Item) (p : ℕ) →
+        FoundSafe plan.now P result → IsReached P s u live → HasEnded u → In p live → Whole P p u }
+    // What is found unsafe is not safe.
+    ensures faulty { (P : Contents) → Spells plan.now P → result ≡ Ok Answer.Unsafe → IsSafe P → ⊥ }
+{
+    judge(alloc, plan, cert)
+}
+
+// The same, by what is right.
+fn judge(alloc: Global, plan: &[u8], cert: &[u8]) -> Result<Answer, AcceptError>
+    ensures { IsRight plan.now cert.now result }
+{
+    let plan = read_plan(alloc, plan)?;
+    match judge_cert(alloc, &plan, cert) {
+        Ok(answer) => Ok(answer),
+        Err(CertError::Wrong(fault)) => Ok(Answer::Wrong(fault)),
+        Err(CertError::NoMemory) => Err(AcceptError::NoMemory),
+    }
+}
+
+// A certificate of this plan, from its first byte on.
+fn judge_cert(alloc: Global, plan: &Plan, cert: &[u8]) -> Result<Answer, CertError>
+    ensures { MatchResult result (IsJudged (plan_contents plan.now) cert.now) (Fails cert.now) }
+{
+    match read_head(alloc, cert)? {
+        Head::Proofs(lines) => judge_proofs(alloc, plan, lines),
+        Head::Flaw(pair, fault) => Ok(judge_fault(plan, pair, &fault)),
+    }
+}
+
+// The proofs that are left, each of them dropped before the next is read.
+fn judge_proofs(alloc: Global, plan: &Plan, mut lines: ProofLines<'_>) -> Result<Answer, CertError>
+    ensures { (text : List ℕ) → ReadSoFar text [] lines.entry →
+        MatchResult result (IsJudged (plan_contents plan.now) text) (Fails text) }
+{
+    let mut tally = Tally::new();
+    while let Some(proof) = lines.next_proof(alloc)? {
+        tally.add(plan, &proof);
+    }
+    Ok(tally.answer(plan))
+}
+
+// A fault that is said to be that of this pair.
+fn judge_fault(plan: &Plan, pair: u32, fault: &Fault) -> Answer
+    ensures { Judges (plan_contents plan.now) (flaw pair fault.now.wire.items fault.now.first fault.now.second) result }
+{
+    if pair < plan.pair_count() && check_fault(plan, pair, fault) {
+        Answer::Unsafe
+    } else {
+        Answer::Wrong(CertFault::Pair(pair))
+    }
+}

@@ -1,0 +1,41 @@
+// What a check of a plan text and a certificate text answers.
+
+ghost use Rattle.std.specs.Prelude.{◌≡◌};
+ghost use Rattle.cert_check.specs.Refused.{refused_with};
+
+use certificate::CertFault;
+use plan_text::PlanError;
+use thiserror::Error;
+
+/// What a certificate says of a plan, where the plan's text has no refusal.
+#[derive(Clone, Copy, Debug, PartialEq, Eq)]
+pub enum Answer {
+    /// The certificate proves each pair of the plan: the plan is safe.
+    Safe,
+    /// The certificate shows a fault of one pair of the plan: the plan is not safe.
+    Unsafe,
+    /// The certificate shows neither.
+    Wrong(CertFault),
+}
+
+/// Why there is no answer.
+#[derive(Clone, Copy, Debug, PartialEq, Eq, Error)]
+pub enum AcceptError {
+    /// P1 to P8: the first refusal of the plan's text.
+    #[error("{0}")]
+    Plan(PlanError),
+    /// P9 or C4: memory was refused before another refusal was met.
+    #[error("memory")]
+    NoMemory,
+}
+
+impl From<PlanError> for AcceptError {
+    ghost from_gives = { λ e f. f ≡ refused_with e };
+
+    fn from(error: PlanError) -> AcceptError {
+        match error {
+            PlanError::NoMemory => AcceptError::NoMemory,
+            _ => AcceptError::Plan(error),
+        }
+    }
+}

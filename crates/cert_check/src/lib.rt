@@ -1,0 +1,28 @@
+//! The checker of certificates. It trusts neither the program that writes them nor any analysis of pairs: what it accepts is
+//! safe, as the contract of `accept` says.
+//!
+//! `pairs` lays a proof beside the two messages of its pair, node by node (`nodes`, `bits`). `faults` follows the wire of a
+//! fault through one participant at a time (`wires`). `certified` checks the proofs of a whole plan, and `accepted` keeps a
+//! plan that they made safe. `acceptance` reads a plan and its certificate, and checks each proof as it comes (`tallies`).
+//! `laws` says what proofs of all pairs are worth.
+#![tactic(auto)]
+
+pub mod acceptance;
+pub mod accepted;
+pub mod answers;
+mod bits;
+pub mod certified;
+pub mod faults;
+pub mod laws;
+mod nodes;
+pub mod pairs;
+mod starts;
+mod tallies;
+mod wires;
+
+pub use acceptance::accept;
+pub use accepted::Accepted;
+pub use answers::{AcceptError, Answer};
+pub use certified::accept_plan;
+pub use faults::check_fault;
+pub use pairs::check_pair;
