@@ -32,3 +32,7 @@ abbrev pub RefusesPlan : List ℕ → RunError → Type 0
 RefusesPlan text (error.Plan e) = First text e
 RefusesPlan text error.NoMemory = Unit {0}
 RefusesPlan text _ = ⊥
+
+-- the text has no refusal
+abbrev pub SpellsPlan : List ℕ → Type 0
+SpellsPlan text = (plan : Contents) × Spells text plan

@@ -7,3 +7,4 @@ pub mod Runs
 pub mod Lines
 pub mod Checks
 pub mod RunErrors
+pub mod Certificates

@@ -1,4 +1,6 @@
--- A refusal of a plan text as that of a run.
+-- A refusal of a plan text, and of an acceptance, as that of a run.
+use Rattle.cert_check.specs.declared.answers.AcceptError.{AcceptError}
+use Rattle.cert_check.specs.declared.answers.AcceptError.TheVariants as accept
 use Rattle.plan_text.specs.declared.errors.PlanError.{PlanError}
 use Rattle.plan_text.specs.declared.errors.PlanError.TheVariants as plan
 use Rattle.report.specs.declared.errors.RunError.{RunError}
@@ -8,3 +10,8 @@ use Rattle.report.specs.declared.errors.RunError.TheVariants.{Plan, NoMemory}
 abbrev pub run_error : PlanError → RunError
 run_error plan.NoMemory = NoMemory
 run_error e = Plan e
+
+-- where there is no answer to a plan text and a certificate text
+abbrev pub accept_error : AcceptError → RunError
+accept_error (accept.Plan e) = Plan e
+accept_error accept.NoMemory = NoMemory

@@ -5,6 +5,7 @@ use Rattle.report.specs.Reading.{ReadsAll, ReadingStops}
 use Rattle.report.specs.Writing.{WritesAll, WritingStops}
 use Rattle.report.specs.declared.runs.Status.{Status}
 use Rattle.report.specs.declared.errors.RunError.{RunError}
+use Rattle.report.specs.declared.errors.RunError.TheVariants.{NoMemory}
 
 -- the most reads of one input in a run
 abbrev pub most_reads : ℕ
@@ -36,6 +37,26 @@ module _ {D : Type 0} (reader : Reader D) where
         ReadsText before text now →
         Refuses text error →
         HaltsAtText Refuses before error now
+
+module _ {D E : Type 0} (first : Reader D) (second : Reader E) where
+  -- the run has read two texts, each to its end
+  abbrev pub ReadsBoth : Readings (D × E) (List ℕ × List ℕ)
+  ReadsBoth before texts now = ReadsText first before.0 texts.0 now.0 × ReadsText second before.1 texts.1 now.1
+
+  -- The run halted at the first text, and the second reader is as it was. Or the first text passed and the second was not
+  -- read to its end, or memory was refused after both.
+  pub data HaltsAtBoth (Refuses : List ℕ → RunError → Type 0) (Passes : List ℕ → Type 0) (before : D × E) : RunError → D × E → Type 0 where
+    at_first : {error : RunError} {now : D} →
+        HaltsAtText first Refuses before.0 error now →
+        HaltsAtBoth Refuses Passes before error (now, before.1)
+    at_second : {error : RunError} {text : List ℕ} {now : D × E} →
+        ReadsText first before.0 text now.0 →
+        Passes text →
+        ReadingStops second most_reads before.1 error now.1 →
+        HaltsAtBoth Refuses Passes before error now
+    after_both : {texts : List ℕ × List ℕ} {now : D × E} →
+        ReadsBoth before texts now →
+        HaltsAtBoth Refuses Passes before NoMemory now
 
 module _ {In Texts Out : Type 0} (Reads : Readings In Texts) (Due : DueReports Texts) (writer : Writer Out) where
   -- the run has read its inputs, and written the report that is due for them

@@ -52,7 +52,7 @@ pub fn run_check<R, I: Input, O: Output>(
 }
 
 // Whether the plan is safe of which this is the table.
-fn status_of(table: &Table) -> Status
+pub(crate) fn status_of(table: &Table) -> Status
     ensures { (plan : _) → IsTable plan table.now → Judges result plan }
 {
     if table.is_safe() {

@@ -2,8 +2,9 @@
 
 ghost use Rattle.std.specs.Prelude.{◌≡◌};
 ghost use Rattle.report.specs.declared.errors.RunError.TheVariants.{NoMemory};
-ghost use Rattle.report.specs.RunErrors.{run_error};
+ghost use Rattle.report.specs.RunErrors.{run_error, accept_error};
 
+use cert_check::AcceptError;
 use plan_text::PlanError;
 use std::alloc::{AllocError, AllocFailed};
 use thiserror::Error;
@@ -35,6 +36,17 @@ impl From<PlanError> for RunError {
         match error {
             PlanError::NoMemory => RunError::NoMemory,
             _ => RunError::Plan(error),
+        }
+    }
+}
+
+impl From<AcceptError> for RunError {
+    ghost from_gives = { λ refusal e. e ≡ accept_error refusal };
+
+    fn from(error: AcceptError) -> RunError {
+        match error {
+            AcceptError::Plan(refusal) => RunError::Plan(refusal),
+            AcceptError::NoMemory => RunError::NoMemory,
         }
     }
 }

@@ -1,12 +1,14 @@
 //! The reports of the program over any readers and writers.
 #![tactic(auto)]
 
+pub mod certificates;
 pub mod checks;
 pub mod devices;
 pub mod errors;
 mod lines;
 pub mod runs;
 
+pub use certificates::{run_certify, run_verify};
 pub use checks::run_check;
 pub use devices::faulty::{FaultyReader, FaultyWriter};
 pub use devices::opened::Opened;

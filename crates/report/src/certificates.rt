@@ -1,0 +1,100 @@
+// The runs that write a certificate and that check one.
+
+ghost use Rattle.std.specs.Prelude.{◌≡◌, IfOk, IfErr, string_bytes};
+ghost use Rattle.report.specs.Certificates.{Certified, Verified, verify_line, answer_status};
+ghost use Rattle.report.specs.Checks.{RefusesPlan, SpellsPlan};
+ghost use Rattle.report.specs.Runs.{ReadsText, HaltsAtText, ReadsBoth, HaltsAtBoth, Reports, Stops};
+
+use crate::checks::status_of;
+use crate::devices::reading::{READS, read_within};
+use crate::devices::traits::{Input, Output};
+use crate::errors::RunError;
+use crate::runs::{Status, write_lines};
+use cert_check::{Answer, accept};
+use certificate::{CertFault, print_cert};
+use plan_text::read_plan;
+use std::alloc::{AllocError, Global};
+use verdicts::table;
+
+/// Writes the certificate of the plan that the reader gives: the proofs of all pairs where the plan is safe, and else the
+/// first fault of the first pair that has one. The status is `Good` or `Bad`.
+///
+/// # Errors
+///
+/// `Read` where the reader failed or gave no end, `Plan` with the first refusal of the plan text, and `Write` where the
+/// writer failed or took no bytes. `NoMemory` where memory is refused. Only after `Write` has a part of the certificate
+/// been written: its first bytes. After every other error the writer was not called.
+pub fn run_certify<I: Input, O: Output>(
+    alloc: Global,
+    plan: &mut I,
+    out: &mut O,
+) -> Result<Status, RunError>
+    ensures report { IfOk result (λ status.
+        Reports (ReadsText I.reader) Certified O.writer plan.old out.old status plan.new out.new) }
+    ensures stops { IfErr result (λ error.
+        Stops (ReadsText I.reader) Certified O.writer (HaltsAtText I.reader RefusesPlan)
+        plan.old out.old error plan.new out.new) }
+{
+    let text = read_within(alloc, plan, READS)?;
+    let plan = read_plan(alloc, text.as_slice())?;
+    let table = table(alloc, &plan)?;
+    let status = status_of(&table);
+    let Ok(cert) = table.certify(alloc) else {
+        return Err(RunError::NoMemory);
+    };
+    let report = print_cert(alloc, &cert)?;
+    write_lines(out, report.as_slice(), status)
+}
+
+/// Writes what the certificate that the second reader gives says of the plan that the first reader gives: `accepted safe`,
+/// `accepted unsafe`, or what is wrong with it. The status is `Good`, `Bad` or `Refused`.
+///
+/// # Errors
+///
+/// `Read` where a reader failed or gave no end, `Plan` with the first refusal of the plan text, before the second reader
+/// is called, and `Write` where the writer failed or took no bytes. `NoMemory` where memory is refused. Only after
+/// `Write` has a part of the line been written: its first bytes. After every other error the writer was not called.
+pub fn run_verify<I: Input, J: Input, O: Output>(
+    alloc: Global,
+    plan: &mut I,
+    cert: &mut J,
+    out: &mut O,
+) -> Result<Status, RunError>
+    ensures report { IfOk result (λ status.
+        Reports (ReadsBoth I.reader J.reader) Verified O.writer
+        (plan.old, cert.old) out.old status (plan.new, cert.new) out.new) }
+    ensures stops { IfErr result (λ error.
+        Stops (ReadsBoth I.reader J.reader) Verified O.writer (HaltsAtBoth I.reader J.reader RefusesPlan SpellsPlan)
+        (plan.old, cert.old) out.old error (plan.new, cert.new) out.new) }
+{
+    let plan = read_within(alloc, plan, READS)?;
+    drop(read_plan(alloc, plan.as_slice())?);
+    let cert = read_within(alloc, cert, READS)?;
+    let answer = accept(alloc, plan.as_slice(), cert.as_slice())?;
+    let report = answer_line(alloc, answer)?;
+    write_lines(out, report.as_bytes(), status_of_answer(answer))
+}
+
+fn status_of_answer(answer: Answer) -> Status
+    ensures { result ≡ answer_status answer }
+{
+    match answer {
+        Answer::Safe => Status::Good,
+        Answer::Unsafe => Status::Bad,
+        Answer::Wrong(_) => Status::Refused,
+    }
+}
+
+// The line of an answer.
+fn answer_line(alloc: Global, answer: Answer) -> Result<String, AllocError>
+    ensures { IfOk result (λ line. string_bytes line ≡ verify_line answer) }
+{
+    match answer {
+        Answer::Safe => format!(in alloc; "accepted safe\n"),
+        Answer::Unsafe => format!(in alloc; "accepted unsafe\n"),
+        Answer::Wrong(CertFault::Format(line)) => format!(in alloc; "wrong C1 line {line}\n"),
+        Answer::Wrong(CertFault::Count) => format!(in alloc; "wrong C2\n"),
+        Answer::Wrong(CertFault::TooDeep(line)) => format!(in alloc; "wrong C3 line {line}\n"),
+        Answer::Wrong(CertFault::Pair(pair)) => format!(in alloc; "wrong C5 pair {pair}\n"),
+    }
+}
