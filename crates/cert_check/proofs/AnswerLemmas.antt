@@ -4,6 +4,8 @@ use Rattle.certificate.specs.declared.errors.CertFault.{CertFault}
 use Rattle.certificate.specs.Certificates.{Certificate, proofs, flaw}
 use Rattle.certificate.specs.Refusals.{First}
 use Rattle.certificate.specs.Texts as certificates
+use Rattle.certificate.proofs.EitherText.{not_both, one_refusal}
+use Rattle.certificate.proofs.SameText.{one_value}
 use Rattle.plan_core.specs.Contents.{Contents}
 use Rattle.plan_core.specs.Faults.{IsSafe}
 use Rattle.plan_core.specs.Lawful.{pair}
@@ -76,8 +78,7 @@ contradicted_once : (plan : Contents) (value : Certificate) (e f : CertFault) �
 contradicted_once plan (proofs trees) e f w v = wrong_once plan trees e f w v
 contradicted_once plan (flaw pair wire first second) e f w v = w.1 ∙ sym v.1
 
--- given that a text spells one certificate, or has one first refusal
-module _ (one_value : (text : List ℕ) (c d : Certificate) → certificates.Spells text c → certificates.Spells text d → c ≡ d) (one_refusal : (text : List ℕ) (e f : CertFault) → First text e → First text f → e ≡ f) (not_both : (text : List ℕ) (c : Certificate) (e : CertFault) → certificates.Spells text c → First text e → ⊥) (p q : List ℕ) where
+module _ (p q : List ℕ) where
   -- a certificate of the plan that the text spells
   same_answer : (plan : Contents) (value : Certificate) (answer : Answer) → plans.Spells p plan → certificates.Spells q value → IsAnswered p q answer → IsJudged plan q answer ⊎ ((fault : CertFault) × (answer ≡ Wrong fault) × First q fault)
   same_answer plan value Safe s t a = inl (subst (λ (c : Contents). IsJudged c q Safe) (one_plan p a.plan plan a.spelled s) a.right)

@@ -1,32 +1,17 @@
-use Rattle.std.proofs.Common.{◌≡◌, ℕ, List}
-use Rattle.certificate.specs.declared.errors.CertFault.{CertFault}
-use Rattle.certificate.specs.Certificates.{Certificate}
-use Rattle.certificate.specs.Refusals.{First}
-use Rattle.certificate.specs.Texts as certificates
-use Rattle.plan_core.specs.Participants.{participant_count}
 use Rattle.plan_core.proofs.Model.{somebody, followed, followed_on}
 use Rattle.plan_core.proofs.Safety.{round_never_clashes, goes_on, all_hear}
 use Rattle.plan_core.proofs.Texts.{some_text, length_bound, end_bound}
 use Rattle.cert_check.proofs.AnswerLemmas as answer
 use Rattle.cert_check.proofs.acceptance.accept.Goals as goal
 
-one_value : (text : List ℕ) (c d : Certificate) → certificates.Spells text c → certificates.Spells text d → c ≡ d
-one_value text c d s r = ?
-
-one_refusal : (text : List ℕ) (e f : CertFault) → First text e → First text f → e ≡ f
-one_refusal text e f s r = ?
-
-not_both : (text : List ℕ) (c : Certificate) (e : CertFault) → certificates.Spells text c → First text e → ⊥
-not_both text c e s f = ?
-
 pub returns-clause-finds_safe : goal.returns-clause-finds_safe
-returns-clause-finds_safe c = answer.finds_safe one_value one_refusal not_both c.args.plan.now c.args.cert.now c.judge.result c.judge.ensures
+returns-clause-finds_safe c = answer.finds_safe c.args.plan.now c.args.cert.now c.judge.result c.judge.ensures
 
 pub returns-clause-finds_unsafe : goal.returns-clause-finds_unsafe
-returns-clause-finds_unsafe c = answer.finds_unsafe one_value one_refusal not_both c.args.plan.now c.args.cert.now c.judge.result c.judge.ensures
+returns-clause-finds_unsafe c = answer.finds_unsafe c.args.plan.now c.args.cert.now c.judge.result c.judge.ensures
 
 pub returns-clause-finds_wrong : goal.returns-clause-finds_wrong
-returns-clause-finds_wrong c fault = answer.finds_wrong one_value one_refusal not_both c.args.plan.now c.args.cert.now c.judge.result fault c.judge.ensures
+returns-clause-finds_wrong c fault = answer.finds_wrong c.args.plan.now c.args.cert.now c.judge.result fault c.judge.ensures
 
 pub returns-clause-refuses : goal.returns-clause-refuses
 returns-clause-refuses c e = answer.refuses c.args.plan.now c.args.cert.now c.judge.result e c.judge.ensures

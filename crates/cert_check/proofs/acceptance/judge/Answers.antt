@@ -1,12 +1,14 @@
 use Rattle.plan_core.specs.Parts.{contents_of}
 use Rattle.plan_core.specs.PlanContents.{plan_contents}
-use Rattle.std.proofs.Common.{inl}
+use Rattle.std.proofs.Common.{Err, ap, ◌∙◌, inl}
+use Rattle.std.proofs.lemmas.Result.{err_from_is_err_and}
 use Rattle.cert_check.proofs.AnswerLemmas.{is_answer, refused_right}
 use Rattle.cert_check.proofs.acceptance.judge.Goals as goal
 
 pub returns-in_err-plan : goal.returns-in_err-plan
 returns-in_err-plan c =
-    refused_right c.args.plan.now c.args.cert.now _ c.from_residual.result ? c.in_err-plan.ensures.refused
+    let p = err_from_is_err_and c.from_residual.result c.from_residual.ensures.1 in
+    refused_right c.args.plan.now c.args.cert.now c.in_err-plan.field-0.0 c.from_residual.result (p.1 ∙ ap Err p.2) c.in_err-plan.ensures.refused
 
 pub returns-in-Ok : goal.returns-in-Ok
 unfolding plan_contents
