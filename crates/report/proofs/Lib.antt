@@ -1,3 +1,4 @@
+pub mod CertificateLemmas
 pub mod DeviceLemmas
 pub mod LineLemmas
 pub mod RunLemmas

@@ -28,12 +28,12 @@ pub returns-clause-next : goal.returns-clause-next
 returns-clause-next c plan s live u found r n =
     let safe = answer.found_safe c.args.plan.now c.args.cert.now c.judge.result plan c.judge.ensures found in
     let p = somebody r.0.some r.1 in
-    goes_on plan s u live safe.0 r (followed (λ q j. some_text plan safe.1.known q (r.0.participants q j)) r.1) n p.0 p.1
+    goes_on plan s u live safe.0 r (followed (λ q j. some_text plan safe.1.controllers.known q (r.0.participants q j)) r.1) n p.0 p.1
 
 pub returns-clause-answers : goal.returns-clause-answers
 returns-clause-answers c plan s live u p b d found r i o =
     let safe = answer.found_safe c.args.plan.now c.args.cert.now c.judge.result plan c.judge.ensures found in
-    all_hear plan s u live safe.0 r (followed (λ q j. some_text plan safe.1.known q (r.0.participants q j)) r.1) p b d i o
+    all_hear plan s u live safe.0 r (followed (λ q j. some_text plan safe.1.controllers.known q (r.0.participants q j)) r.1) p b d i o
 
 pub returns-clause-somebody : goal.returns-clause-somebody
 returns-clause-somebody c plan s live u found r = somebody r.0.some r.1
@@ -42,7 +42,7 @@ pub returns-clause-bound : goal.returns-clause-bound
 returns-clause-bound c plan s live u found r =
     let safe = answer.found_safe c.args.plan.now c.args.cert.now c.judge.result plan c.judge.ensures found in
     let p = somebody r.0.some r.1 in
-    length_bound plan p.0 u safe.1.bytes (followed_on r.1 p.0 p.1)
+    length_bound plan p.0 u safe.1.messages.bytes (followed_on r.1 p.0 p.1)
 
 pub returns-clause-whole : goal.returns-clause-whole
 returns-clause-whole c plan s live u p found r e i = end_bound plan p u e (followed_on r.1 p i)
