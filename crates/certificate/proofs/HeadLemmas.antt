@@ -7,10 +7,10 @@ use Rattle.message_tree.specs.Symbols.{wire_text, kind_word}
 use Rattle.certificate.specs.declared.errors.CertError.{CertError}
 use Rattle.certificate.specs.declared.errors.CertError.TheVariants.{Wrong, NoMemory}
 use Rattle.certificate.specs.Certificates.{flaw}
-use Rattle.certificate.specs.Places.{Place, Reads, Refuses, start, BegunProofs, BegunFlaw, fault_text, fault_expected, flaw_expected}
+use Rattle.certificate.specs.Places.{Place, Reads, Refuses, start, BegunProofs, BegunFlaw}
 use Rattle.certificate.specs.Reading.{Fails}
-use Rattle.certificate.specs.Refusals.{Expected, this, each, body, number, lines, wire, kind, whole}
-use Rattle.certificate.specs.Texts.{Spells, GoesOn}
+use Rattle.certificate.specs.Refusals.{Expected, this, each, body, number, lines, wire, kind, whole, fault_expected, flaw_expected}
+use Rattle.certificate.specs.Texts.{Spells, GoesOn, fault_text}
 use Rattle.certificate.proofs.LineLemmas.{first_by_form}
 use Rattle.certificate.proofs.PlaceLemmas.{reads_on, reads_both, refuses_on, refuses_more, refuses_after}
 

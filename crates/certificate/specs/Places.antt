@@ -1,18 +1,19 @@
 -- What the functions of the reader say of the bytes: what is left of them, and what is expected there.
 -- Only private contracts and proofs use this.
-use Rattle.std.specs.Prelude.{◌≡◌, ◌≢◌, ℕ, suc, ◌<◌, List, [], ◌∷◌, ◌++◌, length, Some, codes, decimal, All}
+use Rattle.std.specs.Prelude.{◌≡◌, ◌≢◌, ℕ, suc, ◌<◌, List, [], ◌∷◌, ◌++◌, length, Option, Some, codes, decimal, All}
 use Rattle.message_tree.specs.declared.items.Item.{Item}
 use Rattle.message_tree.specs.declared.items.Kind.{Kind}
 use Rattle.message_tree.specs.Symbols.{wire_text, kind_word}
 use Rattle.certificate.specs.declared.errors.CertError.{CertError}
 use Rattle.certificate.specs.declared.errors.CertError.TheVariants.{Wrong, NoMemory}
+use Rattle.certificate.specs.declared.errors.CertFault.{CertFault}
 use Rattle.certificate.specs.declared.errors.CertFault.TheVariants.{TooDeep}
 use Rattle.certificate.specs.declared.sources.Source.{Source}
 use Rattle.certificate.specs.declared.proofs.Token.{Token}
 use Rattle.certificate.specs.declared.proofs.Token.TheVariants as token
 use Rattle.certificate.specs.Proofs.{ProofTree}
 use Rattle.certificate.specs.Texts.{IsPrintableProof, GoesOn, proof_text, proof_line}
-use Rattle.certificate.specs.Refusals.{Expected, this, each, whole, number, lines, wire, symbols, kind, proof, place_digit, below, refusal, line_after}
+use Rattle.certificate.specs.Refusals.{Expected, this, whole, proofs_expected, flaw_expected, wire, symbols, proof, place_digit, below, refusal, line_after}
 
 -- a place in a text: the bytes that are left, and the line on which the first of them stands
 pub record Place : Type 0 where
@@ -30,34 +31,25 @@ pub record ByteTaken (byte : ℕ) (old new : Place) : Type 0 where
   pub rest_is : old.rest ≡ byte ∷ new.rest
   pub line_is : new.line ≡ line_after old.line byte
 
+-- the first refusal from a place on, where these are expected
+abbrev pub refusal_at : Place → List Expected → Option CertFault
+refusal_at at expected = refusal at.line expected at.rest
+
 -- These bytes stand between two places. Where these are expected in the first place, those are expected in the second:
 -- whatever is expected after them, the refusal is the same.
-pub record Reads (bytes : List ℕ) (old : Place) (expected : List Expected) (new : Place) (further : List Expected) : Type 0 where
+pub record Reads (bytes : List ℕ) (old : Place) (expected : List Expected) (new : Place) (further : List Expected)
+    : Type 0 where
   pub rest_is : old.rest ≡ bytes ++ new.rest
-  pub leads : (more : List Expected) → refusal old.line (expected ++ more) old.rest ≡ refusal new.line (further ++ more) new.rest
+  pub leads : (more : List Expected) → refusal_at old (expected ++ more) ≡ refusal_at new (further ++ more)
 
 -- what is expected is refused, whatever is expected after it, or memory was
 abbrev pub Refuses : Place → List Expected → CertError → Type 0
 Refuses old expected NoMemory = Unit {0}
-Refuses old expected (Wrong fault) = (more : List Expected) → refusal old.line (expected ++ more) old.rest ≡ Some fault
+Refuses old expected (Wrong fault) = (more : List Expected) → refusal_at old (expected ++ more) ≡ Some fault
 
 -- the first place of a text
 abbrev pub start : List ℕ → Place
 start text = record { line = 1; rest = text }
-
--- what is expected behind `cert 1` and the first letter of the second line
-abbrev pub proofs_expected : List Expected
-proofs_expected = each (codes "airs ") ++ (number 10 ∷ (lines ∷ []))
-
-abbrev pub fault_expected : List Expected
-fault_expected = wire ∷ (kind ∷ (this 32 ∷ (kind ∷ (this 10 ∷ []))))
-
-abbrev pub flaw_expected : List Expected
-flaw_expected = each (codes "ault ") ++ (number 32 ∷ fault_expected)
-
--- a wire and two kinds, up to the end of the line
-abbrev pub fault_text : List Item → Kind → Kind → List ℕ
-fault_text items first second = wire_text items ++ (codes " " ++ (kind_word first ++ (codes " " ++ (kind_word second ++ codes "\n"))))
 
 -- the front of this text has been read up to the letter with which its second line begins
 abbrev pub BegunProofs : List ℕ → Place → Type 0

@@ -1,7 +1,13 @@
 -- What is still to be written of a proof. Only private contracts and proofs use this.
-use Rattle.std.specs.Prelude.{ℕ, ◌+◌, List, [], ◌∷◌, ◌++◌}
-use Rattle.certificate.specs.Proofs.{ProofTree, part, short, byte, read, again, alike}
+use Rattle.std.specs.Prelude.{ℕ, ◌+◌, List, [], ◌∷◌, ◌++◌, map}
+use Rattle.std.proofs.Common.{Bor}
+use Rattle.certificate.specs.declared.values.Cert.{Cert}
+use Rattle.certificate.specs.Proofs.{ProofTree, part, short, byte, read, again, alike, proof_tree}
 use Rattle.certificate.specs.Texts.{proof_text}
+
+-- the proofs that a list of references has
+abbrev pub trees_of : List (Bor Cert) → List ProofTree
+trees_of items = map (λ p. proof_tree p.now) items
 
 -- The proofs that are still to be written, each after a space. The last of the list comes first.
 abbrev pub pending_text : List ProofTree → List ℕ

@@ -1,12 +1,14 @@
 -- What a certificate says as far as it has been read: the proofs so far, of which each stands on a line of its own.
-use Rattle.std.specs.Prelude.{◌≡◌, ℕ, List, [], ◌∷◌, ◌++◌, length, codes, All}
+use Rattle.std.specs.Prelude.{◌≡◌, ◌⊎◌, ℕ, Result, MatchResult, List, [], ◌∷◌, ◌++◌, length, codes, All}
 use Rattle.certificate.specs.declared.errors.CertError.{CertError}
 use Rattle.certificate.specs.declared.errors.CertError.TheVariants.{Wrong, NoMemory}
+use Rattle.certificate.specs.declared.errors.CertFault.{CertFault}
 use Rattle.certificate.specs.declared.read.Head.{Head}
 use Rattle.certificate.specs.declared.read.Head.TheVariants.{Proofs, Flaw}
 use Rattle.certificate.specs.declared.lines.ProofLines.{ProofLines}
 use Rattle.certificate.specs.declared.values.Cert.{Cert}
-use Rattle.certificate.specs.Certificates.{proofs, flaw}
+use Rattle.certificate.specs.declared.values.CertText.{CertText}
+use Rattle.certificate.specs.Certificates.{Certificate, certificate_of, proofs, flaw}
 use Rattle.certificate.specs.Places.{unread}
 use Rattle.certificate.specs.Proofs.{ProofTree, proof_tree}
 use Rattle.certificate.specs.Refusals.{First, refusal, whole, lines}
@@ -16,6 +18,14 @@ use Rattle.certificate.specs.Texts.{IsPrintableProof, Spells, proofs_text}
 abbrev pub Fails : List ℕ → CertError → Type 0
 Fails text (Wrong fault) = First text fault
 Fails text NoMemory = Unit {0}
+
+-- reading answers this certificate, or that memory was refused
+abbrev pub AnswersValue : Result CertText CertError → Certificate → Type 0
+AnswersValue answer value = MatchResult answer (λ it. certificate_of it ≡ value) (λ e. e ≡ NoMemory)
+
+-- reading answers this refusal, or that memory was refused
+abbrev pub AnswersFault : Result CertText CertError → CertFault → Type 0
+AnswersFault answer fault = MatchResult answer (λ it. ⊥) (λ e. (e ≡ NoMemory) ⊎ (e ≡ Wrong fault))
 
 -- These proofs and what is left make up the text, and what is left is refused where and as the text is.
 pub record ReadSoFar (text : List ℕ) (trees : List ProofTree) (left : ProofLines) : Type 0 where
@@ -36,7 +46,8 @@ HeadRead text (Flaw pair fault) = Spells text (flaw pair fault.wire.items fault.
 -- one more proof has been read
 abbrev pub AddsProof : Cert → ProofLines → ProofLines → Type 0
 AddsProof proof old new =
-    (text : List ℕ) (trees : List ProofTree) → ReadSoFar text trees old → ReadSoFar text (trees ++ proof_tree proof ∷ []) new
+    (text : List ℕ) (trees : List ProofTree)
+    → ReadSoFar text trees old → ReadSoFar text (trees ++ proof_tree proof ∷ []) new
 
 -- the proofs so far are the whole certificate
 abbrev pub EndsHere : ProofLines → Type 0

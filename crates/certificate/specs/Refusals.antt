@@ -1,5 +1,5 @@
 -- The first refusal of a text that spells no certificate, from byte to byte: each byte takes the place of what is
--- expected there, and says what is expected after it, or is refused. `CertFault` in src/errors.rt has the codes C1 to C5.
+-- expected there, and says what is expected after it, or is refused. `CertFault` in src/errors.rt has the codes.
 use Rattle.std.specs.Prelude.{◌≡◌, ◌≢◌, ℕ, zero, suc, ◌+◌, ◌-◌, ◌*◌, ◌<◌, ◌^◌, Bool, true, false, ◌&&◌, nat_le, nat_lt, ◌==◌, List, [], ◌∷◌, ◌++◌, length, map, drop, Option, Some, None, Result, Ok, Err, codes, All, if◌then◌else◌}
 use Rattle.std.specs.Char.{is_ascii_digit}
 use Rattle.message_tree.specs.declared.items.Item.{Item}
@@ -39,6 +39,18 @@ Step = Result (List Expected) CertFault
 -- each of these bytes
 abbrev pub each : List ℕ → List Expected
 each bytes = map this bytes
+
+-- behind `p`: a number of proofs, and the proofs
+abbrev pub proofs_expected : List Expected
+proofs_expected = each (codes "airs ") ++ (number 10 ∷ (lines ∷ []))
+
+-- a wire and two kinds
+abbrev pub fault_expected : List Expected
+fault_expected = wire ∷ (kind ∷ (this 32 ∷ (kind ∷ (this 10 ∷ []))))
+
+-- behind `f`: the number of a pair, and where it clashes
+abbrev pub flaw_expected : List Expected
+flaw_expected = each (codes "ault ") ++ (number 32 ∷ fault_expected)
 
 -- expected next, where the byte passes its test
 abbrev pub where_true : Bool → ℕ → List Expected → Step
@@ -113,9 +125,7 @@ then_expect (Err fault) after = Err fault
 -- the byte on this line in the place of what is expected: what is expected after it, or its refusal
 abbrev pub step : ℕ → Expected → ℕ → Step
 step line (this value) b = where_true (b == value) line []
-step line body b =
-    if b == 112 then Ok (each (codes "airs ") ++ (number 10 ∷ (lines ∷ [])))
-    else where_true (b == 102) line (each (codes "ault ") ++ (number 32 ∷ (wire ∷ (kind ∷ (this 32 ∷ (kind ∷ (this 10 ∷ [])))))))
+step line body b = if b == 112 then Ok proofs_expected else where_true (b == 102) line flaw_expected
 step line (number end) b = number_step line end b
 step line (digits so_far end) b =
     if b == end then Ok []

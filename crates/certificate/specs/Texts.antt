@@ -25,13 +25,13 @@ proof_line tree = proof_text tree ++ codes "\n"
 abbrev pub proofs_text : ℕ → List ProofTree → List ℕ
 proofs_text number trees = codes "pairs " ++ (decimal number ++ (codes "\n" ++ flat_map proof_line trees))
 
+-- a wire, and the kinds that meet after it
+abbrev pub fault_text : List Item → Kind → Kind → List ℕ
+fault_text wire first second =
+    wire_text wire ++ (codes " " ++ (kind_word first ++ (codes " " ++ (kind_word second ++ codes "\n"))))
+
 abbrev pub flaw_text : ℕ → List Item → Kind → Kind → List ℕ
-flaw_text pair wire first second =
-    codes "fault " ++ (decimal pair
-    ++ (codes " " ++ (wire_text wire
-    ++ (codes " " ++ (kind_word first
-    ++ (codes " " ++ (kind_word second
-    ++ codes "\n")))))))
+flaw_text pair wire first second = codes "fault " ++ (decimal pair ++ (codes " " ++ fault_text wire first second))
 
 abbrev pub cert_text : Certificate → List ℕ
 cert_text (proofs trees) = codes "cert 1\n" ++ proofs_text (length trees) trees

@@ -5,7 +5,7 @@ ghost use Rattle.std.specs.List.{flat_map};
 ghost use Rattle.message_tree.specs.Symbols.{wire_text};
 ghost use Rattle.certificate.specs.Certificates.{certificate_of};
 ghost use Rattle.certificate.specs.Proofs.{proof_tree};
-ghost use Rattle.certificate.specs.Printing.{nodes, pending_nodes, pending_text};
+ghost use Rattle.certificate.specs.Printing.{nodes, pending_nodes, pending_text, trees_of};
 ghost use Rattle.certificate.specs.Texts.{Spells, IsPrintable, cert_text, proofs_text, flaw_text, proof_line, proof_text};
 
 use crate::values::{Cert, CertText, Fault};
@@ -18,7 +18,8 @@ use std::alloc::{AllocError, Global};
 /// than 512 nodes, a wire is not empty and has no STOP and no claim, and there are at most 4,294,967,295 proofs.
 pub fn print_cert(alloc: Global, cert: &CertText) -> Result<Vec<u8>, AllocError>
     ensures spelling { IfOk result (λ text. text.items ≡ cert_text (certificate_of cert.now)) }
-    ensures read_back { IsPrintable (certificate_of cert.now) → IfOk result (λ text. Spells text.items (certificate_of cert.now)) }
+    ensures read_back { IsPrintable (certificate_of cert.now)
+        → IfOk result (λ text. Spells text.items (certificate_of cert.now)) }
 {
     print(alloc, cert)
 }
@@ -41,7 +42,8 @@ fn print(alloc: Global, cert: &CertText) -> Result<Vec<u8>, AllocError>
 
 // Each proof on a line of its own.
 fn lines(alloc: Global, text: &mut String, proofs: &[Cert]) -> Result<(), AllocError>
-    ensures { OnOk result (string_bytes text.new ≡ string_bytes text.old ++ flat_map proof_line (map proof_tree proofs.now)) }
+    ensures { OnOk result (string_bytes text.new
+        ≡ string_bytes text.old ++ flat_map proof_line (map proof_tree proofs.now)) }
 {
     for proof in proofs {
         line(alloc, text, proof)?;
@@ -50,7 +52,8 @@ fn lines(alloc: Global, text: &mut String, proofs: &[Cert]) -> Result<(), AllocE
 }
 
 fn flaw(text: &mut String, pair: u32, fault: &Fault) -> Result<(), AllocError>
-    ensures { OnOk result (string_bytes text.new ≡ string_bytes text.old ++ flaw_text pair fault.now.wire.items fault.now.first fault.now.second) }
+    ensures { OnOk result (string_bytes text.new
+        ≡ string_bytes text.old ++ flaw_text pair fault.now.wire.items fault.now.first fault.now.second) }
 {
     write!(text, "fault {pair} ")?;
     wire(text, &fault.wire)?;
@@ -85,8 +88,10 @@ fn node<'a>(
     pending: &mut Vec<&'a Cert>,
     proof: &'a Cert,
 ) -> Result<(), AllocError>
-    ensures writes { OnOk result (string_bytes text.new ++ pending_text (map (λ p. proof_tree p.now) pending.new.items) ≡ string_bytes text.old ++ (proof_text (proof_tree proof.now) ++ pending_text (map (λ p. proof_tree p.now) pending.old.items))) }
-    ensures less { OnOk result (pending_nodes (map (λ p. proof_tree p.now) pending.new.items) + 1 ≡ pending_nodes (map (λ p. proof_tree p.now) pending.old.items) + nodes (proof_tree proof.now)) }
+    ensures writes { OnOk result (string_bytes text.new ++ pending_text (trees_of pending.new.items)
+        ≡ string_bytes text.old ++ (proof_text (proof_tree proof.now) ++ pending_text (trees_of pending.old.items))) }
+    ensures less { OnOk result (pending_nodes (trees_of pending.new.items) + 1
+        ≡ pending_nodes (trees_of pending.old.items) + nodes (proof_tree proof.now)) }
 {
     match proof {
         Cert::Part(place) => write!(text, "P{place}"),

@@ -78,7 +78,8 @@ impl Source<'_> {
     // A space, and a proof.
     #[cycle(proof)]
     fn below(&mut self, alloc: Global, room: u32) -> Result<Box<Cert>, CertError>
-        ensures read { IfOk result (λ it. BelowRead room (proof_tree (box_value it)) (place self.old) (place self.new)) }
+        ensures read { IfOk result (λ it.
+            BelowRead room (proof_tree (box_value it)) (place self.old) (place self.new)) }
         ensures refused { IfErr result (λ e. Refuses (place self.old) (expect.this 32 ∷ (expect.proof room ∷ [])) e) }
     {
         self.this(b' ')?;

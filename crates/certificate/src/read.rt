@@ -1,10 +1,9 @@
 // Reading of certificate texts, whole or proof by proof.
 
-ghost use Rattle.std.specs.Prelude.{◌≡◌, ◌⊎◌, ℕ, List, [], map, IfOk, IfErr, MatchResult};
-ghost use Rattle.certificate.specs.declared.errors.CertError.TheVariants.{NoMemory, Wrong};
+ghost use Rattle.std.specs.Prelude.{ℕ, List, [], map, IfOk, IfErr};
 ghost use Rattle.certificate.specs.declared.errors.CertFault.{CertFault};
 ghost use Rattle.certificate.specs.Certificates.{Certificate, certificate_of, proofs};
-ghost use Rattle.certificate.specs.Reading.{Fails, HeadRead, ReadSoFar};
+ghost use Rattle.certificate.specs.Reading.{Fails, HeadRead, ReadSoFar, AnswersValue, AnswersFault};
 ghost use Rattle.certificate.specs.Places.{place, BegunProofs, BegunFlaw};
 ghost use Rattle.certificate.specs.Proofs.{proof_tree};
 ghost use Rattle.certificate.specs.Refusals.{First};
@@ -20,15 +19,15 @@ use std::alloc::Global;
 ///
 /// # Errors
 ///
-/// C1 to C3 as `CertFault` has them: the first of C1 and C3 in the order of the text, with its line, else C2. `NoMemory`
-/// where memory is refused before another refusal is met. `Pair` is never answered.
+/// C1 to C3 as `CertFault` has them: the first of C1 and C3 in the order of the text, with its line, else C2.
+/// `NoMemory` where memory is refused before another refusal is met. `Pair` is never answered.
 pub fn read_cert(alloc: Global, text: &[u8]) -> Result<CertText, CertError>
     // What is answered is right.
     ensures spelled { IfOk result (λ it. Spells text.now (certificate_of it)) }
     ensures refused { IfErr result (λ e. Fails text.now e) }
     // What is right is answered, unless memory is refused.
-    ensures values { (value : Certificate) → Spells text.now value → MatchResult result (λ it. certificate_of it ≡ value) (λ e. e ≡ NoMemory) }
-    ensures refusals { (fault : CertFault) → First text.now fault → MatchResult result (λ it. ⊥) (λ e. (e ≡ NoMemory) ⊎ (e ≡ Wrong fault)) }
+    ensures values { (value : Certificate) → Spells text.now value → AnswersValue result value }
+    ensures refusals { (fault : CertFault) → First text.now fault → AnswersFault result fault }
 {
     read(alloc, text)
 }
@@ -46,7 +45,8 @@ fn read(alloc: Global, text: &[u8]) -> Result<CertText, CertError>
 
 // All proofs.
 fn all_proofs(alloc: Global, mut lines: ProofLines<'_>) -> Result<Vec<Cert>, CertError>
-    ensures read { IfOk result (λ it. (text : List ℕ) → ReadSoFar text [] lines.entry → Spells text (proofs (map proof_tree it.items))) }
+    ensures read { IfOk result (λ it. (text : List ℕ)
+        → ReadSoFar text [] lines.entry → Spells text (proofs (map proof_tree it.items))) }
     ensures refused { IfErr result (λ e. (text : List ℕ) → ReadSoFar text [] lines.entry → Fails text e) }
 {
     let mut proofs = Vec::new(alloc);

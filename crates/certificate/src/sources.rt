@@ -51,7 +51,8 @@ impl<'a> Source<'a> {
     /// Takes the next byte.
     pub(crate) fn take(&mut self) -> Result<u8, CertError>
         ensures taken { IfOk result (λ b. ByteTaken b (place self.old) (place self.new)) }
-        ensures at_end { IfErr result (λ e. ((place self.old).rest ≡ []) × (e ≡ CertError.Wrong (Format (place self.old).line))) }
+        ensures at_end { IfErr result (λ e. ((place self.old).rest ≡ [])
+            × (e ≡ CertError.Wrong (Format (place self.old).line))) }
         ensures less { OnOk result (unread self.new < unread self.old) }
         ensures left { unread self.new ≤ unread self.old }
     {

@@ -4,8 +4,8 @@ ghost use Rattle.std.specs.Prelude.{◌≡◌, ◌≢◌, ◌<◌, ◌≤◌, �
 ghost use Rattle.std.specs.Char.{is_ascii_digit};
 ghost use Rattle.message_tree.specs.Symbols.{wire_text, kind_word};
 ghost use Rattle.certificate.specs.Refusals as expect;
-ghost use Rattle.certificate.specs.Refusals.{item_of, kind_of_letter};
-ghost use Rattle.certificate.specs.Texts.{GoesOn};
+ghost use Rattle.certificate.specs.Refusals.{item_of, kind_of_letter, fault_expected};
+ghost use Rattle.certificate.specs.Texts.{GoesOn, fault_text};
 
 use crate::errors::CertError;
 use crate::sources::Source;
@@ -14,12 +14,13 @@ use message_tree::{Item, Kind};
 use std::alloc::Global;
 
 impl Source<'_> {
-    ghost use Rattle.certificate.specs.Places.{place, unread, Reads, Refuses, DigitsRead, fault_text, fault_expected};
+    ghost use Rattle.certificate.specs.Places.{place, unread, Reads, Refuses, DigitsRead};
 
     /// A decimal number without leading zeros, below 2 to the power 32, and the byte that ends it.
     pub(crate) fn number(&mut self, end: u8) -> Result<u32, CertError>
         requires { is_ascii_digit end ≡ false }
-        ensures read { IfOk result (λ n. Reads (decimal n ++ end ∷ []) (place self.old) (expect.number end ∷ []) (place self.new) []) }
+        ensures read { IfOk result (λ n. Reads (decimal n ++ end ∷ [])
+            (place self.old) (expect.number end ∷ []) (place self.new) []) }
         ensures refused { IfErr result (λ e. Refuses (place self.old) (expect.number end ∷ []) e) }
     {
         let refusal = self.format();
@@ -37,7 +38,8 @@ impl Source<'_> {
     fn digits(&mut self, first: u32, end: u8) -> Result<u32, CertError>
         requires positive { 0 < first }
         requires no_digit { is_ascii_digit end ≡ false }
-        ensures read { IfOk result (λ n. DigitsRead first n end (place self.old) (expect.digits first end ∷ []) (place self.new)) }
+        ensures read { IfOk result (λ n. DigitsRead first n end
+            (place self.old) (expect.digits first end ∷ []) (place self.new)) }
         ensures refused { IfErr result (λ e. Refuses (place self.old) (expect.digits first end ∷ []) e) }
     {
         let mut number = first;
@@ -56,7 +58,8 @@ impl Source<'_> {
 
     /// One or more symbols of items that a wire goes on with, and a space.
     pub(crate) fn wire(&mut self, alloc: Global) -> Result<Vec<Item>, CertError>
-        ensures read { IfOk result (λ it. Reads (wire_text it.items ++ 32 ∷ []) (place self.old) (expect.wire ∷ []) (place self.new) []) }
+        ensures read { IfOk result (λ it. Reads (wire_text it.items ++ 32 ∷ [])
+            (place self.old) (expect.wire ∷ []) (place self.new) []) }
         ensures some { IfOk result (λ it. it.items ≢ []) }
         ensures goes_on { IfOk result (λ it. All GoesOn it.items) }
         ensures refused { IfErr result (λ e. Refuses (place self.old) (expect.wire ∷ []) e) }
@@ -82,7 +85,8 @@ impl Source<'_> {
 
     /// A wire, two kinds and the end of the line.
     pub(crate) fn fault(&mut self, alloc: Global) -> Result<Fault, CertError>
-        ensures read { IfOk result (λ it. Reads (fault_text it.wire.items it.first it.second) (place self.old) fault_expected (place self.new) []) }
+        ensures read { IfOk result (λ it. Reads (fault_text it.wire.items it.first it.second)
+            (place self.old) fault_expected (place self.new) []) }
         ensures some { IfOk result (λ it. it.wire.items ≢ []) }
         ensures goes_on { IfOk result (λ it. All GoesOn it.wire.items) }
         ensures refused { IfErr result (λ e. Refuses (place self.old) fault_expected e) }
@@ -101,7 +105,8 @@ impl Source<'_> {
 
     /// The word of a kind.
     pub(crate) fn kind(&mut self) -> Result<Kind, CertError>
-        ensures read { IfOk result (λ kind. Reads (kind_word kind) (place self.old) (expect.kind ∷ []) (place self.new) []) }
+        ensures read { IfOk result (λ kind. Reads (kind_word kind)
+            (place self.old) (expect.kind ∷ []) (place self.new) []) }
         ensures refused { IfErr result (λ e. Refuses (place self.old) (expect.kind ∷ []) e) }
     {
         let refusal = self.format();
@@ -116,7 +121,9 @@ impl Source<'_> {
 
 // The number with one more digit, where the byte is a digit and the number has room for it.
 fn with_digit(number: u32, byte: u8) -> Option<u32>
-    ensures { MatchOption result ((is_ascii_digit byte && nat_lt (number * 10 + (byte - 48)) (2 ^ 32)) ≡ false) (λ n. (is_ascii_digit byte ≡ true) × (n ≡ number * 10 + (byte - 48)) × (n < 2 ^ 32)) }
+    ensures { MatchOption result
+        ((is_ascii_digit byte && nat_lt (number * 10 + (byte - 48)) (2 ^ 32)) ≡ false)
+        (λ n. (is_ascii_digit byte ≡ true) × (n ≡ number * 10 + (byte - 48)) × (n < 2 ^ 32)) }
 {
     if !byte.is_ascii_digit() {
         return None;
