@@ -2,7 +2,7 @@
 
 use crate::commands::{Request, parse_request};
 use clap::error::ErrorKind;
-use report::{Opened, RunError, Status, Watched, run_check};
+use report::{Opened, RunError, Status, Watched, run_certify, run_check, run_verify};
 use std::rt::{Env, Files};
 use std::{env, fs, io};
 
@@ -39,11 +39,20 @@ fn do_request<R: Files + Input + Print + AllocGlobal>(
     rt: &R,
     request: Request<'_>,
 ) -> Result<Status, RunError> {
+    let mut out = Watched::new(io::writer(rt));
     match request {
         Request::Check { plan, workers } => {
             let mut plan = open(rt, plan)?;
-            let mut out = Watched::new(io::writer(rt));
             run_check(rt, rt.alloc(), &mut plan, &mut out, workers)
+        }
+        Request::Certify { plan } => {
+            let mut plan = open(rt, plan)?;
+            run_certify(rt.alloc(), &mut plan, &mut out)
+        }
+        Request::Verify { plan, cert } => {
+            let mut plan = open(rt, plan)?;
+            let mut cert = open(rt, cert)?;
+            run_verify(rt.alloc(), &mut plan, &mut cert, &mut out)
         }
     }
 }

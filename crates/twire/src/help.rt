@@ -1,0 +1,79 @@
+// The version, and the texts of the help.
+
+pub const VERSION: &str = "0.1.0";
+
+pub const ABOUT: &str =
+    "Checks message plans of several controllers and interrupting targets that share one two-wire (I2C) bus";
+
+pub const AFTER_HELP: &str = "\
+A plan is a text of items, each ended by ';'. '#' begins a comment.
+
+  plan 1
+  message set write 1001000 00000001 0110xxxx stop else stop else stop else stop ;
+  message get write 1001000 00000001 again read 1001000 2 stop else stop else stop else stop ;
+  controller main set get ;
+  controller guard get ;
+  interrupt sensor 1001000 ;
+
+'write' and 'read' give a header's address, most significant bit first; 'x' is a
+bit that the controller may send as 0 or as 1. In a write the data bytes follow,
+in a read the number of bytes. What stands after 'else' is done where the target
+does not acknowledge, innermost byte first. 'again' is a repeated START. A
+'controller' lists the messages that it may start, and an 'interrupt' is a target
+that starts by itself with its own address. 'plan 2' also has ranges of read
+counts, as '2..4', and 'never main guard ;' for two controllers that never start
+together.
+
+Exit status:
+  0  the plan is safe, or was accepted as safe (or help was asked for)
+  1  the plan is not safe, or was accepted as unsafe
+  2  refused: the command line, the plan, the certificate, a file, or want of memory";
+
+pub const AFTER_CHECK_HELP: &str = "\
+The report has a line for each unsafe pair of participants,
+
+  pair 0 main/set guard/get: data against restart after 10010000l00000001l
+
+and then 'safe: N pairs' or 'unsafe: F of N pairs'. The line says what the two
+put into one slot of the bus, and the wire before it, slot by slot:
+
+  0 1  a bit that participants send       r  a repeated START
+  l h  an answer: low (ACK), high (NACK)  s  a STOP
+  c    an interrupt waits for its answer
+
+A refused plan is named on standard error with a code and a line, as
+'refused P3 line 2':
+
+  P1  a byte that is not ASCII         P5  a message that is too long
+  P2  no 'plan 1' or 'plan 2'          P6  too many items
+  P3  something that is not expected   P7  a name twice
+  P4  a count that is not 1 to 255     P8  an unknown name
+
+Exit status: 0 safe, 1 not safe, 2 refused.";
+
+pub const AFTER_CERTIFY_HELP: &str = "\
+The certificate of a safe plan has a line for each pair of participants, in the
+order of the pairs: a proof that the two never clash. That of an unsafe plan has
+one line, with the first fault of the first pair that has one.
+
+Keep the certificate beside the plan. Whoever builds on the plan checks it by
+'twire verify', which trusts nothing that made the certificate. It speaks of this
+plan alone: change the plan, and write the certificate again.
+
+Exit status: 0 safe, 1 not safe, 2 refused.";
+
+pub const AFTER_VERIFY_HELP: &str = "\
+The answer is one line:
+
+  accepted safe      each pair of the plan is proved: no run of the bus has a
+                     fault, whoever starts together and whatever targets answer
+  accepted unsafe    the certificate shows a fault that the plan really has
+  wrong C1 line 3    the text is no certificate, from this line on
+  wrong C2           another number of proofs than of pairs
+  wrong C3 line 3    a proof that is more than 512 nodes deep
+  wrong C5 pair 0    the first pair that is not proved, or that has not the fault
+
+A wrong certificate says nothing of the plan: ask 'twire check'. An accepted one
+says nothing of devices that do not keep to the plan.
+
+Exit status: 0 accepted safe, 1 accepted unsafe, 2 wrong or refused.";
