@@ -1,68 +1,28 @@
 // Plans, readers and writers in memory.
 
-ghost use Rattle.std.specs.Prelude.{false};
-
 use certificate::Cert;
 use pair_walk::Outcome;
 use plan_text::read_plan;
-use report::{Input, Output, run_check};
+use report::{Watched, run_check};
 use std::alloc::{AllocError, Global};
-use std::io;
-use std::io::{Read, Write};
 use std::test::Fail;
 use verdicts::table;
 
-/// A reader over bytes, which never fails.
-#[derive(Drop)]
-pub struct Source<'a>(pub &'a [u8]);
-
-impl Read for Source<'_> {
-    fn read(&mut self, buf: &mut [u8]) -> io::Result<usize> {
-        self.0.read(buf)
-    }
+/// A reader over bytes.
+pub fn source(bytes: &[u8]) -> Watched<&[u8]> {
+    Watched::new(bytes)
 }
 
-impl Input for Source<'_> {
-    ghost has_failed = { λ _. false };
-
-    fn failed(&self) -> bool {
-        false
-    }
+/// A writer into memory.
+pub fn page(alloc: Global) -> Watched<Vec<u8>> {
+    Watched::new(Vec::new(alloc))
 }
 
-/// A writer into memory, which fails only for want of it.
-#[derive(Drop)]
-pub struct Page {
-    pub bytes: Vec<u8>,
-    failed: bool,
-}
-
-impl Page {
-    pub fn new(alloc: Global) -> Self {
-        Page {
-            bytes: Vec::new(alloc),
-            failed: false,
-        }
-    }
-}
-
-impl Write for Page {
-    fn write(&mut self, buf: &[u8]) -> io::Result<usize> {
-        let result = self.bytes.write(buf);
-        self.failed = result.is_err();
-        result
-    }
-
-    fn flush(&mut self) -> io::Result<()> {
-        Ok(())
-    }
-}
-
-impl Output for Page {
-    ghost has_failed = { λ p. p.failed };
-
-    fn failed(&self) -> bool {
-        self.failed
+/// What was written.
+pub fn written(page: Watched<Vec<u8>>) -> Result<String, Fail> {
+    match String::from_utf8(page.into_inner()) {
+        Ok(text) => Ok(text),
+        Err(_) => Err(Fail::from("a report that is no text")),
     }
 }
 
@@ -75,12 +35,9 @@ pub fn two(alloc: Global, version: u8, first: &str, second: &str) -> Result<Stri
 
 /// What a check of the plan writes.
 pub fn check<R>(rt: &R, alloc: Global, plan: &str) -> Result<String, Fail> {
-    let mut page = Page::new(alloc);
-    run_check(rt, alloc, &mut Source(plan.as_bytes()), &mut page, 1)?;
-    let Ok(report) = String::from_utf8(page.bytes) else {
-        return Err(Fail::from("a report that is no text"));
-    };
-    Ok(report)
+    let mut page = page(alloc);
+    run_check(rt, alloc, &mut source(plan.as_bytes()), &mut page, 1)?;
+    written(page)
 }
 
 /// What a check writes of two messages, the first sent by controller `a` and the second by `b`.

@@ -1,6 +1,6 @@
 // What a run answers besides its report.
 
-use crate::memory::{Page, Source, two};
+use crate::memory::{page, source, two};
 use plan_text::PlanError;
 use report::{RunError, Status, read_within, run_check};
 use std::alloc::Global;
@@ -8,9 +8,9 @@ use std::test::Fail;
 
 // What a run answers, and whether it wrote nothing.
 fn run<R>(rt: &R, alloc: Global, plan: &str, workers: u32) -> (Result<Status, RunError>, bool) {
-    let mut page = Page::new(alloc);
-    let answer = run_check(rt, alloc, &mut Source(plan.as_bytes()), &mut page, workers);
-    (answer, page.bytes.is_empty())
+    let mut page = page(alloc);
+    let answer = run_check(rt, alloc, &mut source(plan.as_bytes()), &mut page, workers);
+    (answer, page.into_inner().is_empty())
 }
 
 #[test]
@@ -51,11 +51,11 @@ fn a_refused_run_has_written_nothing(rt: HostRuntime) {
 fn the_call_that_gives_no_bytes_counts(rt: HostRuntime) -> Result<(), Fail> {
     let alloc = rt.alloc();
     assert_eq!(rt;
-        read_within(alloc, &mut Source(b"ab"), 2)?.as_slice(),
+        read_within(alloc, &mut source(b"ab"), 2)?.as_slice(),
         b"ab".as_slice()
     );
     assert_eq!(rt;
-        read_within(alloc, &mut Source(b"ab"), 1).err(),
+        read_within(alloc, &mut source(b"ab"), 1).err(),
         Some(RunError::Read)
     );
     Ok(())
