@@ -44,14 +44,14 @@ refusal_right p q (plan_error.TooLong line) (inl m) = cc
 refusal_right p q (plan_error.TooMany line) (inl m) = cc
 refusal_right p q (plan_error.Twice line) (inl m) = cc
 refusal_right p q (plan_error.Unknown line) (inl m) = cc
-refusal_right p q (plan_error.NotAscii line) (inr f) = f
-refusal_right p q (plan_error.Version line) (inr f) = f
-refusal_right p q (plan_error.Unexpected line) (inr f) = f
-refusal_right p q (plan_error.BadCount line) (inr f) = f
-refusal_right p q (plan_error.TooLong line) (inr f) = f
-refusal_right p q (plan_error.TooMany line) (inr f) = f
-refusal_right p q (plan_error.Twice line) (inr f) = f
-refusal_right p q (plan_error.Unknown line) (inr f) = f
+refusal_right p q (plan_error.NotAscii line) (inr f) = (f, λ e. cc)
+refusal_right p q (plan_error.Version line) (inr f) = (f, λ e. cc)
+refusal_right p q (plan_error.Unexpected line) (inr f) = (f, λ e. cc)
+refusal_right p q (plan_error.BadCount line) (inr f) = (f, λ e. cc)
+refusal_right p q (plan_error.TooLong line) (inr f) = (f, λ e. cc)
+refusal_right p q (plan_error.TooMany line) (inr f) = (f, λ e. cc)
+refusal_right p q (plan_error.Twice line) (inr f) = (f, λ e. cc)
+refusal_right p q (plan_error.Unknown line) (inr f) = (f, λ e. cc)
 
 -- a refusal of the plan's text
 pub refused_right : (p q : List ℕ) (e : PlanError) (r : Result Answer AcceptError) → r ≡ Err (refused_with e) → (e ≡ plan_error.NoMemory) ⊎ refusals.First p e → IsRight p q r
@@ -102,7 +102,7 @@ module _ (p q : List ℕ) where
   finds_safe (Ok Unsafe) a h = absurd (judged_as h.plan (proofs h.trees) Unsafe h.plan_spelled h.proofs_spelled a)
   finds_safe (Ok (Wrong fault)) a h =
       absurd (not_wrong h.plan h.trees fault h.certified (judged_as h.plan (proofs h.trees) (Wrong fault) h.plan_spelled h.proofs_spelled a))
-  finds_safe (Err (Plan e)) a h = absurd (spelled_not_refused p h.plan e h.plan_spelled a)
+  finds_safe (Err (Plan e)) a h = absurd (spelled_not_refused p h.plan e h.plan_spelled a.0)
   finds_safe (Err NoMemory) a h = inr refl
 
   pub finds_unsafe : (r : Result Answer AcceptError) → IsRight p q r → IsRefuted p q → Answers (Ok Unsafe) r
@@ -110,7 +110,7 @@ module _ (p q : List ℕ) where
   finds_unsafe (Ok Unsafe) a h = inl refl
   finds_unsafe (Ok (Wrong fault)) a h =
       absurd ((judged_as h.plan (flaw h.pair h.wire h.first h.second) (Wrong fault) h.plan_spelled h.flaw_spelled a).0 h.fault)
-  finds_unsafe (Err (Plan e)) a h = absurd (spelled_not_refused p h.plan e h.plan_spelled a)
+  finds_unsafe (Err (Plan e)) a h = absurd (spelled_not_refused p h.plan e h.plan_spelled a.0)
   finds_unsafe (Err NoMemory) a h = inr refl
 
   -- a text that is refused is not spelled
@@ -135,12 +135,12 @@ module _ (p q : List ℕ) where
         | inl first ↦ inl (ap Ok (refused_answer answer fault a first))
         | inr w ↦ inl (ap Ok (contradicted_answer h.plan w.0 answer fault (judged_as h.plan w.0 answer h.plan_spelled w.1 a) w.2))
       ]
-  finds_wrong (Err (Plan e)) fault a h = absurd (spelled_not_refused p h.plan e h.plan_spelled a)
+  finds_wrong (Err (Plan e)) fault a h = absurd (spelled_not_refused p h.plan e h.plan_spelled a.0)
   finds_wrong (Err NoMemory) fault a h = inr refl
 
 pub refuses : (p q : List ℕ) (r : Result Answer AcceptError) (e : PlanError) → IsRight p q r → refusals.First p e → Answers (Err (Plan e)) r
 refuses p q (Ok answer) e a f = absurd (spelled_not_refused p a.plan e a.spelled f)
-refuses p q (Err (Plan given)) e a f = inl (ap (λ (d : PlanError). Err (Plan d)) (first_same p given e a f))
+refuses p q (Err (Plan given)) e a f = inl (ap (λ (d : PlanError). Err (Plan d)) (first_same p given e a.0 f))
 refuses p q (Err NoMemory) e a f = inr refl
 
 -- ---- what is found safe

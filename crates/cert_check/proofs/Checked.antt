@@ -99,10 +99,10 @@ pub pair_proved : (plan : Contents) (i x y : ℕ) (s t : Sender) (p : ProofTree)
 pair_proved plan i x y s t p listed e f = (
   λ h. record { x = x; y = y; listed = listed; s = s; t = t; first = e; second = f; proved = h },
   λ r.
-    let same = same_pair plan i r.x r.y x y r.listed listed in
-    let first = same_sender r.s s (sender_at plan r.x) r.first (ap (sender_at plan) same.0 ∙ e) in
-    let second = same_sender r.t t (sender_at plan r.y) r.second (ap (sender_at plan) same.1 ∙ f) in
-    subst (λ (w : Sender). Proves p s w) second (subst (λ (v : Sender). Proves p v r.t) first r.proved),
+      let same = same_pair plan i r.x r.y x y r.listed listed in
+      let first = same_sender r.s s (sender_at plan r.x) r.first (ap (sender_at plan) same.0 ∙ e) in
+      let second = same_sender r.t t (sender_at plan r.y) r.second (ap (sender_at plan) same.1 ∙ f) in
+      subst (λ (w : Sender). Proves p s w) second (subst (λ (v : Sender). Proves p v r.t) first r.proved),
 )
 
 may_offer : (plan : Contents) (p : ℕ) (s : Sender) (u : List Item) (k : Kind) → sender_at plan p ≡ Some s → MayPut (SenderText s) u k ↔ OffersKind plan p u k
@@ -121,12 +121,12 @@ pair_faulty plan i x y s t u j k listed e f = (
     fault = fault_of_pair plan x y u j k (pair_within plan i x y listed).0 ((may_offer plan x s u j e).0 h.1, (may_offer plan y t u k f).0 h.2, h.0);
   },
   λ r.
-    let same = same_pair plan i r.x r.y x y r.listed listed in
-    let m = may_clash plan (pair r.x r.y) r.x r.y u j k r.fault in (
-      m.2,
-      (may_offer plan x s u j e).1 (subst (λ (p : ℕ). OffersKind plan p u j) same.0 m.0),
-      (may_offer plan y t u k f).1 (subst (λ (p : ℕ). OffersKind plan p u k) same.1 m.1),
-    ),
+      let same = same_pair plan i r.x r.y x y r.listed listed in
+      let m = may_clash plan (pair r.x r.y) r.x r.y u j k r.fault in (
+        m.2,
+        (may_offer plan x s u j e).1 (subst (λ (p : ℕ). OffersKind plan p u j) same.0 m.0),
+        (may_offer plan y t u k f).1 (subst (λ (p : ℕ). OffersKind plan p u k) same.1 m.1),
+      ),
 )
 
 -- ---- the proofs of a plan
@@ -168,8 +168,8 @@ pub all_proved : (plan : Contents) (certs : List Cert) → length certs ≡ leng
 all_proved plan certs count below = record {
   count = omega (arith, length-map certs proof_tree, count);
   each = λ i p e.
-    let cert = tree_at certs i p e in
-    subst (ProvesPair plan i) cert.2 (below i cert.0 (at_get certs i cert.0 cert.1).0 cert.1);
+      let cert = tree_at certs i p e in
+      subst (ProvesPair plan i) cert.2 (below i cert.0 (at_get certs i cert.0 cert.1).0 cert.1);
 }
 
 pub first_unproved : (plan : Contents) (certs : List Cert) (i : ℕ) (cert : Cert) → length certs ≡ length (pairs_of plan) → ProvedBelow plan certs i → slice_get certs i ≡ Some cert → (ProvesPair plan i (proof_tree cert) → ⊥) → IsWrong plan (map proof_tree certs) (Pair i)

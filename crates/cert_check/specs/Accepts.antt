@@ -36,18 +36,23 @@ pub record IsRefuted (plan_bytes cert_bytes : List ℕ) : Type 0 where
   pub flaw_spelled : certificates.Spells cert_bytes (flaw pair wire first second)
   pub fault : IsPairFault plan pair wire first second
 
--- what is wrong with a certificate of this plan: the number of its proofs, the first proof that does not prove its pair, or
--- a fault that its pair does not have
+-- what is wrong with a certificate of this plan: the number of its proofs, the first proof that does not prove its pair,
+-- or a fault that its pair does not have
 abbrev pub Contradicts : Contents → Certificate → CertFault → Type 0
 Contradicts plan (proofs trees) fault = IsWrong plan trees fault
 Contradicts plan (flaw pair wire first second) fault =
     (IsPairFault plan pair wire first second → ⊥) × (fault ≡ Pair pair)
 
--- the bytes spell a plan, and the certificate's bytes spell nothing, or what is wrong
+-- the bytes spell a certificate of which this is wrong
+abbrev pub SpellsWrong : Contents → List ℕ → CertFault → Type 0
+SpellsWrong plan bytes fault =
+    (value : Certificate) × certificates.Spells bytes value × Contradicts plan value fault
+
+-- the bytes spell a plan, and the certificate's bytes are refused by themselves, or spell what is wrong
 pub record IsMistaken (plan_bytes cert_bytes : List ℕ) (fault : CertFault) : Type 0 where
   pub plan : Contents
   pub plan_spelled : plans.Spells plan_bytes plan
-  pub why : First cert_bytes fault ⊎ ((value : Certificate) × certificates.Spells cert_bytes value × Contradicts plan value fault)
+  pub why : First cert_bytes fault ⊎ SpellsWrong plan cert_bytes fault
 
 -- this is the answer, unless memory was refused
 abbrev pub Answers : Result Answer AcceptError → Result Answer AcceptError → Type 0

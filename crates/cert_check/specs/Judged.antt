@@ -1,5 +1,5 @@
 -- What the parts of `accept` answer. Only private contracts and proofs use this.
-use Rattle.std.specs.Prelude.{◌≡◌, ◌⊎◌, ℕ, ◌-◌, ◌<◌, ◌^◌, min, List, length, Option, Some, None, Result, Ok, Err, slice_get}
+use Rattle.std.specs.Prelude.{◌≡◌, ◌≢◌, ◌⊎◌, ℕ, ◌-◌, ◌<◌, ◌^◌, min, List, length, Option, Some, None, Result, Ok, Err, slice_get}
 use Rattle.certificate.specs.declared.errors.CertError.{CertError}
 use Rattle.certificate.specs.declared.errors.CertFault.{CertFault}
 use Rattle.certificate.specs.Certificates.{Certificate, proofs, flaw}
@@ -9,6 +9,7 @@ use Rattle.certificate.specs.Texts as certificates
 use Rattle.plan_core.specs.Contents.{Contents}
 use Rattle.plan_core.specs.Limits.{IsWithinLimits}
 use Rattle.plan_core.specs.Pairs.{pairs_of}
+use Rattle.plan_text.specs.declared.errors.PlanError.TheVariants as plan_error
 use Rattle.plan_text.specs.Grammar as plans
 use Rattle.plan_text.specs.Refusals as refusals
 use Rattle.cert_check.specs.declared.answers.Answer.{Answer}
@@ -55,5 +56,5 @@ pub record IsAnswered (plan_bytes cert_bytes : List ℕ) (answer : Answer) : Typ
 
 abbrev pub IsRight : List ℕ → List ℕ → Result Answer AcceptError → Type 0
 IsRight plan_bytes cert_bytes (Ok answer) = IsAnswered plan_bytes cert_bytes answer
-IsRight plan_bytes cert_bytes (Err (Plan e)) = refusals.First plan_bytes e
+IsRight plan_bytes cert_bytes (Err (Plan e)) = refusals.First plan_bytes e × (e ≢ plan_error.NoMemory)
 IsRight plan_bytes cert_bytes (Err NoMemory) = Unit {0}

@@ -30,8 +30,8 @@ may_be_sent One (item.Sent false) = false
 may_be_sent b (item.Sent s) = true
 may_be_sent b _ = false
 
--- where a wire leads in a part of what a participant sends: nowhere, to a place within the part at which an item of this
--- kind comes next, or behind the part with these items left
+-- where a wire leads in a part of what a participant sends: nowhere, to a place within the part at which an item of
+-- this kind comes next, or behind the part with these items left
 pub data Place : Type 0 where
   off : Place
   within : (k : Kind) → Place

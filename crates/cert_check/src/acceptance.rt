@@ -29,19 +29,21 @@ use std::alloc::Global;
 
 /// Whether the certificate proves that the plan is safe, or shows that it is not.
 ///
-/// The plan is read first, then the certificate, one proof at a time: a proof is read, its pair is checked, and the proof
-/// is dropped. So it takes memory for the plan and for one proof, however long the certificate is.
+/// The plan is read first, then the certificate, one proof at a time: a proof is read, its pair is checked, and the
+/// proof is dropped. So it takes memory for the plan and for one proof, however long the certificate is.
 ///
-/// Where it answers `Safe`, no run of the bus has a fault, whatever participants start together and whatever the targets
-/// return: no repeated START or STOP meets another's data bit or each other (UM10204, 3.1.8), no controller shares a whole
-/// header with an interrupt, and every participant that has not lost arbitration stands whole on the wire at the end.
+/// Where it answers `Safe`, no run of the bus has a fault, whatever participants start together and whatever the
+/// targets return: no repeated START or STOP meets another's data bit or each other (UM10204, 3.1.8), no controller
+/// shares a whole header with an interrupt, and every participant that has not lost arbitration stands whole on the
+/// wire at the end. That is said of the bus as BUS.md has it: participants start only on a free bus, each sends only
+/// what its message offers and stops driving once it has lost, and the wires are a wired-AND.
 ///
 /// # Errors
 ///
-/// `Plan` with the first refusal of the plan's text. `NoMemory` where memory is refused before another refusal is met. What
-/// is wrong with the certificate is an answer: first what is wrong with its text, by itself; then, of proofs, another
-/// number than that of the plan's pairs, and else the first pair that is not proved; of a fault, that its pair does not
-/// have it.
+/// `Plan` with the first refusal of the plan's text. `NoMemory` where memory is refused before another refusal is met.
+/// What is wrong with the certificate is an answer: first what is wrong with its text, by itself; then, of proofs,
+/// another number than that of the plan's pairs, and else the first pair that is not proved; of a fault, that its pair
+/// does not have it.
 pub fn accept(alloc: Global, plan: &[u8], cert: &[u8]) -> Result<Answer, AcceptError>
     // What is answered is right.
     ensures safe { result ≡ Ok Answer.Safe → IsCertified plan.now cert.now }
@@ -51,8 +53,10 @@ pub fn accept(alloc: Global, plan: &[u8], cert: &[u8]) -> Result<Answer, AcceptE
     // What is right is answered, unless memory is refused.
     ensures finds_safe { IsCertified plan.now cert.now → Answers (Ok Answer.Safe) result }
     ensures finds_unsafe { IsRefuted plan.now cert.now → Answers (Ok Answer.Unsafe) result }
-    ensures finds_wrong { (fault : CertFault) → IsMistaken plan.now cert.now fault → Answers (Ok (Answer.Wrong fault)) result }
+    ensures finds_wrong { (fault : CertFault) →
+        IsMistaken plan.now cert.now fault → Answers (Ok (Answer.Wrong fault)) result }
     ensures refuses { (e : PlanError) → First plan.now e → Answers (Err (AcceptError.Plan e)) result }
+    ensures memory { result ≡ Err (AcceptError.Plan PlanError.NoMemory) → ⊥ }
     // What is found safe is safe: no lawful set ever gets to a fault.
     ensures no_fault { (P : Contents) → FoundSafe plan.now P result → IsSafe P }
     // No round of a state that a lawful set reaches clashes.

@@ -1,6 +1,6 @@
 // The proofs of a whole plan.
 
-ghost use Rattle.std.specs.Prelude.{◌≡◌, IfOk, IfErr, IsOk, Err, MatchOption, map};
+ghost use Rattle.std.specs.Prelude.{◌≡◌, IfOk, OnOk, IfErr, IsOk, Err, MatchOption, map};
 ghost use Rattle.certificate.specs.declared.errors.CertFault.{CertFault};
 ghost use Rattle.certificate.specs.Proofs.{proof_tree};
 ghost use Rattle.plan_core.specs.PlanContents.{plan_contents};
@@ -17,15 +17,18 @@ use plan_core::Plan;
 ///
 /// # Errors
 ///
-/// `Count` where the number of proofs is not that of the pairs, else `Pair` with the number of the first pair whose proof
-/// does not prove it.
+/// `Count` where the number of proofs is not that of the pairs, else `Pair` with the number of the first pair whose
+/// proof does not prove it.
 pub fn accept_plan(plan: Plan, certs: &[Cert]) -> Result<Accepted, (Plan, CertFault)>
     // What is answered is right.
-    ensures accepted { IfOk result (λ it. (accepted_plan it ≡ plan) × Certifies (plan_contents plan) (map proof_tree certs.now)) }
-    ensures refused { IfErr result (λ e. (e.0 ≡ plan) × IsWrong (plan_contents plan) (map proof_tree certs.now) e.1) }
+    ensures accepted { IfOk result (λ it. accepted_plan it ≡ plan) }
+    ensures certified { OnOk result (Certifies (plan_contents plan) (map proof_tree certs.now)) }
+    ensures handed_back { IfErr result (λ e. e.0 ≡ plan) }
+    ensures refused { IfErr result (λ e. IsWrong (plan_contents plan) (map proof_tree certs.now) e.1) }
     // What is right is answered.
     ensures proved { Certifies (plan_contents plan) (map proof_tree certs.now) → IsOk result }
-    ensures wrong { (fault : CertFault) → IsWrong (plan_contents plan) (map proof_tree certs.now) fault → result ≡ Err (plan, fault) }
+    ensures wrong { (fault : CertFault) →
+        IsWrong (plan_contents plan) (map proof_tree certs.now) fault → result ≡ Err (plan, fault) }
 {
     match first_wrong(&plan, certs) {
         Some(fault) => Err((plan, fault)),
@@ -35,12 +38,15 @@ pub fn accept_plan(plan: Plan, certs: &[Cert]) -> Result<Accepted, (Plan, CertFa
 
 // What is wrong with these proofs, if anything is.
 fn first_wrong(plan: &Plan, certs: &[Cert]) -> Option<CertFault>
-    ensures { MatchOption result (Certifies (plan_contents plan.now) (map proof_tree certs.now)) (IsWrong (plan_contents plan.now) (map proof_tree certs.now)) }
+    ensures { MatchOption result
+        (Certifies (plan_contents plan.now) (map proof_tree certs.now))
+        (IsWrong (plan_contents plan.now) (map proof_tree certs.now)) }
 {
-    if certs.len() != plan.pair_count() as usize {
+    let pairs = plan.pair_count();
+    if certs.len() != pairs as usize {
         return Some(CertFault::Count);
     }
-    for i in 0..plan.pair_count() {
+    for i in 0..pairs {
         if !check_pair(plan, i, &certs[i as usize]) {
             return Some(CertFault::Pair(i));
         }

@@ -21,7 +21,8 @@ use plan_core::Plan;
 /// It takes no memory.
 pub fn check_fault(plan: &Plan, i: u32, fault: &Fault) -> bool
     requires { i < length (pairs_of (plan_contents plan.now)) }
-    ensures { IsTrue result ↔ IsPairFault (plan_contents plan.now) i fault.now.wire.items fault.now.first fault.now.second }
+    ensures { IsTrue result ↔
+        IsPairFault (plan_contents plan.now) i fault.now.wire.items fault.now.first fault.now.second }
 {
     let (x, y) = plan.pair(i);
     may_clash(&start_of(plan, x), &start_of(plan, y), fault)
@@ -29,7 +30,8 @@ pub fn check_fault(plan: &Plan, i: u32, fault: &Fault) -> bool
 
 // Whether the two may put items of these kinds after this wire, and these must not meet.
 fn may_clash(s: &Start<'_>, t: &Start<'_>, fault: &Fault) -> bool
-    ensures { IsTrue result ↔ ClashAfter (start_sender s.now) (start_sender t.now) fault.now.wire.items fault.now.first fault.now.second }
+    ensures { IsTrue result ↔
+        ClashAfter (start_sender s.now) (start_sender t.now) fault.now.wire.items fault.now.first fault.now.second }
 {
     let wire = fault.wire.as_slice();
     kinds_clash(fault.first, fault.second)

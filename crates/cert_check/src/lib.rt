@@ -1,10 +1,10 @@
-//! The checker of certificates. It trusts neither the program that writes them nor any analysis of pairs: what it accepts is
-//! safe, as the contract of `accept` says.
+//! The checker of certificates. It trusts neither the program that writes them nor any analysis of pairs: what it accepts
+//! is safe, as the contract of `accept` says.
 //!
-//! `pairs` lays a proof beside the two messages of its pair, node by node (`nodes`, `bits`). `faults` follows the wire of a
-//! fault through one participant at a time (`wires`). `certified` checks the proofs of a whole plan, and `accepted` keeps a
-//! plan that they made safe. `acceptance` reads a plan and its certificate, and checks each proof as it comes (`tallies`).
-//! `laws` says what proofs of all pairs are worth.
+//! `pairs` lays a proof beside the two messages of its pair, node by node (`nodes`, `bits`). `faults` follows the wire of
+//! a fault through one participant at a time (`wires`). `certified` checks the proofs of a whole plan, and `accepted`
+//! keeps a plan that they made safe. `acceptance` reads a plan and its certificate, and checks each proof as it comes
+//! (`tallies`). `laws` says what proofs of all pairs are worth.
 #![tactic(auto)]
 
 pub mod acceptance;

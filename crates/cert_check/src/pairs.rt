@@ -39,7 +39,8 @@ fn are_proved(s: &Start<'_>, t: &Start<'_>, cert: &Cert) -> bool
 
 // Whether the proof is that of a bit of their first headers.
 fn headers_proved(s: &Start<'_>, t: &Start<'_>, cert: &Cert) -> bool
-    ensures { IsTrue result ↔ ProvesHeaders (proof_tree cert.now) (header_of (start_sender s.now)) (header_of (start_sender t.now)) }
+    ensures { IsTrue result ↔
+        ProvesHeaders (proof_tree cert.now) (header_of (start_sender s.now)) (header_of (start_sender t.now)) }
 {
     match cert {
         Cert::Part(place) => are_split_at(&start_bits(s), &start_bits(t), *place),

@@ -124,10 +124,12 @@ fn acknowledge(wire: &[Item]) -> Answered<'_>
 }
 
 /// Along the bytes of a read of which `done` have been read and acknowledged, since more are wanted. A participant
-/// acknowledges a byte only where it may read a further one, and ends the read only after a number of bytes in the range.
+/// acknowledges a byte only where it may read a further one, and ends the read only after a number of bytes in the
+/// range (UM10204, 3.1.6).
 pub(crate) fn along_read<'a>(count: &Count, done: u8, wire: &'a [Item]) -> Along<'a>
     requires { done < greatest_of count.now }
-    ensures { (after : TailTree) (k : Kind) → LeadsTo (place_of result) (TailText after) k ↔ MayPut (ReadOn done count.now (TailText after)) wire.now k }
+    ensures { (after : TailTree) (k : Kind) →
+        LeadsTo (place_of result) (TailText after) k ↔ MayPut (ReadOn done count.now (TailText after)) wire.now k }
 {
     match along_read_byte(wire) {
         Answered::Off => Along::Off,
