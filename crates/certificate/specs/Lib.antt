@@ -6,3 +6,4 @@ pub mod Proves
 pub mod Reading
 pub mod Refusals
 pub mod Texts
+pub mod Drops

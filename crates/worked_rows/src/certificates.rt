@@ -1,6 +1,9 @@
 // Certificates: what certify writes of worked plans, and what verify answers to right and to wrong ones.
 
 use crate::memory::{page, source, two, written};
+use cert_check::check_pair;
+use certificate::Cert;
+use plan_text::read_plan;
 use report::{Status, run_certify, run_verify};
 use std::alloc::Global;
 use std::process::Abort;
@@ -300,4 +303,30 @@ fn the_longest_messages_have_the_deepest_proof(rt: HostRuntime) -> Result<(), Fa
     let stops = chain(alloc, ".", 256, ".")?;
     let cert = format!(in alloc; "cert 1\npairs 1\n{nodes} {stops}\n")?;
     expect_certified(&rt, alloc, plan.as_str(), cert.as_str(), true)
+}
+
+// A proof that is `n` nodes deep along the first parts, or along the second ones.
+fn deep(alloc: Global, n: u32, first: bool) -> Result<Cert, Fail> {
+    let mut proof = Cert::Alike;
+    for _ in 0..n {
+        let node = Box::new(alloc, proof)?;
+        let leaf = Box::new(alloc, Cert::Alike)?;
+        proof = match first {
+            true => Cert::Byte(node, leaf),
+            false => Cert::Read(leaf, node),
+        };
+    }
+    Ok(proof)
+}
+
+#[test]
+fn proofs_of_300_000_levels_are_checked_and_dropped(rt: HostRuntime) -> Result<(), Fail> {
+    let alloc = rt.alloc();
+    let plan = read_plan(alloc, TWO_OPEN.as_bytes())?;
+    assert_eq!(rt; plan.pair_count(), 1);
+    for first in [true, false] {
+        let proof = deep(alloc, 300_000, first)?;
+        assert_eq!(rt; check_pair(&plan, 0, &proof), false);
+    }
+    Ok(())
 }
