@@ -23,7 +23,6 @@ use Rattle.cert_check.specs.declared.answers.AcceptError.{AcceptError}
 use Rattle.cert_check.specs.declared.answers.AcceptError.TheVariants.{Plan, NoMemory}
 use Rattle.cert_check.specs.Accepts.{IsCertified, IsRefuted, IsMistaken, Contradicts, Answers, FoundSafe}
 use Rattle.cert_check.specs.Judged.{Judges, IsJudged, IsAnswer, IsAnswered, IsRight}
-use Rattle.cert_check.specs.PairFaults.{IsPairFault}
 use Rattle.cert_check.specs.Refused.{refused_with}
 use Rattle.cert_check.proofs.Checked.{at_get, certified_is_safe, not_wrong, wrong_once}
 

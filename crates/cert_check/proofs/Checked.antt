@@ -1,5 +1,5 @@
 -- Proofs of all pairs make a plan safe.
-use Rattle.std.proofs.Common.{◌≡◌, ◌≢◌, ℕ, zero, suc, ◌+◌, ◌<◌, ◌≤◌, Option, Some, None, unwrap_or, List, [], ◌∷◌, length, get_or, slice_get, ◌++◌, refl, ap, sym, ◌∙◌, subst, arith, inl, inr, ◌⊎◌, ◌↔◌}
+use Rattle.std.proofs.Common.{◌≡◌, ℕ, zero, suc, ◌+◌, ◌<◌, Option, Some, unwrap_or, List, [], ◌∷◌, length, get_or, slice_get, ◌++◌, refl, ap, sym, ◌∙◌, subst, arith, inl, inr, ◌⊎◌, ◌↔◌}
 use Rattle.message_tree.specs.declared.items.Item.{Item}
 use Rattle.message_tree.specs.declared.items.Kind.{Kind}
 use Rattle.message_tree.specs.Items.{kind_of, KindsClash}
@@ -15,15 +15,14 @@ use Rattle.certificate.specs.Proves.{Proves}
 use Rattle.certificate.proofs.Soundness.{sound}
 use Rattle.plan_core.specs.Contents.{Contents}
 use Rattle.plan_core.specs.Faults.{OffersKind, IsFaulty, IsSafe}
-use Rattle.plan_core.specs.Lawful.{pair, IsPair}
-use Rattle.plan_core.specs.Laws.{MayClash}
+use Rattle.plan_core.specs.Lawful.{pair}
 use Rattle.plan_core.specs.Pairs.{pairs_of}
 use Rattle.plan_core.specs.Participants.{Text, TextOf, sender_at, participant_count}
 use Rattle.plan_core.proofs.Model.{safe_by_pairs, in_pair, still_in, fault_of_pair, may_clash}
 use Rattle.plan_core.proofs.PairLaws.{to_pairs, from_pairs, parts_of_IsPair}
 use Rattle.cert_check.specs.PairFaults.{IsPairFault}
 use Rattle.cert_check.specs.Wires.{MayPut, ClashAfter}
-use Rattle.cert_check.specs.Proved.{ProvesPair, AllProve, Certifies, IsWrong}
+use Rattle.cert_check.specs.Proved.{ProvesPair, Certifies, IsWrong}
 
 module _ {X : Type 0} where
   pub get_at : (xs : List X) (k : ℕ) (x : X) → k < length xs → get_or xs k x ≡ x → slice_get xs k ≡ Some x

@@ -3,9 +3,8 @@ use Rattle.std.proofs.Common.{◌≡◌, ℕ, zero, suc, ◌+◌, ◌-◌, ◌<�
 use Rattle.certificate.specs.Proofs.{ProofTree}
 use Rattle.plan_core.specs.Contents.{Contents}
 use Rattle.plan_core.specs.Pairs.{pairs_of}
-use Rattle.cert_check.specs.declared.tallies.Tally.{Tally}
-use Rattle.cert_check.specs.Judged.{FirstOf, Tallies}
-use Rattle.cert_check.specs.Proved.{ProvesPair, FirstUnproved}
+use Rattle.cert_check.specs.Judged.{FirstOf}
+use Rattle.cert_check.specs.Proved.{ProvesPair}
 use Rattle.cert_check.proofs.Checked.{at_get}
 
 module _ {X : Type 0} where

@@ -21,7 +21,7 @@ use Rattle.message_tree.specs.contracts.items.Kind.{the_type}
 use denote.Enum.Bare.{sameb, same_true}
 use Rattle.message_tree.specs.Patterns.{pattern_bits}
 use Rattle.certificate.specs.Proves.{frame_header}
-use Rattle.cert_check.specs.Wires.{MayPut, Place, off, within, behind, LeadsTo, AnswerPlace, no_place, inside, acked, refused, LeadsOn, may_be_sent, after_bits, after_heard, after_answer, after_acknowledge, ReadOn}
+use Rattle.cert_check.specs.Wires.{MayPut, Place, off, within, behind, LeadsTo, AnswerPlace, no_place, inside, acked, refused, LeadsOn, after_bits, after_heard, after_answer, after_acknowledge, ReadOn}
 
 -- ---- bits that are sent
 

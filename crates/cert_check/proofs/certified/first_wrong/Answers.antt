@@ -1,4 +1,4 @@
-use Rattle.std.proofs.Common.{◌≡◌, ℕ, length, sym, ◌∙◌, subst, arith}
+use Rattle.std.proofs.Common.{◌≡◌, length, sym, ◌∙◌, subst, arith}
 use Rattle.plan_core.specs.PlanContents.{plan_contents}
 use Rattle.plan_core.specs.Pairs.{pairs_of}
 use Rattle.cert_check.proofs.Checked.{ProvedBelow, one_more_proved, first_unproved, all_proved, get_at}

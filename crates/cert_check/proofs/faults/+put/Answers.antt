@@ -1,6 +1,6 @@
 use Rattle.std.proofs.Common.{ap, sym, ◌∙◌}
 use Rattle.message_tree.specs.declared.tree.Payload.{Payload}
-use Rattle.message_tree.specs.Trees.{frame_tree, payload_tree, tail_tree, FrameTree, write, read, byte}
+use Rattle.message_tree.specs.Trees.{frame_tree, payload_tree, tail_tree, write, byte}
 use Rattle.message_tree.specs.Texts.{TailText}
 use Rattle.cert_check.specs.Wires.{no_place, inside, acked, refused}
 use Rattle.cert_check.proofs.WireLemmas.{frame_at, write_acked, read_acked, write_refused, read_refused, byte_at, whole_read, stop_at, again_at, along, never, same_kind, is_not_nil}

@@ -1,7 +1,4 @@
-use Rattle.std.proofs.Common.{ap, ◌∙◌}
 use Rattle.message_tree.specs.Patterns.{address_bits}
-use Rattle.certificate.specs.Proves.{header_of}
-use Rattle.cert_check.specs.Starts.{start_sender}
 use Rattle.cert_check.specs.Wires.{off, within, behind}
 use Rattle.cert_check.proofs.WireLemmas.{claim_along, claim_at, claim_is, along, never, same_kind, is_nil, is_not_nil}
 use Rattle.cert_check.proofs.faults.may_put.Goals as goal

@@ -1,6 +1,3 @@
-use Rattle.std.proofs.Common.{subst}
-use Rattle.certificate.specs.declared.values.Cert.{Cert}
-use Rattle.certificate.specs.Proofs.{proof_tree}
 use Rattle.cert_check.proofs.nodes.+proved.Goals as goal
 
 pub frames_proved-returns-then-reads_proved : goal.frames_proved-returns-then-reads_proved

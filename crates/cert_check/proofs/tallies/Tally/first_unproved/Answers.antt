@@ -1,4 +1,4 @@
-use Rattle.std.proofs.Common.{◌≡◌, None, Some, length, arith}
+use Rattle.std.proofs.Common.{None, Some, arith}
 use Rattle.certificate.specs.Proofs.{proof_tree}
 use Rattle.plan_core.specs.PlanContents.{plan_contents}
 use Rattle.cert_check.proofs.TallyLemmas.{still_first, no_further_pair, next_proved, next_unproved, first_is}
