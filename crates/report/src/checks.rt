@@ -3,7 +3,6 @@
 ghost use Rattle.std.specs.Prelude.{◌≡◌, ◌≢◌, ◌↔◌, IfOk, IfErr};
 ghost use Rattle.report.specs.Checks.{Judges, Checked, RefusesPlan};
 ghost use Rattle.report.specs.Runs.{ReadsText, HaltsAtText, Reports, Stops};
-ghost use Rattle.plan_core.specs.PlanContents.{plan_contents};
 ghost use Rattle.verdicts.specs.Tables.{IsTable};
 
 use crate::devices::reading::{READS, read_within};
