@@ -14,7 +14,9 @@ ghost use Rattle.plan_core.specs.Limits.{sending_count};
 ghost use Rattle.plan_core.specs.Participants.{participants_of};
 ghost use Rattle.plan_core.specs.declared.plans.Participant.TheVariants.{Sending, Interrupt};
 
-use crate::limits::{MOST_BYTES, MOST_CONTROLLERS, MOST_INTERRUPTS, MOST_MESSAGES, MOST_NODES, MOST_SENDINGS};
+use crate::limits::{
+    MOST_BYTES, MOST_CONTROLLERS, MOST_INTERRUPTS, MOST_MESSAGES, MOST_NODES, MOST_SENDINGS,
+};
 use crate::names::Name;
 use crate::pairs::{PairTable, is_never};
 use crate::plans::{Participant, Plan};

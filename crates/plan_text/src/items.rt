@@ -115,7 +115,8 @@ impl<'a> Reader<'a> {
             named.line,
         )?;
         let messages = self.sendings()?;
-        self.builder.add_controller(named.name, messages.as_slice())?;
+        self.builder
+            .add_controller(named.name, messages.as_slice())?;
         Ok(())
     }
 
