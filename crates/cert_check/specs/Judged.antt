@@ -1,5 +1,6 @@
 -- What the parts of `accept` answer. Only private contracts and proofs use this.
-use Rattle.std.specs.Prelude.{◌≡◌, ◌≢◌, ◌⊎◌, ℕ, ◌-◌, ◌<◌, ◌^◌, min, List, length, Option, Some, None, Result, Ok, Err, slice_get}
+use Rattle.std.specs.Prelude.{◌≡◌, ◌≢◌, ◌⊎◌, ℕ, ◌-◌, ◌<◌, ◌^◌, min, List, length, Option, Some, None, Result, Ok, Err}
+use Rattle.std.specs.Prelude.{slice_get}
 use Rattle.certificate.specs.Certificates.{Certificate, proofs, flaw}
 use Rattle.certificate.specs.Proofs.{ProofTree}
 use Rattle.certificate.specs.Refusals.{First}

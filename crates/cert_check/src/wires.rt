@@ -5,7 +5,8 @@ ghost use Rattle.message_tree.specs.declared.items.Kind.{Kind};
 ghost use Rattle.message_tree.specs.Counts.{greatest_of};
 ghost use Rattle.message_tree.specs.Texts.{TailText};
 ghost use Rattle.message_tree.specs.Trees.{TailTree};
-ghost use Rattle.cert_check.specs.Wires.{MayPut, LeadsTo, ReadOn, may_be_sent, behind, place_of, answer_place_of, after_bits, after_heard, after_answer, after_acknowledge};
+ghost use Rattle.cert_check.specs.Wires.{MayPut, LeadsTo, ReadOn, may_be_sent, behind, place_of, answer_place_of};
+ghost use Rattle.cert_check.specs.Wires.{after_bits, after_heard, after_answer, after_acknowledge};
 
 use message_tree::{Bit, Count, Item, Kind};
 

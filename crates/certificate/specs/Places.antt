@@ -13,7 +13,8 @@ use Rattle.certificate.specs.declared.proofs.Token.{Token}
 use Rattle.certificate.specs.declared.proofs.Token.TheVariants as token
 use Rattle.certificate.specs.Proofs.{ProofTree}
 use Rattle.certificate.specs.Texts.{IsPrintableProof, GoesOn, proof_text, proof_line}
-use Rattle.certificate.specs.Refusals.{Expected, this, whole, proofs_expected, flaw_expected, wire, symbols, proof, place_digit, below, refusal, line_after}
+use Rattle.certificate.specs.Refusals.{Expected, this, whole, proofs_expected, flaw_expected, wire, symbols, proof}
+use Rattle.certificate.specs.Refusals.{place_digit, below, refusal, line_after}
 
 -- a place in a text: the bytes that are left, and the line on which the first of them stands
 pub record Place : Type 0 where

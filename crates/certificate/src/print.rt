@@ -6,7 +6,8 @@ ghost use Rattle.message_tree.specs.Symbols.{wire_text};
 ghost use Rattle.certificate.specs.Certificates.{certificate_of};
 ghost use Rattle.certificate.specs.Proofs.{proof_tree};
 ghost use Rattle.certificate.specs.Printing.{nodes, pending_nodes, pending_text, trees_of};
-ghost use Rattle.certificate.specs.Texts.{Spells, IsPrintable, cert_text, proofs_text, flaw_text, proof_line, proof_text};
+ghost use Rattle.certificate.specs.Texts.{Spells, IsPrintable, cert_text, proofs_text, flaw_text, proof_line};
+ghost use Rattle.certificate.specs.Texts.{proof_text};
 
 use crate::values::{Cert, CertText, Fault};
 use message_tree::Item;

@@ -1,6 +1,7 @@
 // Numbers, wires and kinds.
 
-ghost use Rattle.std.specs.Prelude.{◌≡◌, ◌≢◌, ◌<◌, ◌≤◌, ◌^◌, ◌+◌, ◌*◌, ◌-◌, ◌&&◌, [], ◌∷◌, ◌++◌, nat_lt, true, false, decimal, All, IfOk, IfErr, MatchOption};
+ghost use Rattle.std.specs.Prelude.{◌≡◌, ◌≢◌, ◌<◌, ◌≤◌, ◌^◌, ◌+◌, ◌*◌, ◌-◌, ◌&&◌, [], ◌∷◌, ◌++◌, nat_lt, true, false};
+ghost use Rattle.std.specs.Prelude.{decimal, All, IfOk, IfErr, MatchOption};
 ghost use Rattle.std.specs.Char.{is_ascii_digit};
 ghost use Rattle.message_tree.specs.Symbols.{wire_text, kind_word};
 ghost use Rattle.certificate.specs.Refusals as expect;

@@ -19,7 +19,8 @@ bits_below (suc n) known value = bit_from (bit_at known n) (bit_at value n) ∷ 
 -- the bit at place k is known in both, and different
 abbrev pub SplitAt : List Bit → List Bit → ℕ → Type 0
 SplitAt xs ys k =
-    ((slice_get xs k ≡ Some Zero) × (slice_get ys k ≡ Some One)) ⊎ ((slice_get xs k ≡ Some One) × (slice_get ys k ≡ Some Zero))
+    ((slice_get xs k ≡ Some Zero) × (slice_get ys k ≡ Some One)) ⊎
+    ((slice_get xs k ≡ Some One) × (slice_get ys k ≡ Some Zero))
 
 -- k is the first such place
 pub record IsFirstSplit (xs ys : List Bit) (k : ℕ) : Type 0 where

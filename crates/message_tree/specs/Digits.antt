@@ -1,4 +1,5 @@
 -- The highest 1 among the digits of a number.
+-- Only private contracts and proofs use this.
 use Rattle.std.specs.Prelude.{◌≡◌, ℕ, ◌-◌, ◌+◌, ◌<◌}
 use Rattle.std.specs.Int.{bit_at}
 

@@ -38,7 +38,8 @@ abbrev mutual
 abbrev mutual
   pub frame_slots : FrameTree → ℕ
   frame_slots (write address acked refused) = max (payload_slots acked) (tail_slots refused) + 9
-  frame_slots (read address count after refused) = max (tail_slots after + 9 * greatest_of count) (tail_slots refused) + 9
+  frame_slots (read address count after refused) =
+      max (tail_slots after + 9 * greatest_of count) (tail_slots refused) + 9
 
   pub payload_slots : PayloadTree → ℕ
   payload_slots (byte bits acked refused) = max (payload_slots acked) (tail_slots refused) + 9

@@ -25,7 +25,8 @@ mutual
     stop : TailTree
     again : (frame : FrameTree) → TailTree
 
--- the trees of the program's values
+-- The trees of the program's values. A constructor with a prime, as `Write' address p acked refused`, shows a box: `p` is its
+-- address, and the value in it comes next.
 abbrev mutual
   pub frame_tree : Frame → FrameTree
   frame_tree (Write' address p acked refused) = write address (payload_tree acked) (tail_tree refused)

@@ -49,7 +49,8 @@ impl Pattern {
 
     /// The first place, in the order of sending, at which both bits are known and different.
     pub fn first_split(&self, other: &Pattern) -> Option<u8>
-        ensures { MatchOption result (NeverSplit (pattern_bits self.now) (pattern_bits other.now)) (λ k. IsFirstSplit (pattern_bits self.now) (pattern_bits other.now) k) }
+        ensures { MatchOption result (NeverSplit (pattern_bits self.now) (pattern_bits other.now))
+            (λ k. IsFirstSplit (pattern_bits self.now) (pattern_bits other.now) k) }
     {
         highest_one(8, self.known & other.known & (self.value ^ other.value))
     }
@@ -90,7 +91,8 @@ impl Address {
 
     /// The first place, in the order of sending, at which both bits are known and different.
     pub fn first_split(&self, other: &Address) -> Option<u8>
-        ensures { MatchOption result (NeverSplit (address_bits self.now) (address_bits other.now)) (λ k. IsFirstSplit (address_bits self.now) (address_bits other.now) k) }
+        ensures { MatchOption result (NeverSplit (address_bits self.now) (address_bits other.now))
+            (λ k. IsFirstSplit (address_bits self.now) (address_bits other.now) k) }
     {
         highest_one(7, self.known & other.known & (self.value ^ other.value))
     }

@@ -3,7 +3,8 @@
 ghost use Rattle.std.specs.Prelude.{◌≡◌, ◌+◌, ◌<◌, MatchOption};
 ghost use Rattle.message_tree.specs.Texts.{FrameText};
 ghost use Rattle.message_tree.specs.Trees.{frame_tree, payload_tree, tail_tree};
-ghost use Rattle.message_tree.specs.Sizes.{frame_bytes, payload_bytes, tail_bytes, frame_nodes, payload_nodes, tail_nodes, frame_slots, payload_slots, tail_slots, capped, IsLongest};
+ghost use Rattle.message_tree.specs.Sizes.{frame_bytes, payload_bytes, tail_bytes, frame_nodes, payload_nodes};
+ghost use Rattle.message_tree.specs.Sizes.{tail_nodes, frame_slots, payload_slots, tail_slots, capped, IsLongest};
 
 use crate::tree::{Frame, Payload, Tail};
 
@@ -55,7 +56,8 @@ impl Frame {
     /// into the message than `room` nodes, so it may be asked of a message of any depth.
     #[cycle(room)]
     pub fn room_left(&self, room: u32) -> Option<u32>
-        ensures { MatchOption result (room < frame_nodes (frame_tree self.now)) (λ left. left + frame_nodes (frame_tree self.now) ≡ room) }
+        ensures { MatchOption result (room < frame_nodes (frame_tree self.now))
+            (λ left. left + frame_nodes (frame_tree self.now) ≡ room) }
     {
         match self {
             Frame::Write { acked, refused, .. } => {
@@ -96,7 +98,8 @@ impl Frame {
 impl Payload {
     #[cycle(room)]
     fn room_left(&self, room: u32) -> Option<u32>
-        ensures { MatchOption result (room < payload_nodes (payload_tree self.now)) (λ left. left + payload_nodes (payload_tree self.now) ≡ room) }
+        ensures { MatchOption result (room < payload_nodes (payload_tree self.now))
+            (λ left. left + payload_nodes (payload_tree self.now) ≡ room) }
     {
         match self {
             Payload::Byte { acked, refused, .. } => {
@@ -150,7 +153,8 @@ impl Payload {
 impl Tail {
     #[cycle(room)]
     fn room_left(&self, room: u32) -> Option<u32>
-        ensures { MatchOption result (room < tail_nodes (tail_tree self.now)) (λ left. left + tail_nodes (tail_tree self.now) ≡ room) }
+        ensures { MatchOption result (room < tail_nodes (tail_tree self.now))
+            (λ left. left + tail_nodes (tail_tree self.now) ≡ room) }
     {
         match self {
             Tail::Stop => Some(room),

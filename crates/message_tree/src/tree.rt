@@ -2,7 +2,8 @@
 
 ghost use Rattle.std.specs.Prelude.{◌≡◌, ◌+◌, ◌*◌, ◌<◌, ◌≤◌, MatchOption};
 ghost use Rattle.message_tree.specs.Trees.{frame_tree, payload_tree, tail_tree, stop, again, last};
-ghost use Rattle.message_tree.specs.Drops.{frame_weight, payload_weight, tail_weight, refused_of, with_refused, rest_of, HasNoRefused, IsBare};
+ghost use Rattle.message_tree.specs.Drops.{frame_weight, payload_weight, tail_weight, refused_of, with_refused};
+ghost use Rattle.message_tree.specs.Drops.{rest_of, HasNoRefused, IsBare};
 
 use crate::bits::{Address, Pattern};
 use crate::counts::Count;
@@ -119,9 +120,12 @@ impl Frame {
     // Takes the first frame out of what follows the acknowledge.
     #[cycle(drops)]
     fn unhook(&mut self) -> Option<Box<Frame>>
-        ensures found { MatchOption result (IsBare (frame_tree self.new)) (λ frame. refused_of (frame_tree frame.value) ≡ stop) }
+        ensures found { MatchOption result (IsBare (frame_tree self.new))
+            (λ frame. refused_of (frame_tree frame.value) ≡ stop) }
         ensures refused { refused_of (frame_tree self.new) ≡ refused_of (frame_tree self.old) }
-        ensures less { MatchOption result (frame_weight (frame_tree self.new) ≤ frame_weight (frame_tree self.old)) (λ frame. frame_weight (frame_tree self.new) + 2 * frame_weight (frame_tree frame.value) ≤ frame_weight (frame_tree self.old)) }
+        ensures less { MatchOption result (frame_weight (frame_tree self.new) ≤ frame_weight (frame_tree self.old))
+            (λ frame. frame_weight (frame_tree self.new) + 2 * frame_weight (frame_tree frame.value) ≤
+            frame_weight (frame_tree self.old)) }
     {
         match self {
             Frame::Write { acked, .. } => acked.unhook(),
@@ -145,8 +149,12 @@ impl Payload {
     // Takes the first frame out, and drops the bytes before it.
     #[cycle(drops)]
     fn unhook(&mut self) -> Option<Box<Frame>>
-        ensures found { MatchOption result (payload_tree self.new ≡ last stop) (λ frame. refused_of (frame_tree frame.value) ≡ stop) }
-        ensures less { MatchOption result (payload_weight (payload_tree self.new) ≤ payload_weight (payload_tree self.old)) (λ frame. payload_weight (payload_tree self.new) + frame_weight (frame_tree frame.value) ≤ payload_weight (payload_tree self.old)) }
+        ensures found { MatchOption result (payload_tree self.new ≡ last stop)
+            (λ frame. refused_of (frame_tree frame.value) ≡ stop) }
+        ensures less { MatchOption result (payload_weight (payload_tree self.new) ≤
+            payload_weight (payload_tree self.old)) (λ frame.
+            payload_weight (payload_tree self.new) + frame_weight (frame_tree frame.value) ≤
+            payload_weight (payload_tree self.old)) }
     {
         loop {
             match self {
@@ -186,8 +194,11 @@ impl Tail {
     // Takes the frame out, and leaves what follows its refusal in its place.
     #[cycle(drops)]
     fn unhook(&mut self) -> Option<Box<Frame>>
-        ensures found { MatchOption result (tail_tree self.new ≡ stop) (λ frame. refused_of (frame_tree frame.value) ≡ stop) }
-        ensures less { MatchOption result (tail_tree self.new ≡ tail_tree self.old) (λ frame. tail_weight (tail_tree self.new) + frame_weight (frame_tree frame.value) ≡ tail_weight (tail_tree self.old)) }
+        ensures found { MatchOption result (tail_tree self.new ≡ stop)
+            (λ frame. refused_of (frame_tree frame.value) ≡ stop) }
+        ensures less { MatchOption result (tail_tree self.new ≡ tail_tree self.old)
+            (λ frame. tail_weight (tail_tree self.new) + frame_weight (frame_tree frame.value) ≡
+            tail_weight (tail_tree self.old)) }
     {
         let mut frame = mem::replace(self, Tail::Stop).frame()?;
         let refused = frame.hang(Tail::Stop);
@@ -196,7 +207,8 @@ impl Tail {
     }
 
     fn frame(self) -> Option<Box<Frame>>
-        ensures { MatchOption result (tail_tree self ≡ stop) (λ frame. tail_tree self ≡ again (frame_tree frame.value)) }
+        ensures { MatchOption result (tail_tree self ≡ stop)
+            (λ frame. tail_tree self ≡ again (frame_tree frame.value)) }
     {
         match self {
             Tail::Stop => None,

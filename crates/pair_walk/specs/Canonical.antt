@@ -18,7 +18,8 @@ abbrev mutual
   CanonicalFrames (byte p q) (tree.write a x r) (tree.write b y s) =
       NeverSplit (write_header a) (write_header b) × CanonicalPayloads p x y × CanonicalTails q r s
   CanonicalFrames (read p q) (tree.read a c x r) (tree.read b d y s) =
-      NeverSplit (read_header a) (read_header b) × (((p ≡ short) × (Meet c d → ⊥)) ⊎ (Meet c d × CanonicalTails p x y)) × CanonicalTails q r s
+      NeverSplit (read_header a) (read_header b) ×
+      (((p ≡ short) × (Meet c d → ⊥)) ⊎ (Meet c d × CanonicalTails p x y)) × CanonicalTails q r s
   CanonicalFrames _ f g = ⊥
 
   pub CanonicalPayloads : ProofTree → PayloadTree → PayloadTree → Type 0

@@ -1,4 +1,5 @@
 -- What a comparison of two nodes answers where it gives no proof.
+-- Only private contracts and proofs use this.
 use Rattle.std.specs.Prelude.{◌≡◌, List, [], ◌++◌, reverse}
 use Rattle.message_tree.specs.declared.items.Item.{Item}
 use Rattle.message_tree.specs.declared.items.Kind.{Kind}

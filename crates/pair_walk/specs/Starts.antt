@@ -1,4 +1,5 @@
 -- What a participant sends, as the program holds it.
+-- Only private contracts and proofs use this.
 use Rattle.message_tree.specs.Patterns.{address_bits}
 use Rattle.message_tree.specs.Texts.{Sender, message, interrupt}
 use Rattle.message_tree.specs.Trees.{frame_tree}

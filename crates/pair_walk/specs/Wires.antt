@@ -1,4 +1,5 @@
 -- The wire on which two participants are both live, as far as they may choose it: the first in dictionary order.
+-- Only private contracts and proofs use this.
 use Rattle.std.specs.Prelude.{ℕ, suc, zero, Bool, true, false, List, [], ◌∷◌, ◌++◌, replicate}
 use Rattle.message_tree.specs.declared.bits.Bit.{Bit}
 use Rattle.message_tree.specs.declared.bits.Bit.TheVariants.{One}

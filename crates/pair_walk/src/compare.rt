@@ -91,7 +91,8 @@ fn behind_read(halt: Halt, more: u8) -> Halt
 }
 
 fn byte_proof(alloc: Global, acked: Cert, refused: Cert) -> Result<Cert, Halt>
-    ensures { MatchResult result (λ cert. proof_tree cert ≡ byte (proof_tree acked) (proof_tree refused)) (λ halt. halt ≡ Halt.NoMemory) }
+    ensures { MatchResult result (λ cert. proof_tree cert ≡ byte (proof_tree acked) (proof_tree refused))
+        (λ halt. halt ≡ Halt.NoMemory) }
 {
     match (Box::new(alloc, acked), Box::new(alloc, refused)) {
         (Ok(acked), Ok(refused)) => Ok(Cert::Byte(acked, refused)),
@@ -100,7 +101,8 @@ fn byte_proof(alloc: Global, acked: Cert, refused: Cert) -> Result<Cert, Halt>
 }
 
 fn read_proof(alloc: Global, after: Cert, refused: Cert) -> Result<Cert, Halt>
-    ensures { MatchResult result (λ cert. proof_tree cert ≡ read (proof_tree after) (proof_tree refused)) (λ halt. halt ≡ Halt.NoMemory) }
+    ensures { MatchResult result (λ cert. proof_tree cert ≡ read (proof_tree after) (proof_tree refused))
+        (λ halt. halt ≡ Halt.NoMemory) }
 {
     match (Box::new(alloc, after), Box::new(alloc, refused)) {
         (Ok(after), Ok(refused)) => Ok(Cert::Read(after, refused)),
@@ -130,7 +132,8 @@ fn tail_kind(tail: &Tail) -> Kind
 /// Two frames, from their headers on.
 #[cycle(compare)]
 pub(crate) fn compare_frames(alloc: Global, f: &Frame, g: &Frame) -> Result<Cert, Halt>
-    ensures { MatchResult result (λ cert. CanonicalFrames (proof_tree cert) (frame_tree f.now) (frame_tree g.now)) (Halts (FrameText (frame_tree f.now)) (FrameText (frame_tree g.now))) }
+    ensures { MatchResult result (λ cert. CanonicalFrames (proof_tree cert) (frame_tree f.now) (frame_tree g.now))
+        (Halts (FrameText (frame_tree f.now)) (FrameText (frame_tree g.now))) }
 {
     match f {
         Frame::Write {
@@ -183,7 +186,9 @@ pub(crate) fn compare_frames(alloc: Global, f: &Frame, g: &Frame) -> Result<Cert
 // Two reads, from the first byte on.
 #[cycle(compare)]
 fn compare_reads(alloc: Global, c: &Count, d: &Count, x: &Tail, y: &Tail) -> Result<Cert, Halt>
-    ensures { MatchResult result (λ cert. CanonicalReads (proof_tree cert) c.now d.now (tail_tree x.now) (tail_tree y.now)) (Halts (ReadThen c.now (TailText (tail_tree x.now))) (ReadThen d.now (TailText (tail_tree y.now)))) }
+    ensures { MatchResult result (λ cert. CanonicalReads (proof_tree cert) c.now d.now (tail_tree x.now)
+        (tail_tree y.now)) (Halts (ReadThen c.now (TailText (tail_tree x.now)))
+        (ReadThen d.now (TailText (tail_tree y.now)))) }
 {
     if !c.meets(d) {
         return Ok(Cert::Short);
@@ -197,7 +202,8 @@ fn compare_reads(alloc: Global, c: &Count, d: &Count, x: &Tail, y: &Tail) -> Res
 // What is written after an acknowledge.
 #[cycle(compare)]
 fn compare_payloads(alloc: Global, x: &Payload, y: &Payload) -> Result<Cert, Halt>
-    ensures { MatchResult result (λ cert. CanonicalPayloads (proof_tree cert) (payload_tree x.now) (payload_tree y.now)) (Halts (PayloadText (payload_tree x.now)) (PayloadText (payload_tree y.now))) }
+    ensures { MatchResult result (λ cert. CanonicalPayloads (proof_tree cert) (payload_tree x.now) (payload_tree y.now))
+        (Halts (PayloadText (payload_tree x.now)) (PayloadText (payload_tree y.now))) }
 {
     match x {
         Payload::Byte {
@@ -231,7 +237,8 @@ fn compare_payloads(alloc: Global, x: &Payload, y: &Payload) -> Result<Cert, Hal
 // How two messages go on after their last byte, or after a refusal.
 #[cycle(compare)]
 fn compare_tails(alloc: Global, r: &Tail, s: &Tail) -> Result<Cert, Halt>
-    ensures { MatchResult result (λ cert. CanonicalTails (proof_tree cert) (tail_tree r.now) (tail_tree s.now)) (Halts (TailText (tail_tree r.now)) (TailText (tail_tree s.now))) }
+    ensures { MatchResult result (λ cert. CanonicalTails (proof_tree cert) (tail_tree r.now) (tail_tree s.now))
+        (Halts (TailText (tail_tree r.now)) (TailText (tail_tree s.now))) }
 {
     match r {
         Tail::Stop => match s {

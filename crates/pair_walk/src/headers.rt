@@ -18,7 +18,8 @@ use std::alloc::Global;
 
 /// A message and an interrupt.
 pub(crate) fn message_and_interrupt(alloc: Global, f: &Frame, b: &Address) -> Result<Cert, Halt>
-    ensures { MatchResult result (λ cert. CanonicalHeaders (proof_tree cert) (frame_header (frame_tree f.now)) (address_bits b.now ++ One ∷ [])) (Halts (FrameText (frame_tree f.now)) (InterruptText (address_bits b.now))) }
+    ensures { MatchResult result (λ cert. CanonicalHeaders (proof_tree cert) (frame_header (frame_tree f.now))
+        (address_bits b.now ++ One ∷ [])) (Halts (FrameText (frame_tree f.now)) (InterruptText (address_bits b.now))) }
 {
     match f {
         Frame::Write { address: a, .. } => Ok(Cert::Part(a.first_split(b).unwrap_or(7))),
@@ -34,7 +35,8 @@ pub(crate) fn message_and_interrupt(alloc: Global, f: &Frame, b: &Address) -> Re
 
 /// An interrupt and a message.
 pub(crate) fn interrupt_and_message(alloc: Global, a: &Address, g: &Frame) -> Result<Cert, Halt>
-    ensures { MatchResult result (λ cert. CanonicalHeaders (proof_tree cert) (address_bits a.now ++ One ∷ []) (frame_header (frame_tree g.now))) (Halts (InterruptText (address_bits a.now)) (FrameText (frame_tree g.now))) }
+    ensures { MatchResult result (λ cert. CanonicalHeaders (proof_tree cert) (address_bits a.now ++ One ∷ [])
+        (frame_header (frame_tree g.now))) (Halts (InterruptText (address_bits a.now)) (FrameText (frame_tree g.now))) }
 {
     match g {
         Frame::Write { address: b, .. } => Ok(Cert::Part(a.first_split(b).unwrap_or(7))),
@@ -50,7 +52,9 @@ pub(crate) fn interrupt_and_message(alloc: Global, a: &Address, g: &Frame) -> Re
 
 /// Two interrupts.
 pub(crate) fn two_interrupts(alloc: Global, a: &Address, b: &Address) -> Result<Cert, Halt>
-    ensures { MatchResult result (λ cert. CanonicalHeaders (proof_tree cert) (address_bits a.now ++ One ∷ []) (address_bits b.now ++ One ∷ [])) (Halts (InterruptText (address_bits a.now)) (InterruptText (address_bits b.now))) }
+    ensures { MatchResult result (λ cert. CanonicalHeaders (proof_tree cert) (address_bits a.now ++ One ∷ [])
+        (address_bits b.now ++ One ∷ [])) (Halts (InterruptText (address_bits a.now))
+        (InterruptText (address_bits b.now))) }
 {
     match a.first_split(b) {
         Some(place) => Ok(Cert::Part(place)),

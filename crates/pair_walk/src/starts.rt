@@ -40,7 +40,8 @@ pub(crate) fn start_of(plan: &Plan, p: u32) -> Start<'_>
 
 /// Two participants, from their first headers on.
 pub(crate) fn compare_starts(alloc: Global, s: &Start<'_>, t: &Start<'_>) -> Result<Cert, Halt>
-    ensures { MatchResult result (λ cert. IsCanonical (proof_tree cert) (start_sender s.now) (start_sender t.now)) (Halts (SenderText (start_sender s.now)) (SenderText (start_sender t.now))) }
+    ensures { MatchResult result (λ cert. IsCanonical (proof_tree cert) (start_sender s.now) (start_sender t.now))
+        (Halts (SenderText (start_sender s.now)) (SenderText (start_sender t.now))) }
 {
     match s {
         Start::Message(f) => match t {

@@ -33,7 +33,8 @@ pub struct Verdict {
 pub fn walk(alloc: Global, plan: &Plan, i: u32) -> Result<Verdict, AllocError>
     requires { i < length (pairs_of (plan_contents plan.now)) }
     ensures number { IfOk result (λ verdict. verdict.pair ≡ i) }
-    ensures verdict { IfOk result (λ verdict. (x y : ℕ) → slice_get (pairs_of (plan_contents plan.now)) i ≡ Some (x, y) →
+    ensures verdict { IfOk result (λ verdict. (x y : ℕ) →
+        slice_get (pairs_of (plan_contents plan.now)) i ≡ Some (x, y) →
         IsVerdict (plan_contents plan.now) x y verdict.outcome) }
 {
     let (x, y) = plan.pair(i);

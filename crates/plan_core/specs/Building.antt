@@ -1,11 +1,13 @@
 -- What each call of a builder adds, and when it is refused.
-use Rattle.std.specs.Prelude.{◌≡◌, ℕ, ◌+◌, Bool, true, false, ◌||◌, not, nat_le, nat_lt, List, [], ◌∷◌, ◌++◌, length, position, Option, Some, None, is_some, Result, Ok, Err, unwrap_or, if◌then◌else◌}
+use Rattle.std.specs.Prelude.{◌≡◌, ℕ, ◌+◌, Bool, true, false, ◌||◌, not, nat_le, nat_lt, List, [], ◌∷◌, ◌++◌, length}
+use Rattle.std.specs.Prelude.{position, Option, Some, None, is_some, Result, Ok, Err, unwrap_or, if◌then◌else◌}
 use Rattle.std.specs.List.{list_any, filter_map}
 use Rattle.std.specs.Map.{keys_of}
 use Rattle.std.specs.Str.{bytes_eq}
 use Rattle.message_tree.specs.Sizes.{frame_bytes, frame_nodes}
 use Rattle.message_tree.specs.Trees.{FrameTree}
-use Rattle.plan_core.specs.declared.limits.TheConstants.{MOST_MESSAGES, MOST_CONTROLLERS, MOST_INTERRUPTS, MOST_SENDINGS, MOST_BYTES, MOST_NODES}
+use Rattle.plan_core.specs.declared.limits.TheConstants.{MOST_MESSAGES, MOST_CONTROLLERS, MOST_INTERRUPTS}
+use Rattle.plan_core.specs.declared.limits.TheConstants.{MOST_SENDINGS, MOST_BYTES, MOST_NODES}
 use Rattle.plan_core.specs.Contents.{Contents}
 use Rattle.plan_core.specs.Limits.{sending_count}
 use Rattle.plan_core.specs.Participants.{is_never}
@@ -47,7 +49,8 @@ controller_name_refusal plan name =
 
 -- why a frame is refused: it has too many nodes, or a path with too many bytes
 unfoldable pub size_refusal : FrameTree → Option BuildError
-size_refusal frame = if nat_lt MOST_NODES (frame_nodes frame) || nat_lt MOST_BYTES (frame_bytes frame) then Some TooLong else None
+size_refusal frame =
+    if nat_lt MOST_NODES (frame_nodes frame) || nat_lt MOST_BYTES (frame_bytes frame) then Some TooLong else None
 
 -- why a message is refused: for its name, or for its frame
 unfoldable pub message_refusal : Contents → List ℕ → FrameTree → Option BuildError
@@ -107,4 +110,5 @@ abbrev pub controller_number : Contents → List ℕ → ℕ
 controller_number plan name = unwrap_or (number_of name plan.controllers) 0
 
 unfoldable pub with_never : Contents → List ℕ → List ℕ → Contents
-with_never plan first second = record plan { nevers = plan.nevers ++ (controller_number plan first, controller_number plan second) ∷ [] }
+with_never plan first second =
+    record plan { nevers = plan.nevers ++ (controller_number plan first, controller_number plan second) ∷ [] }

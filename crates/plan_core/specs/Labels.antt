@@ -12,7 +12,8 @@ abbrev pub name_at : {X : Type 0} → List (List ℕ × X) → ℕ → List ℕ
 name_at entries k = slice_index_or (keys_of entries) k []
 
 abbrev pub participant_label : Contents → Option Participant → List ℕ
-participant_label plan (Some (Sending controller message)) = name_at plan.controllers controller ++ (codes "/" ++ name_at plan.messages message)
+participant_label plan (Some (Sending controller message)) =
+    name_at plan.controllers controller ++ (codes "/" ++ name_at plan.messages message)
 participant_label plan (Some (Interrupt k)) = codes "!" ++ name_at plan.interrupts k
 participant_label plan None = []
 

@@ -7,7 +7,8 @@ use Rattle.std.specs.Str.{bytes_eq}
 -- the words that the plan's text keeps for itself
 abbrev pub reserved_words : List (List ℕ)
 reserved_words =
-    codes "plan" ∷ codes "message" ∷ codes "controller" ∷ codes "interrupt" ∷ codes "write" ∷ codes "read" ∷ codes "again" ∷ codes "else" ∷ codes "stop" ∷ codes "never" ∷ []
+    codes "plan" ∷ codes "message" ∷ codes "controller" ∷ codes "interrupt" ∷ codes "write" ∷ codes "read" ∷
+    codes "again" ∷ codes "else" ∷ codes "stop" ∷ codes "never" ∷ []
 
 abbrev pub is_reserved : List ℕ → Bool
 is_reserved bytes = list_any (bytes_eq bytes) reserved_words
@@ -23,7 +24,8 @@ is_name_byte byte = is_ascii_alphanumeric byte || byte == 95
 
 -- a letter, then letters, digits and `_`, of 1 to 32 bytes, and no reserved word
 unfoldable pub is_name : List ℕ → Bool
-is_name bytes = begins_with_letter bytes && list_all is_name_byte bytes && nat_le (length bytes) 32 && not (is_reserved bytes)
+is_name bytes =
+    begins_with_letter bytes && list_all is_name_byte bytes && nat_le (length bytes) 32 && not (is_reserved bytes)
 
 abbrev pub IsName : List ℕ → Type 0
 IsName bytes = is_name bytes ≡ true

@@ -18,7 +18,8 @@ abbrev pub interrupt_of : Name × ℕ → List ℕ × ℕ
 interrupt_of entry = (name_bytes entry.0, entry.1)
 
 -- what a plan of these entries holds
-unfoldable pub contents_of : {Z : Type 0} → List (Name × Frame) → List (Name × Vec ℕ Z) → List (Name × ℕ) → List (ℕ × ℕ) → Contents
+unfoldable pub contents_of : {Z : Type 0} → List (Name × Frame) → List (Name × Vec ℕ Z) → List (Name × ℕ) →
+    List (ℕ × ℕ) → Contents
 contents_of messages controllers interrupts nevers = record {
   messages = map message_of messages;
   controllers = map controller_of controllers;

@@ -4,4 +4,5 @@ use Rattle.plan_core.specs.Contents.{Contents}
 use Rattle.plan_core.specs.Parts.{contents_of}
 
 unfoldable pub plan_contents : Plan → Contents
-plan_contents plan = contents_of plan.messages.entries plan.controllers.entries plan.interrupts.entries plan.nevers.items
+plan_contents plan =
+    contents_of plan.messages.entries plan.controllers.entries plan.interrupts.entries plan.nevers.items

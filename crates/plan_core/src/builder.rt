@@ -1,7 +1,8 @@
 // How a plan is put together.
 #![tactic(auto, unfolding(crate::specs::BuilderContents::builder_contents, crate::specs::PlanContents::plan_contents, crate::specs::Parts::contents_of))]
 
-ghost use Rattle.std.specs.Prelude.{◌≡◌, ◌%◌, ◌≤◌, [], ◌∷◌, ◌++◌, length, map, position, ℕ, List, ◌<◌, None, OnOk, OnErr, IfOk};
+ghost use Rattle.std.specs.Prelude.{◌≡◌, ◌%◌, ◌≤◌, [], ◌∷◌, ◌++◌, length, map, position, ℕ, List, ◌<◌, None, OnOk};
+ghost use Rattle.std.specs.Prelude.{OnErr, IfOk};
 ghost use Rattle.std.specs.List.{range_with_len};
 ghost use Rattle.std.specs.Str.{bytes_eq};
 ghost use Rattle.indexmap.specs.IndexMap.{index_map_len, keys};
@@ -9,7 +10,10 @@ ghost use Rattle.message_tree.specs.Trees.{frame_tree};
 ghost use Rattle.plan_core.specs.Contents.{empty};
 ghost use Rattle.plan_core.specs.NameBytes.{name_bytes};
 ghost use Rattle.plan_core.specs.declared.builder.BuildError.TheVariants.{NoMemory};
-ghost use Rattle.plan_core.specs.Building.{RefusesExactly, number_of, numbers_of, has_name, message_name_refusal, message_refusal, with_message, controller_name_refusal, controller_refusal, list_refusal, with_controller, with_sender, interrupt_refusal, with_interrupt, never_refusal, with_never};
+ghost use Rattle.plan_core.specs.Building.{RefusesExactly, number_of, numbers_of, has_name, message_name_refusal};
+ghost use Rattle.plan_core.specs.Building.{message_refusal, with_message, controller_name_refusal, controller_refusal};
+ghost use Rattle.plan_core.specs.Building.{list_refusal, with_controller, with_sender, interrupt_refusal};
+ghost use Rattle.plan_core.specs.Building.{with_interrupt, never_refusal, with_never};
 ghost use Rattle.plan_core.specs.Limits.{sending_count};
 ghost use Rattle.plan_core.specs.Participants.{participants_of};
 ghost use Rattle.plan_core.specs.declared.plans.Participant.TheVariants.{Sending, Interrupt};
@@ -80,8 +84,10 @@ impl Builder {
     /// `Twice` where a message has this name, then `TooMany` where there are 256 messages, then `TooLong` where `frame`
     /// has more than 256 bytes on a path or more than 4096 nodes, then `NoMemory`.
     pub fn message(&mut self, name: Name, frame: Frame) -> Result<(), BuildError>
-        ensures answer { RefusesExactly (message_refusal (builder_contents self.old) (name_bytes name) (frame_tree frame)) result }
-        ensures added { OnOk result (builder_contents self.new ≡ with_message (builder_contents self.old) (name_bytes name) (frame_tree frame)) }
+        ensures answer { RefusesExactly (message_refusal (builder_contents self.old) (name_bytes name)
+            (frame_tree frame)) result }
+        ensures added { OnOk result (builder_contents self.new ≡
+            with_message (builder_contents self.old) (name_bytes name) (frame_tree frame)) }
         ensures unchanged { OnErr result (builder_contents self.new ≡ builder_contents self.old) }
     {
         match self.plan.message_refusal(&name, &frame) {
@@ -100,7 +106,8 @@ impl Builder {
     /// Where memory is refused. The builder is then as it was.
     pub fn add_message(&mut self, name: Name, frame: Frame) -> Result<(), AllocError>
         requires { message_refusal (builder_contents self.old) (name_bytes name) (frame_tree frame) ≡ None }
-        ensures added { OnOk result (builder_contents self.new ≡ with_message (builder_contents self.old) (name_bytes name) (frame_tree frame)) }
+        ensures added { OnOk result (builder_contents self.new ≡
+            with_message (builder_contents self.old) (name_bytes name) (frame_tree frame)) }
         ensures unchanged { OnErr result (builder_contents self.new ≡ builder_contents self.old) }
     {
         self.plan.add_message(name, frame)
@@ -122,8 +129,10 @@ impl Builder {
     /// turn `Unknown` where there is no such message, `Twice` where the name stands before in `messages`, and `TooMany`
     /// where the plan would have more than 512 sendings. At last `NoMemory`.
     pub fn controller(&mut self, name: Name, messages: &[Name]) -> Result<(), BuildError>
-        ensures answer { RefusesExactly (controller_refusal (builder_contents self.old) (name_bytes name) (map name_bytes messages.now)) result }
-        ensures added { OnOk result (builder_contents self.new ≡ with_controller (builder_contents self.old) (name_bytes name) (map name_bytes messages.now)) }
+        ensures answer { RefusesExactly (controller_refusal (builder_contents self.old) (name_bytes name)
+            (map name_bytes messages.now)) result }
+        ensures added { OnOk result (builder_contents self.new ≡
+            with_controller (builder_contents self.old) (name_bytes name) (map name_bytes messages.now)) }
         ensures unchanged { OnErr result (builder_contents self.new ≡ builder_contents self.old) }
     {
         match self.plan.controller_refusal(&name, messages) {
@@ -141,8 +150,10 @@ impl Builder {
     ///
     /// Where memory is refused. The builder is then as it was.
     pub fn add_controller(&mut self, name: Name, messages: &[Name]) -> Result<(), AllocError>
-        requires { controller_refusal (builder_contents self.old) (name_bytes name) (map name_bytes messages.now) ≡ None }
-        ensures added { OnOk result (builder_contents self.new ≡ with_controller (builder_contents self.old) (name_bytes name) (map name_bytes messages.now)) }
+        requires { controller_refusal (builder_contents self.old) (name_bytes name) (map name_bytes messages.now) ≡
+            None }
+        ensures added { OnOk result (builder_contents self.new ≡
+            with_controller (builder_contents self.old) (name_bytes name) (map name_bytes messages.now)) }
         ensures unchanged { OnErr result (builder_contents self.new ≡ builder_contents self.old) }
     {
         self.plan.add_controller(self.alloc, name, messages)
@@ -167,7 +178,8 @@ impl Builder {
     /// where there is no such message, then `Twice` where the name stands in `before`, then `TooMany` where the plan
     /// would have more than 512 sendings. It takes no memory and changes nothing.
     pub fn sending_refusal(&self, before: &[Name], name: &Name) -> Option<BuildError>
-        ensures { result ≡ list_refusal (builder_contents self.now) (map name_bytes before.now) (name_bytes name.now ∷ []) }
+        ensures { result ≡ list_refusal (builder_contents self.now) (map name_bytes before.now)
+            (name_bytes name.now ∷ []) }
     {
         self.plan.sending_refusal(before, name)
     }
@@ -179,7 +191,8 @@ impl Builder {
     /// `Twice` where an interrupt has this name, then `TooMany` where there are 32 interrupts, then `NoMemory`.
     pub fn interrupt(&mut self, name: Name, address: u8) -> Result<(), BuildError>
         ensures answer { RefusesExactly (interrupt_refusal (builder_contents self.old) (name_bytes name)) result }
-        ensures added { OnOk result (builder_contents self.new ≡ with_interrupt (builder_contents self.old) (name_bytes name) (address % 128)) }
+        ensures added { OnOk result (builder_contents self.new ≡
+            with_interrupt (builder_contents self.old) (name_bytes name) (address % 128)) }
         ensures unchanged { OnErr result (builder_contents self.new ≡ builder_contents self.old) }
     {
         match self.plan.interrupt_refusal(&name) {
@@ -198,7 +211,8 @@ impl Builder {
     /// Where memory is refused. The builder is then as it was.
     pub fn add_interrupt(&mut self, name: Name, address: u8) -> Result<(), AllocError>
         requires { interrupt_refusal (builder_contents self.old) (name_bytes name) ≡ None }
-        ensures added { OnOk result (builder_contents self.new ≡ with_interrupt (builder_contents self.old) (name_bytes name) (address % 128)) }
+        ensures added { OnOk result (builder_contents self.new ≡
+            with_interrupt (builder_contents self.old) (name_bytes name) (address % 128)) }
         ensures unchanged { OnErr result (builder_contents self.new ≡ builder_contents self.old) }
     {
         self.plan.add_interrupt(self.alloc, name, address % 128)
@@ -220,8 +234,10 @@ impl Builder {
     /// no controller has the name `second`, then `Twice` where the two stand together already, in either order, then
     /// `NoMemory`.
     pub fn never(&mut self, first: &Name, second: &Name) -> Result<(), BuildError>
-        ensures answer { RefusesExactly (never_refusal (builder_contents self.old) (name_bytes first.now) (name_bytes second.now)) result }
-        ensures added { OnOk result (builder_contents self.new ≡ with_never (builder_contents self.old) (name_bytes first.now) (name_bytes second.now)) }
+        ensures answer { RefusesExactly (never_refusal (builder_contents self.old) (name_bytes first.now)
+            (name_bytes second.now)) result }
+        ensures added { OnOk result (builder_contents self.new ≡
+            with_never (builder_contents self.old) (name_bytes first.now) (name_bytes second.now)) }
         ensures unchanged { OnErr result (builder_contents self.new ≡ builder_contents self.old) }
     {
         match self.plan.never_refusal(first, second) {
@@ -240,7 +256,8 @@ impl Builder {
     /// Where memory is refused. The builder is then as it was.
     pub fn add_never(&mut self, first: &Name, second: &Name) -> Result<(), AllocError>
         requires { never_refusal (builder_contents self.old) (name_bytes first.now) (name_bytes second.now) ≡ None }
-        ensures added { OnOk result (builder_contents self.new ≡ with_never (builder_contents self.old) (name_bytes first.now) (name_bytes second.now)) }
+        ensures added { OnOk result (builder_contents self.new ≡
+            with_never (builder_contents self.old) (name_bytes first.now) (name_bytes second.now)) }
         ensures unchanged { OnErr result (builder_contents self.new ≡ builder_contents self.old) }
     {
         self.plan.add_never(self.alloc, first, second)
@@ -314,7 +331,8 @@ impl Plan {
 
     fn add_message(&mut self, name: Name, frame: Frame) -> Result<(), AllocError>
         requires { message_refusal (plan_contents self.old) (name_bytes name) (frame_tree frame) ≡ None }
-        ensures added { OnOk result (plan_contents self.new ≡ with_message (plan_contents self.old) (name_bytes name) (frame_tree frame)) }
+        ensures added { OnOk result (plan_contents self.new ≡
+            with_message (plan_contents self.old) (name_bytes name) (frame_tree frame)) }
         ensures unchanged { OnErr result (plan_contents self.new ≡ plan_contents self.old) }
     {
         push_entry(&mut self.messages, name, frame)?;
@@ -338,7 +356,8 @@ impl Plan {
     // Why this controller is refused, apart from want of memory.
     #[tactic(auto, unfolding(crate::specs::Building::controller_refusal, crate::specs::Building::controller_name_refusal))]
     fn controller_refusal(&self, name: &Name, messages: &[Name]) -> Option<BuildError>
-        ensures { result ≡ controller_refusal (plan_contents self.now) (name_bytes name.now) (map name_bytes messages.now) }
+        ensures { result ≡ controller_refusal (plan_contents self.now) (name_bytes name.now)
+            (map name_bytes messages.now) }
     {
         match self.controller_name_refusal(name) {
             Some(refusal) => Some(refusal),
@@ -360,7 +379,8 @@ impl Plan {
 
     // Why one more message is refused to a controller that may send those before.
     fn sending_refusal(&self, before: &[Name], name: &Name) -> Option<BuildError>
-        ensures { result ≡ list_refusal (plan_contents self.now) (map name_bytes before.now) (name_bytes name.now ∷ []) }
+        ensures { result ≡ list_refusal (plan_contents self.now) (map name_bytes before.now)
+            (name_bytes name.now ∷ []) }
     {
         if self.message_number(name).is_none() {
             Some(BuildError::Unknown)
@@ -387,7 +407,8 @@ impl Plan {
         messages: &[Name],
     ) -> Result<(), AllocError>
         requires { controller_refusal (plan_contents self.old) (name_bytes name) (map name_bytes messages.now) ≡ None }
-        ensures added { OnOk result (plan_contents self.new ≡ with_controller (plan_contents self.old) (name_bytes name) (map name_bytes messages.now)) }
+        ensures added { OnOk result (plan_contents self.new ≡
+            with_controller (plan_contents self.old) (name_bytes name) (map name_bytes messages.now)) }
         ensures unchanged { OnErr result (plan_contents self.new ≡ plan_contents self.old) }
     {
         let numbers = self.numbers_of(alloc, messages)?;
@@ -401,7 +422,8 @@ impl Plan {
 
     // The numbers of these messages.
     fn numbers_of(&self, alloc: Global, messages: &[Name]) -> Result<Vec<u32>, AllocError>
-        ensures { IfOk result (λ numbers. numbers.items ≡ numbers_of (plan_contents self.now) (map name_bytes messages.now)) }
+        ensures { IfOk result (λ numbers. numbers.items ≡ numbers_of (plan_contents self.now)
+            (map name_bytes messages.now)) }
     {
         let mut numbers = Vec::new(alloc);
         for name in messages {
@@ -418,7 +440,8 @@ impl Plan {
         alloc: Global,
         messages: &[u32],
     ) -> Result<Vec<Participant>, AllocError>
-        ensures { IfOk result (λ participants. (name : List ℕ) → participants.items ≡ participants_of (with_sender (plan_contents self.now) name messages.now)) }
+        ensures { IfOk result (λ participants. (name : List ℕ) →
+            participants.items ≡ participants_of (with_sender (plan_contents self.now) name messages.now)) }
     {
         let mut participants = Vec::from_slice(alloc, &self.participants[..self.sendings()])?;
         push_sendings(&mut participants, self.controllers(), messages)?;
@@ -443,7 +466,8 @@ impl Plan {
     fn add_interrupt(&mut self, alloc: Global, name: Name, address: u8) -> Result<(), AllocError>
         requires allowed { interrupt_refusal (plan_contents self.old) (name_bytes name) ≡ None }
         requires address { address < 128 }
-        ensures added { OnOk result (plan_contents self.new ≡ with_interrupt (plan_contents self.old) (name_bytes name) address) }
+        ensures added { OnOk result (plan_contents self.new ≡
+            with_interrupt (plan_contents self.old) (name_bytes name) address) }
         ensures unchanged { OnErr result (plan_contents self.new ≡ plan_contents self.old) }
     {
         let interrupt = Participant::Interrupt(self.interrupts());
@@ -473,7 +497,8 @@ impl Plan {
 
     fn add_never(&mut self, alloc: Global, first: &Name, second: &Name) -> Result<(), AllocError>
         requires { never_refusal (plan_contents self.old) (name_bytes first.now) (name_bytes second.now) ≡ None }
-        ensures added { OnOk result (plan_contents self.new ≡ with_never (plan_contents self.old) (name_bytes first.now) (name_bytes second.now)) }
+        ensures added { OnOk result (plan_contents self.new ≡
+            with_never (plan_contents self.old) (name_bytes first.now) (name_bytes second.now)) }
         ensures unchanged { OnErr result (plan_contents self.new ≡ plan_contents self.old) }
     {
         let c = self.controller_number(first).unwrap();

@@ -33,7 +33,10 @@ impl Plan {
 
     /// The number of the participant with this label, or `None` where no participant has it.
     pub fn find(&self, label: &str) -> Option<u32>
-        ensures { MatchOption result ((i : ℕ) → i < participant_count (plan_contents self.now) → label_of (plan_contents self.now) i ≢ label.now) (λ i. (i < participant_count (plan_contents self.now)) × (label_of (plan_contents self.now) i ≡ label.now)) }
+        ensures { MatchOption result ((i : ℕ) → i < participant_count (plan_contents self.now) →
+            label_of (plan_contents self.now) i ≢ label.now)
+            (λ i. (i < participant_count (plan_contents self.now)) ×
+            (label_of (plan_contents self.now) i ≡ label.now)) }
     {
         for i in 0..self.participants() {
             if self.has_label(i, label) {
@@ -100,7 +103,8 @@ fn is_interrupt_label(label: &[u8], name: &[u8]) -> bool
 
 // What stands after `front`, where the bytes begin with it.
 fn rest_after<'a>(bytes: &'a [u8], front: &[u8]) -> Option<&'a [u8]>
-    ensures { MatchOption result ((rest : List ℕ) → front.now ++ rest ≢ bytes.now) (λ rest. front.now ++ rest.now ≡ bytes.now) }
+    ensures { MatchOption result ((rest : List ℕ) → front.now ++ rest ≢ bytes.now)
+        (λ rest. front.now ++ rest.now ≡ bytes.now) }
 {
     bytes.strip_prefix(front)
 }
@@ -108,5 +112,6 @@ fn rest_after<'a>(bytes: &'a [u8], front: &[u8]) -> Option<&'a [u8]>
 /// No two participants of a plan have one label, so that `find` gives back the number that `label` was asked for. The
 /// function does nothing, and its contract is the theorem.
 pub fn labels_differ()
-    ensures { (plan : Contents) → IsWithinLimits plan → (i j : ℕ) → i < participant_count plan → j < participant_count plan → label_of plan i ≡ label_of plan j → i ≡ j }
+    ensures { (plan : Contents) → IsWithinLimits plan → (i j : ℕ) → i < participant_count plan →
+        j < participant_count plan → label_of plan i ≡ label_of plan j → i ≡ j }
 {}

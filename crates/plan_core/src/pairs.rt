@@ -1,6 +1,7 @@
 // Which pair has which number.
 
-ghost use Rattle.std.specs.Prelude.{◌≡◌, ℕ, List, [], ◌∷◌, ◌+◌, ◌-◌, ◌*◌, ◌^◌, ◌<◌, ◌≤◌, ◌++◌, length, slice_get, Some, IfOk, OnOk};
+ghost use Rattle.std.specs.Prelude.{◌≡◌, ℕ, List, [], ◌∷◌, ◌+◌, ◌-◌, ◌*◌, ◌^◌, ◌<◌, ◌≤◌, ◌++◌, length, slice_get, Some};
+ghost use Rattle.std.specs.Prelude.{IfOk, OnOk};
 ghost use Rattle.std.specs.List.{list_any, slice_index_or};
 ghost use Rattle.std.specs.List.Sorted.{IsNonDecreasingBy};
 ghost use Rattle.plan_core.specs.declared.plans.Participant.{Participant};
@@ -35,7 +36,8 @@ impl PairTable {
 
     /// The table of no participants.
     pub fn empty(alloc: Global) -> PairTable
-        ensures { (nevers : List (ℕ × ℕ)) (participants : List Participant) → IsTableBelow nevers participants 0 result }
+        ensures { (nevers : List (ℕ × ℕ)) (participants : List Participant) →
+            IsTableBelow nevers participants 0 result }
     {
         PairTable {
             rows: Vec::new(alloc),
@@ -91,7 +93,8 @@ impl PairTable {
         ensures row { IfOk result (IsRow nevers.now participants.now self.new.partners.items x) }
         ensures rows { self.new.rows ≡ self.old.rows }
         ensures count { self.new.count ≡ self.old.count }
-        ensures partners { OnOk result (Extends self.old.partners.items self.new.partners.items (length participants.now)) }
+        ensures partners { OnOk result (Extends self.old.partners.items self.new.partners.items
+            (length participants.now)) }
     {
         if x > 0 && is_one_controller(participants[x - 1], participants[x]) {
             let last = self.rows[x - 1];

@@ -131,7 +131,8 @@ impl Plan {
     pub fn never(&self, k: u32) -> (u32, u32)
         requires { k < length (plan_contents self.now).nevers }
         ensures value { slice_get (plan_contents self.now).nevers k ≡ Some result }
-        ensures known { (result.0 < length (plan_contents self.now).controllers) × (result.1 < length (plan_contents self.now).controllers) }
+        ensures known { (result.0 < length (plan_contents self.now).controllers) ×
+            (result.1 < length (plan_contents self.now).controllers) }
     {
         self.nevers[k as usize]
     }

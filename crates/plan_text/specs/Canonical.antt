@@ -1,7 +1,8 @@
 -- The canonical spelling of a plan: its version, then its messages, controllers, interrupts and `never` items, each on a
 -- line of its own with one space between two words.
 
-use Rattle.std.specs.Prelude.{◌≡◌, ℕ, Bool, false, ◌||◌, nat_lt, List, [], ◌∷◌, ◌++◌, length, map, codes, decimal, ◌==◌, if◌then◌else◌}
+use Rattle.std.specs.Prelude.{◌≡◌, ℕ, Bool, false, ◌||◌, nat_lt, List, [], ◌∷◌, ◌++◌, length, map, codes, decimal, ◌==◌}
+use Rattle.std.specs.Prelude.{if◌then◌else◌}
 use Rattle.std.specs.List.{list_any, flat_map}
 use Rattle.message_tree.specs.declared.bits.Bit.{Bit}
 use Rattle.message_tree.specs.declared.bits.Bit.TheVariants.{Zero, One, Either}
@@ -35,16 +36,22 @@ pattern_word p = map bit_symbol (pattern_bits p)
 
 -- the word of a count: one number, or two ends around '..'
 abbrev pub count_word : Count → List ℕ
-count_word c = if least_of c == greatest_of c then decimal (least_of c) else (decimal (least_of c) ++ (codes ".." ++ decimal (greatest_of c)))
+count_word c =
+    if least_of c == greatest_of c then decimal (least_of c)
+    else (decimal (least_of c) ++ (codes ".." ++ decimal (greatest_of c)))
 
 -- the words of a message
 abbrev mutual
   pub frame_words : FrameTree → List (List ℕ)
-  frame_words (write address acked refused) = codes "write" ∷ (address_word address ∷ (payload_words acked ++ (codes "else" ∷ tail_words refused)))
-  frame_words (read address count after refused) = codes "read" ∷ (address_word address ∷ (count_word count ∷ (tail_words after ++ (codes "else" ∷ tail_words refused))))
+  frame_words (write address acked refused) =
+      codes "write" ∷ (address_word address ∷ (payload_words acked ++ (codes "else" ∷ tail_words refused)))
+  frame_words (read address count after refused) =
+      codes "read" ∷ (address_word address ∷ (count_word count ∷
+      (tail_words after ++ (codes "else" ∷ tail_words refused))))
 
   pub payload_words : PayloadTree → List (List ℕ)
-  payload_words (byte bits acked refused) = pattern_word bits ∷ (payload_words acked ++ (codes "else" ∷ tail_words refused))
+  payload_words (byte bits acked refused) =
+      pattern_word bits ∷ (payload_words acked ++ (codes "else" ∷ tail_words refused))
   payload_words (last tail) = tail_words tail
 
   pub tail_words : TailTree → List (List ℕ)
@@ -64,7 +71,8 @@ Adds old new words = new ≡ old ++ spaced words
 abbrev mutual
   pub frame_has_range : FrameTree → Bool
   frame_has_range (write address acked refused) = payload_has_range acked || tail_has_range refused
-  frame_has_range (read address count after refused) = nat_lt (least_of count) (greatest_of count) || tail_has_range after || tail_has_range refused
+  frame_has_range (read address count after refused) =
+      nat_lt (least_of count) (greatest_of count) || tail_has_range after || tail_has_range refused
 
   pub payload_has_range : PayloadTree → Bool
   payload_has_range (byte bits acked refused) = payload_has_range acked || tail_has_range refused
@@ -89,13 +97,15 @@ abbrev pub message_line : List ℕ × FrameTree → List ℕ
 message_line message = item_line (codes "message") (message.0 ∷ frame_words message.1)
 
 abbrev pub controller_line : Contents → List ℕ × List ℕ → List ℕ
-controller_line plan controller = item_line (codes "controller") (controller.0 ∷ map (name_at plan.messages) controller.1)
+controller_line plan controller =
+    item_line (codes "controller") (controller.0 ∷ map (name_at plan.messages) controller.1)
 
 abbrev pub interrupt_line : List ℕ × ℕ → List ℕ
 interrupt_line interrupt = item_line (codes "interrupt") (interrupt.0 ∷ (interrupt_word interrupt.1 ∷ []))
 
 abbrev pub never_line : Contents → ℕ × ℕ → List ℕ
-never_line plan never = item_line (codes "never") (name_at plan.controllers never.0 ∷ (name_at plan.controllers never.1 ∷ []))
+never_line plan never =
+    item_line (codes "never") (name_at plan.controllers never.0 ∷ (name_at plan.controllers never.1 ∷ []))
 
 unfoldable pub plan_text : Contents → List ℕ
 plan_text plan =

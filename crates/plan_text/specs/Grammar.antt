@@ -4,7 +4,8 @@ use Rattle.message_tree.specs.declared.counts.Count.{Count}
 use Rattle.message_tree.specs.Trees.{FrameTree, write, read, PayloadTree, byte, last, TailTree, stop, again}
 use Rattle.plan_core.specs.Contents.{Contents, empty}
 use Rattle.plan_core.specs.Names.{IsName}
-use Rattle.plan_core.specs.Building.{message_refusal, with_message, controller_refusal, with_controller, interrupt_refusal, with_interrupt, never_refusal, with_never}
+use Rattle.plan_core.specs.Building.{message_refusal, with_message, controller_refusal, with_controller}
+use Rattle.plan_core.specs.Building.{interrupt_refusal, with_interrupt, never_refusal, with_never}
 use Rattle.plan_text.specs.declared.symbols.Keyword.TheVariants as keywords
 use Rattle.plan_text.specs.declared.versions.Version.{Version}
 use Rattle.plan_text.specs.declared.versions.Version.TheVariants.{One, Two}
@@ -91,7 +92,8 @@ with_item plan (never_both first second) = with_never plan first second
 abbrev pub SpellsItems : Version → List Item → Contents → Tokens → Contents → Tokens → Type 0
 SpellsItems version [] plan from whole to = (whole ≡ plan) × (to ≡ from)
 SpellsItems version (item ∷ items) plan from whole to =
-    Fits plan item × ((between : Tokens) × SpellsItem version item from between × SpellsItems version items (with_item plan item) between whole to)
+    Fits plan item × ((between : Tokens) × SpellsItem version item from between ×
+    SpellsItems version items (with_item plan item) between whole to)
 
 abbrev pub version_word : Version → List ℕ
 version_word One = codes "1"
@@ -104,7 +106,8 @@ dots_of Two = tokens.dots_after 2
 
 -- the text begins with `plan` and this version, and these tokens follow
 abbrev pub Begins : List ℕ → Version → Tokens → Type 0
-Begins text version to = (one (keyword keywords.Plan) ▸ one (word (version_word version))) (tokens_of (dots_of version) 1 text) to
+Begins text version to =
+    (one (keyword keywords.Plan) ▸ one (word (version_word version))) (tokens_of (dots_of version) 1 text) to
 
 -- the text begins so, then has items that make up this plan, and then goes on with these tokens
 pub record SpellsFront (text : List ℕ) (version : Version) (plan : Contents) (to : Tokens) : Type 0 where

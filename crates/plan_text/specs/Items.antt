@@ -1,4 +1,5 @@
 -- What the functions that read items say.
+-- Only private contracts and proofs use this.
 use Rattle.std.specs.Prelude.{◌≡◌, ℕ, Option, Some, None, if◌then◌else◌}
 use Rattle.plan_core.specs.Contents.{Contents}
 use Rattle.plan_core.specs.Names.{is_name}

@@ -1,4 +1,5 @@
 -- Where a reader of items stands: the plan so far, and the tokens that are left.
+-- Only private contracts and proofs use this.
 use Rattle.plan_core.specs.Contents.{Contents}
 use Rattle.plan_core.specs.BuilderContents.{builder_contents}
 use Rattle.plan_text.specs.declared.items.Reader.{Reader}

@@ -1,5 +1,7 @@
 -- What the functions of the reader say of the tokens: what is left of them, and what is expected there.
-use Rattle.std.specs.Prelude.{◌≡◌, ℕ, ◌+◌, ◌≤◌, ◌<◌, Bool, true, false, ◌||◌, ◌==◌, List, [], ◌∷◌, ◌++◌, length, Option, Some, None}
+-- Only private contracts and proofs use this.
+use Rattle.std.specs.Prelude.{◌≡◌, ℕ, ◌+◌, ◌≤◌, ◌<◌, Bool, true, false, ◌||◌, ◌==◌, List, [], ◌∷◌, ◌++◌, length, Option}
+use Rattle.std.specs.Prelude.{Some, None}
 use Rattle.plan_core.specs.Contents.{Contents}
 use Rattle.plan_text.specs.declared.errors.PlanError.{PlanError}
 use Rattle.plan_text.specs.declared.errors.PlanError.TheVariants as errors
@@ -92,7 +94,8 @@ Fails e refusal = refusal ≡ Some e
 -- is the same.
 abbrev pub Leads : Place → List Expected → Place → List Expected → Type 0
 Leads old expected new further =
-    (plan : Contents) (more : List Expected) → refusal plan old.tokens old.nodes (expected ++ more) ≡ refusal plan new.tokens new.nodes (further ++ more)
+    (plan : Contents) (more : List Expected) → refusal plan old.tokens old.nodes (expected ++
+    more) ≡ refusal plan new.tokens new.nodes (further ++ more)
 
 -- what is expected is refused, whatever is expected after it
 abbrev pub Refuses : Place → List Expected → PlanError → Type 0
@@ -107,13 +110,16 @@ pub record PartRead (spelled_by : Phrase) (expected : Expected) (above bytes nod
   pub nodes_then : new.nodes ≡ old.nodes + nodes
 
 abbrev pub FrameRead : ℕ → FrameTree → Place → Place → Type 0
-FrameRead above tree old new = PartRead (SpellsFrame tree) (expect.frame above) above (frame_bytes tree) (frame_nodes tree) old new
+FrameRead above tree old new =
+    PartRead (SpellsFrame tree) (expect.frame above) above (frame_bytes tree) (frame_nodes tree) old new
 
 abbrev pub PayloadRead : ℕ → PayloadTree → Place → Place → Type 0
-PayloadRead above tree old new = PartRead (SpellsPayload tree) (expect.payload above) above (payload_bytes tree) (payload_nodes tree) old new
+PayloadRead above tree old new =
+    PartRead (SpellsPayload tree) (expect.payload above) above (payload_bytes tree) (payload_nodes tree) old new
 
 abbrev pub TailRead : ℕ → TailTree → Place → Place → Type 0
-TailRead above tree old new = PartRead (SpellsTail tree) (expect.tail above) above (tail_bytes tree) (tail_nodes tree) old new
+TailRead above tree old new =
+    PartRead (SpellsTail tree) (expect.tail above) above (tail_bytes tree) (tail_nodes tree) old new
 
 -- one token, of a part that is no node
 pub record TokenRead (token : spec.Token) (expected : Expected) (old new : Place) : Type 0 where

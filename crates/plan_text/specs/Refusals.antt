@@ -1,20 +1,24 @@
 -- The first refusal of a text that spells no plan, from token to token: each token takes the place of what is expected
 -- there, and says what is expected after it, or is refused. `PlanError` in src/errors.rt has the codes P1 to P8.
-use Rattle.std.specs.Prelude.{◌≡◌, ℕ, ◌+◌, Bool, false, ◌||◌, nat_le, nat_lt, List, [], ◌∷◌, ◌++◌, Option, Some, None, Result, Ok, Err, codes, ◌⊎◌, if◌then◌else◌}
+use Rattle.std.specs.Prelude.{◌≡◌, ℕ, ◌+◌, Bool, false, ◌||◌, nat_le, nat_lt, List, [], ◌∷◌, ◌++◌, Option, Some, None}
+use Rattle.std.specs.Prelude.{Result, Ok, Err, codes, ◌⊎◌, if◌then◌else◌}
 use Rattle.std.specs.Str.{bytes_eq}
 use Rattle.plan_core.specs.Contents.{Contents}
 use Rattle.plan_core.specs.Names.{is_name}
-use Rattle.plan_core.specs.Building.{message_name_refusal, controller_name_refusal, interrupt_refusal, list_refusal, has_name, never_refusal}
+use Rattle.plan_core.specs.Building.{message_name_refusal, controller_name_refusal, interrupt_refusal, list_refusal}
+use Rattle.plan_core.specs.Building.{has_name, never_refusal}
 use Rattle.plan_core.specs.declared.builder.BuildError.{BuildError}
 use Rattle.plan_core.specs.declared.builder.BuildError.TheVariants as build
 use Rattle.plan_text.specs.declared.errors.PlanError.{PlanError}
 use Rattle.plan_text.specs.declared.errors.PlanError.TheVariants as errors
-use Rattle.plan_text.specs.declared.errors.PlanError.TheVariants.{NotAscii, Unexpected, BadCount, TooLong, TooMany, Twice, Unknown, NoMemory}
+use Rattle.plan_text.specs.declared.errors.PlanError.TheVariants.{NotAscii, Unexpected, BadCount, TooLong, TooMany}
+use Rattle.plan_text.specs.declared.errors.PlanError.TheVariants.{Twice, Unknown, NoMemory}
 use Rattle.plan_text.specs.declared.symbols.Keyword.TheVariants as keywords
 use Rattle.plan_text.specs.declared.versions.Version.{Version}
 use Rattle.plan_text.specs.declared.versions.Version.TheVariants.{Two}
 use Rattle.plan_text.specs.Grammar.{SpellsFront}
-use Rattle.plan_text.specs.Tokens.{Token, keyword, word, semicolon, Ending, text_end, foreign, stray, Tokens, next, last, tokens_of, no_dots}
+use Rattle.plan_text.specs.Tokens.{Token, keyword, word, semicolon, Ending, text_end, foreign, stray, Tokens, next}
+use Rattle.plan_text.specs.Tokens.{last, tokens_of, no_dots}
 use Rattle.plan_text.specs.Words.{is_pattern, is_known_address, count_ends, in_range, number}
 
 -- what is expected in the place of one token; a number of bytes is that of the path above it
@@ -69,7 +73,8 @@ byte_refusal above nodes = if nat_le 4096 nodes || nat_le 256 above then Some bu
 -- a header, after which these are expected
 abbrev pub header_step : List ℕ → ℕ → ℕ → ℕ → List Expected → Step
 header_step bytes above nodes line more =
-    if is_pattern 7 bytes then unless_refused (byte_refusal above nodes) line (Ok (more, nodes + 1)) else Err (Unexpected line)
+    if is_pattern 7 bytes then unless_refused (byte_refusal above nodes) line (Ok (more, nodes + 1))
+    else Err (Unexpected line)
 
 abbrev pub read_refusal : ℕ → ℕ → Option BuildError
 read_refusal header greatest = if nat_lt 256 (header + greatest) then Some build.TooLong else None
@@ -79,7 +84,11 @@ abbrev pub count_step : Option (List ℕ × List ℕ) → ℕ → ℕ → ℕ �
 count_step None header nodes line = Err (Unexpected line)
 count_step (Some ends) header nodes line =
     if in_range ends
-    then unless_refused (read_refusal header (number ends.1)) line (Ok (tail (header + number ends.1) ∷ (else_word ∷ (tail header ∷ [])), nodes))
+    then unless_refused (read_refusal header (number ends.1)) line (Ok (
+      tail (header + number ends.1) ∷
+          (else_word ∷ (tail header ∷ [])),
+      nodes,
+    ))
     else Err (BadCount line)
 
 abbrev pub unknown_controller : Contents → List ℕ → Option BuildError
@@ -89,15 +98,22 @@ unknown_controller plan name = if has_name name plan.controllers then None else 
 -- expected after it, and the nodes; or its refusal.
 abbrev pub step : Contents → ℕ → Expected → Token → ℕ → Step
 step plan nodes message_name (word bytes) line = name_step bytes (message_name_refusal plan bytes) line (Ok ([], nodes))
-step plan nodes controller_name (word bytes) line = name_step bytes (controller_name_refusal plan bytes) line (Ok ([], nodes))
+step plan nodes controller_name (word bytes) line =
+    name_step bytes (controller_name_refusal plan bytes) line (Ok ([], nodes))
 step plan nodes interrupt_name (word bytes) line = name_step bytes (interrupt_refusal plan bytes) line (Ok ([], nodes))
-step plan nodes known_address (word bytes) line = if is_known_address bytes then Ok ([], nodes) else Err (Unexpected line)
+step plan nodes known_address (word bytes) line =
+    if is_known_address bytes then Ok ([], nodes) else Err (Unexpected line)
 step plan nodes (messages_after before) (word bytes) line =
-    name_step bytes (list_refusal plan before (bytes ∷ [])) line (Ok (messages_after (before ++ bytes ∷ []) ∷ [], nodes))
+    name_step bytes (list_refusal plan before (bytes ∷ [])) line (Ok (
+      messages_after (before ++ bytes ∷ []) ∷
+          [],
+      nodes,
+    ))
 step plan nodes (messages_after before) semicolon line = Ok ([], nodes)
 step plan nodes first_controller (word bytes) line =
     name_step bytes (unknown_controller plan bytes) line (Ok (second_controller bytes ∷ [], nodes))
-step plan nodes (second_controller first) (word bytes) line = name_step bytes (never_refusal plan first bytes) line (Ok ([], nodes))
+step plan nodes (second_controller first) (word bytes) line =
+    name_step bytes (never_refusal plan first bytes) line (Ok ([], nodes))
 step plan nodes (frame above) (keyword keywords.Write) line = Ok (write_address above ∷ [], nodes)
 step plan nodes (frame above) (keyword keywords.Read) line = Ok (read_address above ∷ [], nodes)
 step plan nodes (write_address above) (word bytes) line =
@@ -106,7 +122,11 @@ step plan nodes (read_address above) (word bytes) line = header_step bytes above
 step plan nodes (count header) (word bytes) line = count_step (count_ends bytes) header nodes line
 step plan nodes (payload above) (word bytes) line =
     if is_pattern 8 bytes
-    then unless_refused (byte_refusal above nodes) line (Ok (payload (above + 1) ∷ (else_word ∷ (tail (above + 1) ∷ [])), nodes + 1))
+    then unless_refused (byte_refusal above nodes) line (Ok (
+      payload (above + 1) ∷
+          (else_word ∷ (tail (above + 1) ∷ [])),
+      nodes + 1,
+    ))
     else Err (Unexpected line)
 step plan nodes (payload above) (keyword keywords.Stop) line = Ok ([], nodes)
 step plan nodes (payload above) (keyword keywords.Again) line = Ok (frame above ∷ [], nodes)
@@ -131,7 +151,8 @@ go_on (Err e) after_it = Some e
 abbrev pub refusal : Contents → Tokens → ℕ → List Expected → Option PlanError
 refusal plan tokens nodes [] = None
 refusal plan (last ending line) nodes (e ∷ es) = Some (ends_early ending line)
-refusal plan (next token line rest) nodes (e ∷ es) = go_on (step plan nodes e token line) (λ more n. refusal plan rest n (more ++ es))
+refusal plan (next token line rest) nodes (e ∷ es) =
+    go_on (step plan nodes e token line) (λ more n. refusal plan rest n (more ++ es))
 
 -- what is expected after the keyword that begins an item, and nothing where it begins none
 abbrev pub item_parts : Version → Token → Option (List Expected)

@@ -1,4 +1,5 @@
 -- The place of a source.
+-- Only private contracts and proofs use this.
 use Rattle.plan_text.specs.declared.sources.Source.{Source}
 use Rattle.plan_text.specs.Reading.{Place, left}
 

@@ -1,9 +1,11 @@
 -- The tokens of a plan text, each with its line. A line is one more than the number of line feeds before the token.
-use Rattle.std.specs.Prelude.{ℕ, zero, suc, ◌+◌, Bool, true, false, ◌&&◌, ◌||◌, ◌==◌, nat_lt, List, [], ◌∷◌, Option, Some, None, codes, if◌then◌else◌}
+use Rattle.std.specs.Prelude.{ℕ, zero, suc, ◌+◌, Bool, true, false, ◌&&◌, ◌||◌, ◌==◌, nat_lt, List, [], ◌∷◌, Option}
+use Rattle.std.specs.Prelude.{Some, None, codes, if◌then◌else◌}
 use Rattle.std.specs.Str.{bytes_eq}
 use Rattle.plan_core.specs.Names.{is_name_byte}
 use Rattle.plan_text.specs.declared.symbols.Keyword.{Keyword}
-use Rattle.plan_text.specs.declared.symbols.Keyword.TheVariants.{Plan, Message, Controller, Interrupt, Never, Write, Read, Again, Else, Stop}
+use Rattle.plan_text.specs.declared.symbols.Keyword.TheVariants.{Plan, Message, Controller, Interrupt, Never, Write}
+use Rattle.plan_text.specs.declared.symbols.Keyword.TheVariants.{Read, Again, Else, Stop}
 
 -- a word that the grammar has in fixed places, any other word, or `;`
 pub data Token : Type 0 where

@@ -1,6 +1,7 @@
 // The items of a plan text, a function for each of them, and the plan that they make up.
 
-ghost use Rattle.std.specs.Prelude.{◌≡◌, ◌<◌, ◌≤◌, ◌⊎◌, ℕ, [], ◌∷◌, Some, None, false, Ok, IfOk, IfErr, OnOk, MatchResult, IsTrue, map};
+ghost use Rattle.std.specs.Prelude.{◌≡◌, ◌<◌, ◌≤◌, ◌⊎◌, ℕ, [], ◌∷◌, Some, None, false, Ok, IfOk, IfErr, OnOk};
+ghost use Rattle.std.specs.Prelude.{MatchResult, IsTrue, map};
 ghost use Rattle.plan_core.specs.Building.{list_refusal};
 ghost use Rattle.plan_core.specs.NameBytes.{name_bytes};
 ghost use Rattle.plan_core.specs.PlanContents.{plan_contents};
@@ -34,8 +35,10 @@ pub fn read_plan(alloc: Global, text: &[u8]) -> Result<Plan, PlanError>
     ensures spelled { IfOk result (λ plan. Spells text.now (plan_contents plan)) }
     ensures refused { IfErr result (λ e. (e ≡ PlanError.NoMemory) ⊎ First text.now e) }
     // What is right is answered, unless memory is refused.
-    ensures plans { (plan : Contents) → Spells text.now plan → MatchResult result (λ it. plan_contents it ≡ plan) (λ e. e ≡ PlanError.NoMemory) }
-    ensures refusals { (due : PlanError) → First text.now due → MatchResult result (λ it. ⊥) (λ e. (e ≡ PlanError.NoMemory) ⊎ (e ≡ due)) }
+    ensures plans { (plan : Contents) → Spells text.now plan →
+        MatchResult result (λ it. plan_contents it ≡ plan) (λ e. e ≡ PlanError.NoMemory) }
+    ensures refusals { (due : PlanError) → First text.now due →
+        MatchResult result (λ it. ⊥) (λ e. (e ≡ PlanError.NoMemory) ⊎ (e ≡ due)) }
 {
     read(alloc, text)
 }
@@ -69,11 +72,15 @@ impl<'a> Reader<'a> {
     // message NAME frame ; | controller NAME NAME* ; | interrupt NAME ADDR7 ; | never NAME NAME ;
     // It answers whether there was an item before the end of the text.
     fn item(&mut self) -> Result<bool, PlanError>
-        ensures read { IfOk result (λ more. IsTrue more → ItemRead self.old.version (so_far self.old) (ahead self.old) (so_far self.new) (ahead self.new)) }
-        ensures at_end { IfOk result (λ more. more ≡ false → (so_far self.new ≡ so_far self.old) × ((line : ℕ) × (ahead self.old ≡ spec.last spec.text_end line))) }
-        ensures refused { IfErr result (λ e. Fails e (item_refusal self.old.version (so_far self.old) (ahead self.old))) }
+        ensures read { IfOk result (λ more. IsTrue more → ItemRead self.old.version (so_far self.old) (ahead self.old)
+            (so_far self.new) (ahead self.new)) }
+        ensures at_end { IfOk result (λ more. more ≡ false →
+            (so_far self.new ≡ so_far self.old) × ((line : ℕ) × (ahead self.old ≡ spec.last spec.text_end line))) }
+        ensures refused { IfErr result (λ e. Fails e (item_refusal self.old.version (so_far self.old)
+            (ahead self.old))) }
         ensures version { self.new.version ≡ self.old.version }
-        ensures less { IfOk result (λ more. IsTrue more → unread self.new.source.tokens < unread self.old.source.tokens) }
+        ensures less { IfOk result (λ more. IsTrue more → unread self.new.source.tokens <
+            unread self.old.source.tokens) }
     {
         let token = self.source.next();
         match token.symbol {
@@ -89,8 +96,10 @@ impl<'a> Reader<'a> {
 
     // NAME frame ;
     fn message(&mut self) -> Result<(), PlanError>
-        ensures read { OnOk result ((version : Version) → RestRead keywords.Message version (so_far self.old) (ahead self.old) (so_far self.new) (ahead self.new)) }
-        ensures refused { IfErr result (λ e. Fails e (refusal (so_far self.old) (ahead self.old) 0 (expect.message_name ∷ expect.frame 0 ∷ expect.item_end ∷ []))) }
+        ensures read { OnOk result ((version : Version) → RestRead keywords.Message version (so_far self.old)
+            (ahead self.old) (so_far self.new) (ahead self.new)) }
+        ensures refused { IfErr result (λ e. Fails e (refusal (so_far self.old) (ahead self.old) 0
+            (expect.message_name ∷ expect.frame 0 ∷ expect.item_end ∷ []))) }
         ensures version { self.new.version ≡ self.old.version }
         ensures left { unread self.new.source.tokens ≤ unread self.old.source.tokens }
     {
@@ -104,8 +113,10 @@ impl<'a> Reader<'a> {
 
     // NAME NAME* ;
     fn controller(&mut self) -> Result<(), PlanError>
-        ensures read { OnOk result ((version : Version) → RestRead keywords.Controller version (so_far self.old) (ahead self.old) (so_far self.new) (ahead self.new)) }
-        ensures refused { IfErr result (λ e. Fails e (refusal (so_far self.old) (ahead self.old) 0 (expect.controller_name ∷ expect.messages_after [] ∷ []))) }
+        ensures read { OnOk result ((version : Version) → RestRead keywords.Controller version (so_far self.old)
+            (ahead self.old) (so_far self.new) (ahead self.new)) }
+        ensures refused { IfErr result (λ e. Fails e (refusal (so_far self.old) (ahead self.old) 0
+            (expect.controller_name ∷ expect.messages_after [] ∷ []))) }
         ensures version { self.new.version ≡ self.old.version }
         ensures left { unread self.new.source.tokens ≤ unread self.old.source.tokens }
     {
@@ -122,9 +133,12 @@ impl<'a> Reader<'a> {
 
     // NAME* ; with the names of messages that one controller may send.
     fn sendings(&mut self) -> Result<Vec<Name>, PlanError>
-        ensures read { IfOk result (λ it. (between : spec.Tokens) × SpellsNames (map name_bytes it.items) (ahead self.old) between × ((line : ℕ) × (between ≡ spec.next spec.semicolon line (ahead self.new)))) }
+        ensures read { IfOk result (λ it. (between : spec.Tokens) ×
+            SpellsNames (map name_bytes it.items) (ahead self.old) between ×
+            ((line : ℕ) × (between ≡ spec.next spec.semicolon line (ahead self.new)))) }
         ensures known { IfOk result (λ it. list_refusal (so_far self.old) [] (map name_bytes it.items) ≡ None) }
-        ensures refused { IfErr result (λ e. Fails e (refusal (so_far self.old) (ahead self.old) 0 (expect.messages_after [] ∷ []))) }
+        ensures refused { IfErr result (λ e. Fails e (refusal (so_far self.old) (ahead self.old) 0
+            (expect.messages_after [] ∷ []))) }
         ensures same { (so_far self.new ≡ so_far self.old) × (self.new.version ≡ self.old.version) }
         ensures left { unread self.new.source.tokens ≤ unread self.old.source.tokens }
     {
@@ -145,8 +159,10 @@ impl<'a> Reader<'a> {
 
     // NAME ADDR7 ;
     fn interrupt(&mut self) -> Result<(), PlanError>
-        ensures read { OnOk result ((version : Version) → RestRead keywords.Interrupt version (so_far self.old) (ahead self.old) (so_far self.new) (ahead self.new)) }
-        ensures refused { IfErr result (λ e. Fails e (refusal (so_far self.old) (ahead self.old) 0 (expect.interrupt_name ∷ expect.known_address ∷ expect.item_end ∷ []))) }
+        ensures read { OnOk result ((version : Version) → RestRead keywords.Interrupt version (so_far self.old)
+            (ahead self.old) (so_far self.new) (ahead self.new)) }
+        ensures refused { IfErr result (λ e. Fails e (refusal (so_far self.old) (ahead self.old) 0
+            (expect.interrupt_name ∷ expect.known_address ∷ expect.item_end ∷ []))) }
         ensures version { self.new.version ≡ self.old.version }
         ensures left { unread self.new.source.tokens ≤ unread self.old.source.tokens }
     {
@@ -160,8 +176,10 @@ impl<'a> Reader<'a> {
 
     // NAME NAME ;
     fn never(&mut self) -> Result<(), PlanError>
-        ensures read { OnOk result (RestRead keywords.Never versions.Two (so_far self.old) (ahead self.old) (so_far self.new) (ahead self.new)) }
-        ensures refused { IfErr result (λ e. Fails e (refusal (so_far self.old) (ahead self.old) 0 (expect.first_controller ∷ expect.item_end ∷ []))) }
+        ensures read { OnOk result (RestRead keywords.Never versions.Two (so_far self.old) (ahead self.old)
+            (so_far self.new) (ahead self.new)) }
+        ensures refused { IfErr result (λ e. Fails e (refusal (so_far self.old) (ahead self.old) 0
+            (expect.first_controller ∷ expect.item_end ∷ []))) }
         ensures version { self.new.version ≡ self.old.version }
         ensures left { unread self.new.source.tokens ≤ unread self.old.source.tokens }
     {

@@ -26,8 +26,10 @@ impl Source<'_> {
 
     /// The frame of a whole message.
     pub(crate) fn message_frame(&mut self) -> Result<Frame, PlanError>
-        ensures read { IfOk result (λ it. FrameRead 0 (frame_tree it) (record { tokens = (place self.old).tokens; nodes = 0 }) (place self.new)) }
-        ensures refused { IfErr result (λ e. Refuses (record { tokens = (place self.old).tokens; nodes = 0 }) (expect.frame 0 ∷ []) e) }
+        ensures read { IfOk result (λ it. FrameRead 0 (frame_tree it)
+            (record { tokens = (place self.old).tokens; nodes = 0 }) (place self.new)) }
+        ensures refused { IfErr result (λ e. Refuses (record { tokens = (place self.old).tokens; nodes = 0 })
+            (expect.frame 0 ∷ []) e) }
         ensures left { unread self.new.tokens ≤ unread self.old.tokens }
     {
         self.nodes = 0;
@@ -54,8 +56,10 @@ impl Source<'_> {
     #[cycle(message)]
     fn write(&mut self, above: u32) -> Result<Frame, PlanError>
         requires { above ≤ 256 }
-        ensures read { IfOk result (λ it. (start : Place) → TookKeyword keywords.Write start (place self.old) → FrameRead above (frame_tree it) start (place self.new)) }
-        ensures refused { IfErr result (λ e. (start : Place) → TookKeyword keywords.Write start (place self.old) → Refuses start (expect.frame above ∷ []) e) }
+        ensures read { IfOk result (λ it. (start : Place) → TookKeyword keywords.Write start (place self.old) →
+            FrameRead above (frame_tree it) start (place self.new)) }
+        ensures refused { IfErr result (λ e. (start : Place) → TookKeyword keywords.Write start (place self.old) →
+            Refuses start (expect.frame above ∷ []) e) }
         ensures left { unread self.new.tokens ≤ unread self.old.tokens }
     {
         let address = self.header(above)?;
@@ -73,8 +77,10 @@ impl Source<'_> {
     #[cycle(message)]
     fn read(&mut self, above: u32) -> Result<Frame, PlanError>
         requires { above ≤ 256 }
-        ensures read { IfOk result (λ it. (start : Place) → TookKeyword keywords.Read start (place self.old) → FrameRead above (frame_tree it) start (place self.new)) }
-        ensures refused { IfErr result (λ e. (start : Place) → TookKeyword keywords.Read start (place self.old) → Refuses start (expect.frame above ∷ []) e) }
+        ensures read { IfOk result (λ it. (start : Place) → TookKeyword keywords.Read start (place self.old) →
+            FrameRead above (frame_tree it) start (place self.new)) }
+        ensures refused { IfErr result (λ e. (start : Place) → TookKeyword keywords.Read start (place self.old) →
+            Refuses start (expect.frame above ∷ []) e) }
         ensures left { unread self.new.tokens ≤ unread self.old.tokens }
     {
         let address = self.header(above)?;
@@ -109,8 +115,12 @@ impl Source<'_> {
     #[cycle(message)]
     fn byte(&mut self, word: &[u8], line: u64, above: u32) -> Result<Payload, PlanError>
         requires { above ≤ 256 }
-        ensures read { IfOk result (λ it. (start : Place) → start.tokens ≡ spec.next (spec.word word.now) line (place self.old).tokens → start.nodes ≡ (place self.old).nodes → PayloadRead above (payload_tree it) start (place self.new)) }
-        ensures refused { IfErr result (λ e. (start : Place) → start.tokens ≡ spec.next (spec.word word.now) line (place self.old).tokens → start.nodes ≡ (place self.old).nodes → Refuses start (expect.payload above ∷ []) e) }
+        ensures read { IfOk result (λ it. (start : Place) → start.tokens ≡
+            spec.next (spec.word word.now) line (place self.old).tokens → start.nodes ≡ (place self.old).nodes →
+            PayloadRead above (payload_tree it) start (place self.new)) }
+        ensures refused { IfErr result (λ e. (start : Place) →
+            start.tokens ≡ spec.next (spec.word word.now) line (place self.old).tokens →
+            start.nodes ≡ (place self.old).nodes → Refuses start (expect.payload above ∷ []) e) }
         ensures left { unread self.new.tokens ≤ unread self.old.tokens }
     {
         let Some(bits) = pattern(word) else {
@@ -143,8 +153,10 @@ impl Source<'_> {
     #[cycle(message)]
     fn tail_from(&mut self, token: Token<'_>, above: u32) -> Result<Tail, PlanError>
         requires { above ≤ 256 }
-        ensures read { IfOk result (λ it. (start : Place) → Took token.entry start (place self.old) → TailRead above (tail_tree it) start (place self.new)) }
-        ensures refused { IfErr result (λ e. (start : Place) → Took token.entry start (place self.old) → Refuses start (expect.tail above ∷ []) e) }
+        ensures read { IfOk result (λ it. (start : Place) → Took token.entry start (place self.old) →
+            TailRead above (tail_tree it) start (place self.new)) }
+        ensures refused { IfErr result (λ e. (start : Place) → Took token.entry start (place self.old) →
+            Refuses start (expect.tail above ∷ []) e) }
         ensures left { unread self.new.tokens ≤ unread self.old.tokens }
     {
         match token.symbol {
@@ -180,7 +192,8 @@ impl Source<'_> {
     fn add_node(&mut self, above: u32, line: u64) -> Result<(), PlanError>
         requires { above ≤ 256 }
         ensures added { OnOk result ((above < 256) × (self.old.nodes < 4096) × (self.new.nodes ≡ self.old.nodes + 1)) }
-        ensures refused { IfErr result (λ e. (e ≡ PlanError.TooLong line) × (expect.byte_refusal above self.old.nodes ≡ Some build.TooLong)) }
+        ensures refused { IfErr result (λ e. (e ≡ PlanError.TooLong line) ×
+            (expect.byte_refusal above self.old.nodes ≡ Some build.TooLong)) }
         ensures same { self.new.tokens ≡ self.old.tokens }
     {
         if self.nodes >= NODES || above >= PATH_BYTES {
@@ -215,7 +228,8 @@ impl Source<'_> {
 
     // else
     fn else_word(&mut self) -> Result<(), PlanError>
-        ensures read { OnOk result (TokenRead (spec.keyword keywords.Else) expect.else_word (place self.old) (place self.new)) }
+        ensures read { OnOk result (TokenRead (spec.keyword keywords.Else) expect.else_word (place self.old)
+            (place self.new)) }
         ensures refused { IfErr result (λ e. Refuses (place self.old) (expect.else_word ∷ []) e) }
         ensures left { unread self.new.tokens ≤ unread self.old.tokens }
     {

@@ -5,7 +5,10 @@ ghost use Rattle.std.specs.List.{list_any, flat_map};
 ghost use Rattle.message_tree.specs.Trees.{frame_tree, payload_tree, tail_tree};
 ghost use Rattle.plan_core.specs.Labels.{name_at};
 ghost use Rattle.plan_core.specs.PlanContents.{plan_contents};
-ghost use Rattle.plan_text.specs.Canonical.{Adds, address_word, pattern_word, count_word, frame_words, payload_words, tail_words, bit_symbol, frame_has_range, payload_has_range, tail_has_range, item_line, message_line, controller_line, interrupt_line, never_line, version_line, plan_text};
+ghost use Rattle.plan_text.specs.Canonical.{Adds, address_word, pattern_word, count_word, frame_words, payload_words};
+ghost use Rattle.plan_text.specs.Canonical.{tail_words, bit_symbol, frame_has_range, payload_has_range, tail_has_range};
+ghost use Rattle.plan_text.specs.Canonical.{item_line, message_line, controller_line, interrupt_line, never_line};
+ghost use Rattle.plan_text.specs.Canonical.{version_line, plan_text};
 ghost use Rattle.plan_text.specs.Grammar.{Spells};
 
 use message_tree::{Address, Bit, Count, Frame, Pattern, Payload, Tail};
@@ -60,7 +63,8 @@ fn has_range(plan: &Plan) -> bool
 }
 
 fn messages(text: &mut String, plan: &Plan) -> Result<(), AllocError>
-    ensures { OnOk result (string_bytes text.new ≡ string_bytes text.old ++ flat_map message_line (plan_contents plan.now).messages) }
+    ensures { OnOk result (string_bytes text.new ≡ string_bytes text.old ++
+        flat_map message_line (plan_contents plan.now).messages) }
 {
     for k in 0..plan.messages() {
         message(text, plan.message_name(k).as_str(), plan.message(k))?;
@@ -69,7 +73,8 @@ fn messages(text: &mut String, plan: &Plan) -> Result<(), AllocError>
 }
 
 fn message(text: &mut String, name: &str, it: &Frame) -> Result<(), AllocError>
-    ensures { OnOk result (string_bytes text.new ≡ string_bytes text.old ++ message_line (name.now, frame_tree it.now)) }
+    ensures { OnOk result (string_bytes text.new ≡ string_bytes text.old ++
+        message_line (name.now, frame_tree it.now)) }
 {
     text.push_str("message")?;
     word(text, name)?;
@@ -78,7 +83,8 @@ fn message(text: &mut String, name: &str, it: &Frame) -> Result<(), AllocError>
 }
 
 fn controllers(text: &mut String, plan: &Plan) -> Result<(), AllocError>
-    ensures { OnOk result (string_bytes text.new ≡ string_bytes text.old ++ flat_map (controller_line (plan_contents plan.now)) (plan_contents plan.now).controllers) }
+    ensures { OnOk result (string_bytes text.new ≡ string_bytes text.old ++
+        flat_map (controller_line (plan_contents plan.now)) (plan_contents plan.now).controllers) }
 {
     for k in 0..plan.controllers() {
         let name = plan.controller_name(k).as_str();
@@ -89,7 +95,8 @@ fn controllers(text: &mut String, plan: &Plan) -> Result<(), AllocError>
 
 fn controller(text: &mut String, plan: &Plan, name: &str, sends: &[u32]) -> Result<(), AllocError>
     requires { All (λ m. m < length (plan_contents plan.now).messages) sends.now }
-    ensures { OnOk result (string_bytes text.new ≡ string_bytes text.old ++ controller_line (plan_contents plan.now) (name.now, sends.now)) }
+    ensures { OnOk result (string_bytes text.new ≡ string_bytes text.old ++
+        controller_line (plan_contents plan.now) (name.now, sends.now)) }
 {
     text.push_str("controller")?;
     word(text, name)?;
@@ -100,7 +107,8 @@ fn controller(text: &mut String, plan: &Plan, name: &str, sends: &[u32]) -> Resu
 // The names of the messages with these numbers.
 fn message_names(text: &mut String, plan: &Plan, numbers: &[u32]) -> Result<(), AllocError>
     requires { All (λ m. m < length (plan_contents plan.now).messages) numbers.now }
-    ensures { OnOk result (Adds (string_bytes text.old) (string_bytes text.new) (map (name_at (plan_contents plan.now).messages) numbers.now)) }
+    ensures { OnOk result (Adds (string_bytes text.old) (string_bytes text.new)
+        (map (name_at (plan_contents plan.now).messages) numbers.now)) }
 {
     for message in numbers {
         word(text, plan.message_name(*message).as_str())?;
@@ -109,7 +117,8 @@ fn message_names(text: &mut String, plan: &Plan, numbers: &[u32]) -> Result<(), 
 }
 
 fn interrupts(text: &mut String, plan: &Plan) -> Result<(), AllocError>
-    ensures { OnOk result (string_bytes text.new ≡ string_bytes text.old ++ flat_map interrupt_line (plan_contents plan.now).interrupts) }
+    ensures { OnOk result (string_bytes text.new ≡ string_bytes text.old ++
+        flat_map interrupt_line (plan_contents plan.now).interrupts) }
 {
     for k in 0..plan.interrupts() {
         let name = plan.interrupt_name(k).as_str();
@@ -128,7 +137,8 @@ fn interrupt(text: &mut String, name: &str, target: u8) -> Result<(), AllocError
 }
 
 fn nevers(text: &mut String, plan: &Plan) -> Result<(), AllocError>
-    ensures { OnOk result (string_bytes text.new ≡ string_bytes text.old ++ flat_map (never_line (plan_contents plan.now)) (plan_contents plan.now).nevers) }
+    ensures { OnOk result (string_bytes text.new ≡ string_bytes text.old ++
+        flat_map (never_line (plan_contents plan.now)) (plan_contents plan.now).nevers) }
 {
     for k in 0..plan.nevers() {
         let (first, second) = plan.never(k);
@@ -139,7 +149,8 @@ fn nevers(text: &mut String, plan: &Plan) -> Result<(), AllocError>
 }
 
 fn never(text: &mut String, first: &str, second: &str) -> Result<(), AllocError>
-    ensures { OnOk result (string_bytes text.new ≡ string_bytes text.old ++ item_line (codes "never") (first.now ∷ (second.now ∷ []))) }
+    ensures { OnOk result (string_bytes text.new ≡ string_bytes text.old ++
+        item_line (codes "never") (first.now ∷ (second.now ∷ []))) }
 {
     text.push_str("never")?;
     word(text, first)?;

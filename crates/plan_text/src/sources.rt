@@ -55,7 +55,8 @@ impl<'a> Source<'a> {
 
     /// NAME
     pub(crate) fn name(&mut self) -> Result<Named, PlanError>
-        ensures read { IfOk result (λ it. left self.old.tokens ≡ spec.next (spec.word (name_bytes it.name)) it.line (left self.new.tokens)) }
+        ensures read { IfOk result (λ it. left self.old.tokens ≡
+            spec.next (spec.word (name_bytes it.name)) it.line (left self.new.tokens)) }
         ensures refused { IfErr result (λ e. Fails e (name_refusal (left self.old.tokens))) }
         ensures left { unread self.new.tokens ≤ unread self.old.tokens }
     {
@@ -69,8 +70,10 @@ impl<'a> Source<'a> {
 
     /// The NAME that this token is.
     pub(crate) fn name_of(&self, token: Token<'_>) -> Result<Name, PlanError>
-        ensures read { IfOk result (λ it. (rest : spec.Tokens) → with_token token.entry rest ≡ spec.next (spec.word (name_bytes it)) token.entry.line rest) }
-        ensures refused { IfErr result (λ e. (rest : spec.Tokens) → Fails e (name_refusal (with_token token.entry rest))) }
+        ensures read { IfOk result (λ it. (rest : spec.Tokens) →
+            with_token token.entry rest ≡ spec.next (spec.word (name_bytes it)) token.entry.line rest) }
+        ensures refused { IfErr result (λ e. (rest : spec.Tokens) →
+            Fails e (name_refusal (with_token token.entry rest))) }
         ensures taken { OnOk result (taken token.entry.symbol ≡ 1) }
     {
         let Symbol::Word(word) = token.symbol else {
@@ -88,8 +91,10 @@ impl<'a> Source<'a> {
 
     /// ADDR7
     pub(crate) fn interrupt_address(&mut self) -> Result<u8, PlanError>
-        ensures read { IfOk result (λ it. (it < 128) × ((line : ℕ) × (left self.old.tokens ≡ spec.next (spec.word (interrupt_word it)) line (left self.new.tokens)))) }
-        ensures refused { IfErr result (λ e. (plan : Contents) (nodes : ℕ) (more : List expect.Expected) → expect.refusal plan (left self.old.tokens) nodes (expect.known_address ∷ more) ≡ Some e) }
+        ensures read { IfOk result (λ it. (it < 128) × ((line : ℕ) ×
+            (left self.old.tokens ≡ spec.next (spec.word (interrupt_word it)) line (left self.new.tokens)))) }
+        ensures refused { IfErr result (λ e. (plan : Contents) (nodes : ℕ) (more : List expect.Expected) →
+            expect.refusal plan (left self.old.tokens) nodes (expect.known_address ∷ more) ≡ Some e) }
         ensures left { unread self.new.tokens ≤ unread self.old.tokens }
     {
         let token = self.tokens.next();
@@ -104,8 +109,10 @@ impl<'a> Source<'a> {
 
     /// `;`
     pub(crate) fn semicolon(&mut self) -> Result<(), PlanError>
-        ensures read { OnOk result ((line : ℕ) × (left self.old.tokens ≡ spec.next spec.semicolon line (left self.new.tokens))) }
-        ensures refused { IfErr result (λ e. (plan : Contents) (nodes : ℕ) (more : List expect.Expected) → expect.refusal plan (left self.old.tokens) nodes (expect.item_end ∷ more) ≡ Some e) }
+        ensures read { OnOk result ((line : ℕ) × (left self.old.tokens ≡
+            spec.next spec.semicolon line (left self.new.tokens))) }
+        ensures refused { IfErr result (λ e. (plan : Contents) (nodes : ℕ) (more : List expect.Expected) →
+            expect.refusal plan (left self.old.tokens) nodes (expect.item_end ∷ more) ≡ Some e) }
         ensures left { unread self.new.tokens ≤ unread self.old.tokens }
     {
         let token = self.tokens.next();

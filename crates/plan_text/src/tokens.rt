@@ -41,7 +41,8 @@ impl<'a> Tokens<'a> {
 
     /// The next token. A stray character and a foreign byte stay in their places.
     pub(crate) fn next(&mut self) -> Token<'a>
-        ensures tokens { (dots : Dots) → dots_now dots ≡ self.old.dots → left_of dots self.old ≡ with_token result (left_of (one_later dots) self.new) }
+        ensures tokens { (dots : Dots) → dots_now dots ≡ self.old.dots →
+            left_of dots self.old ≡ with_token result (left_of (one_later dots) self.new) }
         ensures left { left self.old ≡ with_token result (left self.new) }
         ensures dots { self.new.dots ≡ self.old.dots }
         ensures shorter { unread self.new + taken result.symbol ≤ unread self.old }

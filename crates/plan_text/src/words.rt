@@ -4,7 +4,8 @@ ghost use Rattle.std.specs.Prelude.{◌≡◌, ◌<◌, ◌≤◌, ◌^◌, leng
 ghost use Rattle.std.specs.List.{list_all};
 ghost use Rattle.message_tree.specs.Bits.{bit_from, bits_below};
 ghost use Rattle.plan_text.specs.Canonical.{bit_symbol, address_word, pattern_word, interrupt_word};
-ghost use Rattle.plan_text.specs.Words.{is_bit, is_pattern, is_known_address, is_digits, number, around_dots, count_ends};
+ghost use Rattle.plan_text.specs.Words.{is_bit, is_pattern, is_known_address, is_digits, number, around_dots};
+ghost use Rattle.plan_text.specs.Words.{count_ends};
 
 use message_tree::{Address, Count, Pattern};
 
@@ -50,7 +51,8 @@ pub(crate) fn known_address(word: &[u8]) -> Option<u8>
 
 /// The ends of a count, each of digits alone: both are the word itself, or they stand around `..`.
 pub(crate) fn count_ends(word: &[u8]) -> Option<CountEnds<'_>>
-    ensures { MatchOption result (count_ends word.now ≡ None) (λ e. count_ends word.now ≡ Some (e.least.now, e.greatest.now)) }
+    ensures { MatchOption result (count_ends word.now ≡ None)
+        (λ e. count_ends word.now ≡ Some (e.least.now, e.greatest.now)) }
 {
     if is_digits(word) {
         return Some(CountEnds {
@@ -82,7 +84,8 @@ impl CountEnds<'_> {
     /// The count, where both ends are 1 to 255 and in order.
     pub(crate) fn count(&self) -> Option<Count>
         ensures form { is_some result ≡ in_range (self.now.least.now, self.now.greatest.now) }
-        ensures value { IfSome result (λ c. (least_of c ≡ number self.now.least.now) × (greatest_of c ≡ number self.now.greatest.now)) }
+        ensures value { IfSome result (λ c. (least_of c ≡ number self.now.least.now) ×
+            (greatest_of c ≡ number self.now.greatest.now)) }
     {
         Count::between(number(self.least)?, number(self.greatest)?)
     }
@@ -131,7 +134,8 @@ fn bit(byte: u8) -> Option<Mask>
 
 // What stands before and after the first `.`, where another `.` follows it directly.
 fn around_dots(word: &[u8]) -> Option<(&[u8], &[u8])>
-    ensures { MatchOption result (around_dots word.now ≡ None) (λ ends. around_dots word.now ≡ Some (ends.0.now, ends.1.now)) }
+    ensures { MatchOption result (around_dots word.now ≡ None)
+        (λ ends. around_dots word.now ≡ Some (ends.0.now, ends.1.now)) }
 {
     let dot = word.iter().position(|byte| *byte == b'.')?;
     let (before, rest) = word.split_at(dot);

@@ -45,7 +45,8 @@ module _ {D E : Type 0} (first : Reader D) (second : Reader E) where
 
   -- The run halted at the first text, and the second reader is as it was. Or the first text passed and the second was not
   -- read to its end, or memory was refused after both.
-  pub data HaltsAtBoth (Refuses : List ℕ → RunError → Type 0) (Passes : List ℕ → Type 0) (before : D × E) : RunError → D × E → Type 0 where
+  pub data HaltsAtBoth (Refuses : List ℕ → RunError → Type 0) (Passes : List ℕ → Type 0) (before : D × E) : RunError →
+      D × E → Type 0 where
     at_first : {error : RunError} {now : D} →
         HaltsAtText first Refuses before.0 error now →
         HaltsAtBoth Refuses Passes before error (now, before.1)
