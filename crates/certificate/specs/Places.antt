@@ -2,8 +2,7 @@
 -- Only private contracts and proofs use this.
 use Rattle.std.specs.Prelude.{◌≡◌, ◌≢◌, ℕ, suc, ◌<◌, List, [], ◌∷◌, ◌++◌, length, Option, Some, codes, decimal, All}
 use Rattle.message_tree.specs.declared.items.Item.{Item}
-use Rattle.message_tree.specs.declared.items.Kind.{Kind}
-use Rattle.message_tree.specs.Symbols.{wire_text, kind_word}
+use Rattle.message_tree.specs.Symbols.{wire_text}
 use Rattle.certificate.specs.declared.errors.CertError.{CertError}
 use Rattle.certificate.specs.declared.errors.CertError.TheVariants.{Wrong, NoMemory}
 use Rattle.certificate.specs.declared.errors.CertFault.{CertFault}

@@ -1,7 +1,7 @@
 //! Certificates: proofs that pairs of participants never clash, and faults that show where one does.
 //!
 //! `values` has what a certificate says, `laws` what a proof is worth, and that each text has one reading. `read_cert`
-//! reads the text of a certificate and `print_cert` writes it; `read_head` and `ProofLines` read it one proof at a time.
+//! reads the text of a certificate and `print_cert` writes it; `read_head` and `ProofLines` read one proof at a time.
 //! `sources` has what is left of a text, byte by byte, `words` and `proofs` a function for each rule of the grammar.
 #![tactic(auto)]
 

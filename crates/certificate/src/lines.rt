@@ -9,7 +9,7 @@ use crate::values::Cert;
 use std::alloc::Global;
 
 /// What is left of a certificate text whose proofs are read one at a time.
-#[derive(Clone, Copy, Debug)]
+#[derive(Debug, Drop)]
 pub struct ProofLines<'a> {
     source: Source<'a>,
     // the number of proofs that the text announces, and of those that were read
