@@ -1,5 +1,5 @@
 #!/usr/bin/env bash
-# Runs 'twire check' from the command line, and compares the exit status and all that it writes. The last line is
+# Runs twire from the command line, and compares the exit status and all that it writes. The last line is
 # 'N passed, M failed', and the exit status is 1 where a case fails.
 #
 # It runs the launcher at the top of the repository, or the program that TWIRE names.
@@ -124,6 +124,42 @@ run "no worker with a directory" check directory --workers 0
 run "no worker with standard input" check /dev/stdin --workers 0 <safe.plan
 run "no worker with a pipe" check /dev/stdin --workers 0 < <(cat safe.plan)
 
+# Certificates.
+
+safe_cert="cert 1
+pairs 1
+B B . . ."
+unsafe_cert="cert 1
+fault 0 10010000l stop data"
+printf '%s\n' "$safe_cert" >safe.cert
+printf '%s\n' "$unsafe_cert" >unsafe.cert
+
+want 0 "$safe_cert" ""
+run "certificate of a safe plan" certify safe.plan
+run "certificate of a safe plan from standard input" certify /dev/stdin <safe.plan
+want 1 "$unsafe_cert" ""
+run "certificate of an unsafe plan" certify unsafe.plan
+want 0 "accepted safe" ""
+run "right proofs" verify safe.plan safe.cert
+run "right proofs from standard input" verify safe.plan /dev/stdin <safe.cert
+run "a plan from standard input, and right proofs" verify /dev/stdin safe.cert <safe.plan
+want 1 "accepted unsafe" ""
+run "right fault" verify unsafe.plan unsafe.cert
+want 2 "wrong C5 pair 0" ""
+run "proofs of another plan" verify unsafe.plan safe.cert
+run "fault of another plan" verify safe.plan unsafe.cert
+want 2 "wrong C1 line 1" ""
+run "a plan in the place of the certificate" verify safe.plan safe.plan
+want 2 "" "refused P2 line 1"
+run "certificate of an empty plan" certify empty.plan
+run "refused plan with a certificate" verify empty.plan safe.cert
+run "refused plan with a directory" verify empty.plan directory
+want 2 "" "refused read"
+run "certify a missing file" certify missing.plan
+run "refused plan with a missing certificate" verify empty.plan missing.cert
+run "missing plan with a certificate" verify missing.plan safe.cert
+run "plan with a directory" verify safe.plan directory
+
 # Standard output that takes nothing.
 
 want 2 "" "refused write"
@@ -180,6 +216,10 @@ run "help as a subcommand" help
 want 0 "$(cat "$tests/expected/check_help.txt")" ""
 run "help on check" check --help
 run "help on check as a subcommand" help check
+want 0 "$(cat "$tests/expected/certify_help.txt")" ""
+run "help on certify" certify --help
+want 0 "$(cat "$tests/expected/verify_help.txt")" ""
+run "help on verify" verify --help
 want 2 "" "$(cat help.txt)"
 run "no argument"
 
@@ -243,6 +283,16 @@ for plan in "$tests"/../examples/*.plan; do
     report=$(sed -n '/^# twire check /,/^\(#\)\{0,1\}$/s/^#   //p' "$plan")
     want "$status" "$report" ""
     run "example $(basename "$plan")" check "$plan"
+done
+
+# The certificate of an example belongs to the plan of its name.
+for cert in "$tests"/../examples/*.cert; do
+    plan=${cert%.cert}.plan
+    safe=$(sed -n 's/^# twire check .*(exit status \([0-2]\))$/\1/p' "$plan")
+    want "$safe" "$(cat "$cert")" ""
+    run "certificate of example $(basename "$plan")" certify "$plan"
+    want "$safe" "$([[ $safe == 0 ]] && echo "accepted safe" || echo "accepted unsafe")" ""
+    run "example $(basename "$cert")" verify "$plan" "$cert"
 done
 
 echo "$passed passed, $failed failed"
