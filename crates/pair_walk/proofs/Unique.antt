@@ -34,7 +34,7 @@ one_place xs ys k l f g =
     ]
 
 -- no proof stands between nodes that clash
-no_byte_tail : (p : ProofTree) (a : Pattern) (x : PayloadTree) (r t : TailTree) → CanonicalPayloads p (tree.byte a x r) (tree.last t) → ⊥
+pub no_byte_tail : (p : ProofTree) (a : Pattern) (x : PayloadTree) (r t : TailTree) → CanonicalPayloads p (tree.byte a x r) (tree.last t) → ⊥
 no_byte_tail (part k) a x r t h = h
 no_byte_tail short a x r t h = h
 no_byte_tail (byte p q) a x r t h = h
@@ -42,7 +42,7 @@ no_byte_tail (read p q) a x r t h = h
 no_byte_tail (again p) a x r t h = h
 no_byte_tail alike a x r t h = h
 
-no_tail_byte : (p : ProofTree) (a : Pattern) (x : PayloadTree) (r t : TailTree) → CanonicalPayloads p (tree.last t) (tree.byte a x r) → ⊥
+pub no_tail_byte : (p : ProofTree) (a : Pattern) (x : PayloadTree) (r t : TailTree) → CanonicalPayloads p (tree.last t) (tree.byte a x r) → ⊥
 no_tail_byte (part k) a x r t h = h
 no_tail_byte short a x r t h = h
 no_tail_byte (byte p q) a x r t h = h
@@ -50,7 +50,7 @@ no_tail_byte (read p q) a x r t h = h
 no_tail_byte (again p) a x r t h = h
 no_tail_byte alike a x r t h = h
 
-no_stop_again : (p : ProofTree) (f : FrameTree) → CanonicalTails p tree.stop (tree.again f) → ⊥
+pub no_stop_again : (p : ProofTree) (f : FrameTree) → CanonicalTails p tree.stop (tree.again f) → ⊥
 no_stop_again (part k) f h = h
 no_stop_again short f h = h
 no_stop_again (byte p q) f h = h
@@ -58,7 +58,7 @@ no_stop_again (read p q) f h = h
 no_stop_again (again p) f h = h
 no_stop_again alike f h = h
 
-no_again_stop : (p : ProofTree) (f : FrameTree) → CanonicalTails p (tree.again f) tree.stop → ⊥
+pub no_again_stop : (p : ProofTree) (f : FrameTree) → CanonicalTails p (tree.again f) tree.stop → ⊥
 no_again_stop (part k) f h = h
 no_again_stop short f h = h
 no_again_stop (byte p q) f h = h
@@ -66,7 +66,7 @@ no_again_stop (read p q) f h = h
 no_again_stop (again p) f h = h
 no_again_stop alike f h = h
 
-between_tails : (p : ProofTree) (r s : TailTree) → CanonicalPayloads p (tree.last r) (tree.last s) → CanonicalTails p r s
+pub between_tails : (p : ProofTree) (r s : TailTree) → CanonicalPayloads p (tree.last r) (tree.last s) → CanonicalTails p r s
 between_tails (part k) r s h = h
 between_tails short r s h = h
 between_tails (byte p q) r s h = h

@@ -10,6 +10,7 @@ use Rattle.cert_check.specs.declared.answers.Answer.{Answer}
 use Rattle.cert_check.specs.declared.answers.Answer.TheVariants.{Safe, Unsafe, Wrong}
 use Rattle.pair_walk.specs.declared.walk_pair.Verdict.{Verdict}
 use Rattle.plan_core.specs.Contents.{Contents}
+use Rattle.plan_core.specs.Limits.{IsWithinLimits}
 use Rattle.plan_text.proofs.RefusedLemmas.{spelled_not_refused}
 use Rattle.plan_text.specs.Grammar.{Spells}
 use Rattle.plan_text.specs.Refusals.{First}
@@ -22,10 +23,11 @@ use Rattle.report.specs.RunErrors.{accept_error}
 use Rattle.report.specs.declared.errors.RunError.TheVariants.{NoMemory}
 use Rattle.report.specs.declared.runs.Status.{Status}
 
-pub certifies : (text slice report : List ℕ) (plan : Contents) (verdicts : List Verdict) (status : Status) → slice ≡ text → Spells slice plan → AreVerdicts plan verdicts → report ≡ cert_text (certificate_for verdicts) → Judges status plan → Certified text report status
-certifies text slice report plan verdicts status same spelled right written judged = record {
+pub certifies : (text slice report : List ℕ) (plan : Contents) (verdicts : List Verdict) (status : Status) → slice ≡ text → Spells slice plan → IsWithinLimits plan → AreVerdicts plan verdicts → report ≡ cert_text (certificate_for verdicts) → Judges status plan → Certified text report status
+certifies text slice report plan verdicts status same spelled limits right written judged = record {
   plan = plan;
   spelled = subst (λ (t : List ℕ). Spells t plan) same spelled;
+  limits = limits;
   verdicts = verdicts;
   right = right;
   written = written;

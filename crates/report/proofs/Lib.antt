@@ -1,3 +1,5 @@
+pub mod AcceptedLemmas
+pub mod PrintableLemmas
 pub mod CertificateLemmas
 pub mod DeviceLemmas
 pub mod LineLemmas

@@ -8,6 +8,7 @@ use Rattle.cert_check.specs.declared.answers.Answer.{Answer}
 use Rattle.cert_check.specs.declared.answers.Answer.TheVariants.{Safe, Unsafe, Wrong}
 use Rattle.pair_walk.specs.declared.walk_pair.Verdict.{Verdict}
 use Rattle.plan_core.specs.Contents.{Contents}
+use Rattle.plan_core.specs.Limits.{IsWithinLimits}
 use Rattle.plan_text.specs.Grammar.{Spells}
 use Rattle.verdicts.specs.Certificates.{certificate_for}
 use Rattle.verdicts.specs.Verdicts.{AreVerdicts}
@@ -15,10 +16,12 @@ use Rattle.report.specs.Checks.{Judges}
 use Rattle.report.specs.declared.runs.Status.{Status}
 use Rattle.report.specs.declared.runs.Status.TheVariants.{Good, Bad, Refused}
 
--- the text spells a plan, the report is the text of the certificate for its verdicts, and the status judges of the plan
+-- the text spells a plan, within the limits as every plan is; the report is the text of the certificate for its verdicts, and
+-- the status judges of the plan
 pub record Certified (text report : List ℕ) (status : Status) : Type 0 where
   pub plan : Contents
   pub spelled : Spells text plan
+  pub limits : IsWithinLimits plan
   pub verdicts : List Verdict
   pub right : AreVerdicts plan verdicts
   pub written : report ≡ cert_text (certificate_for verdicts)

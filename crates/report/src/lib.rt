@@ -5,6 +5,7 @@ pub mod certificates;
 pub mod checks;
 pub mod devices;
 pub mod errors;
+pub mod laws;
 mod lines;
 pub mod runs;
 
