@@ -145,6 +145,12 @@ run "right proofs from standard input" verify safe.plan /dev/stdin <safe.cert
 run "a plan from standard input, and right proofs" verify /dev/stdin safe.cert <safe.plan
 want 1 "accepted unsafe" ""
 run "right fault" verify unsafe.plan unsafe.cert
+write_plan three.plan "plan 2" "message m write 1001000 11110000 stop else stop else stop ;" "message n write 1001000 11001111 stop else stop else stop ;" "message o write 1001000 1100xxxx stop else stop else stop ;" "controller a m ;" "controller b n ;" "controller c o ;" "never a c ;"
+want 0 "cert 1
+pairs 2
+B P2 .
+B B . . ." ""
+run "certificate of a plan with controllers that never start together" certify three.plan
 want 2 "wrong C5 pair 0" ""
 run "proofs of another plan" verify unsafe.plan safe.cert
 run "fault of another plan" verify safe.plan unsafe.cert
