@@ -20,7 +20,8 @@ use Rattle.message_tree.specs.Trees.{FrameTree, PayloadTree, TailTree}
 use Rattle.message_tree.specs.Texts.{Language, SentThen, AnswerThen, ReadThen, write_header, read_header, FrameText, PayloadText, TailText}
 use Rattle.certificate.specs.declared.values.Cert.{Cert}
 use Rattle.certificate.specs.Proofs.{ProofTree, part, byte, read, again, alike, proof_tree}
-use Rattle.certificate.specs.Proves.{NeverClash, ProvesFrames, ProvesPayloads, ProvesTails}
+use Rattle.certificate.specs.Laws.{NeverClash}
+use Rattle.certificate.specs.Proves.{ProvesFrames, ProvesPayloads, ProvesTails}
 use Rattle.certificate.proofs.Soundness.{never_read, sound_payloads, sound_tails}
 use Rattle.pair_walk.specs.declared.compare.Halt.{Halt}
 use Rattle.pair_walk.specs.declared.compare.Halt.TheVariants.{NoMemory}
