@@ -1,0 +1,2 @@
+pub mod AlongLemmas
+pub mod LeaverLemmas
