@@ -1,12 +1,11 @@
 -- Marks followed through the parts that a text is made of.
-use Rattle.std.proofs.Common.{◌≡◌, ℕ, zero, suc, ◌+◌, ◌<◌, ◌≤◌, Bool, true, false, IsTrue, List, [], ◌∷◌, ◌++◌, refl, ap, sym, ◌∙◌, subst, arith, ◌↔◌, Option, Some, None}
+use Rattle.std.proofs.Common.{◌≡◌, ℕ, zero, suc, ◌+◌, ◌<◌, Bool, true, false, IsTrue, List, [], ◌∷◌, ◌++◌, refl, ap, sym, ◌∙◌, subst, arith, ◌↔◌, Option, Some, None}
 use Rattle.message_tree.specs.declared.bits.Bit.{Bit}
 use Rattle.message_tree.specs.declared.bits.Bit.TheVariants.{Zero, One, Either}
 use Rattle.message_tree.specs.declared.counts.Count.{Count}
-use Rattle.message_tree.specs.declared.items.Item.{Item}
-use Rattle.message_tree.specs.declared.items.Item.TheVariants.{Sent, Heard, Again, Stop, Claim}
-use Rattle.message_tree.specs.Counts.{InRange, least_of, greatest_of}
-use Rattle.message_tree.specs.Texts.{Language, Allows, SentThen, HeardThen, AnswerThen, AgainThen, Only, ByteThen, BytesThen, ReadThen}
+use Rattle.message_tree.specs.declared.items.Item.TheVariants.{Sent, Heard, Again, Stop}
+use Rattle.message_tree.specs.Counts.{InRange, greatest_of}
+use Rattle.message_tree.specs.Texts.{Language, SentThen, HeardThen, AnswerThen, AgainThen, Only, ByteThen, BytesThen, ReadThen}
 use Rattle.message_tree.specs.declared.bits.Address.{Address}
 use Rattle.message_tree.specs.declared.bits.Pattern.{Pattern}
 use Rattle.message_tree.specs.Patterns.{pattern_bits}
@@ -14,9 +13,9 @@ use Rattle.message_tree.specs.Texts.{FrameText, PayloadText, TailText, write_hea
 use Rattle.message_tree.specs.Trees.{FrameTree, PayloadTree, TailTree, write, read, byte, stop, again}
 use Rattle.capture_check.specs.declared.listening.Mark.{Mark}
 use Rattle.capture_check.specs.declared.listening.Mark.TheVariants as mark
-use Rattle.capture_check.specs.Marks.{Leaves, LeaveAll, Fits}
+use Rattle.capture_check.specs.Marks.{Leaves, Fits}
 use Rattle.capture_check.specs.Explained.{Whatever}
-use Rattle.capture_check.specs.Along.{may_be, after_bits, after_levels, Answered, no_answer, acked, refused, after_answer, after_again, only_stop, FitsAfter, FitsAnswered, ReadOn, FitsRead}
+use Rattle.capture_check.specs.Along.{after_bits, after_levels, Answered, after_answer, after_again, only_stop, FitsAfter, FitsAnswered, ReadOn, FitsRead}
 
 -- ---- bits that are sent
 

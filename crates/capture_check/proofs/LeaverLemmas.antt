@@ -1,5 +1,5 @@
 -- The participants that may leave some marks, one participant after another.
-use Rattle.std.proofs.Common.{◌≡◌, ◌↔◌, ℕ, zero, suc, ◌+◌, ◌<◌, ◌≤◌, Bool, true, false, IsTrue, List, [], ◌∷◌, ◌++◌, AllPairs, Contains, All, arith, eq-or-lt_of_le, inl, inr, ◌⊎◌, refl, sym, subst, Option, Some, None, length, slice_get}
+use Rattle.std.proofs.Common.{◌≡◌, ◌↔◌, ℕ, zero, suc, ◌+◌, ◌<◌, Bool, IsTrue, List, [], ◌∷◌, ◌++◌, AllPairs, Contains, All, arith, eq-or-lt_of_le, inl, inr, ◌⊎◌, sym, subst, Option, Some, None, slice_get}
 use Rattle.std.proofs.lemmas.List.Elements.{Contains-append_left, Contains-append_cases, Contains-push, All-nil, All-cons, All-append, All-weaker}
 use Rattle.std.proofs.lemmas.Option.{slice_get_cases}
 use Rattle.message_tree.specs.Texts.{Sender}

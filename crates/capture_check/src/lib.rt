@@ -10,7 +10,9 @@ pub mod explaining;
 pub mod listening;
 mod texts;
 pub mod watching;
+pub mod workers;
 
 pub use explaining::explain;
 pub use listening::{Listener, Mark, Transaction, Until, transactions};
 pub use watching::{Event, Watch, What, events};
+pub use workers::explain_all;

@@ -1,4 +1,3 @@
-use Rattle.std.proofs.Common.{◌≡◌}
 use Rattle.plan_core.specs.PlanContents.{plan_contents}
 use Rattle.capture_check.proofs.LeaverLemmas.{AreLeaversBelow}
 use Rattle.capture_check.proofs.explaining.explain_marks.Given as goal

@@ -1,5 +1,4 @@
-use Rattle.std.proofs.Common.{refl, ap, sym, ◌∙◌, subst, List, Some, None, Option}
-use Rattle.message_tree.specs.declared.bits.Bit.{Bit}
+use Rattle.std.proofs.Common.{Some, None}
 use Rattle.message_tree.specs.Patterns.{address_bits}
 use Rattle.capture_check.proofs.AlongLemmas.{header_fits, begins_with, along, never, always}
 use Rattle.capture_check.proofs.texts.interrupt_fits.Goals as goal
