@@ -9,13 +9,15 @@ use Rattle.message_tree.specs.declared.items.Kind.TheVariants as kind
 use Rattle.message_tree.specs.Bits.{NeverSplit}
 use Rattle.message_tree.specs.Patterns.{address_bits}
 use Rattle.message_tree.specs.Trees.{FrameTree, PayloadTree, TailTree, stop, again}
-use Rattle.message_tree.specs.Texts.{Language, Sender, SenderText, FrameText, PayloadText, TailText, ReadThen, read_header}
+use Rattle.message_tree.specs.Texts.{Language, Sender, SenderText, FrameText, PayloadText, TailText, ReadThen}
+use Rattle.message_tree.specs.Texts.{read_header}
 use Rattle.certificate.specs.declared.values.Fault.{Fault}
 use Rattle.certificate.specs.Proofs.{ProofTree}
 use Rattle.plan_core.specs.Contents.{Contents}
 use Rattle.pair_walk.specs.declared.halts.Halt.{Halt}
 use Rattle.pair_walk.specs.declared.halts.Halt.TheVariants.{Clash, NoMemory}
-use Rattle.pair_walk.specs.Canonical.{CanonicalFrames, CanonicalReads, CanonicalPayloads, CanonicalTails, CanonicalHeaders, IsCanonical}
+use Rattle.pair_walk.specs.Canonical.{CanonicalFrames, CanonicalReads, CanonicalPayloads, CanonicalTails}
+use Rattle.pair_walk.specs.Canonical.{CanonicalHeaders, IsCanonical}
 use Rattle.pair_walk.specs.FirstClash.{IsFirstClash}
 use Rattle.pair_walk.specs.Verdicts.{IsFirstFault, IsSafeProof}
 use Rattle.pair_walk.specs.Wires.{agreed}

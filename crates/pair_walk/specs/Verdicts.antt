@@ -1,5 +1,5 @@
--- The verdict of a pair: the one proof that it has no fault, or its first fault. The proofs and the order are ours; faults
--- are those of UM10204, 3.1.8, and of claims.
+-- The verdict of a pair: the one proof that it has no fault, or its first fault. The proofs and the order are ours;
+-- faults are those of UM10204, 3.1.8, and of claims.
 use Rattle.std.specs.Prelude.{ℕ, Option, Some, None, List}
 use Rattle.message_tree.specs.declared.items.Item.{Item}
 use Rattle.message_tree.specs.declared.items.Kind.{Kind}

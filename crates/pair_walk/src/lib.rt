@@ -1,5 +1,5 @@
-//! The verdict of a pair of participants: a proof that they never clash, or their first fault. One comparison gives both
-//! the whole verdict and, with no proof made, the first fault alone.
+//! The verdict of a pair of participants: a proof that they never clash, or their first fault. One comparison gives the
+//! whole verdict and, with no proof made, the first fault alone.
 #![tactic(auto)]
 
 mod compare;
