@@ -27,7 +27,8 @@ pub(crate) enum Known {
 
 /// What all pairs of the plan come to, each at the place of its two senders.
 pub(crate) fn known_pairs(alloc: Global, plan: &Plan) -> Result<Vec<Known>, AllocError>
-    ensures { IfOk result (λ known. KnowsPairs (plan_contents plan.now) known.items (length (pairs_of (plan_contents plan.now)))) }
+    ensures { IfOk result (λ known.
+        KnowsPairs (plan_contents plan.now) known.items (length (pairs_of (plan_contents plan.now)))) }
 {
     let senders = senders_of(plan);
     let mut known = not_yet(alloc, senders * senders)?;

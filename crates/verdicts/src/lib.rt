@@ -1,5 +1,5 @@
-//! The verdicts of all pairs of a plan, and whether the plan is safe for every set that may start together. `table` makes
-//! all verdicts with their proofs; `faults` finds the pairs that are not safe, and makes no proof.
+//! The verdicts of all pairs of a plan, and whether the plan is safe for every set that may start together. `table`
+//! makes all verdicts with their proofs; `faults` finds the pairs that are not safe, and makes no proof.
 #![tactic(auto)]
 
 mod known;
