@@ -5,6 +5,7 @@ pub mod Reading
 pub mod Writing
 pub mod Runs
 pub mod Lines
+pub mod FaultLines
 pub mod Checks
 pub mod RunErrors
 pub mod Certificates

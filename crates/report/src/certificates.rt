@@ -38,7 +38,7 @@ pub fn run_certify<I: Input, O: Output>(
     let text = read_within(alloc, plan, READS)?;
     let plan = read_plan(alloc, text.as_slice())?;
     let table = table(alloc, &plan)?;
-    let status = status_of(&table);
+    let status = status_of(table.is_safe());
     let Ok(cert) = table.certify(alloc) else {
         return Err(RunError::NoMemory);
     };

@@ -1,2 +1,4 @@
-pub mod TableLemmas
 pub mod CertificateLemmas
+pub mod FaultLemmas
+pub mod KnownLemmas
+pub mod TableLemmas

@@ -1,3 +1,6 @@
 pub mod Certificates
+pub mod Entries
+pub mod Faults
+pub mod Known
 pub mod Tables
 pub mod Verdicts

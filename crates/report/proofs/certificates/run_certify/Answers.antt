@@ -43,7 +43,7 @@ returns-clause-report g c =
     let reader = g.I.Input.reader in
     let plan = plan_contents c.in_ok-plan.plan in
     let written = c.as_slice-2.ensures.value ∙ (c.in_ok-report.ensures.spelling ∙ ap cert_text c.in-Ok.ensures.certificate) in
-    let due = certifies c.in_ok-text.text.items c.as_slice.result.now c.as_slice-2.result.now plan (table_verdicts c.in_ok-table.table) c.status_of-status.result c.as_slice.ensures.value c.in_ok-plan.ensures.spelled (limits_of c.in_ok-plan.plan) c.in_ok-table.ensures written (c.status_of-status.ensures plan c.in_ok-table.ensures) in
+    let due = certifies c.in_ok-text.text.items c.as_slice.result.now c.as_slice-2.result.now plan (table_verdicts c.in_ok-table.table) c.status_of-status.result c.as_slice.ensures.value c.in_ok-plan.ensures.spelled (limits_of c.in_ok-plan.plan) c.in_ok-table.ensures written (c.status_of-status.ensures plan (c.is_safe.ensures plan c.in_ok-table.ensures)) in
     writing_reports (ReadsText reader) Certified g.O.Output.writer (HaltsAtText reader RefusesPlan) c.args.plan.now c.args.out.now _ _ c.in_ok-text.ensures.all _ _ due c.write_lines.new.out c.write_lines.result c.write_lines.ensures.status c.write_lines.ensures.all
 
 pub returns-clause-stops : goal.returns-clause-stops
@@ -51,5 +51,5 @@ returns-clause-stops g c =
     let reader = g.I.Input.reader in
     let plan = plan_contents c.in_ok-plan.plan in
     let written = c.as_slice-2.ensures.value ∙ (c.in_ok-report.ensures.spelling ∙ ap cert_text c.in-Ok.ensures.certificate) in
-    let due = certifies c.in_ok-text.text.items c.as_slice.result.now c.as_slice-2.result.now plan (table_verdicts c.in_ok-table.table) c.status_of-status.result c.as_slice.ensures.value c.in_ok-plan.ensures.spelled (limits_of c.in_ok-plan.plan) c.in_ok-table.ensures written (c.status_of-status.ensures plan c.in_ok-table.ensures) in
+    let due = certifies c.in_ok-text.text.items c.as_slice.result.now c.as_slice-2.result.now plan (table_verdicts c.in_ok-table.table) c.status_of-status.result c.as_slice.ensures.value c.in_ok-plan.ensures.spelled (limits_of c.in_ok-plan.plan) c.in_ok-table.ensures written (c.status_of-status.ensures plan (c.is_safe.ensures plan c.in_ok-table.ensures)) in
     writing_stops (ReadsText reader) Certified g.O.Output.writer (HaltsAtText reader RefusesPlan) c.args.plan.now c.args.out.now _ _ c.in_ok-text.ensures.all _ _ due c.write_lines.new.out c.write_lines.result c.write_lines.ensures.stops

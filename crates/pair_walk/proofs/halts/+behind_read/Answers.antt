@@ -2,7 +2,7 @@ use Rattle.std.proofs.Common.{◌-◌, false, [], ◌∷◌, ◌++◌, replicate
 use Rattle.message_tree.specs.declared.items.Item.TheVariants.{Sent, Heard}
 use Rattle.pair_walk.specs.Wires.{read_wire}
 use Rattle.pair_walk.proofs.Halting.{behind_both, read_wire_step}
-use Rattle.pair_walk.proofs.compare.+behind_read.Goals as goal
+use Rattle.pair_walk.proofs.halts.+behind_read.Goals as goal
 
 pub returns-else-more-eq0 : goal.returns-else-more-eq0
 returns-else-more-eq0 t c =
