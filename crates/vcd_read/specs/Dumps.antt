@@ -64,7 +64,7 @@ at_end s = elim (open_line s) [
     | None ↦ if s.defined then Ok (stamp_sample s) else elim (missing s) [ Some signal ↦ Err (NoSignal signal) | None ↦ Ok None ]
   ]
 
-abbrev with_last : List Sample → Result (Option Sample) Refusal → Result (List Sample) Refusal
+abbrev pub with_last : List Sample → Result (Option Sample) Refusal → Result (List Sample) Refusal
 with_last samples (Ok last) = Ok (samples ++ option_to_list last)
 with_last samples (Err refusal) = Err refusal
 

@@ -5,4 +5,6 @@ pub mod Definitions
 pub mod Changes
 pub mod Dumps
 pub mod Refusals
+pub mod Views
+pub mod Pieces
 pub mod Readers

@@ -3,7 +3,7 @@
 ghost use Rattle.std.specs.Prelude.{◌≡◌, ℕ, ◌≤◌, length, vec_capacity, Some, None};
 ghost use Rattle.vcd_read.specs.Changes.{change, change_by, change_of_code, command_among_changes, time_reached};
 ghost use Rattle.vcd_read.specs.Changes.{both_changed, stamp_sample};
-ghost use Rattle.vcd_read.specs.Readers.{state_of, HasRoom, Leaves, Steps};
+ghost use Rattle.vcd_read.specs.Views.{state_of, HasRoom, Leaves, Steps};
 
 use crate::dumps::{Context, Dump};
 use crate::errors::Refusal;

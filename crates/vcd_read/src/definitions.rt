@@ -2,7 +2,7 @@
 
 ghost use Rattle.std.specs.Prelude.{◌≡◌, ℕ, ◌≤◌, length, vec_len, vec_capacity, Some, None};
 ghost use Rattle.vcd_read.specs.Definitions.{definition, inside_var, var_token, definitions_end, missing};
-ghost use Rattle.vcd_read.specs.Readers.{state_of, HasRoom, Leaves};
+ghost use Rattle.vcd_read.specs.Views.{state_of, HasRoom, Leaves};
 
 use crate::dumps::{Context, Dump, Seen};
 use crate::errors::Refusal;

@@ -50,7 +50,7 @@ pub(crate) struct Dump {
 
 impl Dump {
     ghost use Rattle.vcd_read.specs.Dumps.{step, at_end, open_line};
-    ghost use Rattle.vcd_read.specs.Readers.{state_of, HasRoom, Steps};
+    ghost use Rattle.vcd_read.specs.Views.{state_of, HasRoom, Steps};
     ghost use Rattle.vcd_read.specs.States.{state_at_first};
 
     /// Before the first token.
@@ -72,6 +72,7 @@ impl Dump {
     pub(crate) fn reserve(&mut self, bytes: usize) -> Result<(), AllocError>
         ensures state { state_of self.new ≡ state_of self.old }
         ensures room { OnOk result (HasRoom bytes self.new) }
+        ensures keeps_room { (n : ℕ) → HasRoom n self.old → HasRoom n self.new }
     {
         self.code.reserve(bytes)?;
         self.scl.code.reserve(bytes)?;
@@ -79,6 +80,7 @@ impl Dump {
     }
 
     /// Reads the next token, which stands on this line. The sample is that of the time stamp which it closes.
+    #[tactic(auto, unfolding(crate::specs::Dumps::step))]
     pub(crate) fn read(&mut self, token: &[u8], line: u64) -> Result<Option<Sample>, Refusal>
         requires { HasRoom (length token.now) self.old }
         ensures step { Steps result (step (state_of self.old) token.now line) (state_of self.new) }

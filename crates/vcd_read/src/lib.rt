@@ -11,11 +11,12 @@ mod changes;
 mod definitions;
 mod dumps;
 pub mod errors;
-//pub mod reader;
+pub mod reader;
 pub mod samples;
+mod scanner;
 mod wires;
 mod words;
 
 pub use errors::{Refusal, VcdError};
-//pub use reader::Reader;
+pub use reader::Reader;
 pub use samples::{Level, Sample, Signal};

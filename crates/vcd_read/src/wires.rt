@@ -19,7 +19,7 @@ pub(crate) struct Wire {
 impl Wire {
     ghost use Rattle.vcd_read.specs.Definitions.{named_by};
     ghost use Rattle.vcd_read.specs.Changes.{changed, settled, stays_level};
-    ghost use Rattle.vcd_read.specs.Readers.{line_of};
+    ghost use Rattle.vcd_read.specs.Views.{line_of};
     ghost use Rattle.vcd_read.specs.States.{line_at_first};
     ghost use Rattle.vcd_read.specs.Words.{is_empty};
 
