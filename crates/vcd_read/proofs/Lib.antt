@@ -1,2 +1,5 @@
 pub mod WordLemmas
 pub mod ScanLemmas
+pub mod TokenLemmas
+pub mod PieceLemmas
+pub mod FedLemmas
