@@ -1,6 +1,7 @@
 -- What a reader that was fed a text answers.
-use Rattle.std.proofs.Common.{◌≡◌, ℕ, List, [], ◌∷◌, ◌++◌, Option, Some, None, Result, Ok, Err, MatchResult, refl, ap, sym, ◌∙◌, subst, append_assoc}
+use Rattle.std.proofs.Common.{◌≡◌, ℕ, List, [], ◌++◌, Option, Some, None, Result, Ok, Err, refl, ap, sym, ◌∙◌, subst, append_assoc}
 use Rattle.std.specs.Prelude.{IfOk, option_to_list}
+use Rattle.std.proofs.lemmas.List.{append-nil}
 use Rattle.vcd_read.specs.declared.errors.Refusal.{Refusal}
 use Rattle.vcd_read.specs.declared.errors.VcdError.{VcdError}
 use Rattle.vcd_read.specs.declared.samples.Sample.{Sample}
@@ -8,7 +9,7 @@ use Rattle.vcd_read.specs.Dumps.{Run, with_front, with_last, at_end, ended, said
 use Rattle.vcd_read.specs.Pieces.{Kept, Scan, kept_at_first, token_ended, go_on, bytes_read, ended_by, samples_at_end}
 use Rattle.vcd_read.specs.Readers.{Reading, StandsFor, Fed, IsRefusal}
 use Rattle.vcd_read.specs.Refusals.{error_of}
-use Rattle.vcd_read.specs.States.{State, state_at_first}
+use Rattle.vcd_read.specs.States.{state_at_first}
 use Rattle.vcd_read.proofs.PieceLemmas.{bytes_read-append, with_cleared, cleared_in, bytes_read-cleared, token_ended-cleared, said_by, says, ends_as}
 
 with_front_none : (said : Run) → with_front [] said ≡ said
@@ -118,3 +119,27 @@ samples_refused scl sda text refusal scan = samples-scan scl sda text ∙ ap (λ
 -- the error is this refusal
 pub is_refusal : {A : Type 0} (given : Result A Refusal) (refusal : Refusal) (e : VcdError) → given ≡ Err refusal → e ≡ error_of refusal → IsRefusal given e
 is_refusal given refusal e is error = rw is error
+
+-- ---- samples on the way
+
+stands_cleared : (refused : Option Refusal) (scan : Scan) (cleared : List Sample) (k : Kept) → StandsFor refused scan cleared k →
+    StandsFor refused scan (cleared ++ k.samples) (record k { samples = [] })
+stands_cleared None scan cleared k stands = stands ∙ ap (λ samples. Ok (record k { samples = samples })) (sym (append-nil (cleared ++ k.samples)))
+stands_cleared (Some refusal) scan cleared k stands = stands
+
+pub fed_cleared : (scl sda text : List ℕ) (cleared : List Sample) (r : Reading) → Fed scl sda text cleared r →
+    Fed scl sda text (cleared ++ r.kept.samples) (record { kept = record r.kept { samples = [] }; refused = r.refused })
+unfolding Fed
+fed_cleared scl sda text cleared r fed = stands_cleared r.refused (bytes_read (kept_at_first scl sda) text) cleared r.kept fed
+
+said_in_scan : (refused : Option Refusal) (scan : Scan) (cleared : List Sample) (k : Kept) → StandsFor refused scan cleared k →
+    IfOk (said_by scan) (λ said. said.1 ≡ cleared ++ k.samples)
+said_in_scan None scan cleared k stands = rw stands refl
+said_in_scan (Some refusal) scan cleared k stands = rw stands tt
+
+pub samples_so_far : (scl sda text : List ℕ) (cleared : List Sample) (r : Reading) → Fed scl sda text cleared r →
+    IfOk (said_so_far scl sda text) (λ said. said.1 ≡ cleared ++ r.kept.samples)
+unfolding Fed
+samples_so_far scl sda text cleared r fed =
+    let P : Run → Type 0 = λ said. IfOk said (λ p. p.1 ≡ cleared ++ r.kept.samples) in
+    subst P (sym (said-scan scl sda text)) (said_in_scan r.refused (bytes_read (kept_at_first scl sda) text) cleared r.kept fed)

@@ -5,7 +5,7 @@ use Rattle.std.proofs.Math.Seq.{take-suc}
 use Rattle.std.proofs.lemmas.List.{get_or-drop, length-drop, length-take, append-nil}
 use Rattle.vcd_read.specs.declared.errors.Refusal.{Refusal}
 use Rattle.vcd_read.specs.declared.scanner.Scanner.{Scanner}
-use Rattle.vcd_read.specs.Pieces.{Kept, Scan, token_ended, bytes_read, RoomForToken, RoomForSamples}
+use Rattle.vcd_read.specs.Pieces.{Kept, token_ended, bytes_read, RoomForToken, RoomForSamples}
 use Rattle.vcd_read.specs.Tokens.{is_white, line_after}
 
 -- the range with one more element
@@ -51,7 +51,7 @@ pub other_goes_on : (k : Kept) (bytes : List ℕ) (start at : ℕ) → start ≤
     ≡ bytes_read (record k { held = k.held ++ slice_range bytes start at }) (drop at bytes)
 other_goes_on k bytes start at before within other =
     ap (λ held. bytes_read (record k { held = held }) (drop (at + 1) bytes))
-      (ap (λ range. k.held ++ range) (range_more bytes start at before within) ∙ sym (append_assoc k.held (slice_range bytes start at) (get_or bytes at 0 ∷ [])))
+    (ap (λ range. k.held ++ range) (range_more bytes start at before within) ∙ sym (append_assoc k.held (slice_range bytes start at) (get_or bytes at 0 ∷ [])))
     ∙ sym (other_read (record k { held = k.held ++ slice_range bytes start at }) bytes at within other)
 
 -- ---- room

@@ -1,8 +1,7 @@
 -- Where tokens end.
-use Rattle.std.proofs.Common.{◌≡◌, ℕ, Bool, true, false, ◌||◌, List, [], ◌∷◌, ◌++◌, refl, ap, sym, ◌∙◌}
+use Rattle.std.proofs.Common.{◌≡◌, ℕ, Bool, true, false, ◌||◌, List, [], ◌∷◌, ◌++◌, refl, ap, ◌∙◌}
 use Rattle.std.specs.Prelude.{if◌then◌else◌}
-use Rattle.std.proofs.lemmas.Bool.{or_parts}
-use Rattle.vcd_read.specs.Tokens.{Token, is_white, line_after, ends_before, put_before, tokens_of, has_white, up_to_white}
+use Rattle.vcd_read.specs.Tokens.{Token, is_white, line_after, put_before, tokens_of, has_white, up_to_white}
 
 or_false_left : (a b : Bool) → (a || b) ≡ false → a ≡ false
 or_false_left true b h = h

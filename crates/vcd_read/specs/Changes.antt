@@ -1,6 +1,6 @@
 -- Times and value changes (IEEE 1364-2005, 18.2.1: simulation time, value changes; 18.2.2: formats of values; 18.2.3:
 -- simulation commands).
-use Rattle.std.specs.Prelude.{ℕ, Bool, true, false, ◌&&◌, ◌||◌, ◌==◌, nat_lt, not, List, [], ◌∷◌, Option, Some, None}
+use Rattle.std.specs.Prelude.{ℕ, Bool, true, false, ◌&&◌, ◌||◌, ◌==◌, nat_lt, List, [], ◌∷◌, Option, Some, None}
 use Rattle.std.specs.Prelude.{Result, Ok, Err, if◌then◌else◌}
 use Rattle.std.specs.Str.{bytes_eq}
 use Rattle.vcd_read.specs.declared.dumps.Context.TheVariants as inside
@@ -10,7 +10,7 @@ use Rattle.vcd_read.specs.declared.samples.Level.{Level}
 use Rattle.vcd_read.specs.declared.samples.Level.TheVariants.{Low, High, Unknown}
 use Rattle.vcd_read.specs.declared.samples.Sample.{Sample}
 use Rattle.vcd_read.specs.declared.words.Command.{Command}
-use Rattle.vcd_read.specs.declared.words.Command.TheVariants.{Var, EndDefinitions, Changes, End, Other}
+use Rattle.vcd_read.specs.declared.words.Command.TheVariants.{Changes, End}
 use Rattle.vcd_read.specs.States.{Line, State}
 use Rattle.vcd_read.specs.Words.{command_of, is_code, is_empty, level_of, vector_level, time_of}
 
@@ -64,13 +64,13 @@ change_of_code s (Some level) code line = if is_code code then Ok (both_changed 
 abbrev pub command_among_changes : State → Option Command → ℕ → Result State Refusal
 command_among_changes s None line = Err (BadToken line)
 command_among_changes s (Some End) line = elim s.block [
-    | None ↦ Err (BadToken line)
-    | Some began ↦ Ok (record s { block = None })
-  ]
+  | None ↦ Err (BadToken line)
+  | Some began ↦ Ok (record s { block = None })
+]
 command_among_changes s (Some Changes) line = elim s.block [
-    | None ↦ Ok (record s { block = Some line })
-    | Some began ↦ Err (BadToken line)
-  ]
+  | None ↦ Ok (record s { block = Some line })
+  | Some began ↦ Err (BadToken line)
+]
 command_among_changes s (Some _) line = Ok (record s { context = inside.Skipped line })
 
 abbrev time_change : State → Option ℕ → ℕ → Step
@@ -93,7 +93,7 @@ change_by first rest s line =
     else if first == 36 then stays (command_among_changes s (command_of (first ∷ rest)) line)
     else if first == 98 || first == 66 then stays (vector_change s (vector_level rest) line)
     else if first == 114 || first == 82 || first == 115 || first == 83
-      then (if is_empty rest then Err (BadToken line) else Ok (record s { context = inside.Change line None }, None))
+    then (if is_empty rest then Err (BadToken line) else Ok (record s { context = inside.Change line None }, None))
     else stays (scalar_change s (level_of first) rest line)
 
 abbrev pub change : State → List ℕ → ℕ → Step

@@ -1,5 +1,5 @@
 -- The definitions of a dump (IEEE 1364-2005, 18.2.3: declaration commands), up to the `$end` of `$enddefinitions`.
-use Rattle.std.specs.Prelude.{ℕ, Bool, true, false, ◌&&◌, List, [], ◌∷◌, Option, Some, None, Result, Ok, Err, codes}
+use Rattle.std.specs.Prelude.{ℕ, Bool, true, false, ◌&&◌, List, Option, Some, None, Result, Ok, Err, codes}
 use Rattle.std.specs.Prelude.{if◌then◌else◌}
 use Rattle.std.specs.Str.{bytes_eq}
 use Rattle.vcd_read.specs.declared.dumps.Context.TheVariants as inside
@@ -10,7 +10,7 @@ use Rattle.vcd_read.specs.declared.errors.Refusal.TheVariants.{NoSignal, BadToke
 use Rattle.vcd_read.specs.declared.samples.Signal.{Signal}
 use Rattle.vcd_read.specs.declared.samples.Signal.TheVariants.{Scl, Sda}
 use Rattle.vcd_read.specs.declared.words.Command.{Command}
-use Rattle.vcd_read.specs.declared.words.Command.TheVariants.{Var, EndDefinitions, Changes, End, Other}
+use Rattle.vcd_read.specs.declared.words.Command.TheVariants.{Var, EndDefinitions, Other}
 use Rattle.vcd_read.specs.States.{Line, State}
 use Rattle.vcd_read.specs.Words.{is_end, is_empty, command_of}
 
@@ -57,9 +57,9 @@ missing s = if is_empty s.scl.code then Some Scl else if is_empty s.sda.code the
 -- The `$end` of `$enddefinitions`: both signals have to be defined.
 abbrev pub definitions_end : State → Result State Refusal
 definitions_end s = elim (missing s) [
-    | Some signal ↦ Err (NoSignal signal)
-    | None ↦ Ok (record s { context = inside.Nothing; defined = true })
-  ]
+  | Some signal ↦ Err (NoSignal signal)
+  | None ↦ Ok (record s { context = inside.Nothing; defined = true })
+]
 
 abbrev pub inside_end_definitions : State → List ℕ → Result State Refusal
 inside_end_definitions s token = if is_end token then definitions_end s else Ok s

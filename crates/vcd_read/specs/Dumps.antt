@@ -1,5 +1,5 @@
 -- A whole dump (IEEE 1364-2005, clause 18): its samples, or its first refusal in text order.
-use Rattle.std.specs.Prelude.{ℕ, Bool, true, false, List, [], ◌∷◌, ◌++◌, Option, Some, None, Result, Ok, Err}
+use Rattle.std.specs.Prelude.{ℕ, List, [], ◌∷◌, ◌++◌, Option, Some, None, Result, Ok, Err}
 use Rattle.std.specs.Prelude.{if◌then◌else◌, option_to_list}
 use Rattle.vcd_read.specs.declared.dumps.Context.{Context}
 use Rattle.vcd_read.specs.declared.dumps.Context.TheVariants as inside
@@ -60,9 +60,9 @@ open_line s = elim s.block [ Some line ↦ Some line | None ↦ context_line s.c
 -- `$enddefinitions` there are no changes and no samples.
 abbrev pub at_end : State → Result (Option Sample) Refusal
 at_end s = elim (open_line s) [
-    | Some line ↦ Err (Unended line)
-    | None ↦ if s.defined then Ok (stamp_sample s) else elim (missing s) [ Some signal ↦ Err (NoSignal signal) | None ↦ Ok None ]
-  ]
+  | Some line ↦ Err (Unended line)
+  | None ↦ if s.defined then Ok (stamp_sample s) else elim (missing s) [ Some signal ↦ Err (NoSignal signal) | None ↦ Ok None ]
+]
 
 abbrev pub with_last : List Sample → Result (Option Sample) Refusal → Result (List Sample) Refusal
 with_last samples (Ok last) = Ok (samples ++ option_to_list last)

@@ -1,5 +1,5 @@
 -- What the tokens of a dump have said so far.
-use Rattle.std.specs.Prelude.{ℕ, Bool, true, false, List, [], Option, None}
+use Rattle.std.specs.Prelude.{ℕ, Bool, false, List, [], Option, None}
 use Rattle.vcd_read.specs.declared.dumps.Context.{Context}
 use Rattle.vcd_read.specs.declared.dumps.Context.TheVariants as inside
 use Rattle.vcd_read.specs.declared.samples.Level.{Level}

@@ -64,11 +64,13 @@ impl Reader {
             return Err(VcdError::from(refusal));
         }
         self.scanner.reserve(piece.len())?;
-        if let Err(refusal) = self.scanner.read(piece) {
-            self.refused = Some(refusal);
-            return Err(VcdError::from(refusal));
+        match self.scanner.read(piece) {
+            Ok(()) => Ok(()),
+            Err(refusal) => {
+                self.refused = Some(refusal);
+                Err(VcdError::from(refusal))
+            }
         }
-        Ok(())
     }
 
     /// The samples so far, without those that were cleared.
