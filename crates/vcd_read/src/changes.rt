@@ -12,6 +12,7 @@ use crate::words::{Command, command_of, is_code, level_of, time_of, vector_level
 
 impl Dump {
     /// A token outside commands, behind the definitions.
+    #[inline(always)]
     pub(crate) fn change(&mut self, token: &[u8], line: u64) -> Result<Option<Sample>, Refusal>
         ensures step { Steps result (change (state_of self.old) token.now line) (state_of self.new) }
         ensures room { (n : ℕ) → HasRoom n self.old → HasRoom n self.new }
@@ -45,6 +46,7 @@ impl Dump {
     }
 
     // A time: a later one closes the time stamp, an equal one continues it.
+    #[inline(always)]
     fn reach(&mut self, time: u64, line: u64) -> Result<Option<Sample>, Refusal>
         ensures step { Steps result (time_reached (state_of self.old) time line) (state_of self.new) }
         ensures room { (n : ℕ) → HasRoom n self.old → HasRoom n self.new }
@@ -77,6 +79,7 @@ impl Dump {
     }
 
     /// The code of a change of this level, or of a real or string change.
+    #[inline(always)]
     pub(crate) fn change_of_code(
         &mut self,
         level: Option<Level>,

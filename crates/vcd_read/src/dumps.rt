@@ -81,6 +81,7 @@ impl Dump {
 
     /// Reads the next token, which stands on this line. The sample is that of the time stamp which it closes.
     #[tactic(auto, unfolding(crate::specs::Dumps::step))]
+    #[inline(always)]
     pub(crate) fn read(&mut self, token: &[u8], line: u64) -> Result<Option<Sample>, Refusal>
         requires { HasRoom (length token.now) self.old }
         ensures step { Steps result (step (state_of self.old) token.now line) (state_of self.new) }
