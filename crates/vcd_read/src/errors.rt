@@ -25,7 +25,7 @@ pub enum Refusal {
 #[derive(Clone, Copy, Debug, PartialEq, Eq, Error)]
 pub enum VcdError {
     /// V1: no `$var` of one bit names this signal.
-    #[error("V1 {0:?}")]
+    #[error("V1 {0}")]
     NoSignal(Signal),
     /// V2: a token that cannot stand in its place.
     #[error("V2 line {0}")]
