@@ -3,3 +3,5 @@ pub mod ScanLemmas
 pub mod TokenLemmas
 pub mod PieceLemmas
 pub mod FedLemmas
+pub mod RunLemmas
+pub mod StampLemmas

@@ -11,6 +11,7 @@ mod changes;
 mod definitions;
 mod dumps;
 pub mod errors;
+pub mod laws;
 pub mod reader;
 pub mod samples;
 mod scanner;
