@@ -1,0 +1,23 @@
+//! Value change dumps (IEEE 1364-2005, clause 18): the levels of the two lines of a bus, as a simulator or a logic
+//! analyser recorded them.
+//!
+//! `Reader` takes a dump in pieces of any size, cut anywhere, and answers its samples. `bytes` tells white space and counts
+//! lines, `words` says what a single token is. `dumps` has what the tokens so far mean: the definitions, what is open, the
+//! two wires and the time. `reader` cuts pieces into tokens.
+#![tactic(auto)]
+
+mod bytes;
+mod changes;
+mod definitions;
+mod dumps;
+pub mod errors;
+pub mod laws;
+pub mod reader;
+pub mod samples;
+mod scanner;
+mod wires;
+mod words;
+
+pub use errors::{Refusal, VcdError};
+pub use reader::Reader;
+pub use samples::{Level, Sample, Signal};
