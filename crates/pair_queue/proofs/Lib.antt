@@ -1,0 +1,3 @@
+pub mod Logs
+pub mod Views
+pub mod StepLemmas

@@ -1,0 +1,10 @@
+//! The numbers of a plan's pairs, handed out to one owner and up to seven thieves, each number once, by any schedule.
+//!
+//! The numbers lie in a first-in first-out deque, with an end mark for each seat behind them. `tickets` has what lies
+//! there and what a seat knows, `steps` the rule that every push and every take keeps, and what each of them tells a seat.
+//! `laws` says what a dispatch log hands out.
+#![tactic(auto)]
+
+pub mod laws;
+pub mod steps;
+pub mod tickets;
