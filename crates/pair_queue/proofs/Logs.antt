@@ -105,7 +105,7 @@ handed_out log rest n h e =
     let k : ℕ = length (taken log) in
     let count : k + both.0 ≡ n = both.1 in
     let takes : taken log ≡ first_numbers k = both.2 in
-    let all : All (λ i. i < n) (taken log) = subst (λ (xs : List ℕ). All (λ i. i < n) xs) (sym takes) (range_below 0 k n (omega arith)) in
+    let all : All (λ i. i < k) (taken log) = subst (λ (xs : List ℕ). All (λ i. i < k) xs) (sym takes) (first_numbers_below k) in
     record {
       k = k;
       left = both.0;
@@ -113,5 +113,5 @@ handed_out log rest n h e =
       takes = takes;
       rest_is = subst (λ (a : ℕ). rest ≡ range_with_len a both.0) (omega arith) both.3;
       rising = λ seat. rising_taken_by seat log k takes;
-      below = λ seat. all_taken_by (λ i. i < n) seat log all;
+      below = λ seat. all_taken_by (λ i. i < k) seat log all;
     }

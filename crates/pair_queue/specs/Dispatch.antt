@@ -48,7 +48,8 @@ taken_by seat (Empty other ∷ log) = taken_by seat log
 abbrev pub first_numbers : ℕ → List ℕ
 first_numbers n = range_with_len 0 n
 
--- Of n numbers the first k were taken, in order, and the others are left, in order. Each seat's own takes rise strictly
+-- Of n numbers the first k were taken, in order, and the others are left, in order. Each seat took some of those k, and its
+-- takes rise strictly
 pub record IsHandedOut (n : ℕ) (log : List Event) (rest : List ℕ) : Type 0 where
   pub k : ℕ
   pub left : ℕ
@@ -56,4 +57,4 @@ pub record IsHandedOut (n : ℕ) (log : List Event) (rest : List ℕ) : Type 0 w
   pub takes : taken log ≡ first_numbers k
   pub rest_is : rest ≡ range_with_len k left
   pub rising : (seat : ℕ) → IsStrictlyIncreasing (taken_by seat log)
-  pub below : (seat : ℕ) → All (λ i. i < n) (taken_by seat log)
+  pub below : (seat : ℕ) → All (λ i. i < k) (taken_by seat log)
