@@ -1,3 +1,4 @@
 pub mod Logs
 pub mod Views
+pub mod SeatLemmas
 pub mod StepLemmas

@@ -277,8 +277,8 @@ no_end_left [] views seat v few h at = cases (dec_le v.parts v.ended)
 pub finds : (seat : ℕ) (v : Hand) → Finds IsDispatched seat v (v.parts ≤ v.ended)
 finds seat v views h at = no_end_left [] views seat v (omega arith) h at
 
-pub finds_few : (seat : ℕ) (v : Hand) → FindsFew IsDispatched 0 seat v (v.parts ≤ v.ended)
-finds_few seat v items views few h at = no_end_left items views seat v few h at
+pub finds_few : (most seat : ℕ) (v : Hand) → most ≡ 0 → FindsFew IsDispatched most seat v (v.parts ≤ v.ended)
+finds_few most seat v none items views few h at = no_end_left items views seat v (omega arith) h at
 
 -- Making a seat, and giving it back
 

@@ -1,3 +1,5 @@
 pub mod Dispatch
+pub mod Hands
 pub mod Rule
+pub mod Seats
 pub mod Steps

@@ -5,6 +5,12 @@
 //! `laws` says what a dispatch log hands out.
 #![tactic(auto)]
 
+pub mod answers;
 pub mod laws;
+pub mod seats;
 pub mod steps;
+mod takes;
 pub mod tickets;
+
+pub use answers::{SettleFault, Take};
+pub use seats::{Owner, Thief};
