@@ -1,12 +1,12 @@
 -- A seat in use may take, and stays in use.
 use Rattle.std.proofs.Common.{◌≡◌, ℕ, ◌+◌, ◌<◌, ◌≤◌, Bool, true, false, cond, List, [], ◌∷◌, ◌++◌, All, sym, refl, ap, ◌∙◌, subst, arith}
-use Rattle.std.proofs.lemmas.List.Elements.{All-push}
+use Rattle.std.proofs.lemmas.List.Elements.{All-push, All-nil}
 use Rattle.crossbeam_deque.specs.Tasks.{Takes}
 use Rattle.pair_queue.specs.declared.tickets.Ticket.{Ticket}
 use Rattle.pair_queue.specs.declared.tickets.Ticket.TheVariants.{Number, End}
 use Rattle.pair_queue.specs.declared.tickets.Hand.{Hand}
 use Rattle.pair_queue.specs.Rule.{IsDispatched}
-use Rattle.pair_queue.specs.Steps.{Took}
+use Rattle.pair_queue.specs.Steps.{Took, cut}
 use Rattle.pair_queue.specs.Hands.{IsSeated}
 use Rattle.pair_queue.proofs.Logs.{rising_push}
 use Rattle.pair_queue.proofs.StepLemmas.{takes}
@@ -32,7 +32,18 @@ seated_took v w t i ended s is told_of =
           own = s.own;
           one = s.one;
           marks = s.marks;
-          others = s.others;
           rising = rising_push v.taken i s.rising told.2;
           below = All-push (λ j. j < v.made) v.taken i s.below told.1;
+        })
+
+pub seated_cut : (v w : Hand) → w ≡ cut v → v.live ≡ true → IsSeated w false
+seated_cut v w is live =
+    subst (λ (x : Hand). IsSeated x false) (sym is)
+        (record {
+          live = live;
+          own = refl;
+          one = refl;
+          marks = refl;
+          rising = λ k lt. absurd (omega arith);
+          below = All-nil (λ i. i < v.made);
         })

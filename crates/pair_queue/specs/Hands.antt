@@ -10,7 +10,6 @@ pub record IsSeated (v : Hand) (ended : Bool) : Type 0 where
   pub own : v.own ≡ true
   pub one : v.parts ≡ 1
   pub marks : v.ended ≡ cond ended 1 0
-  pub others : 0 < v.seats
   pub rising : IsStrictlyIncreasing v.taken
   pub below : All (λ i. i < v.made) v.taken
 

@@ -1,5 +1,7 @@
 pub mod Dispatch
 pub mod Hands
+pub mod Opening
 pub mod Rule
 pub mod Seats
+pub mod Settling
 pub mod Steps

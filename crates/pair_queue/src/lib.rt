@@ -7,10 +7,12 @@
 
 pub mod answers;
 pub mod laws;
+mod open;
 pub mod seats;
 pub mod steps;
 mod takes;
 pub mod tickets;
 
 pub use answers::{SettleFault, Take};
+pub use open::open_queue;
 pub use seats::{Owner, Thief};
