@@ -1,4 +1,5 @@
 pub mod Logs
 pub mod Views
+pub mod ReturnLemmas
 pub mod SeatLemmas
 pub mod StepLemmas

@@ -13,7 +13,7 @@ use crate::tickets::{Hand, Ticket};
 use crossbeam_deque::Worker;
 use std::alloc::{AllocError, Global};
 
-type Deque = Worker<Ticket, Global, Hand, Dispatched>;
+pub(crate) type Deque = Worker<Ticket, Global, Hand, Dispatched>;
 
 /// The numbers 0 to n - 1, the seat of their owner, and seats for so many thieves, who have all taken nothing yet. All that
 /// the seats need for their takes is reserved here.
