@@ -1,10 +1,10 @@
 -- What a legal log hands out.
-use Rattle.std.proofs.Common.{◌≡◌, ◌≢◌, ℕ, zero, suc, ◌+◌, ◌-◌, ◌<◌, ◌≤◌, Bool, true, false, cond, eqb, List, [], ◌∷◌, ◌++◌, length, slice_index, get_or, All, sym, refl, ap, ◌∙◌, subst, append_assoc, arith}
+use Rattle.std.proofs.Common.{◌≡◌, ℕ, zero, suc, ◌+◌, ◌<◌, ◌≤◌, Bool, true, false, cond, eqb, List, [], ◌∷◌, ◌++◌, length, slice_index, All, sym, refl, ap, ◌∙◌, subst, append_assoc, arith}
 use native.Mathlib.Decide.{dec_le}
 use Rattle.std.specs.List.{range_with_len}
 use Rattle.std.specs.List.Sorted.{IsStrictlyIncreasing}
-use Rattle.std.proofs.lemmas.List.{append-nil, get_or_append_left, get_or_push, length-append}
-use Rattle.std.proofs.lemmas.List.Elements.{All-nil, All-cons, All-push, All-append, All-weaker}
+use Rattle.std.proofs.lemmas.List.{get_or_append_left, get_or_push, length-append}
+use Rattle.std.proofs.lemmas.List.Elements.{All-nil, All-cons, All-push}
 use Rattle.pair_queue.specs.Dispatch.{Event, Push, Take, Empty, Leaves, pushed, taken, taken_by, first_numbers, IsHandedOut}
 
 -- what was pushed was taken or is left
@@ -79,6 +79,7 @@ rising_push xs i up below k lt = cases (dec_le (k + 2) (length xs))
   where
     here : k < length xs
     here = let l = length-append xs (i ∷ []) in omega arith
+
     cases : Dec (k + 2 ≤ length xs) → slice_index (xs ++ i ∷ []) k < slice_index (xs ++ i ∷ []) (k + 1)
     cases (yes d) = rw (get_or_append_left xs (i ∷ []) 0 k here, get_or_append_left xs (i ∷ []) 0 (k + 1) (omega arith)) (up k (omega arith))
     cases (no d) =

@@ -1,6 +1,5 @@
 -- What the owner learns once all seats are back.
-use Rattle.std.proofs.Common.{◌≡◌, ℕ, zero, suc, ◌+◌, ◌<◌, ◌≤◌, Bool, true, false, cond, ◌||◌, eqb, eq-eqb, eqb-true, List, [], ◌∷◌, ◌++◌, length, map, flat_map, sym, refl, ap, ◌∙◌, subst, arith}
-use Rattle.std.specs.List.{list_any}
+use Rattle.std.proofs.Common.{◌≡◌, ℕ, ◌+◌, ◌<◌, Bool, true, false, cond, eqb, eq-eqb, eqb-true, List, [], ◌∷◌, ◌++◌, sym, refl, ap, ◌∙◌, subst, arith}
 use Rattle.std.specs.List.Sorted.{IsPermutation}
 use Rattle.std.proofs.lemmas.List.Sorted.{IsPermutation-refl, IsPermutation-cons, IsPermutation-sym, IsPermutation-middle, IsPermutation-trans}
 use Rattle.std.proofs.lemmas.List.Sums.{sum_by-append, sum_by-cons}
@@ -46,13 +45,13 @@ permutation_from_times (x ∷ xs) ys same =
     let left : List ℕ = found.0 in
     let right : List ℕ = found.1 in
     let rest : (i : ℕ) → times i (left ++ right) ≡ times i xs = λ i.
-        let e = same i in
-        let a : times i ys ≡ times i (left ++ x ∷ right) = ap (times i) found.2 in
-        let b = times_append i left (x ∷ right) in
-        let c = times_append i left right in
-        let d = times_cons i x right in
-        let f = times_cons i x xs in
-        omega arith in
+    let e = same i in
+    let a : times i ys ≡ times i (left ++ x ∷ right) = ap (times i) found.2 in
+    let b = times_append i left (x ∷ right) in
+    let c = times_append i left right in
+    let d = times_cons i x right in
+    let f = times_cons i x xs in
+    omega arith in
     let moved = IsPermutation-cons x xs (left ++ right) (permutation_from_times xs (left ++ right) rest) in
     let back = IsPermutation-sym (left ++ x ∷ right) (x ∷ (left ++ right)) (IsPermutation-middle left x right) in
     subst (IsPermutation (x ∷ xs)) (sym found.2) (IsPermutation-trans (x ∷ xs) (x ∷ (left ++ right)) (left ++ x ∷ right) moved back)

@@ -1,9 +1,9 @@
 -- A seat in use may take, and stays in use.
-use Rattle.std.proofs.Common.{◌≡◌, ℕ, ◌+◌, ◌<◌, ◌≤◌, Bool, true, false, cond, List, [], ◌∷◌, ◌++◌, All, sym, refl, ap, ◌∙◌, subst, arith}
+use Rattle.std.proofs.Common.{◌≡◌, ℕ, ◌<◌, Bool, true, false, cond, [], ◌∷◌, sym, refl, ap, ◌∙◌, subst, arith}
 use Rattle.std.proofs.lemmas.List.Elements.{All-push, All-nil}
 use Rattle.crossbeam_deque.specs.Tasks.{Takes}
 use Rattle.pair_queue.specs.declared.tickets.Ticket.{Ticket}
-use Rattle.pair_queue.specs.declared.tickets.Ticket.TheVariants.{Number, End}
+use Rattle.pair_queue.specs.declared.tickets.Ticket.TheVariants.{Number}
 use Rattle.pair_queue.specs.declared.tickets.Hand.{Hand}
 use Rattle.pair_queue.specs.Rule.{IsDispatched}
 use Rattle.pair_queue.specs.Steps.{Took, cut}
@@ -27,23 +27,23 @@ pub seated_took : (v w : Hand) (t : Ticket) (i : ℕ) (ended : Bool) → IsSeate
 seated_took v w t i ended s is told_of =
     let told = took_number v w t i is told_of in
     subst (λ (x : Hand). IsSeated x ended) (sym told.0)
-        (record {
-          live = s.live;
-          own = s.own;
-          one = s.one;
-          marks = s.marks;
-          rising = rising_push v.taken i s.rising told.2;
-          below = All-push (λ j. j < v.made) v.taken i s.below told.1;
-        })
+    (record {
+      live = s.live;
+      own = s.own;
+      one = s.one;
+      marks = s.marks;
+      rising = rising_push v.taken i s.rising told.2;
+      below = All-push (λ j. j < v.made) v.taken i s.below told.1;
+    })
 
 pub seated_cut : (v w : Hand) → w ≡ cut v → v.live ≡ true → IsSeated w false
 seated_cut v w is live =
     subst (λ (x : Hand). IsSeated x false) (sym is)
-        (record {
-          live = live;
-          own = refl;
-          one = refl;
-          marks = refl;
-          rising = λ k lt. absurd (omega arith);
-          below = All-nil (λ i. i < v.made);
-        })
+    (record {
+      live = live;
+      own = refl;
+      one = refl;
+      marks = refl;
+      rising = λ k lt. absurd (omega arith);
+      below = All-nil (λ i. i < v.made);
+    })

@@ -1,7 +1,5 @@
 -- Each kind of step keeps the rule, however many seats there are, and tells what `Steps` says.
-use Rattle.std.proofs.Common.{◌≡◌, ◌≢◌, ℕ, zero, suc, ◌+◌, ◌-◌, ◌<◌, ◌≤◌, Bool, true, false, true≢false, cond, eqb, eq-eqb, ne_eqb, List, [], ◌∷◌, ◌++◌, length, map, replicate, All, set, sym, refl, ap, ◌∙◌, subst, inl, inr, ◌⊎◌, ⊎_elim, append_assoc, count_by, arith}
-use mathlib.Core.Option.{some, some-ne-none}
-use lib.ListN.{get_elem?}
+use Rattle.std.proofs.Common.{◌≡◌, ◌≢◌, ℕ, zero, suc, ◌+◌, ◌<◌, ◌≤◌, true, true≢false, cond, eqb, eq-eqb, ne_eqb, List, [], ◌∷◌, ◌++◌, length, replicate, All, set, sym, refl, ap, ◌∙◌, subst, ⊎_elim, arith}
 use native.Mathlib.Decide.{dec_le}
 use Rattle.std.specs.List.{range_with_len}
 use Rattle.std.proofs.lemmas.List.{append-nil, length-append}
@@ -12,10 +10,10 @@ use Rattle.crossbeam_deque.proofs.Lists.{at_set}
 use Rattle.pair_queue.specs.declared.tickets.Ticket.{Ticket}
 use Rattle.pair_queue.specs.declared.tickets.Ticket.TheVariants.{Number, End}
 use Rattle.pair_queue.specs.declared.tickets.Hand.{Hand}
-use Rattle.pair_queue.specs.Dispatch.{Event, Push, Take, Empty, Leaves, pushed, taken, taken_by, first_numbers, IsHandedOut}
+use Rattle.pair_queue.specs.Dispatch.{Event, Push, Take, Empty, pushed, taken, taken_by, first_numbers}
 use Rattle.pair_queue.specs.Rule.{tickets, total, times, parts_of, ended_of, Fits, IsDispatched}
 use Rattle.pair_queue.specs.Steps.{opening, spent, Pushed, Took, kept, cut, joined, TookAll}
-use Rattle.pair_queue.proofs.Logs.{taken_then_left, handed_out, all_taken_by, first_numbers_below}
+use Rattle.pair_queue.proofs.Logs.{taken_then_left, handed_out}
 use Rattle.pair_queue.proofs.Views.{At, total_set, total_push, at_below, at_push, only, at_only, fewer_ended, everything}
 
 -- Tickets
@@ -166,8 +164,7 @@ take_number seat v i items views live own may h at =
     let next : i ≡ out.k = at_front.0 in
     let mine : v.taken ≡ taken_by seat h.log = fit.own own in
     let below : All (λ j. j < i) v.taken = subst (λ (xs : List ℕ). All (λ j. j < i) xs) (sym mine) (subst (λ (k : ℕ). All (λ j. j < k) (taken_by seat h.log)) (sym next) (out.below seat)) in
-    let made : v.made ≡ h.n = fit.made live in
-    let none_ended : v.ended ≡ 0 = unended v.ended (λ e. let none : h.left ≡ [] = fit.last e in cc) in (
+    let made : v.made ≡ h.n = fit.made live in (
       w,
       record {
         n = h.n;
@@ -186,32 +183,29 @@ take_number seat v i items views live own may h at =
         marks = let m = h.marks in omega arith;
         fits = λ other u there. ⊎_elim
             (λ (is : (other ≡ seat) × (w ≡ u)). subst (λ (y : ℕ × Hand). Fits h.n log rest views' y.0 y.1) (λ k. (sym is.0 k, is.1 k))
-                (record {
-                  alone = λ a. length-set views seat w ∙ fit.alone a;
-                  made = fit.made;
-                  seats = λ l. fit.seats l ∙ sym parts;
-                  ended = fit.ended;
-                  idle = λ none. absurd (omega arith);
-                  last = λ e. absurd (omega arith);
-                  own = λ o. rw (eq-eqb seat seat refl) (ap (λ (xs : List ℕ). xs ++ i ∷ []) mine);
-                }))
+            (record {
+              alone = λ a. length-set views seat w ∙ fit.alone a;
+              made = fit.made;
+              seats = λ l. fit.seats l ∙ sym parts;
+              ended = fit.ended;
+              idle = λ none. absurd (omega arith);
+              last = λ e. let none : h.left ≡ [] = fit.last e in absurd cc;
+              own = λ o. rw (eq-eqb seat seat refl) (ap (λ (xs : List ℕ). xs ++ i ∷ []) mine);
+            }))
             (λ (is : (other ≢ seat) × At views other u). refit h.n h.log log h.left rest views views' other u (length-set views seat w) parts still
-                (rw (ne_eqb seat other (λ e. is.0 (sym e))) refl) (h.fits other u is.1))
+            (rw (ne_eqb seat other (λ e. is.0 (sym e))) refl) (h.fits other u is.1))
             (at_set views seat other w u there);
         later = λ other far.
             let long : length views ≤ other = subst (λ n. n ≤ other) (length-set views seat w) far in
             let there = at_below views seat v at in
             rw (ne_eqb seat other (λ e. absurd (omega arith))) (h.later other long);
       },
-      (refl, omega arith, below, none_ended),
+      (refl, omega arith, below),
     )
   where
     first_left : (i : ℕ) (rest : List ℕ) (k left n : ℕ) → k + left ≡ n → i ∷ rest ≡ range_with_len k left → (i ≡ k) × (k < n)
     first_left i rest k zero n all e = absurd cc
     first_left i rest k (suc left) n all e = (cc, omega arith)
-    unended : (m : ℕ) → ¬ (0 < m) → m ≡ 0
-    unended zero h = refl
-    unended (suc m) h = absurd (h (omega arith))
 
 take_end : (seat : ℕ) (v : Hand) (items : List Ticket) (views : List Hand) → v.live ≡ true → v.ended < v.parts
     → IsDispatched (End ∷ items) views → At views seat v
@@ -239,15 +233,15 @@ take_end seat v items views live may h at =
         marks = let m = h.marks in omega arith;
         fits = λ other u there. ⊎_elim
             (λ (is : (other ≡ seat) × (w ≡ u)). subst (λ (y : ℕ × Hand). Fits h.n log [] views' y.0 y.1) (λ k. (sym is.0 k, is.1 k))
-                (record {
-                  alone = λ a. length-set views seat w ∙ fit.alone a;
-                  made = fit.made;
-                  seats = λ l. fit.seats l ∙ sym parts;
-                  ended = omega arith;
-                  idle = fit.idle;
-                  last = λ e. refl;
-                  own = fit.own;
-                }))
+            (record {
+              alone = λ a. length-set views seat w ∙ fit.alone a;
+              made = fit.made;
+              seats = λ l. fit.seats l ∙ sym parts;
+              ended = omega arith;
+              idle = fit.idle;
+              last = λ e. refl;
+              own = fit.own;
+            }))
             (λ (is : (other ≢ seat) × At views other u). refit h.n h.log log h.left [] views views' other u (length-set views seat w) parts (λ e. refl) refl (h.fits other u is.1))
             (at_set views seat other w u there);
         later = λ other far. h.later other (subst (λ n. n ≤ other) (length-set views seat w) far);
@@ -292,9 +286,9 @@ cuts seat v live parts none items views h at =
     let here = at_below views seat v at in
     let many : length vs ≡ length views = length-set views seat l in
     let all_parts : parts_of views' ≡ parts_of views =
-        let e = total_set (λ u. u.parts) views seat v l at in let f = total_push (λ u. u.parts) vs r in omega arith in
+    let e = total_set (λ u. u.parts) views seat v l at in let f = total_push (λ u. u.parts) vs r in omega arith in
     let all_ended : ended_of views' ≡ ended_of views =
-        let e = total_set (λ u. u.ended) views seat v l at in let f = total_push (λ u. u.ended) vs r in omega arith in
+    let e = total_set (λ u. u.ended) views seat v l at in let f = total_push (λ u. u.ended) vs r in omega arith in
     record {
       n = h.n;
       log = h.log;
@@ -311,39 +305,39 @@ cuts seat v live parts none items views h at =
       marks = let m = h.marks in omega arith;
       fits = λ other u there. ⊎_elim
           (λ (was : At vs other u). ⊎_elim
-              (λ (is : (other ≡ seat) × (l ≡ u)). subst (λ (y : ℕ × Hand). Fits h.n h.log h.left views' y.0 y.1) (λ k. (sym is.0 k, is.1 k))
-                  (record {
-                    alone = λ a. absurd (true≢false (sym a));
-                    made = fit.made;
-                    seats = λ live. fit.seats live ∙ sym all_parts;
-                    ended = omega arith;
-                    idle = λ e. absurd (omega arith);
-                    last = fit.last;
-                    own = fit.own;
-                  }))
-              (λ (is : (other ≢ seat) × At views other u).
-                  let old = h.fits other u is.1 in
-                  let place = at_below views other u is.1 in
-                  record {
-                    alone = λ a. let one = old.alone a in absurd (is.0 (omega arith));
-                    made = old.made;
-                    seats = λ live. old.seats live ∙ sym all_parts;
-                    ended = old.ended;
-                    idle = old.idle;
-                    last = old.last;
-                    own = old.own;
-                  })
-              (at_set views seat other l u was))
+          (λ (is : (other ≡ seat) × (l ≡ u)). subst (λ (y : ℕ × Hand). Fits h.n h.log h.left views' y.0 y.1) (λ k. (sym is.0 k, is.1 k))
+          (record {
+            alone = λ a. absurd (true≢false (sym a));
+            made = fit.made;
+            seats = λ live. fit.seats live ∙ sym all_parts;
+            ended = omega arith;
+            idle = λ e. absurd (omega arith);
+            last = fit.last;
+            own = fit.own;
+          }))
+          (λ (is : (other ≢ seat) × At views other u).
+          let old = h.fits other u is.1 in
+          let place = at_below views other u is.1 in
+          record {
+            alone = λ a. let one = old.alone a in absurd (is.0 (omega arith));
+            made = old.made;
+            seats = λ live. old.seats live ∙ sym all_parts;
+            ended = old.ended;
+            idle = old.idle;
+            last = old.last;
+            own = old.own;
+          })
+          (at_set views seat other l u was))
           (λ (new : (other ≡ length vs) × (r ≡ u)). subst (λ (y : ℕ × Hand). Fits h.n h.log h.left views' y.0 y.1) (λ k. (sym new.0 k, new.1 k))
-              (record {
-                alone = λ a. absurd (true≢false (sym a));
-                made = fit.made;
-                seats = λ live. fit.seats live ∙ sym all_parts;
-                ended = omega arith;
-                idle = λ e. refl;
-                last = λ e. absurd (omega arith);
-                own = λ e. sym (h.later (length vs) (omega arith));
-              }))
+          (record {
+            alone = λ a. absurd (true≢false (sym a));
+            made = fit.made;
+            seats = λ live. fit.seats live ∙ sym all_parts;
+            ended = omega arith;
+            idle = λ e. refl;
+            last = λ e. absurd (omega arith);
+            own = λ e. sym (h.later (length vs) (omega arith));
+          }))
           (at_push vs r u other there);
       later = λ other far. h.later other (let e = length-append vs (r ∷ []) in omega arith);
     }
@@ -358,9 +352,9 @@ joins seat v other w live some_parts items views h at apart at_other =
     let fit_other = h.fits other w was in
     let many : length views' ≡ length views = length-set vs other spent ∙ length-set views seat both in
     let all_parts : parts_of views' ≡ parts_of views =
-        let e = total_set (λ u. u.parts) views seat v both at in let f = total_set (λ u. u.parts) vs other w spent at_other in omega arith in
+    let e = total_set (λ u. u.parts) views seat v both at in let f = total_set (λ u. u.parts) vs other w spent at_other in omega arith in
     let all_ended : ended_of views' ≡ ended_of views =
-        let e = total_set (λ u. u.ended) views seat v both at in let f = total_set (λ u. u.ended) vs other w spent at_other in omega arith in
+    let e = total_set (λ u. u.ended) views seat v both at in let f = total_set (λ u. u.ended) vs other w spent at_other in omega arith in
     record {
       n = h.n;
       log = h.log;
@@ -378,28 +372,28 @@ joins seat v other w live some_parts items views h at apart at_other =
       marks = let m = h.marks in omega arith;
       fits = λ k u there. ⊎_elim
           (λ (is : (k ≡ other) × (spent ≡ u)). subst (λ (y : ℕ × Hand). Fits h.n h.log h.left views' y.0 y.1) (λ i. (sym is.0 i, is.1 i))
-              (record {
-                alone = λ a. absurd (true≢false (sym a));
-                made = λ a. absurd (true≢false (sym a));
-                seats = λ a. absurd (true≢false (sym a));
-                ended = omega arith;
-                idle = λ e. refl;
-                last = λ e. absurd (omega arith);
-                own = λ a. absurd (true≢false (sym a));
-              }))
+          (record {
+            alone = λ a. absurd (true≢false (sym a));
+            made = λ a. absurd (true≢false (sym a));
+            seats = λ a. absurd (true≢false (sym a));
+            ended = omega arith;
+            idle = λ e. refl;
+            last = λ e. absurd (omega arith);
+            own = λ a. absurd (true≢false (sym a));
+          }))
           (λ (not_other : (k ≢ other) × At vs k u). ⊎_elim
-              (λ (is : (k ≡ seat) × (both ≡ u)). subst (λ (y : ℕ × Hand). Fits h.n h.log h.left views' y.0 y.1) (λ i. (sym is.0 i, is.1 i))
-                  (record {
-                    alone = λ a. absurd (true≢false (sym a));
-                    made = fit.made;
-                    seats = λ live. fit.seats live ∙ sym all_parts;
-                    ended = let a = fit.ended in let b = fit_other.ended in omega arith;
-                    idle = λ e. absurd (omega arith);
-                    last = λ e. either_ended v.ended w.ended h.left e fit.last fit_other.last;
-                    own = λ a. absurd (true≢false (sym a));
-                  }))
-              (λ (is : (k ≢ seat) × At views k u). refit h.n h.log h.log h.left h.left views views' k u many all_parts (λ e. e) refl (h.fits k u is.1))
-              (at_set views seat k both u not_other.1))
+          (λ (is : (k ≡ seat) × (both ≡ u)). subst (λ (y : ℕ × Hand). Fits h.n h.log h.left views' y.0 y.1) (λ i. (sym is.0 i, is.1 i))
+          (record {
+            alone = λ a. absurd (true≢false (sym a));
+            made = fit.made;
+            seats = λ live. fit.seats live ∙ sym all_parts;
+            ended = let a = fit.ended in let b = fit_other.ended in omega arith;
+            idle = λ e. absurd (omega arith);
+            last = λ e. either_ended v.ended w.ended h.left e fit.last fit_other.last;
+            own = λ a. absurd (true≢false (sym a));
+          }))
+          (λ (is : (k ≢ seat) × At views k u). refit h.n h.log h.log h.left h.left views views' k u many all_parts (λ e. e) refl (h.fits k u is.1))
+          (at_set views seat k both u not_other.1))
           (at_set vs other k spent u there);
       later = λ k far. h.later k (omega arith);
     }
@@ -418,5 +412,5 @@ counts seat v live all some_end items views h at i =
     let mine : total (λ u. times i u.taken) views ≡ times i v.taken = everything (λ u. times i u.taken) views seat v at whole idle in
     let none : h.left ≡ [] = fit.last some_end in
     let log : taken h.log ≡ first_numbers v.made =
-        sym (append-nil (taken h.log)) ∙ ap (λ (xs : List ℕ). taken h.log ++ xs) (sym none) ∙ sym (taken_then_left h.log h.left h.legal) ∙ h.pushes ∙ ap first_numbers (sym (fit.made live)) in
+    sym (append-nil (taken h.log)) ∙ ap (λ (xs : List ℕ). taken h.log ++ xs) (sym none) ∙ sym (taken_then_left h.log h.left h.legal) ∙ h.pushes ∙ ap first_numbers (sym (fit.made live)) in
     sym mine ∙ h.takes i ∙ ap (times i) log

@@ -1,8 +1,8 @@
 -- What a seat's view says while the seat is in use.
-use Rattle.std.specs.Prelude.{◌≡◌, ℕ, ◌-◌, ◌<◌, Bool, true, false, cond, List, All}
+use Rattle.std.specs.Prelude.{◌≡◌, ℕ, ◌-◌, ◌<◌, Bool, true, cond, All}
 use Rattle.std.specs.List.Sorted.{IsStrictlyIncreasing}
 use Rattle.pair_queue.specs.declared.tickets.Hand.{Hand}
-use Rattle.pair_queue.specs.Seats.{Queue, Seat}
+use Rattle.pair_queue.specs.Seats.{Seat}
 
 -- It has one part, which it has used where it has ended, and took in order what it took
 pub record IsSeated (v : Hand) (ended : Bool) : Type 0 where

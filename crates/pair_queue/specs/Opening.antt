@@ -1,5 +1,5 @@
 -- What the owner's deque is while it is filled, and while its seats are made.
-use Rattle.std.specs.Prelude.{◌≡◌, ℕ, ◌+◌, ◌<◌, true, []}
+use Rattle.std.specs.Prelude.{◌≡◌, ℕ, ◌+◌, true, []}
 use Rattle.crossbeam_deque.specs.declared.handles.Worker.{Worker}
 use Rattle.crossbeam_deque.specs.Handles.{worker_flavor, worker_view, worker_index}
 use Rattle.pair_queue.specs.declared.tickets.Ticket.{Ticket}

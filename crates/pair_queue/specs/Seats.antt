@@ -1,5 +1,5 @@
 -- What callers see of a queue's seats: which queue it is, what the seat took, and whether it has ended.
-use Rattle.std.specs.Prelude.{◌≡◌, ℕ, ◌<◌, Bool, true, false, cond, List, [], ◌∷◌, ◌++◌, All}
+use Rattle.std.specs.Prelude.{ℕ, ◌<◌, Bool, true, false, List, [], ◌∷◌, ◌++◌, All}
 use Rattle.std.specs.List.Sorted.{IsStrictlyIncreasing}
 use Rattle.pair_queue.specs.declared.answers.Take.{Take}
 use Rattle.pair_queue.specs.declared.answers.Take.TheVariants.{Pair, Empty, Busy}

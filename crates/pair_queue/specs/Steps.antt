@@ -1,5 +1,5 @@
 -- What each kind of step tells the seat that steps.
-use Rattle.std.specs.Prelude.{◌≡◌, ℕ, ◌+◌, ◌-◌, ◌<◌, ◌≤◌, true, false, List, [], ◌∷◌, ◌++◌, All}
+use Rattle.std.specs.Prelude.{◌≡◌, ℕ, ◌+◌, ◌-◌, ◌<◌, true, false, List, [], ◌∷◌, ◌++◌, All}
 use Rattle.pair_queue.specs.declared.tickets.Ticket.{Ticket}
 use Rattle.pair_queue.specs.declared.tickets.Ticket.TheVariants.{Number, End}
 use Rattle.pair_queue.specs.declared.tickets.Hand.{Hand}
@@ -24,7 +24,7 @@ Pushed v (x ∷ y ∷ xs) w = ⊥
 -- the seat took a number, which is above all that it took before, or an end mark
 abbrev pub Took : Hand → List Ticket → Hand → Type 0
 Took v [] w = ⊥
-Took v (Number i ∷ []) w = (w ≡ record v { taken = v.taken ++ i ∷ [] }) × (i < v.made) × All (λ j. j < i) v.taken × (v.ended ≡ 0)
+Took v (Number i ∷ []) w = (w ≡ record v { taken = v.taken ++ i ∷ [] }) × (i < v.made) × All (λ j. j < i) v.taken
 Took v (End ∷ []) w = w ≡ record v { ended = v.ended + 1 }
 Took v (x ∷ y ∷ xs) w = ⊥
 

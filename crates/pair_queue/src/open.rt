@@ -13,17 +13,19 @@ use crate::tickets::{Hand, Ticket};
 use crossbeam_deque::Worker;
 use std::alloc::{AllocError, Global};
 
+/// The most numbers of a queue.
+pub const MOST_NUMBERS: u32 = 1_000_000;
+
+/// The most thieves of a queue.
+pub const MOST_THIEVES: u32 = 7;
+
 pub(crate) type Deque = Worker<Ticket, Global, Hand, Dispatched>;
 
 /// The numbers 0 to n - 1, the seat of their owner, and seats for so many thieves, who have all taken nothing yet. All that
 /// the seats need for their takes is reserved here.
-pub fn open_queue(
-    alloc: Global,
-    n: u32,
-    thieves: u32,
-) -> Result<(Owner, Vec<Thief>), AllocError>
-    requires numbers { n ≤ 1000000 }
-    requires thieves { thieves ≤ 7 }
+pub fn open_queue(alloc: Global, n: u32, thieves: u32) -> Result<(Owner, Vec<Thief>), AllocError>
+    requires numbers { n ≤ MOST_NUMBERS }
+    requires thieves { thieves ≤ MOST_THIEVES }
     ensures queue { IfOk result (λ r. (r.0.queue.numbers ≡ n) × (r.0.queue.thieves ≡ thieves)) }
     ensures owner { IfOk result (λ r. r.0 ≡ fresh r.0.queue) }
     ensures thieves { IfOk result (λ r. r.1.items ≡ replicate thieves (fresh r.0.queue)) }
@@ -42,8 +44,8 @@ pub fn open_queue(
 }
 
 fn filled(alloc: Global, n: u32, seats: u32) -> Result<Deque, AllocError>
-    requires numbers { n ≤ 1000000 }
-    requires seats { seats ≤ 8 }
+    requires numbers { n ≤ MOST_NUMBERS }
+    requires seats { seats ≤ MOST_THIEVES + 1 }
     ensures { IfOk result (λ w. IsFilled n seats w) }
 {
     let mut deque = Deque::fifo_as(alloc, (n + seats) as usize)?;

@@ -3,7 +3,7 @@
 use std::collections::LinkedList;
 
 /// What a seat takes from the deque.
-#[derive(Clone, Copy, Debug, Drop, PartialEq, Eq)]
+#[derive(Drop)]
 pub enum Ticket {
     /// The number of a pair.
     Number(u32),

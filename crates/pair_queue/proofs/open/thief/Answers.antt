@@ -1,5 +1,5 @@
-use Rattle.std.proofs.Common.{◌∙◌, sym, ap, subst}
-use Rattle.crossbeam_deque.specs.Handles.{worker_view, IsPassOf}
+use Rattle.std.proofs.Common.{◌∙◌, sym, ap}
+use Rattle.crossbeam_deque.specs.Handles.{worker_view}
 use Rattle.pair_queue.proofs.StepLemmas.{cuts}
 use Rattle.pair_queue.proofs.SeatLemmas.{seated_cut}
 use Rattle.pair_queue.proofs.open.thief.Goals as goal

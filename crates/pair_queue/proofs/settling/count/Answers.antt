@@ -1,5 +1,4 @@
-use Rattle.std.proofs.Common.{◌≡◌, ◌+◌, length, sym, ap, ◌∙◌, subst, arith}
-use Rattle.crossbeam_deque.specs.Handles.{worker_view}
+use Rattle.std.proofs.Common.{◌+◌, sym, ap, ◌∙◌}
 use Rattle.pair_queue.proofs.ReturnLemmas.{each_once}
 use Rattle.pair_queue.proofs.StepLemmas.{counts}
 use Rattle.pair_queue.proofs.settling.count.Goals as goal

@@ -1,5 +1,5 @@
-use Rattle.std.proofs.Common.{arith, ap, min}
-use Rattle.pair_queue.proofs.SeatLemmas.{seated_takes, seated_took}
+use Rattle.std.proofs.Common.{ap, min}
+use Rattle.pair_queue.proofs.SeatLemmas.{seated_takes}
 use Rattle.pair_queue.proofs.StepLemmas.{finds_few}
 use Rattle.pair_queue.proofs.seats.Thief.take.Goals as goal
 
