@@ -48,8 +48,13 @@ taken_by seat (Empty other ∷ log) = taken_by seat log
 abbrev pub first_numbers : ℕ → List ℕ
 first_numbers n = range_with_len 0 n
 
--- Of n numbers the first k were taken, in order, and the others are left, in order. Each seat took some of those k, and its
--- takes rise strictly
+-- the log is legal, leaves `rest`, and pushed 0 to n - 1 in this order
+pub record IsPushed (n : ℕ) (log : List Event) (rest : List ℕ) : Type 0 where
+  pub legal : Leaves log rest
+  pub pushes : pushed log ≡ first_numbers n
+
+-- Of n numbers the first k were taken, in order, and the others are left, in order. Each seat took some of those k, and
+-- its takes rise strictly
 pub record IsHandedOut (n : ℕ) (log : List Event) (rest : List ℕ) : Type 0 where
   pub k : ℕ
   pub left : ℕ

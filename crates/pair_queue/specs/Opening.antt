@@ -4,10 +4,11 @@ use Rattle.crossbeam_deque.specs.declared.handles.Worker.{Worker}
 use Rattle.crossbeam_deque.specs.Handles.{worker_flavor, worker_view, worker_index}
 use Rattle.pair_queue.specs.declared.tickets.Ticket.{Ticket}
 use Rattle.pair_queue.specs.declared.tickets.Hand.{Hand}
+use Rattle.pair_queue.specs.Steps.{opening}
 
 -- nothing but so many numbers and end marks was pushed, and nothing was taken
 abbrev pub filled : ℕ → ℕ → Hand
-filled numbers ends = record { alone = true; live = true; own = true; made = numbers; seats = ends; parts = ends; ended = 0; taken = [] }
+filled numbers ends = record opening { made = numbers; seats = ends; parts = ends }
 
 -- the owner's view has so many parts, and nothing was taken
 pub record IsUntouched (numbers seats parts : ℕ) (v : Hand) : Type 0 where

@@ -37,8 +37,9 @@ pub record Fits (n : ℕ) (log : List Event) (left : List ℕ) (views : List Han
   pub last : 0 < v.ended → left ≡ []
   pub own : v.own ≡ true → v.taken ≡ taken_by seat log
 
--- Some numbers are left, and end marks behind them. A legal log pushed 0 to n - 1 in order and leaves just these numbers.
--- What it took stands in the seats' lists, each as often as it was taken, and each end mark was taken or is left
+-- Some numbers are left, and end marks behind them. A legal log pushed 0 to n - 1 in order and leaves just these
+-- numbers. What it took stands in the seats' lists, each number as often as it was taken. Each end mark was taken by a
+-- seat or is left
 pub record IsDispatched (items : List Ticket) (views : List Hand) : Type 0 where
   pub n : ℕ
   pub log : List Event

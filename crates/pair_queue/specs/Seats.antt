@@ -1,5 +1,5 @@
 -- What callers see of a queue's seats: which queue it is, what the seat took, and whether it has ended.
-use Rattle.std.specs.Prelude.{ℕ, ◌<◌, Bool, true, false, List, [], ◌∷◌, ◌++◌, All}
+use Rattle.std.specs.Prelude.{ℕ, ◌<◌, Bool, true, false, List, [], ◌∷◌, ◌++◌, All, ⊤, Option, Some, None}
 use Rattle.std.specs.List.Sorted.{IsStrictlyIncreasing}
 use Rattle.pair_queue.specs.declared.answers.Take.{Take}
 use Rattle.pair_queue.specs.declared.answers.Take.TheVariants.{Pair, Empty, Busy}
@@ -28,11 +28,26 @@ took i seat = record { queue = seat.queue; taken = seat.taken ++ i ∷ []; ended
 abbrev pub ended : Seat → Seat
 ended seat = record { queue = seat.queue; taken = seat.taken; ended = true }
 
--- the seat took numbers below n, in strictly increasing order
+-- the owner's seat after an answer
+abbrev pub after_answer : Option ℕ → Seat → Seat
+after_answer (Some i) seat = took i seat
+after_answer None seat = ended seat
+
+-- a thief's seat after an answer
+abbrev pub after_take : Take → Seat → Seat
+after_take (Pair i) seat = took i seat
+after_take Empty seat = ended seat
+after_take Busy seat = seat
+
+-- a number of the queue, and above all that the seat took before
+abbrev pub IsNext : ℕ → Seat → Type 0
+IsNext i seat = (i < seat.queue.numbers) × All (λ j. j < i) seat.taken
+
+abbrev pub IfPair : Take → (ℕ → Type 0) → Type 0
+IfPair (Pair i) P = P i
+IfPair Empty P = ⊤
+IfPair Busy P = ⊤
+
+-- the seat took numbers of the queue, in strictly increasing order
 abbrev pub IsInOrder : Seat → Type 0
 IsInOrder seat = IsStrictlyIncreasing seat.taken × All (λ i. i < seat.queue.numbers) seat.taken
-
-abbrev pub MatchTake : Take → (ℕ → Type 0) → Type 0 → Type 0 → Type 0
-MatchTake (Pair i) pair empty busy = pair i
-MatchTake Empty pair empty busy = empty
-MatchTake Busy pair empty busy = busy

@@ -37,7 +37,14 @@ cut v = record v { alone = false; own = true; parts = 1; ended = 0; taken = [] }
 
 -- a seat that has taken in another's takes
 abbrev pub joined : Hand → Hand → Hand
-joined v w = record v { alone = false; own = false; parts = v.parts + w.parts; ended = v.ended + w.ended; taken = v.taken ++ w.taken }
+joined v w =
+    record v {
+      alone = false;
+      own = false;
+      parts = v.parts + w.parts;
+      ended = v.ended + w.ended;
+      taken = v.taken ++ w.taken;
+    }
 
 -- its takes are 0 to n - 1, each once
 abbrev pub TookAll : Hand → Type 0

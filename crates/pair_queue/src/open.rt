@@ -21,8 +21,8 @@ pub const MOST_THIEVES: u32 = 7;
 
 pub(crate) type Deque = Worker<Ticket, Global, Hand, Dispatched>;
 
-/// The numbers 0 to n - 1, the seat of their owner, and seats for so many thieves, who have all taken nothing yet. All that
-/// the seats need for their takes is reserved here.
+/// The numbers 0 to n - 1, the seat of their owner, and seats for so many thieves, who have all taken nothing yet. What
+/// they need for their takes is reserved here: the takes need no memory.
 pub fn open_queue(alloc: Global, n: u32, thieves: u32) -> Result<(Owner, Vec<Thief>), AllocError>
     requires numbers { n ≤ MOST_NUMBERS }
     requires thieves { thieves ≤ MOST_THIEVES }
@@ -86,10 +86,10 @@ fn push_end(deque: &mut Deque, n: u32, ends: u32)
 
 // One more seat, which gets one part of the owner's.
 fn thief(deque: &mut Deque) -> Result<Thief, AllocError>
-    requires seating { IsSeating (worker_view deque.old).made (worker_view deque.old).seats (worker_view deque.old).parts deque.old }
+    requires seating { let v = worker_view deque.old in IsSeating v.made v.seats v.parts deque.old }
     requires parts { 1 < (worker_view deque.old).parts }
     ensures same { worker_deque deque.new ≡ worker_deque deque.old }
-    ensures seating { OnOk result (IsSeating (worker_view deque.old).made (worker_view deque.old).seats ((worker_view deque.old).parts - 1) deque.new) }
+    ensures seating { let v = worker_view deque.old in OnOk result (IsSeating v.made v.seats (v.parts - 1) deque.new) }
     ensures thief { IfOk result (λ t. t ≡ seat_of (worker_deque deque.old).0 (cut (worker_view deque.old)) false) }
 {
     let stealer = deque.stealer()?;

@@ -16,15 +16,13 @@ pub struct Owner {
 
 impl Model for Owner {
     ghost use Rattle.pair_queue.specs.Seats.{Seat};
-    ghost use Rattle.std.specs.Prelude.{◌≡◌, ◌+◌};
-    ghost use Rattle.crossbeam_deque.specs.Handles.{worker_deque, worker_view, worker_flavor};
-    ghost use Rattle.pair_queue.specs.Hands.{IsSeated, seat_of};
+    ghost use Rattle.pair_queue.specs.Hands.{IsOwner, owner_seat};
 
     ghost Value = { Seat };
 
-    ghost view = { λ o. seat_of (worker_deque o.worker).0 (worker_view o.worker) o.ended };
+    ghost view = { λ o. owner_seat o.worker o.ended };
 
-    ghost invariant = { λ o. (worker_flavor o.worker ≡ 0) × ((worker_view o.worker).seats ≡ o.thieves + 1) × IsSeated (worker_view o.worker) o.ended };
+    ghost invariant = { λ o. IsOwner o.worker o.thieves o.ended };
 }
 
 /// A seat for another thread. Contracts see it as its `Seat`.
@@ -37,13 +35,11 @@ pub struct Thief {
 
 impl Model for Thief {
     ghost use Rattle.pair_queue.specs.Seats.{Seat};
-    ghost use Rattle.std.specs.Prelude.{◌≡◌};
-    ghost use Rattle.crossbeam_deque.specs.Handles.{view as known_by, IsPassOf, stealer_deque, stealer_flavor};
-    ghost use Rattle.pair_queue.specs.Hands.{IsSeated, seat_of};
+    ghost use Rattle.pair_queue.specs.Hands.{IsThief, thief_seat};
 
     ghost Value = { Seat };
 
-    ghost view = { λ t. seat_of (stealer_deque t.stealer).0 (known_by t.pass) t.ended };
+    ghost view = { λ t. thief_seat t.stealer t.pass t.ended };
 
-    ghost invariant = { λ t. (stealer_flavor t.stealer ≡ 0) × IsPassOf (stealer_deque t.stealer) t.pass × IsSeated (known_by t.pass) t.ended };
+    ghost invariant = { λ t. IsThief t.stealer t.pass t.ended };
 }

@@ -1,10 +1,10 @@
 // Settling a queue.
 
-ghost use Rattle.std.specs.Prelude.{◌≡◌, ◌<◌, All, true, IfOk, IfErr, MatchResult};
+ghost use Rattle.std.specs.Prelude.{◌≡◌, ◌<◌, All, true, IfOk, IfErr};
 ghost use Rattle.std.specs.List.{list_any};
 ghost use Rattle.crossbeam_deque.specs.Handles.{worker_deque, worker_view};
 ghost use Rattle.pair_queue.specs.Returns.{IsGivenBack, HasTakenBack};
-ghost use Rattle.pair_queue.specs.Settling.{has_ended, AreAll, IsFault, TookEachOnce};
+ghost use Rattle.pair_queue.specs.Settling.{has_ended, AreAll, IsComplete, IsFault, TookEachOnce};
 
 use crate::answers::SettleFault;
 use crate::open::Deque;
@@ -23,12 +23,13 @@ pub struct Unsettled {
     pub why: SettleFault,
 }
 
-/// Takes all seats of a queue back. Missing where the number of thieves is not the one that was opened, and else Left where
-/// neither the owner nor a thief has found the numbers used up.
+/// Takes all seats of a queue back. Missing where the number of thieves is not the one that was opened; else Left where
+/// neither the owner nor a thief has found the numbers used up. All seats are of one queue, which is the caller's duty.
 pub fn settle(owner: Owner, thieves: Vec<Thief>) -> Result<Settled, Unsettled>
     requires { All (λ thief. thief.queue ≡ owner.queue) thieves.items }
-    ensures answer { MatchResult result (λ _. AreAll owner thieves.items × (has_ended owner thieves.items ≡ true)) (λ u. IsFault u.why owner thieves.items) }
     ensures settled { IfOk result (λ _. TookEachOnce owner thieves.items) }
+    ensures complete { IfOk result (λ _. IsComplete owner thieves.items) }
+    ensures why { IfErr result (λ u. IsFault u.why owner thieves.items) }
     ensures unchanged { IfErr result (λ u. (u.owner ≡ owner) × (u.thieves.items ≡ thieves.items)) }
 {
     let why = if thieves.len() != owner.thieves as usize {

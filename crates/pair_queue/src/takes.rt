@@ -1,7 +1,7 @@
 // Taking a number.
 
-ghost use Rattle.std.specs.Prelude.{◌≡◌, ◌<◌, ⊤, false, All, IfSome, MatchOption};
-ghost use Rattle.pair_queue.specs.Seats.{took, ended, IsInOrder, MatchTake};
+ghost use Rattle.std.specs.Prelude.{◌≡◌, true, IfSome};
+ghost use Rattle.pair_queue.specs.Seats.{after_answer, after_take, IsInOrder, IsNext, IfPair};
 
 use crate::answers::Take;
 use crate::seats::{Owner, Thief};
@@ -10,12 +10,12 @@ use crate::tickets::Ticket;
 use crossbeam_deque::Steal;
 
 impl Owner {
-    /// The first number that nobody has taken. None where all numbers had been taken at one moment of the call; the owner
-    /// has then ended, and each later answer is None.
+    /// The first number that nobody has taken. None where all numbers had been taken at one moment of the call: the
+    /// owner has then ended, and each later answer is None.
     pub fn take(&mut self) -> Option<u32>
-        ensures seat { MatchOption result (self.new ≡ ended self.old) (λ i. self.new ≡ took i self.old) }
-        ensures number { IfSome result (λ i. (i < self.old.queue.numbers) × All (λ j. j < i) self.old.taken) }
-        ensures goes_on { IfSome result (λ _. self.old.ended ≡ false) }
+        ensures seat { self.new ≡ after_answer result self.old }
+        ensures number { IfSome result (λ i. IsNext i self.old) }
+        ensures ended { self.old.ended ≡ true → result ≡ None }
         ensures order { IsInOrder self.new }
     {
         if self.ended {
@@ -35,9 +35,9 @@ impl Owner {
 impl Thief {
     /// The first number that nobody has taken, or why there is none.
     pub fn take(&mut self) -> Take
-        ensures seat { MatchTake result (λ i. self.new ≡ took i self.old) (self.new ≡ ended self.old) (self.new ≡ self.old) }
-        ensures number { MatchTake result (λ i. (i < self.old.queue.numbers) × All (λ j. j < i) self.old.taken) ⊤ ⊤ }
-        ensures goes_on { MatchTake result (λ _. self.old.ended ≡ false) ⊤ (self.old.ended ≡ false) }
+        ensures seat { self.new ≡ after_take result self.old }
+        ensures number { IfPair result (λ i. IsNext i self.old) }
+        ensures ended { self.old.ended ≡ true → result ≡ Take.Empty }
         ensures order { IsInOrder self.new }
     {
         if self.ended {

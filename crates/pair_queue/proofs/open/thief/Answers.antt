@@ -12,8 +12,9 @@ another-pass-requires c =
 pub invariant_of-result : goal.invariant_of-result
 invariant_of-result c =
     let same = c.in_ok-stealer.ensures in
-    let of = c.another-pass.ensures.same.2 in (
-      same.1 ∙ c.requires.seating.flavor,
-      (of.0 ∙ sym (ap (λ d. d.0) same.0), of.1 ∙ sym (ap (λ d. d.1) same.0), of.2, of.3),
-      seated_cut (worker_view c.args.deque.now) _ c.another-pass.ensures.rule.1 c.requires.seating.known.live,
-    )
+    let of = c.another-pass.ensures.same.2 in
+    record {
+      flavor = same.1 ∙ c.requires.seating.flavor;
+      pass = (of.0 ∙ sym (ap (λ d. d.0) same.0), of.1 ∙ sym (ap (λ d. d.1) same.0), of.2, of.3);
+      seated = seated_cut (worker_view c.args.deque.now) _ c.another-pass.ensures.rule.1 c.requires.seating.known.live;
+    }

@@ -4,7 +4,7 @@ use Rattle.pair_queue.proofs.StepLemmas.{finds}
 use Rattle.pair_queue.proofs.seats.Owner.take.Goals as goal
 
 pub pop_as-requires-clause-fifo : goal.pop_as-requires-clause-fifo
-pop_as-requires-clause-fifo c = λ fifo. seated_takes _ _ _ c.if-self.false c.self.invariant.2
+pop_as-requires-clause-fifo c = λ fifo. seated_takes _ _ _ c.if-self.false c.self.invariant.seated
 
 pub pop_as-requires-clause-empty : goal.pop_as-requires-clause-empty
 pop_as-requires-clause-empty c = finds _ _
@@ -12,13 +12,14 @@ pop_as-requires-clause-empty c = finds _ _
 pub invariant_of-self : goal.invariant_of-self
 invariant_of-self c =
     let told = c.in-Some-Number.ensures.rule in
-    let is = c.in-Some-Number.field-0-is in (
-      c.in-Some-Number.ensures.same.0.1 ∙ c.self.invariant.0,
-      same_seats _ _ _ c.in-Some-Number.i is told ∙ c.self.invariant.1,
-      seated_took _ _ _ c.in-Some-Number.i _ c.self.invariant.2 is told,
-    )
+    let is = c.in-Some-Number.field-0-is in
+    record {
+      flavor = c.in-Some-Number.ensures.same.0.1 ∙ c.self.invariant.flavor;
+      thieves_made = same_seats _ _ _ c.in-Some-Number.i is told ∙ c.self.invariant.thieves_made;
+      seated = seated_took _ _ _ c.in-Some-Number.i _ c.self.invariant.seated is told;
+    }
 
 pub returns-in-Some-Number-clause-order : goal.returns-in-Some-Number-clause-order
 returns-in-Some-Number-clause-order c =
-    let seated = seated_took _ _ _ c.in-Some-Number.i _ c.self.invariant.2 c.in-Some-Number.field-0-is c.in-Some-Number.ensures.rule in
+    let seated = seated_took _ _ _ c.in-Some-Number.i _ c.self.invariant.seated c.in-Some-Number.field-0-is c.in-Some-Number.ensures.rule in
     (seated.rising, seated.below)
