@@ -58,8 +58,7 @@ begins = record {
   left = [];
   ends = 0;
   holds = refl;
-  legal = refl;
-  pushes = refl;
+  played = record { legal = refl; pushes = refl };
   takes = λ i. refl;
   marks = refl;
   fits = at_only (Fits 0 [] [] (opening ∷ [])) opening (record { alone = λ _. refl; made = λ _. refl; seats = λ _. refl; ended = omega arith; idle = λ _. refl; last = λ h. absurd (omega arith); own = λ _. refl });
@@ -75,15 +74,14 @@ push_number items v i live bare next h =
     let marks : parts_of (v ∷ []) ≡ ended_of (v ∷ []) + h.ends = h.marks in
     let none : h.ends ≡ 0 = omega arith in
     let held : items ≡ tickets h.left 0 = h.holds ∙ ap (tickets h.left) none in
-    let before : pushed h.log ++ i ∷ [] ≡ range_with_len 0 h.n ++ (0 + h.n) ∷ [] = let n : i ≡ 0 + h.n = omega arith in let p : pushed h.log ≡ range_with_len 0 h.n = h.pushes in cc in
+    let before : pushed h.log ++ i ∷ [] ≡ range_with_len 0 h.n ++ (0 + h.n) ∷ [] = let n : i ≡ 0 + h.n = omega arith in let p : pushed h.log ≡ range_with_len 0 h.n = h.played.pushes in cc in
     record {
       n = suc h.n;
       log = Push i ∷ h.log;
       left = h.left ++ i ∷ [];
       ends = 0;
       holds = ap (λ (xs : List Ticket). xs ++ Number i ∷ []) held ∙ number_last h.left i;
-      legal = (h.left, h.legal, refl);
-      pushes = before ∙ next_number 0 h.n;
+      played = record { legal = (h.left, h.played.legal, refl); pushes = before ∙ next_number 0 h.n };
       takes = h.takes;
       marks = omega arith;
       fits = at_only (Fits (suc h.n) (Push i ∷ h.log) (h.left ++ i ∷ []) (w ∷ [])) w
@@ -104,8 +102,7 @@ push_end items v live h =
       left = h.left;
       ends = suc h.ends;
       holds = ap (λ (xs : List Ticket). xs ++ End ∷ []) h.holds ∙ end_last h.left h.ends;
-      legal = h.legal;
-      pushes = h.pushes;
+      played = h.played;
       takes = h.takes;
       marks = omega arith;
       fits = at_only (Fits h.n h.log h.left (w ∷ [])) w
@@ -159,7 +156,7 @@ take_number seat v i items views live own may h at =
     let parts : parts_of views' ≡ parts_of views = let e = total_set (λ u. u.parts) views seat v w at in omega arith in
     let ended : ended_of views' ≡ ended_of views = let e = total_set (λ u. u.ended) views seat v w at in omega arith in
     let still : (h.left ≡ [] → rest ≡ []) = λ none. absurd cc in
-    let out = handed_out h.log h.left h.n h.legal h.pushes in
+    let out = handed_out h.log h.left h.n h.played.legal h.played.pushes in
     let at_front : (i ≡ out.k) × (out.k < h.n) = first_left i rest out.k out.left h.n out.all (sym was ∙ out.rest_is) in
     let next : i ≡ out.k = at_front.0 in
     let mine : v.taken ≡ taken_by seat h.log = fit.own own in
@@ -172,8 +169,7 @@ take_number seat v i items views live own may h at =
         left = rest;
         ends = h.ends;
         holds = front.2;
-        legal = (h.left, h.legal, was);
-        pushes = h.pushes;
+        played = record { legal = (h.left, h.played.legal, was); pushes = h.played.pushes };
         takes = λ j.
             let e = total_set (λ u. times j u.taken) views seat v w at in
             let a : times j w.taken ≡ times j v.taken + times j (i ∷ []) = sum_by-append (λ x. cond (eqb x j) 1 0) v.taken (i ∷ []) in
@@ -227,8 +223,7 @@ take_end seat v items views live may h at =
         left = [];
         ends = front.0;
         holds = front.3;
-        legal = (h.left, h.legal, (none, refl));
-        pushes = h.pushes;
+        played = record { legal = (h.left, h.played.legal, (none, refl)); pushes = h.played.pushes };
         takes = λ j. let e = total_set (λ u. times j u.taken) views seat v w at in let t = h.takes j in omega arith;
         marks = let m = h.marks in omega arith;
         fits = λ other u there. ⊎_elim
@@ -295,8 +290,7 @@ cuts seat v live parts none items views h at =
       left = h.left;
       ends = h.ends;
       holds = h.holds;
-      legal = h.legal;
-      pushes = h.pushes;
+      played = h.played;
       takes = λ j.
           let e = total_set (λ u. times j u.taken) views seat v l at in
           let f = total_push (λ u. times j u.taken) vs r in
@@ -361,8 +355,7 @@ joins seat v other w live some_parts items views h at apart at_other =
       left = h.left;
       ends = h.ends;
       holds = h.holds;
-      legal = h.legal;
-      pushes = h.pushes;
+      played = h.played;
       takes = λ j.
           let e = total_set (λ u. times j u.taken) views seat v both at in
           let f = total_set (λ u. times j u.taken) vs other w spent at_other in
@@ -412,5 +405,5 @@ counts seat v live all some_end items views h at i =
     let mine : total (λ u. times i u.taken) views ≡ times i v.taken = everything (λ u. times i u.taken) views seat v at whole idle in
     let none : h.left ≡ [] = fit.last some_end in
     let log : taken h.log ≡ first_numbers v.made =
-    sym (append-nil (taken h.log)) ∙ ap (λ (xs : List ℕ). taken h.log ++ xs) (sym none) ∙ sym (taken_then_left h.log h.left h.legal) ∙ h.pushes ∙ ap first_numbers (sym (fit.made live)) in
+    sym (append-nil (taken h.log)) ∙ ap (λ (xs : List ℕ). taken h.log ++ xs) (sym none) ∙ sym (taken_then_left h.log h.left h.played.legal) ∙ h.played.pushes ∙ ap first_numbers (sym (fit.made live)) in
     sym mine ∙ h.takes i ∙ ap (times i) log

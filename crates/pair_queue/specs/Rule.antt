@@ -6,7 +6,7 @@ use lib.ListN.{get_elem?}
 use Rattle.pair_queue.specs.declared.tickets.Ticket.{Ticket}
 use Rattle.pair_queue.specs.declared.tickets.Ticket.TheVariants.{Number, End}
 use Rattle.pair_queue.specs.declared.tickets.Hand.{Hand}
-use Rattle.pair_queue.specs.Dispatch.{Event, Leaves, pushed, taken, taken_by, first_numbers}
+use Rattle.pair_queue.specs.Dispatch.{Event, IsPushed, taken, taken_by}
 
 -- numbers, and end marks behind them
 abbrev pub tickets : List ℕ → ℕ → List Ticket
@@ -46,8 +46,7 @@ pub record IsDispatched (items : List Ticket) (views : List Hand) : Type 0 where
   pub left : List ℕ
   pub ends : ℕ
   pub holds : items ≡ tickets left ends
-  pub legal : Leaves log left
-  pub pushes : pushed log ≡ first_numbers n
+  pub played : IsPushed n log left
   pub takes : (i : ℕ) → total (λ v. times i v.taken) views ≡ times i (taken log)
   pub marks : parts_of views ≡ ended_of views + ends
   pub fits : (seat : ℕ) (v : Hand) → get_elem? views seat ≡ some v → Fits n log left views seat v
