@@ -32,7 +32,7 @@ pub fn open_queue(alloc: Global, n: u32, thieves: u32) -> Result<(Owner, Vec<Thi
 {
     let mut deque = filled(alloc, n, thieves + 1)?;
     let mut others = Vec::new(alloc);
-    for made in 0..thieves {
+    for _ in 0..thieves {
         others.push(thief(&mut deque)?)?;
     }
     let owner = Owner {

@@ -13,6 +13,7 @@ impl Owner {
     /// The first number that nobody has taken. None where all numbers had been taken at one moment of the call: the
     /// owner has then ended, and each later answer is None.
     pub fn take(&mut self) -> Option<u32>
+        ensures queue { self.new.queue ≡ self.old.queue }
         ensures seat { self.new ≡ after_answer result self.old }
         ensures number { IfSome result (λ i. IsNext i self.old) }
         ensures ended { self.old.ended ≡ true → result ≡ None }
@@ -35,6 +36,7 @@ impl Owner {
 impl Thief {
     /// The first number that nobody has taken, or why there is none.
     pub fn take(&mut self) -> Take
+        ensures queue { self.new.queue ≡ self.old.queue }
         ensures seat { self.new ≡ after_take result self.old }
         ensures number { IfPair result (λ i. IsNext i self.old) }
         ensures ended { self.old.ended ≡ true → result ≡ Take.Empty }
