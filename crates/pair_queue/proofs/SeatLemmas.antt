@@ -1,5 +1,5 @@
 -- A seat in use may take, and stays in use.
-use Rattle.std.proofs.Common.{◌≡◌, ℕ, ◌<◌, Bool, true, false, cond, [], ◌∷◌, sym, refl, ap, ◌∙◌, subst, arith}
+use Rattle.std.proofs.Common.{◌≡◌, ℕ, ◌<◌, Bool, true, false, cond, [], ◌∷◌, ◌++◌, sym, refl, ap, ◌∙◌, subst, arith}
 use Rattle.std.proofs.lemmas.List.Elements.{All-push, All-nil}
 use Rattle.crossbeam_deque.specs.Tasks.{Takes}
 use Rattle.pair_queue.specs.declared.tickets.Ticket.{Ticket}
@@ -9,6 +9,7 @@ use Rattle.pair_queue.specs.Rule.{IsDispatched}
 use Rattle.pair_queue.specs.Steps.{Took, cut}
 use Rattle.pair_queue.specs.Hands.{IsSeated}
 use Rattle.pair_queue.proofs.Logs.{rising_push}
+use Rattle.pair_queue.proofs.OrderLemmas.{rising_length}
 use Rattle.pair_queue.proofs.StepLemmas.{takes}
 
 pub seated_takes : (seat : ℕ) (v : Hand) (ended : Bool) → ended ≡ false → IsSeated v ended → Takes IsDispatched seat v 1 (Took v)
@@ -26,14 +27,17 @@ same_seats v w t i is told = ap (λ (x : Hand). x.seats) (took_number v w t i is
 pub seated_took : (v w : Hand) (t : Ticket) (i : ℕ) (ended : Bool) → IsSeated v ended → t ≡ Number i → Took v (t ∷ []) w → IsSeated w ended
 seated_took v w t i ended s is told_of =
     let told = took_number v w t i is told_of in
+    let rising = rising_push v.taken i s.rising told.2 in
+    let below = All-push (λ j. j < v.made) v.taken i s.below told.1 in
     subst (λ (x : Hand). IsSeated x ended) (sym told.0)
     (record {
       live = s.live;
       own = s.own;
       one = s.one;
       marks = s.marks;
-      rising = rising_push v.taken i s.rising told.2;
-      below = All-push (λ j. j < v.made) v.taken i s.below told.1;
+      rising = rising;
+      below = below;
+      count = rising_length (v.taken ++ i ∷ []) v.made rising below;
     })
 
 pub seated_cut : (v w : Hand) → w ≡ cut v → v.live ≡ true → IsSeated w false
@@ -46,4 +50,5 @@ seated_cut v w is live =
       marks = refl;
       rising = λ k lt. absurd (omega arith);
       below = All-nil (λ i. i < v.made);
+      count = omega arith;
     })

@@ -1,5 +1,5 @@
 -- What a seat is while it is in use.
-use Rattle.std.specs.Prelude.{◌≡◌, ℕ, ◌+◌, ◌-◌, ◌<◌, Bool, true, cond, All}
+use Rattle.std.specs.Prelude.{◌≡◌, ℕ, ◌+◌, ◌-◌, ◌<◌, ◌≤◌, Bool, true, cond, All, length}
 use Rattle.std.specs.List.Sorted.{IsStrictlyIncreasing}
 use Rattle.crossbeam_deque.specs.declared.handles.Worker.{Worker}
 use Rattle.crossbeam_deque.specs.declared.handles.Stealer.{Stealer}
@@ -17,6 +17,7 @@ pub record IsSeated (v : Hand) (ended : Bool) : Type 0 where
   pub marks : v.ended ≡ cond ended 1 0
   pub rising : IsStrictlyIncreasing v.taken
   pub below : All (λ i. i < v.made) v.taken
+  pub count : length v.taken ≤ v.made
 
 -- the queue that a view knows, and the seat that callers see
 abbrev pub queue_of : ℕ × ℕ → Hand → Queue

@@ -1,6 +1,6 @@
 // Taking a number.
 
-ghost use Rattle.std.specs.Prelude.{◌≡◌, true, IfSome};
+ghost use Rattle.std.specs.Prelude.{◌≡◌, ◌≤◌, length, true, IfSome};
 ghost use Rattle.pair_queue.specs.Seats.{after_answer, after_take, IsInOrder, IsNext, IfPair};
 
 use crate::answers::Take;
@@ -18,6 +18,7 @@ impl Owner {
         ensures number { IfSome result (λ i. IsNext i self.old) }
         ensures ended { self.old.ended ≡ true → result ≡ None }
         ensures order { IsInOrder self.new }
+        ensures count { length self.new.taken ≤ self.new.queue.numbers }
     {
         if self.ended {
             return None;
@@ -41,6 +42,7 @@ impl Thief {
         ensures number { IfPair result (λ i. IsNext i self.old) }
         ensures ended { self.old.ended ≡ true → result ≡ Take.Empty }
         ensures order { IsInOrder self.new }
+        ensures count { length self.new.taken ≤ self.new.queue.numbers }
     {
         if self.ended {
             return Take::Empty;

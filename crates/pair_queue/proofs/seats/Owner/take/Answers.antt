@@ -23,3 +23,8 @@ pub returns-in-Some-Number-clause-order : goal.returns-in-Some-Number-clause-ord
 returns-in-Some-Number-clause-order c =
     let seated = seated_took _ _ _ c.in-Some-Number.i _ c.self.invariant.seated c.in-Some-Number.field-0-is c.in-Some-Number.ensures.rule in
     (seated.rising, seated.below)
+
+pub returns-in-Some-Number-clause-count : goal.returns-in-Some-Number-clause-count
+returns-in-Some-Number-clause-count c =
+    let seated = seated_took _ _ _ c.in-Some-Number.i _ c.self.invariant.seated c.in-Some-Number.field-0-is c.in-Some-Number.ensures.rule in
+    seated.count
