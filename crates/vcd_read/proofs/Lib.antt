@@ -3,5 +3,3 @@ pub mod ScanLemmas
 pub mod TokenLemmas
 pub mod PieceLemmas
 pub mod FedLemmas
-pub mod RunLemmas
-pub mod StampLemmas

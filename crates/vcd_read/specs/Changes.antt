@@ -73,15 +73,15 @@ command_among_changes s (Some Changes) line = elim s.block [
 ]
 command_among_changes s (Some _) line = Ok (record s { context = inside.Skipped line })
 
-abbrev pub time_change : State → Option ℕ → ℕ → Step
+abbrev time_change : State → Option ℕ → ℕ → Step
 time_change s None line = Err (BadToken line)
 time_change s (Some time) line = time_reached s time line
 
-abbrev pub vector_change : State → Option Level → ℕ → Result State Refusal
+abbrev vector_change : State → Option Level → ℕ → Result State Refusal
 vector_change s None line = Err (BadToken line)
 vector_change s (Some level) line = Ok (record s { context = inside.Change line (Some level) })
 
-abbrev pub scalar_change : State → Option Level → List ℕ → ℕ → Result State Refusal
+abbrev scalar_change : State → Option Level → List ℕ → ℕ → Result State Refusal
 scalar_change s None code line = Err (BadToken line)
 scalar_change s (Some level) code line = change_of_code s (Some level) code line
 

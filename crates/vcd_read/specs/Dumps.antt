@@ -12,11 +12,11 @@ use Rattle.vcd_read.specs.States.{State, state_at_first}
 use Rattle.vcd_read.specs.Tokens.{Token, tokens_of, up_to_white}
 use Rattle.vcd_read.specs.Words.{is_end}
 
-abbrev pub outside : State → List ℕ → ℕ → Step
+abbrev outside : State → List ℕ → ℕ → Step
 outside s token line = if s.defined then change s token line else stays (definition s token line)
 
 -- The next token, in the place where it stands.
-abbrev pub token_in : Context → State → List ℕ → ℕ → Step
+abbrev token_in : Context → State → List ℕ → ℕ → Step
 token_in inside.Nothing s token line = outside s token line
 token_in (inside.Skipped began) s token line =
     Ok ((if is_end token then record s { context = inside.Nothing } else s), None)

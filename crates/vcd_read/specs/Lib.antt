@@ -8,4 +8,3 @@ pub mod Refusals
 pub mod Views
 pub mod Pieces
 pub mod Readers
-pub mod Grammar

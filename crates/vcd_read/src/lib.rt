@@ -11,7 +11,6 @@ mod changes;
 mod definitions;
 mod dumps;
 pub mod errors;
-pub mod laws;
 pub mod reader;
 pub mod samples;
 mod scanner;
