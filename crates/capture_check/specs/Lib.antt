@@ -1,4 +1,5 @@
 pub mod Events
+pub mod Following
 pub mod Views
 pub mod Transactions
 pub mod Marks
