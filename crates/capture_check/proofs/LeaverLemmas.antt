@@ -8,7 +8,10 @@ use Rattle.plan_core.specs.declared.plans.Participant.{Participant}
 use Rattle.plan_core.specs.Participants.{participant_count, participants_of, sender_at, sender_of}
 use Rattle.plan_core.proofs.PairLaws.{AllPairs-append}
 use Rattle.capture_check.specs.declared.listening.Mark.{Mark}
-use Rattle.capture_check.specs.Explained.{MayLeave, SomebodyMayLeave, Leaver, AreLeavers}
+use Rattle.capture_check.specs.declared.listening.Until.{Until}
+use Rattle.capture_check.specs.declared.listening.Until.TheVariants as ending
+use Rattle.capture_check.specs.Explained.{MayLeave, SomebodyMayLeave, Leaver, AreLeavers, AreExplainers, AreExplainersUntil}
+use Rattle.capture_check.specs.Transactions.{Recorded}
 
 -- those among the first n
 pub record AreLeaversBelow (plan : Contents) (marks : List Mark) (n : ℕ) (ps : List ℕ) : Type 0 where
@@ -86,3 +89,14 @@ leavers_of_all plan marks n ps e are = record {
   where
     is_participant : (p : ℕ) → Leaver plan marks p → p < n
     is_participant p h = subst (λ m. p < m) (sym e) (participant_within plan marks p h)
+
+-- who explains a transaction is a participant
+pub explainers_within : (plan : Contents) (t : Recorded) (ps : List ℕ) → AreExplainers plan t ps → (p : ℕ) → Contains ps p → p < participant_count plan
+explainers_within plan t ps are p c = go t.until are
+  where
+    none : ps ≡ [] → p < participant_count plan
+    none e = let has : Contains [] p = subst (λ qs. Contains qs p) e c in absurd (omega (arith, has.1))
+    go : (until : Until) → AreExplainersUntil until plan t.marks ps → p < participant_count plan
+    go (ending.Stopped time) h = participant_within plan t.marks p ((h.each p).0 c)
+    go (ending.Cut time) e = none e
+    go ending.Unfinished e = none e

@@ -1,5 +1,9 @@
 // A capture that comes in parts: from its samples to its transactions.
 
+ghost use Rattle.std.specs.Prelude.{◌≡◌, [], ◌++◌, IfOk, map};
+ghost use Rattle.capture_check.specs.Transactions.{before};
+ghost use Rattle.capture_check.specs.Views.{recorded, recorded_option};
+
 use crate::listening::{Listener, Transaction};
 use crate::watching::Watch;
 use std::alloc::{AllocError, Global};
@@ -15,9 +19,8 @@ pub struct Follower {
 impl Follower {
     ghost use Rattle.std.specs.Prelude.{◌≡◌, ◌∷◌, ◌++◌, List, IfOk, map};
     ghost use Rattle.vcd_read.specs.declared.samples.Sample.{Sample};
-    ghost use Rattle.capture_check.specs.declared.listening.Until.TheVariants.{Unfinished};
     ghost use Rattle.capture_check.specs.Following.{at_the_start, transactions_behind};
-    ghost use Rattle.capture_check.specs.Transactions.{before, ended};
+    ghost use Rattle.capture_check.specs.Transactions.{before};
     ghost use Rattle.capture_check.specs.Views.{place_of, recorded, recorded_option};
 
     /// Nothing is known of the bus.
@@ -57,10 +60,34 @@ impl Follower {
         }
     }
 
-    /// The transaction that goes on at the end of the capture, if any.
-    pub fn end(self) -> Option<Transaction>
-        ensures { recorded_option result ≡ ended (place_of self).bus Unfinished }
+    /// The transactions that end within the last samples, and the one that goes on at the end of the capture, if any.
+    pub fn follow_to_end(
+        mut self,
+        alloc: Global,
+        samples: &[Sample],
+    ) -> Result<Vec<Transaction>, AllocError>
+        ensures { IfOk result (λ found.
+            map recorded found.items ≡ transactions_behind (place_of self) samples.now) }
     {
-        self.listener.end()
+        let found = self.follow(alloc, samples)?;
+        let all = with_last(found, self.listener.end())?;
+        Ok(all)
+    }
+}
+
+// These, and the last one, if any.
+fn with_last(
+    mut found: Vec<Transaction>,
+    last: Option<Transaction>,
+) -> Result<Vec<Transaction>, AllocError>
+    ensures { IfOk result (λ all.
+        map recorded all.items ≡ map recorded found.items ++ before (recorded_option last) []) }
+{
+    match last {
+        Some(transaction) => {
+            found.push(transaction)?;
+            Ok(found)
+        }
+        None => Ok(found),
     }
 }

@@ -9,3 +9,6 @@ pub mod FaultLines
 pub mod Checks
 pub mod RunErrors
 pub mod Certificates
+pub mod CaptureLines
+pub mod CaptureViews
+pub mod Captures
