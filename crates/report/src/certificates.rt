@@ -16,8 +16,8 @@ use plan_text::read_plan;
 use std::alloc::{AllocError, Global};
 use verdicts::{certificate_text, faults};
 
-/// Writes the certificate of the plan that the reader gives: the proofs of all pairs where the plan is safe, and else the
-/// first fault of the first pair that has one. The status is `Good` or `Bad`.
+/// Writes the certificate of the plan that the reader gives: the proofs of all pairs where the plan is safe, and else
+/// the first fault of the first pair that has one. The status is `Good` or `Bad`.
 ///
 /// # Errors
 ///

@@ -15,8 +15,8 @@ use certificate::{CertText, Fault, print_cert};
 use plan_core::Plan;
 use std::alloc::{AllocError, Global};
 
-/// The text of the certificate of the plan that has these faults: the proofs of all its pairs where it has none, and else
-/// its first fault.
+/// The text of the certificate of the plan that has these faults: the proofs of all its pairs where it has none, and
+/// else its first fault.
 ///
 /// Two senders are proved once, however many pairs they make, and the line of their proof is kept and written for each.
 /// Beside the text and these lines one proof is held at a time.

@@ -1,6 +1,6 @@
-// The numbers of what the participants of a plan send, and a place for each two of them. What a pair comes to depends on
-// what its two participants send, and on nothing else: so what is known of two senders is kept at their place, and found
-// once however many pairs they make.
+// The numbers of what the participants of a plan send, and a place for each two of them. What a pair comes to depends
+// on what its two participants send, and on nothing else: so what is known of two senders is kept at their place, and
+// found once however many pairs they make.
 #![tactic(auto, unfolding(crate::specs::Senders::place))]
 
 ghost use Rattle.std.specs.Prelude.{◌≡◌, ℕ, ◌<◌, length, slice_get, Some};
