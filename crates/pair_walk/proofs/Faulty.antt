@@ -127,6 +127,16 @@ module _ (plan : Contents) (x y v w : ℕ) (lt : x < y) (less : v < w) where
   same_senders e f found h =
       same_by_senders (sender_at plan v) (sender_at plan w) e f refl refl found h
 
+  same_proof_by : (s t : Option Sender) → sender_at plan x ≡ s → sender_at plan y ≡ t → sender_at plan v ≡ s → sender_at plan w ≡ t → (p : ProofTree) → IsSafeProof plan x y p → IsSafeProof plan v w p
+  same_proof_by (Some s) (Some t) at_x at_y at_v at_w p f =
+      safe_proof plan v w s t less at_v at_w p (rw (at_x, at_y) at f.canonical)
+  same_proof_by None t at_x at_y at_v at_w p f =
+      absurd (subst (λ (q : Option Sender). CanonicalBetween q (sender_at plan y) p) at_x f.canonical)
+  same_proof_by (Some s) None at_x at_y at_v at_w p f = absurd (rw (at_x, at_y) at f.canonical)
+
+  pub same_proof : sender_at plan x ≡ sender_at plan v → sender_at plan y ≡ sender_at plan w → (p : ProofTree) → IsSafeProof plan x y p → IsSafeProof plan v w p
+  same_proof e f p h = same_proof_by (sender_at plan v) (sender_at plan w) e f refl refl p h
+
 -- ---- at the pair with a number
 
 numbers_are : (ps : List (ℕ × ℕ)) (i : ℕ) (p q : ℕ × ℕ) → slice_get ps i ≡ Some p → slice_get ps i ≡ Some q → p ≡ q

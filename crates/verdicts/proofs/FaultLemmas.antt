@@ -20,7 +20,8 @@ use Rattle.verdicts.specs.declared.known.Known.TheVariants.{NotYet, Safe, Unsafe
 use Rattle.verdicts.specs.declared.listed.Listed.{Listed}
 use Rattle.verdicts.specs.Entries.{is_unsafe, all_unsafe, entry, entries, listing_of, listing}
 use Rattle.verdicts.specs.Faults.{AreFaults, outcome_fault, faults_of}
-use Rattle.verdicts.specs.Known.{IsKnown, KnowsPairs, place}
+use Rattle.verdicts.specs.Known.{IsKnown, KnowsPairs}
+use Rattle.verdicts.specs.Senders.{place}
 use Rattle.verdicts.specs.Verdicts.{AreVerdictsOf, IsSafeOutcome, AreSafe}
 use Rattle.verdicts.proofs.KnownLemmas.{some_at}
 use Rattle.verdicts.proofs.TableLemmas.{verdicts_more, safe_plan, safe_verdicts}
@@ -31,7 +32,7 @@ anywhere : Box (Unit {0}) Global
 anywhere = record { ptr = null_ptr; alloc = record { memory = record { seal = tt } }; value = tt }
 
 -- the value of a program that is this proof
-some_cert : (t : ProofTree) → (c : Cert) × (proof_tree c ≡ t)
+pub some_cert : (t : ProofTree) → (c : Cert) × (proof_tree c ≡ t)
 some_cert (proof.part k) = (cert.Part k, refl)
 some_cert proof.short = (cert.Short, refl)
 some_cert proof.alike = (cert.Alike, refl)

@@ -17,7 +17,8 @@ use Rattle.plan_core.specs.Pairs.{pairs_of}
 use Rattle.plan_core.specs.Participants.{participants_of, participant_count, sender_at, sender_of, message_sender, interrupt_sender}
 use Rattle.verdicts.specs.declared.known.Known.{Known}
 use Rattle.verdicts.specs.declared.known.Known.TheVariants.{NotYet, Safe, Unsafe}
-use Rattle.verdicts.specs.Known.{sender_count, sender_number, number_of, place, known_as, IsKnown, IsKnownIfAny, IsMemo, KnowsPair, KnowsPairs}
+use Rattle.verdicts.specs.Senders.{sender_count, sender_number, number_of, place, place_count}
+use Rattle.verdicts.specs.Known.{known_as, IsKnown, IsKnownIfAny, IsMemo, KnowsPair, KnowsPairs}
 
 -- ---- lists
 
@@ -27,29 +28,29 @@ module _ {X : Type 0} where
   some_at (y ∷ xs) zero h = (y, refl)
   some_at (y ∷ xs) (suc k) h = some_at xs k (omega arith)
 
-  get_set_same : (xs : List X) (k : ℕ) (x : X) → k < length xs → slice_get (set xs k x) k ≡ Some x
+  pub get_set_same : (xs : List X) (k : ℕ) (x : X) → k < length xs → slice_get (set xs k x) k ≡ Some x
   get_set_same [] k x h = absurd (omega arith)
   get_set_same (y ∷ xs) zero x h = refl
   get_set_same (y ∷ xs) (suc k) x h = get_set_same xs k x (omega arith)
 
-  get_set_other : (xs : List X) (k j : ℕ) (x : X) → (j ≡ k → ⊥) → slice_get (set xs k x) j ≡ slice_get xs j
+  pub get_set_other : (xs : List X) (k j : ℕ) (x : X) → (j ≡ k → ⊥) → slice_get (set xs k x) j ≡ slice_get xs j
   get_set_other [] k j x n = refl
   get_set_other (y ∷ xs) zero zero x n = absurd (n refl)
   get_set_other (y ∷ xs) zero (suc j) x n = refl
   get_set_other (y ∷ xs) (suc k) zero x n = refl
   get_set_other (y ∷ xs) (suc k) (suc j) x n = get_set_other xs k j x (λ e. n (ap suc e))
 
-  length_set : (xs : List X) (k : ℕ) (x : X) → length (set xs k x) ≡ length xs
+  pub length_set : (xs : List X) (k : ℕ) (x : X) → length (set xs k x) ≡ length xs
   length_set [] k x = refl
   length_set (y ∷ xs) zero x = refl
   length_set (y ∷ xs) (suc k) x = ap suc (length_set xs k x)
 
-  get_replicate : (n k : ℕ) (x y : X) → slice_get (replicate n x) k ≡ Some y → x ≡ y
+  pub get_replicate : (n k : ℕ) (x y : X) → slice_get (replicate n x) k ≡ Some y → x ≡ y
   get_replicate zero k x y e = cc
   get_replicate (suc n) zero x y e = cc
   get_replicate (suc n) (suc k) x y e = get_replicate n k x y e
 
-  same_got : (xs : List X) (k : ℕ) (x y : X) → slice_get xs k ≡ Some x → slice_get xs k ≡ Some y → x ≡ y
+  pub same_got : (xs : List X) (k : ℕ) (x y : X) → slice_get xs k ≡ Some x → slice_get xs k ≡ Some y → x ≡ y
   same_got xs k x y e f = let d : Some x ≡ Some y = sym e ∙ f in cc
 
 -- ---- the numbers of senders
@@ -86,22 +87,28 @@ place_parts a b c d n h i e =
     (sym (div-mul-add a n b h) ∙ (ap (λ m. m / n) e ∙ div-mul-add c n d i), sym (mod-eq_of_lt h) ∙ (sym (mul-add-mod_self_right a n b) ∙ (ap (λ m. m % n) e ∙ (mul-add-mod_self_right c n d ∙ mod-eq_of_lt i))))
 
 module _ (plan : Contents) (within : IsWithinLimits plan) where
-  pub place_within : (x y : ℕ) → x < participant_count plan → y < participant_count plan → place plan x y < sender_count plan * sender_count plan
+  pub place_within : (x y : ℕ) → x < participant_count plan → y < participant_count plan → place plan x y < place_count plan
   unfolding place
   place_within x y h i =
       mul-add-lt (sender_number plan x) (sender_count plan) (sender_number plan y) (sender_count plan) (sender_within plan within x h) (sender_within plan within y i)
 
-  -- two pairs at one place have the same senders, and so what is known of one is known of the other
-  known_at_place : (i j x y v w : ℕ) → slice_get (pairs_of plan) i ≡ Some (x, y) → slice_get (pairs_of plan) j ≡ Some (v, w) → place plan v w ≡ place plan x y → (found : Option Fault) → IsFirstFaultIfAny plan x y found → IsFirstFaultIfAny plan v w found
+  -- two pairs at one place have the same senders
+  pub senders_at_place : (i j x y v w : ℕ) → slice_get (pairs_of plan) i ≡ Some (x, y) → slice_get (pairs_of plan) j ≡ Some (v, w) → place plan v w ≡ place plan x y → (x < y) × (v < w) × (sender_at plan x ≡ sender_at plan v) × (sender_at plan y ≡ sender_at plan w)
   unfolding place
-  known_at_place i j x y v w e f same found h =
+  senders_at_place i j x y v w e f same =
       let a = pair_is_below plan i (x, y) e in
       let b = pair_is_below plan j (v, w) f in
       let n = participant_count plan in
       let x_in : x < n = omega (arith, a.0, a.1) in
       let v_in : v < n = omega (arith, b.0, b.1) in
       let parts = place_parts (sender_number plan v) (sender_number plan w) (sender_number plan x) (sender_number plan y) (sender_count plan) (sender_within plan within w b.1) (sender_within plan within y a.1) same in
-      same_senders plan x y v w a.0 b.0 (sender_by_number plan within x v x_in v_in (sym parts.0)) (sender_by_number plan within y w a.1 b.1 (sym parts.1)) found h
+      (a.0, b.0, sender_by_number plan within x v x_in v_in (sym parts.0), sender_by_number plan within y w a.1 b.1 (sym parts.1))
+
+  -- so what is known of one is known of the other
+  known_at_place : (i j x y v w : ℕ) → slice_get (pairs_of plan) i ≡ Some (x, y) → slice_get (pairs_of plan) j ≡ Some (v, w) → place plan v w ≡ place plan x y → (found : Option Fault) → IsFirstFaultIfAny plan x y found → IsFirstFaultIfAny plan v w found
+  known_at_place i j x y v w e f same found h =
+      let s = senders_at_place i j x y v w e f same in
+      same_senders plan x y v w s.0 s.1 s.2 s.3 found h
 
   -- ---- one more pair is known
 
@@ -194,7 +201,7 @@ pub one_more : (n : ℕ) (known more : List Known) → known ≡ replicate n Not
 one_more n known more e f =
     rw add-one (f ∙ (ap (λ ks. ks ++ NotYet ∷ []) e ∙ replicate_push n))
 
-pub memo_of_none : (plan : Contents) (known : List Known) (n : ℕ) → known ≡ replicate n NotYet → length known ≡ n → n ≡ sender_count plan * sender_count plan → IsMemo plan known
+pub memo_of_none : (plan : Contents) (known : List Known) (n : ℕ) → known ≡ replicate n NotYet → length known ≡ n → n ≡ place_count plan → IsMemo plan known
 memo_of_none plan known n all l e = record {
   sized = l ∙ e;
   right = λ i x y k p at.

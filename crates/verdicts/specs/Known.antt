@@ -1,31 +1,13 @@
--- What is known of the pairs of a plan, kept by the numbers of their senders.
+-- What is known of the pairs of a plan, kept at the places of their senders.
 -- Only private contracts and proofs use this.
-use Rattle.std.specs.Prelude.{◌≡◌, ℕ, ◌+◌, ◌*◌, ◌<◌, Option, Some, None, List, length, slice_get}
+use Rattle.std.specs.Prelude.{◌≡◌, ℕ, ◌<◌, Option, Some, None, List, length, slice_get}
 use Rattle.certificate.specs.declared.values.Fault.{Fault}
 use Rattle.pair_walk.specs.Verdicts.{IsFirstFaultIfAny}
-use Rattle.plan_core.specs.declared.plans.Participant.{Participant}
-use Rattle.plan_core.specs.declared.plans.Participant.TheVariants.{Sending, Interrupt}
 use Rattle.plan_core.specs.Contents.{Contents}
 use Rattle.plan_core.specs.Pairs.{pairs_of}
-use Rattle.plan_core.specs.Participants.{participants_of}
+use Rattle.verdicts.specs.Senders.{place, place_count}
 use Rattle.verdicts.specs.declared.known.Known.{Known}
 use Rattle.verdicts.specs.declared.known.Known.TheVariants.{NotYet, Safe, Unsafe}
-
-abbrev pub sender_count : Contents → ℕ
-sender_count plan = length plan.messages + length plan.interrupts
-
--- messages have their own numbers, and interrupts are counted after them
-abbrev pub number_of : Contents → Option Participant → ℕ
-number_of plan (Some (Sending controller message)) = message
-number_of plan (Some (Interrupt k)) = length plan.messages + k
-number_of plan None = 0
-
-abbrev pub sender_number : Contents → ℕ → ℕ
-sender_number plan p = number_of plan (slice_get (participants_of plan) p)
-
--- where it stands what x and y come to
-unfoldable pub place : Contents → ℕ → ℕ → ℕ
-place plan x y = sender_number plan x * sender_count plan + sender_number plan y
 
 abbrev pub known_as : Option Fault → Known
 known_as None = Safe
@@ -43,7 +25,7 @@ IsKnownIfAny plan x y known = IsKnown plan x y known
 
 -- whatever is known of a pair is right
 pub record IsMemo (plan : Contents) (known : List Known) : Type 0 where
-  pub sized : length known ≡ sender_count plan * sender_count plan
+  pub sized : length known ≡ place_count plan
   pub right : (i x y : ℕ) (k : Known) → slice_get (pairs_of plan) i ≡ Some (x, y) →
       slice_get known (place plan x y) ≡ Some k → IsKnownIfAny plan x y k
 

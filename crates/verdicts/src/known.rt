@@ -1,17 +1,15 @@
-// What is known of the pairs of a plan. What a pair comes to depends on what its two participants send, and on nothing
-// else: so what is known of two senders is kept, and found once however many pairs they make.
-#![tactic(auto, unfolding(crate::specs::Known::place))]
+// What two senders come to who start together, as far as a plan's pairs need it.
 
-ghost use Rattle.std.specs.Prelude.{◌≡◌, ℕ, ◌+◌, ◌*◌, ◌<◌, length, replicate, slice_get, Some, IfOk, OnOk};
+ghost use Rattle.std.specs.Prelude.{◌≡◌, ℕ, ◌<◌, length, replicate, IfOk, OnOk};
 ghost use Rattle.plan_core.specs.PlanContents.{plan_contents};
 ghost use Rattle.plan_core.specs.Pairs.{pairs_of};
-ghost use Rattle.plan_core.specs.Participants.{participant_count};
 ghost use Rattle.verdicts.specs.declared.known.Known.TheVariants.{NotYet};
-ghost use Rattle.verdicts.specs.Known.{sender_count, sender_number, place, known_as, IsMemo, KnowsPair, KnowsPairs};
+ghost use Rattle.verdicts.specs.Known.{known_as, IsMemo, KnowsPair, KnowsPairs};
 
+use crate::senders::{place_of, places_of};
 use certificate::Fault;
 use pair_walk::first_fault;
-use plan_core::{Participant, Plan};
+use plan_core::Plan;
 use std::alloc::{AllocError, Global};
 
 /// What two senders come to who start together.
@@ -30,22 +28,11 @@ pub(crate) fn known_pairs(alloc: Global, plan: &Plan) -> Result<Vec<Known>, Allo
     ensures { IfOk result (λ known.
         KnowsPairs (plan_contents plan.now) known.items (length (pairs_of (plan_contents plan.now)))) }
 {
-    let senders = senders_of(plan);
-    let mut known = not_yet(alloc, senders * senders)?;
+    let mut known = not_yet(alloc, places_of(plan))?;
     for i in 0..plan.pair_count() {
         learn(alloc, plan, &mut known, i)?;
     }
     Ok(known)
-}
-
-/// Where it stands what the pair with number `i` comes to.
-pub(crate) fn place_of(plan: &Plan, i: u32) -> usize
-    requires { i < length (pairs_of (plan_contents plan.now)) }
-    ensures { (x y : ℕ) → slice_get (pairs_of (plan_contents plan.now)) i ≡ Some (x, y) →
-        result ≡ place (plan_contents plan.now) x y }
-{
-    let (x, y) = plan.pair(i);
-    sender_of(plan, x) * senders_of(plan) + sender_of(plan, y)
 }
 
 // Finds what pair `i` comes to, unless that of its two senders is known.
@@ -70,26 +57,6 @@ fn known_by(fault: Option<Fault>) -> Known
     match fault {
         None => Known::Safe,
         Some(fault) => Known::Unsafe(fault),
-    }
-}
-
-// The number of the messages and interrupts of the plan.
-fn senders_of(plan: &Plan) -> usize
-    ensures value { result ≡ sender_count (plan_contents plan.now) }
-    ensures few { result < 512 }
-{
-    plan.messages() as usize + plan.interrupts() as usize
-}
-
-// The number of what participant `p` sends: messages have theirs, and the interrupts are counted after them.
-fn sender_of(plan: &Plan, p: u32) -> usize
-    requires { p < participant_count (plan_contents plan.now) }
-    ensures value { result ≡ sender_number (plan_contents plan.now) p }
-    ensures within { result < sender_count (plan_contents plan.now) }
-{
-    match plan.participant(p) {
-        Participant::Sending { message, .. } => message as usize,
-        Participant::Interrupt(k) => plan.messages() as usize + k as usize,
     }
 }
 

@@ -14,7 +14,7 @@ use std::alloc::AllocError;
 pub struct Faults {
     pub(crate) known: Vec<Known>,
     pub(crate) listed: Vec<Listed>,
-    pub ghost all_unsafe: { IsTrue (all_unsafe known.items listed.items) },
+    ghost all_unsafe: { IsTrue (all_unsafe known.items listed.items) },
 }
 
 /// A pair that is not safe, and where its fault stands.

@@ -4,8 +4,9 @@ ghost use Rattle.std.specs.Prelude.{IfOk};
 ghost use Rattle.plan_core.specs.PlanContents.{plan_contents};
 ghost use Rattle.verdicts.specs.Faults.{AreFaults, fault_list};
 
-use crate::known::{known_pairs, place_of};
+use crate::known::known_pairs;
 use crate::listed::{Faults, list_if_unsafe};
+use crate::senders::place_of;
 use plan_core::Plan;
 use std::alloc::{AllocError, Global};
 

@@ -1,6 +1,6 @@
-// How fast the pairs of large plans are judged, on one thread. For each plan it writes the number of pairs and how many of
-// them are not safe. With the argument `--time` it also writes how long it took to find that, and how long with a walk or
-// a search for each pair.
+// How fast the pairs of large plans are judged, on one thread. For each plan it writes the number of pairs and how many
+// of them are not safe. With the argument `--time` it also writes how long it took to find that, and how long with a
+// walk or a search for each pair, and with `--certify` how long its certificate took.
 #![tactic(auto)]
 
 ghost use Rattle.std.specs.Prelude.{◌<◌};
@@ -13,7 +13,7 @@ use std::alloc::{AllocError, Global};
 use std::rt::Env;
 use std::time::{Clock, Duration, Instant};
 use std::{env, io};
-use verdicts::faults;
+use verdicts::{certificate_text, faults};
 
 const CONTROLLERS: u32 = 32;
 
@@ -56,10 +56,14 @@ const ONE_BYTE: [&str; 16] = [
 fn main(rt: HostRuntime) -> Result<()> {
     let alloc = rt.alloc();
     let is_timed = has_argument(&rt, "--time")?;
+    let is_certified = has_argument(&rt, "--certify")?;
     for shape in SHAPES {
         let text = plan_of(alloc, shape)?;
         let plan = read_plan(alloc, text.as_bytes())?;
         judge(&rt, alloc, shape, &plan, is_timed)?;
+        if is_certified {
+            certify(&rt, alloc, &plan)?;
+        }
     }
     Ok(())
 }
@@ -117,8 +121,8 @@ fn push_message(alloc: Global, text: &mut String, shape: Shape, k: u32) -> Resul
     }
 }
 
-// A write of 239 bytes, behind which and behind each refusal of which stands a write of 15 bytes: 240 nodes and 241 times
-// 16, and 256 bytes on the longest path.
+// A write of 239 bytes, behind which and behind each refusal of which stands a write of 15 bytes: 240 nodes and 241
+// times 16, and 256 bytes on the longest path.
 fn push_many_nodes(alloc: Global, text: &mut String) -> Result<(), AllocError> {
     let mut tail = String::new(alloc);
     tail.push_str("again ")?;
@@ -126,7 +130,8 @@ fn push_many_nodes(alloc: Global, text: &mut String) -> Result<(), AllocError> {
     push_write(text, 239, "00000000", tail.as_str())
 }
 
-// A write of so many data bytes, at least one, of which this is the last. The tail stands behind it and behind each refusal.
+// A write of so many data bytes, at least one, of which this is the last. The tail stands behind it and behind each
+// refusal.
 fn push_write(text: &mut String, bytes: u32, last: &str, tail: &str) -> Result<(), AllocError> {
     text.push_str("write 1001000")?;
     for _ in 1..bytes {
@@ -199,6 +204,14 @@ fn judge<R: Print + Clock>(
         print_rate(rt, "first_fault", pairs, searched, start.elapsed(rt)?)?;
         print_rate(rt, "faults", pairs, not_safe, found)?;
     }
+    Ok(())
+}
+
+fn certify<R: Print + Clock>(rt: &R, alloc: Global, plan: &Plan) -> Result<()> {
+    let start = Instant::now(rt)?;
+    let bytes = certificate_text(alloc, plan, &faults(alloc, plan)?)?.len();
+    let seconds = start.elapsed(rt)?.as_secs_f64();
+    println!(rt; "  certificate_text: {seconds:.4} seconds, {bytes} bytes")?;
     Ok(())
 }
 

@@ -1,19 +1,18 @@
-use Rattle.std.proofs.Common.{◌*◌, ap, ◌∙◌, arith}
+use Rattle.std.proofs.Common.{◌≡◌, List, length, ap, ◌∙◌, arith}
 use Rattle.std.proofs.lemmas.List.{length-replicate}
 use Rattle.verdicts.specs.declared.known.Known.{Known}
 use Rattle.verdicts.specs.declared.known.Known.TheVariants.{NotYet}
-use Rattle.std.proofs.Common.{List, length, ◌≡◌}
 use Rattle.plan_core.specs.PlanContents.{plan_contents}
 use Rattle.verdicts.proofs.KnownLemmas.{memo_of_none, knows_next}
 use Rattle.verdicts.proofs.known.known_pairs.Goals as goal
 
 pub loop-i-init : goal.loop-i-init
 loop-i-init c =
-    let n = c.senders_of-senders.result in
+    let n = c.places_of.result in
     let known = c.in_ok-known.known.items in
-    let sized : length known ≡ n * n = ap (λ (ks : List Known). length ks) c.in_ok-known.ensures ∙ length-replicate (n * n) NotYet in
+    let sized : length known ≡ n = ap (λ (ks : List Known). length ks) c.in_ok-known.ensures ∙ length-replicate n NotYet in
     record {
-      memo = memo_of_none (plan_contents c.args.plan.now) known (n * n) c.in_ok-known.ensures sized (ap (λ m. m * m) c.senders_of-senders.ensures.value);
+      memo = memo_of_none (plan_contents c.args.plan.now) known n c.in_ok-known.ensures sized c.places_of.ensures;
       knows = λ i h x y e. absurd (omega (arith, h));
     }
 

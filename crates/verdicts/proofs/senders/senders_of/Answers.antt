@@ -1,6 +1,6 @@
 use Rattle.std.proofs.Common.{arith}
 use Rattle.plan_core.proofs.PlanLemmas.{limits_of}
-use Rattle.verdicts.proofs.known.senders_of.Goals as goal
+use Rattle.verdicts.proofs.senders.senders_of.Goals as goal
 
 pub returns-clause-few : goal.returns-clause-few
 returns-clause-few c =

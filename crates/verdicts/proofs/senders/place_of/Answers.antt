@@ -1,7 +1,7 @@
 use Rattle.std.proofs.Common.{arith}
 use Rattle.plan_core.specs.PlanContents.{plan_contents}
 use Rattle.pair_walk.proofs.Faulty.{pair_is_below}
-use Rattle.verdicts.proofs.known.place_of.Goals as goal
+use Rattle.verdicts.proofs.senders.place_of.Goals as goal
 
 pub sender_of-requires : goal.sender_of-requires
 sender_of-requires c =
