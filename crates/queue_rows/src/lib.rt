@@ -4,3 +4,5 @@
 
 #[cfg(test)]
 mod one_thread;
+#[cfg(test)]
+mod threads;

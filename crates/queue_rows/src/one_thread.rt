@@ -1,7 +1,7 @@
 // Queues whose seats are all in one thread.
-ghost use Rattle.std.specs.Prelude.{◌≡◌, All};
+ghost use Rattle.std.specs.Prelude.{◌≡◌};
 
-use pair_queue::{SettleFault, Take, Thief, open_queue, settle};
+use pair_queue::{MOST_NUMBERS, MOST_THIEVES, SettleFault, Take, Thief, open_queue, settle};
 use std::test::*;
 
 /// How often a thief may answer Busy before a test fails.
@@ -43,5 +43,39 @@ fn an_owner_and_a_thief_take_three_numbers(rt: HostRuntime) -> Result<(), Fail> 
     assert_eq!(rt; missing.why, SettleFault::Missing);
     assert!(rt; missing.thieves.is_empty());
     assert!(rt; settle(missing.owner, left.thieves).is_ok());
+    Ok(())
+}
+
+#[test]
+fn a_thief_alone_finds_the_end(rt: HostRuntime) -> Result<(), Fail> {
+    let (owner, mut thieves) = open_queue(rt.alloc(), 1, 1)?;
+    let Some(mut thief) = thieves.pop() else {
+        return Err(Fail::from("no thief"));
+    };
+    assert_eq!(rt; ask(&mut thief), Take::Pair(0));
+    assert_eq!(rt; ask(&mut thief), Take::Empty);
+    assert_eq!(rt; ask(&mut thief), Take::Empty);
+    thieves.push(thief)?;
+    assert!(rt; settle(owner, thieves).is_ok());
+    Ok(())
+}
+
+#[test]
+fn no_numbers_and_the_most_thieves(rt: HostRuntime) -> Result<(), Fail> {
+    let (mut owner, thieves) = open_queue(rt.alloc(), 0, MOST_THIEVES)?;
+    assert_eq!(rt; thieves.len(), MOST_THIEVES as usize);
+    assert_eq!(rt; owner.take(), None);
+    assert!(rt; settle(owner, thieves).is_ok());
+    Ok(())
+}
+
+#[test]
+fn the_most_numbers_and_no_thief(rt: HostRuntime) -> Result<(), Fail> {
+    let (mut owner, thieves) = open_queue(rt.alloc(), MOST_NUMBERS, 0)?;
+    for i in 0..MOST_NUMBERS {
+        assert_eq!(rt; owner.take(), Some(i));
+    }
+    assert_eq!(rt; owner.take(), None);
+    assert!(rt; settle(owner, thieves).is_ok());
     Ok(())
 }
