@@ -5,3 +5,4 @@ pub mod PieceLemmas
 pub mod FedLemmas
 pub mod RunLemmas
 pub mod StampLemmas
+pub mod DeclarationLemmas

@@ -1,12 +1,11 @@
 -- What single tokens do, in the places of the grammar.
-use Rattle.std.proofs.Common.{◌≡◌, ℕ, Bool, true, false, ◌&&◌, ◌||◌, ◌==◌, List, [], ◌∷◌, ◌++◌, Option, Some, None, Result, Ok, Err, refl, ap, sym, ◌∙◌, subst}
-use Rattle.std.specs.Prelude.{if◌then◌else◌, not, option_to_list}
+use Rattle.std.proofs.Common.{◌≡◌, ℕ, Bool, true, false, ◌&&◌, ◌==◌, List, [], ◌∷◌, ◌++◌, Some, None, Ok, Err, refl, ap, sym, ◌∙◌, subst}
+use Rattle.std.specs.Prelude.{if◌then◌else◌, not}
 use Rattle.std.proofs.lemmas.Bool.{eqb-true}
-use Rattle.vcd_read.specs.declared.dumps.Context.{Context}
 use Rattle.vcd_read.specs.declared.dumps.Context.TheVariants as inside
 use Rattle.vcd_read.specs.declared.samples.Level.{Level}
 use Rattle.vcd_read.specs.declared.words.Command.{Command}
-use Rattle.vcd_read.specs.Changes.{Step, stays, change, change_by, change_of_code, command_among_changes, both_changed, scalar_change}
+use Rattle.vcd_read.specs.Changes.{stays, change, change_by, command_among_changes, both_changed, scalar_change}
 use Rattle.vcd_read.specs.Dumps.{Run, step, run, and_then, with_front}
 use Rattle.vcd_read.specs.Grammar.{without_end}
 use Rattle.vcd_read.specs.States.{State}
@@ -49,7 +48,7 @@ run_skipped [] close rest s began none is =
 run_skipped (token ∷ body) close rest s began none is =
     let parts = and_both (not (is_end token.bytes)) (without_end body) none in
     run_token (record s { context = inside.Skipped began }) (record s { context = inside.Skipped began }) token ((body ++ (close ∷ [])) ++ rest)
-      (step_skipped s began token.line token.bytes (not_true (is_end token.bytes) parts.0))
+    (step_skipped s began token.line token.bytes (not_true (is_end token.bytes) parts.0))
     ∙ run_skipped body close rest s began parts.1 is
 
 -- ---- commands among the changes
@@ -81,8 +80,14 @@ other_than value other level false same is none = refl
 pub change_scalar : (s : State) (value : ℕ) (code : List ℕ) (level : Level) (line : ℕ) → level_of value ≡ Some level → is_code code ≡ true →
     change_by value code s line ≡ Ok (both_changed code level s, None)
 change_scalar s value code level line is of_code =
-    rw (other_than value 35 level (value == 35) refl is refl, other_than value 36 level (value == 36) refl is refl,
-      other_than value 98 level (value == 98) refl is refl, other_than value 66 level (value == 66) refl is refl,
-      other_than value 114 level (value == 114) refl is refl, other_than value 82 level (value == 82) refl is refl,
-      other_than value 115 level (value == 115) refl is refl, other_than value 83 level (value == 83) refl is refl)
+    rw (
+      other_than value 35 level (value == 35) refl is refl,
+      other_than value 36 level (value == 36) refl is refl,
+      other_than value 98 level (value == 98) refl is refl,
+      other_than value 66 level (value == 66) refl is refl,
+      other_than value 114 level (value == 114) refl is refl,
+      other_than value 82 level (value == 82) refl is refl,
+      other_than value 115 level (value == 115) refl is refl,
+      other_than value 83 level (value == 83) refl is refl,
+    )
     (ap (λ o. stays (scalar_change s o code line)) is ∙ rw of_code refl)

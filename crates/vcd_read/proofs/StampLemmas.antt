@@ -1,5 +1,5 @@
 -- The changes of a dump, entry by entry and stamp by stamp.
-use Rattle.std.proofs.Common.{◌≡◌, ℕ, ◌<◌, ◌⊎◌, inl, inr, Bool, true, false, ◌&&◌, ◌||◌, ◌==◌, nat_lt, List, [], ◌∷◌, ◌++◌, Option, Some, None, is_some, Result, Ok, Err, refl, ap, sym, ◌∙◌, subst, append_assoc, arith}
+use Rattle.std.proofs.Common.{◌≡◌, ℕ, ◌<◌, ◌⊎◌, inl, inr, Bool, true, false, ◌&&◌, ◌==◌, nat_lt, List, [], ◌∷◌, ◌++◌, Option, Some, None, is_some, Result, Ok, Err, refl, ap, sym, ◌∙◌, append_assoc, arith}
 use Rattle.std.specs.Prelude.{if◌then◌else◌, option_to_list}
 use Rattle.std.specs.Str.{bytes_eq}
 use Rattle.std.proofs.lemmas.Bool.{eq-eqb}
@@ -12,13 +12,13 @@ use Rattle.vcd_read.specs.declared.samples.Level.{Level}
 use Rattle.vcd_read.specs.declared.samples.Sample.{Sample}
 use Rattle.vcd_read.specs.declared.words.Command.{Command}
 use Rattle.vcd_read.specs.declared.words.Command.TheVariants.{Var, EndDefinitions, Changes, End, Other}
-use Rattle.vcd_read.specs.Changes.{Step, stays, change, change_by, change_of_code, command_among_changes, changed, both_changed, vector_change, time_change, time_reached, stamp_sample, same_level}
+use Rattle.vcd_read.specs.Changes.{stays, change, change_of_code, both_changed, vector_change, time_change, time_reached, stamp_sample, same_level}
 use Rattle.vcd_read.specs.Dumps.{Run, step, run, and_then, with_front, with_last, at_end, ended}
-use Rattle.vcd_read.specs.Grammar.{Skipped, skipped_tokens, EndsOnce, Entry, scalar, vector, real, command, opens, closes, again, entry_tokens, IsEntry, AreEntries, is_skipped, opened_by, level_by, level_after, Stamp, entries_tokens, stamps_tokens, AreStamps, open_after, open_after_stamps, sample_at, stamp_samples}
+use Rattle.vcd_read.specs.Grammar.{Skipped, Entry, scalar, vector, real, command, opens, closes, again, entry_tokens, IsEntry, AreEntries, is_skipped, opened_by, level_by, level_after, Stamp, entries_tokens, stamps_tokens, AreStamps, open_after, open_after_stamps, sample_at, stamp_samples}
 use Rattle.vcd_read.specs.States.{Line, State}
 use Rattle.vcd_read.specs.Tokens.{Token}
-use Rattle.vcd_read.specs.Words.{is_code, is_empty, command_of, level_of, vector_level, time_of}
-use Rattle.vcd_read.proofs.RunLemmas.{front_none, run_token, run_skipped, change_command, change_scalar}
+use Rattle.vcd_read.specs.Words.{is_empty, command_of, vector_level, time_of}
+use Rattle.vcd_read.proofs.RunLemmas.{run_token, run_skipped, change_command, change_scalar}
 
 -- the names and codes of the two signals, and the code of the latest `$var`
 pub record Names : Type 0 where
@@ -64,9 +64,9 @@ both_changed-by : (n : Names) (time : ℕ) (x y a b : Level) (block : Option ℕ
     ≡ state_at n time x y (if bytes_eq code n.scl_code then level else a) (if bytes_eq code n.sda_code then level else b) block
 both_changed-by n time x y a b block code level =
     ap (λ line. record (both_changed code level (state_at n time x y a b block)) { scl = line })
-      (changed-by (bytes_eq code n.scl_code) (record { name = n.scl; code = n.scl_code; before = x; level = a }) level)
+    (changed-by (bytes_eq code n.scl_code) (record { name = n.scl; code = n.scl_code; before = x; level = a }) level)
     ∙ ap (λ line. record (state_at n time x y (if bytes_eq code n.scl_code then level else a) b block) { sda = line })
-      (changed-by (bytes_eq code n.sda_code) (record { name = n.sda; code = n.sda_code; before = y; level = b }) level)
+    (changed-by (bytes_eq code n.sda_code) (record { name = n.sda; code = n.sda_code; before = y; level = b }) level)
 
 step_changes : (n : Names) (time : ℕ) (x y a b : Level) (block : Option ℕ) (token : List ℕ) (line : ℕ) →
     step (state_at n time x y a b block) token line ≡ change (state_at n time x y a b block) token line
@@ -78,7 +78,7 @@ runs_scalar : (n : Names) (time : ℕ) (x y a b : Level) (block : Option ℕ) (t
 runs_scalar n time x y a b block token value code level rest is =
     let s = state_at n time x y a b block in
     run_token s (both_changed code level s) token rest
-      (step_changes n time x y a b block token.bytes token.line ∙ ap (λ t. change s t token.line) is.0 ∙ change_scalar s value code level token.line is.1 is.2)
+    (step_changes n time x y a b block token.bytes token.line ∙ ap (λ t. change s t token.line) is.0 ∙ change_scalar s value code level token.line is.1 is.2)
     ∙ ap (λ t. run t rest) (both_changed-by n time x y a b block code level)
 
 step_code : (n : Names) (began time : ℕ) (x y a b : Level) (block : Option ℕ) (level : Option Level) (code : List ℕ) (line : ℕ) →
@@ -99,9 +99,9 @@ runs_vector : (n : Names) (time : ℕ) (x y a b : Level) (block : Option ℕ) (t
 runs_vector n time x y a b block token digits level code rest is =
     let s = state_at n time x y a b block in
     run_token s (state_in n (inside.Change token.line (Some level)) time x y a b block) token (code ∷ rest)
-      (step_changes n time x y a b block token.bytes token.line ∙ vector_begins n time x y a b block token.bytes token.line digits level is.0 is.1)
+    (step_changes n time x y a b block token.bytes token.line ∙ vector_begins n time x y a b block token.bytes token.line digits level is.0 is.1)
     ∙ run_token (state_in n (inside.Change token.line (Some level)) time x y a b block) (both_changed code.bytes level s) code rest
-      (step_code n token.line time x y a b block (Some level) code.bytes code.line ∙ rw is.2 refl)
+    (step_code n token.line time x y a b block (Some level) code.bytes code.line ∙ rw is.2 refl)
     ∙ ap (λ t. run t rest) (both_changed-by n time x y a b block code.bytes level)
 
 text_begins : (n : Names) (time : ℕ) (x y a b : Level) (block : Option ℕ) (token : List ℕ) (line : ℕ) (text : List ℕ) →
@@ -117,9 +117,9 @@ runs_real : (n : Names) (time : ℕ) (x y a b : Level) (block : Option ℕ) (tok
 runs_real n time x y a b block token text code rest is =
     let s = state_at n time x y a b block in
     run_token s (state_in n (inside.Change token.line None) time x y a b block) token (code ∷ rest)
-      (step_changes n time x y a b block token.bytes token.line ∙ text_begins n time x y a b block token.bytes token.line text is.0 is.1)
+    (step_changes n time x y a b block token.bytes token.line ∙ text_begins n time x y a b block token.bytes token.line text is.0 is.1)
     ∙ run_token (state_in n (inside.Change token.line None) time x y a b block) s code rest
-      (step_code n token.line time x y a b block None code.bytes code.line ∙ rw is.2 refl)
+    (step_code n token.line time x y a b block None code.bytes code.line ∙ rw is.2 refl)
 
 -- ---- commands
 
@@ -137,7 +137,7 @@ runs_command : (n : Names) (time : ℕ) (x y a b : Level) (block : Option ℕ) (
 runs_command n time x y a b block skipped rest is =
     let s = state_at n time x y a b block in
     run_token s (record s { context = inside.Skipped skipped.word.line }) skipped.word ((skipped.body ++ (skipped.close ∷ [])) ++ rest)
-      (step_changes n time x y a b block skipped.word.bytes skipped.word.line ∙ begins_skipped s skipped.word.bytes skipped.word.line (command_of skipped.word.bytes) refl is.0)
+    (step_changes n time x y a b block skipped.word.bytes skipped.word.line ∙ begins_skipped s skipped.word.bytes skipped.word.line (command_of skipped.word.bytes) refl is.0)
     ∙ run_skipped skipped.body skipped.close rest s skipped.word.line is.1.0 is.1.1
 
 runs_opens : (n : Names) (time : ℕ) (x y a b : Level) (block : Option ℕ) (token : Token) (is_open : Bool) (rest : List Token) →
@@ -145,14 +145,14 @@ runs_opens : (n : Names) (time : ℕ) (x y a b : Level) (block : Option ℕ) (to
 runs_opens n time x y a b (Some line) token is_open rest is opened = absurd cc
 runs_opens n time x y a b None token is_open rest is opened =
     run_token (state_at n time x y a b None) (state_at n time x y a b (Some token.line)) token rest
-      (step_changes n time x y a b None token.bytes token.line ∙ change_command (state_at n time x y a b None) token.bytes Changes token.line is)
+    (step_changes n time x y a b None token.bytes token.line ∙ change_command (state_at n time x y a b None) token.bytes Changes token.line is)
 
 runs_closes : (n : Names) (time : ℕ) (x y a b : Level) (block : Option ℕ) (token : Token) (is_open : Bool) (rest : List Token) →
     IsEntry time (closes token) → opened_by (is_some block) (closes token) ≡ Some is_open → RunsEntry n time x y a b block (closes token) rest
 runs_closes n time x y a b None token is_open rest is opened = absurd cc
 runs_closes n time x y a b (Some line) token is_open rest is opened =
     run_token (state_at n time x y a b (Some line)) (state_at n time x y a b None) token rest
-      (step_changes n time x y a b (Some line) token.bytes token.line ∙ change_command (state_at n time x y a b (Some line)) token.bytes End token.line is)
+    (step_changes n time x y a b (Some line) token.bytes token.line ∙ change_command (state_at n time x y a b (Some line)) token.bytes End token.line is)
 
 -- ---- times
 
@@ -167,8 +167,8 @@ runs_again : (n : Names) (time : ℕ) (x y a b : Level) (block : Option ℕ) (to
 runs_again n time x y a b block token digits rest is =
     let s = state_at n time x y a b block in
     run_token s s token rest
-      (step_changes n time x y a b block token.bytes token.line ∙ ap (λ t. change s t token.line) is.0
-      ∙ ap (λ o. time_change s o token.line) is.1 ∙ same_time s token.line)
+    (step_changes n time x y a b block token.bytes token.line ∙ ap (λ t. change s t token.line) is.0
+    ∙ ap (λ o. time_change s o token.line) is.1 ∙ same_time s token.line)
 
 pub runs_entry : (entry : Entry) (n : Names) (time : ℕ) (x y a b : Level) (block : Option ℕ) (is_open : Bool) (rest : List Token) →
     IsEntry time entry → opened_by (is_some block) entry ≡ Some is_open → RunsEntry n time x y a b block entry rest
@@ -214,7 +214,7 @@ blocks_after (entry ∷ entries) block is_open after =
     let first = first_opened (opened_by (is_some block) entry) entries is_open after in
     let now : is_some (block_by entry block) ≡ first.0 = block_after entry block first.0 first.1 in
     blocks_after entries (block_by entry block) is_open
-      (ap (λ o. open_after (Some o) entries) now ∙ ap (λ o. open_after o entries) (sym first.1) ∙ after)
+    (ap (λ o. open_after (Some o) entries) now ∙ ap (λ o. open_after o entries) (sym first.1) ∙ after)
 
 pub runs_entries : (entries : List Entry) (n : Names) (time : ℕ) (x y a b : Level) (block : Option ℕ) (is_open : Bool) (rest : List Token) →
     AreEntries time entries → open_after (Some (is_some block)) entries ≡ Some is_open →
@@ -227,7 +227,7 @@ runs_entries (entry ∷ entries) n time x y a b block is_open rest are after =
     ap (run (state_at n time x y a b block)) (append_assoc (entry_tokens entry) (entries_tokens entries) rest)
     ∙ runs_entry entry n time x y a b block first.0 (entries_tokens entries ++ rest) are.0 first.1
     ∙ runs_entries entries n time x y (level_by n.scl_code a entry) (level_by n.sda_code b entry) (block_by entry block) is_open rest are.1
-      (ap (λ o. open_after (Some o) entries) now ∙ ap (λ o. open_after o entries) (sym first.1) ∙ after)
+    (ap (λ o. open_after (Some o) entries) now ∙ ap (λ o. open_after o entries) (sym first.1) ∙ after)
 
 -- ---- stamps
 
@@ -290,7 +290,7 @@ pub ended_stamps : (stamps : List Stamp) (entries : List Entry) (n : Names) (tim
     AreEntries time entries → AreStamps time stamps → open_after_stamps (open_after (Some (is_some block)) entries) stamps ≡ Some false →
     ended (run (state_at n time x y a b block) (entries_tokens entries ++ stamps_tokens stamps))
     ≡ Ok (sample_at time x y (level_after n.scl_code a entries) (level_after n.sda_code b entries)
-      ++ stamp_samples n.scl_code n.sda_code (level_after n.scl_code a entries) (level_after n.sda_code b entries) stamps)
+    ++ stamp_samples n.scl_code n.sda_code (level_after n.scl_code a entries) (level_after n.sda_code b entries) stamps)
 ended_stamps [] entries n time x y a b block are stamps_are closed =
     let scl = level_after n.scl_code a entries in
     let sda = level_after n.sda_code b entries in
@@ -305,8 +305,8 @@ ended_stamps (stamp ∷ stamps) entries n time x y a b block are stamps_are clos
     let now : is_some (blocks_by entries block) ≡ first.0 = blocks_after entries block first.0 first.1 in
     let rest = entries_tokens stamp.entries ++ stamps_tokens stamps in
     let closed_then : open_after_stamps (open_after (Some (is_some (blocks_by entries block))) stamp.entries) stamps ≡ Some false =
-      ap (λ o. open_after_stamps (open_after (Some o) stamp.entries) stamps) now
-      ∙ ap (λ o. open_after_stamps (open_after o stamp.entries) stamps) (sym first.1) ∙ closed in
+    ap (λ o. open_after_stamps (open_after (Some o) stamp.entries) stamps) now
+    ∙ ap (λ o. open_after_stamps (open_after o stamp.entries) stamps) (sym first.1) ∙ closed in
     ap ended (runs_entries entries n time x y a b block first.0 (stamp.mark ∷ rest) are first.1)
     ∙ ap (λ r. ended (and_then r (λ s. run s rest))) (begins_stamp n time x y scl sda (blocks_by entries block) stamp stamps_are.0 stamps_are.1 stamps_are.2)
     ∙ ended-front (option_to_list (stamp_sample (state_at n time x y scl sda (blocks_by entries block)))) (run (state_at n stamp.time scl sda scl sda (blocks_by entries block)) rest)
