@@ -259,7 +259,8 @@ $var wire 1 b sda $end $upscope $end $enddefinitions $end 0a 1ab 1b",
         "0HL",
     ),
     (
-        "$var wire 1 a sda $end $var wire 1 longer_than_other_codes scl $end $enddefinitions $end 1longer_than_other_codes 0a 0longer_than_other_code",
+        "$var wire 1 a sda $end $var wire 1 longer_than_others scl $end $enddefinitions $end \
+1longer_than_others 0a 0longer_than_other",
         "0HL",
     ),
     (

@@ -85,8 +85,8 @@ abbrev pub scalar_change : State → Option Level → List ℕ → ℕ → Resul
 scalar_change s None code line = Err (BadToken line)
 scalar_change s (Some level) code line = change_of_code s (Some level) code line
 
--- a token that begins with this byte, outside commands: `#` and a time, a command, `b` and a vector, `r` or `s` and a real
--- number or a string, or a value and its code
+-- a token that begins with this byte, outside commands: `#` and a time, a command, `b` and a vector, `r` or `s` and a
+-- real number or a string, or a value and its code
 abbrev pub change_by : ℕ → List ℕ → State → ℕ → Step
 change_by first rest s line =
     if first == 35 then time_change s (time_of rest) line

@@ -38,7 +38,8 @@ abbrev pub var_token : ℕ → Seen → State → List ℕ → State
 var_token line seen.Nothing s token = record s { context = inside.Var line seen.Type }
 var_token line seen.Type s token = record s { context = inside.Var line (seen.Size (bytes_eq token (codes "1"))) }
 var_token line (seen.Size one_bit) s token = record s { context = inside.Var line (seen.Code one_bit); code = token }
-var_token line (seen.Code one_bit) s token = record (declared one_bit token s) { context = inside.Var line seen.Reference }
+var_token line (seen.Code one_bit) s token =
+    record (declared one_bit token s) { context = inside.Var line seen.Reference }
 var_token line seen.Reference s token = s
 
 abbrev var_end : Seen → State → ℕ → Result State Refusal

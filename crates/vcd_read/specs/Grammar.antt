@@ -1,6 +1,6 @@
 -- A dump as the standard spells it (IEEE 1364-2005, 18.2.1), and its samples, told by whole time stamps.
-use Rattle.std.specs.Prelude.{◌≡◌, ℕ, ◌<◌, ◌⊎◌, Bool, true, false, ◌&&◌, not, List, [], ◌∷◌, ◌++◌, Option, Some, None, codes}
-use Rattle.std.specs.Prelude.{if◌then◌else◌}
+use Rattle.std.specs.Prelude.{◌≡◌, ℕ, ◌<◌, ◌⊎◌, Bool, true, false, ◌&&◌, not, List, [], ◌∷◌, ◌++◌}
+use Rattle.std.specs.Prelude.{Option, Some, None, codes, if◌then◌else◌}
 use Rattle.std.specs.Str.{bytes_eq}
 use Rattle.vcd_read.specs.declared.samples.Level.{Level}
 use Rattle.vcd_read.specs.declared.samples.Level.TheVariants.{Unknown}
@@ -89,9 +89,12 @@ abbrev pub IsEntry : ℕ → Entry → Type 0
 IsEntry time (scalar token value code level) =
     (token.bytes ≡ value ∷ code) × (level_of value ≡ Some level) × (is_code code ≡ true)
 IsEntry time (vector token digits level code) =
-    ((token.bytes ≡ 98 ∷ digits) ⊎ (token.bytes ≡ 66 ∷ digits)) × (vector_level digits ≡ Some level) × (is_code code.bytes ≡ true)
+    ((token.bytes ≡ 98 ∷ digits) ⊎ (token.bytes ≡ 66 ∷ digits))
+    × (vector_level digits ≡ Some level)
+    × (is_code code.bytes ≡ true)
 IsEntry time (real token text code) =
-    (((token.bytes ≡ 114 ∷ text) ⊎ (token.bytes ≡ 82 ∷ text)) ⊎ ((token.bytes ≡ 115 ∷ text) ⊎ (token.bytes ≡ 83 ∷ text)))
+    (((token.bytes ≡ 114 ∷ text) ⊎ (token.bytes ≡ 82 ∷ text))
+    ⊎ ((token.bytes ≡ 115 ∷ text) ⊎ (token.bytes ≡ 83 ∷ text)))
     × (is_empty text ≡ false)
     × (is_code code.bytes ≡ true)
 IsEntry time (command skipped) = (is_skipped (command_of skipped.word.bytes) ≡ true) × EndsOnce skipped
@@ -161,7 +164,8 @@ open_after_stamps is_open (stamp ∷ stamps) = open_after_stamps (open_after is_
 -- A stamp at which one of the two levels differs from before has a sample.
 abbrev pub sample_at : ℕ → Level → Level → Level → Level → List Sample
 sample_at time scl_before sda_before scl sda =
-    if same_level scl_before scl && same_level sda_before sda then [] else record { time = time; scl = scl; sda = sda } ∷ []
+    if same_level scl_before scl && same_level sda_before sda then []
+    else record { time = time; scl = scl; sda = sda } ∷ []
 
 -- the samples of the stamps, for the codes of the two signals and their levels before
 abbrev pub stamp_samples : List ℕ → List ℕ → Level → Level → List Stamp → List Sample
@@ -190,7 +194,8 @@ AreDeclarations (declaration ∷ declarations) = IsDeclaration declaration × Ar
 
 abbrev pub dump_tokens : Dump → List Token
 dump_tokens d =
-    declarations_tokens d.declarations ++ (skipped_tokens d.definitions_end ++ (entries_tokens d.first ++ stamps_tokens d.stamps))
+    declarations_tokens d.declarations
+    ++ (skipped_tokens d.definitions_end ++ (entries_tokens d.first ++ stamps_tokens d.stamps))
 
 -- The dump names both signals, and its parts are spelled as they should.
 pub record IsDump (scl sda : List ℕ) (d : Dump) : Type 0 where

@@ -34,4 +34,5 @@ IsRefusal given e = MatchResult given (λ _. ⊥) (λ refusal. e ≡ error_of re
 
 -- A call returns Ok exactly where the definition refuses nothing, and else its refusal; want of memory aside.
 abbrev pub Answers : {A B : Type 0} → Result A VcdError → Result B Refusal → Type 0
-Answers result given = MatchResult result (λ _. MatchResult given (λ _. Unit {0}) (λ _. ⊥)) (λ e. (e ≡ NoMemory) ⊎ IsRefusal given e)
+Answers result given =
+    MatchResult result (λ _. MatchResult given (λ _. Unit {0}) (λ _. ⊥)) (λ e. (e ≡ NoMemory) ⊎ IsRefusal given e)
