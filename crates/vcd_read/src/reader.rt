@@ -25,7 +25,7 @@ impl Reader {
     ghost use Rattle.vcd_read.specs.declared.errors.VcdError.TheVariants.{NoMemory};
     ghost use Rattle.vcd_read.specs.declared.samples.Sample.{Sample};
     ghost use Rattle.vcd_read.specs.Dumps.{samples_of, said_so_far};
-    ghost use Rattle.vcd_read.specs.Readers.{Fed, Answers, IsRefusal, reading_of, samples_in};
+    ghost use Rattle.vcd_read.specs.Readers.{Fed, UnlessMemory, Answers, IsRefusal, reading_of, samples_in};
     ghost use Rattle.vcd_read.specs.Refusals.{error_of};
 
     /// A reader of the lines that a dump calls by these names.
@@ -49,10 +49,10 @@ impl Reader {
     /// V1 to V4 in the call in which their token is read, and then in every later call. V5 where memory is refused: the
     /// reader is then as before the call, and may be fed the same piece again.
     pub fn feed(&mut self, piece: &[u8]) -> Result<(), VcdError>
-        // The text that it was fed grows by the piece.
+        // The text that it was fed grows by the piece, unless memory is refused.
         ensures fed { (scl sda text : List ℕ) (cleared : List Sample) →
-            Fed scl sda text cleared (reading_of self.old) → (result ≡ Err NoMemory → ⊥) →
-            Fed scl sda (text ++ piece.now) cleared (reading_of self.new) }
+            Fed scl sda text cleared (reading_of self.old) →
+            UnlessMemory result (Fed scl sda (text ++ piece.now) cleared (reading_of self.new)) }
 
         // A refusal comes in the call in which its token is read, and then in every later call.
         ensures told { (scl sda text : List ℕ) (cleared : List Sample) →
