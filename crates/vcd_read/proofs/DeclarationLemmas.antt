@@ -2,6 +2,7 @@
 use Rattle.std.proofs.Common.{◌≡◌, ℕ, Bool, true, false, ◌&&◌, List, [], ◌∷◌, ◌++◌, Some, None, Ok, refl, ap, sym, ◌∙◌, append_assoc, codes}
 use Rattle.std.specs.Prelude.{if◌then◌else◌, not}
 use Rattle.std.specs.Str.{bytes_eq}
+use Rattle.std.proofs.lemmas.List.{append-nil}
 use Rattle.vcd_read.specs.declared.dumps.Context.{Context}
 use Rattle.vcd_read.specs.declared.dumps.Context.TheVariants as inside
 use Rattle.vcd_read.specs.declared.dumps.Seen.{Seen}
@@ -11,18 +12,18 @@ use Rattle.vcd_read.specs.declared.words.Command.TheVariants.{EndDefinitions}
 use Rattle.vcd_read.specs.Changes.{stays}
 use Rattle.vcd_read.specs.Definitions.{opened, named_by, declared, var_token}
 use Rattle.vcd_read.specs.Dumps.{step, run, ended, samples_of}
-use Rattle.vcd_read.specs.Grammar.{Skipped, skipped_tokens, without_end, EndsOnce, Declaration, var, other, declaration_tokens, IsDeclaration, code_for, declarations_tokens, AreDeclarations, entries_tokens, stamps_tokens, Dump, IsDump, dump_tokens, dump_samples}
+use Rattle.vcd_read.specs.Grammar.{Skipped, skipped_tokens, without_end, EndsOnce, Declaration, var, other, declaration_tokens, IsDeclaration, code_for, declarations_tokens, AreDeclarations, entries_tokens, stamps_tokens, Dump, IsDump, IsDefinitions, dump_tokens, dump_samples}
 use Rattle.vcd_read.specs.States.{Line, State, state_at_first}
 use Rattle.vcd_read.specs.Tokens.{Token, tokens_of}
 use Rattle.vcd_read.specs.Words.{is_empty, is_end, command_of}
 use Rattle.vcd_read.proofs.RunLemmas.{run_token, run_skipped, not_true, and_both}
 use Rattle.vcd_read.proofs.StampLemmas.{state_at, ended_stamps}
 
-abbrev unknown : List ℕ → List ℕ → Line
+abbrev pub unknown : List ℕ → List ℕ → Line
 unknown name code = record { name = name; code = code; before = Unknown; level = Unknown }
 
 -- among the definitions, with these codes for the two names and this one of the latest `$var`
-abbrev defining : (scl sda : List ℕ) → Context → (k m latest : List ℕ) → State
+abbrev pub defining : (scl sda : List ℕ) → Context → (k m latest : List ℕ) → State
 defining scl sda context k m latest = record {
   scl = unknown scl k;
   sda = unknown sda m;
@@ -35,14 +36,14 @@ defining scl sda context k m latest = record {
 
 -- ---- a `$var`
 
-abbrev code_after : Bool → (reference code name k : List ℕ) → List ℕ
+abbrev pub code_after : Bool → (reference code name k : List ℕ) → List ℕ
 code_after one_bit reference code name k = if one_bit && (is_empty k && bytes_eq reference name) then code else k
 
 named-by : (test : Bool) (name code k : List ℕ) → (if test then record (unknown name k) { code = code } else unknown name k) ≡ unknown name (if test then code else k)
 named-by true name code k = refl
 named-by false name code k = refl
 
-declared-by : (one_bit : Bool) (scl sda : List ℕ) (context : Context) (k m code reference : List ℕ) →
+pub declared-by : (one_bit : Bool) (scl sda : List ℕ) (context : Context) (k m code reference : List ℕ) →
     declared one_bit reference (defining scl sda context k m code)
     ≡ defining scl sda context (code_after one_bit reference code scl k) (code_after one_bit reference code sda m) code
 declared-by false scl sda context k m code reference = refl
@@ -50,17 +51,17 @@ declared-by true scl sda context k m code reference =
     ap (λ line. record (defining scl sda context k m code) { scl = line; sda = named_by reference code (unknown sda m) }) (named-by (is_empty k && bytes_eq reference scl) scl code k)
     ∙ ap (λ line. record (defining scl sda context (code_after true reference code scl k) m code) { sda = line }) (named-by (is_empty m && bytes_eq reference sda) sda code m)
 
-step_definition : (scl sda k m latest token : List ℕ) (line : ℕ) →
+pub step_definition : (scl sda k m latest token : List ℕ) (line : ℕ) →
     step (defining scl sda inside.Nothing k m latest) token line ≡ stays (opened line (defining scl sda inside.Nothing k m latest) (command_of token))
 unfolding step
 step_definition scl sda k m latest token line = refl
 
-step_var : (scl sda : List ℕ) (began : ℕ) (so_far : Seen) (k m latest token : List ℕ) (line : ℕ) → is_end token ≡ false →
+pub step_var : (scl sda : List ℕ) (began : ℕ) (so_far : Seen) (k m latest token : List ℕ) (line : ℕ) → is_end token ≡ false →
     step (defining scl sda (inside.Var began so_far) k m latest) token line ≡ Ok (var_token began so_far (defining scl sda (inside.Var began so_far) k m latest) token, None)
 unfolding step
 step_var scl sda began so_far k m latest token line inner = rw inner refl
 
-step_var_end : (scl sda : List ℕ) (began : ℕ) (k m latest token : List ℕ) (line : ℕ) → is_end token ≡ true →
+pub step_var_end : (scl sda : List ℕ) (began : ℕ) (k m latest token : List ℕ) (line : ℕ) → is_end token ≡ true →
     step (defining scl sda (inside.Var began seen.Reference) k m latest) token line ≡ Ok (defining scl sda inside.Nothing k m latest, None)
 unfolding step
 step_var_end scl sda began k m latest token line is = rw is refl
@@ -115,10 +116,10 @@ run_other command rest scl sda k m latest is =
 -- ---- all definitions
 
 -- the code of a name, where this one stood before
-abbrev first_code : List ℕ → List ℕ → List Declaration → List ℕ
+abbrev pub first_code : List ℕ → List ℕ → List Declaration → List ℕ
 first_code k name declarations = if is_empty k then code_for name declarations else k
 
-nothing_more : (k name : List ℕ) → first_code k name [] ≡ k
+pub nothing_more : (k name : List ℕ) → first_code k name [] ≡ k
 nothing_more [] name = refl
 nothing_more (byte ∷ bytes) name = refl
 
@@ -131,7 +132,7 @@ never_again : (one_bit again : Bool) (code k : List ℕ) → (if one_bit && (fal
 never_again true again code k = refl
 never_again false again code k = refl
 
-first_code-var : (word type size code reference : Token) (more : List Token) (close : Token) (declarations : List Declaration) (k name : List ℕ) → is_empty code.bytes ≡ false →
+pub first_code-var : (word type size code reference : Token) (more : List Token) (close : Token) (declarations : List Declaration) (k name : List ℕ) → is_empty code.bytes ≡ false →
     first_code (code_after (bytes_eq size.bytes (codes "1")) reference.bytes code.bytes name k) name declarations
     ≡ first_code k name (var word type size code reference more close ∷ declarations)
 first_code-var word type size code reference more close declarations [] name some =
@@ -144,7 +145,7 @@ latest_after [] latest = latest
 latest_after (var word type size code reference more close ∷ declarations) latest = latest_after declarations code.bytes
 latest_after (other command ∷ declarations) latest = latest_after declarations latest
 
-run_declarations : (declarations : List Declaration) (rest : List Token) (scl sda k m latest : List ℕ) → AreDeclarations declarations →
+pub run_declarations : (declarations : List Declaration) (rest : List Token) (scl sda k m latest : List ℕ) → AreDeclarations declarations →
     run (defining scl sda inside.Nothing k m latest) (declarations_tokens declarations ++ rest)
     ≡ run (defining scl sda inside.Nothing (first_code k scl declarations) (first_code m sda declarations) (latest_after declarations latest)) rest
 run_declarations [] rest scl sda k m latest are =
@@ -214,3 +215,13 @@ samples_of-dump scl sda text d is spelled =
     ∙ ap ended (run_declarations d.declarations (skipped_tokens d.definitions_end ++ changes) scl sda [] [] [] is.declarations)
     ∙ ap ended (run_definitions_end d.definitions_end changes scl sda k m latest is.definitions_end.0 is.definitions_end.1 is.scl_named is.sda_named)
     ∙ ended_stamps d.stamps d.first (record { scl = scl; sda = sda; scl_code = k; sda_code = m; latest = latest }) 0 Unknown Unknown Unknown Unknown None is.first is.stamps is.blocks_end
+
+alone : (scl sda k m latest : List ℕ) → is_empty k ≡ false → is_empty m ≡ false → ended (run (defining scl sda inside.Nothing k m latest) []) ≡ Ok []
+alone scl sda k m latest scl_named sda_named = rw (scl_named, sda_named) refl
+
+pub samples_of-definitions : (scl sda text : List ℕ) (declarations : List Declaration) → IsDefinitions scl sda declarations → tokens_of 1 text ≡ declarations_tokens declarations →
+    samples_of scl sda text ≡ Ok []
+samples_of-definitions scl sda text declarations are spelled =
+    ap (λ tokens. ended (run (state_at_first scl sda) tokens)) (spelled ∙ sym (append-nil (declarations_tokens declarations)))
+    ∙ ap ended (run_declarations declarations [] scl sda [] [] [] are.are)
+    ∙ alone scl sda (code_for scl declarations) (code_for sda declarations) (latest_after declarations []) are.scl_named are.sda_named

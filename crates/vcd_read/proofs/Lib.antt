@@ -6,3 +6,5 @@ pub mod FedLemmas
 pub mod RunLemmas
 pub mod StampLemmas
 pub mod DeclarationLemmas
+pub mod SpelledChanges
+pub mod SpelledDumps

@@ -59,7 +59,7 @@ changed-by : (test : Bool) (line : Line) (level : Level) → (if test then recor
 changed-by true line level = refl
 changed-by false line level = refl
 
-both_changed-by : (n : Names) (time : ℕ) (x y a b : Level) (block : Option ℕ) (code : List ℕ) (level : Level) →
+pub both_changed-by : (n : Names) (time : ℕ) (x y a b : Level) (block : Option ℕ) (code : List ℕ) (level : Level) →
     both_changed code level (state_at n time x y a b block)
     ≡ state_at n time x y (if bytes_eq code n.scl_code then level else a) (if bytes_eq code n.sda_code then level else b) block
 both_changed-by n time x y a b block code level =
@@ -68,7 +68,7 @@ both_changed-by n time x y a b block code level =
     ∙ ap (λ line. record (state_at n time x y (if bytes_eq code n.scl_code then level else a) b block) { sda = line })
     (changed-by (bytes_eq code n.sda_code) (record { name = n.sda; code = n.sda_code; before = y; level = b }) level)
 
-step_changes : (n : Names) (time : ℕ) (x y a b : Level) (block : Option ℕ) (token : List ℕ) (line : ℕ) →
+pub step_changes : (n : Names) (time : ℕ) (x y a b : Level) (block : Option ℕ) (token : List ℕ) (line : ℕ) →
     step (state_at n time x y a b block) token line ≡ change (state_at n time x y a b block) token line
 unfolding step
 step_changes n time x y a b block token line = refl
@@ -81,7 +81,7 @@ runs_scalar n time x y a b block token value code level rest is =
     (step_changes n time x y a b block token.bytes token.line ∙ ap (λ t. change s t token.line) is.0 ∙ change_scalar s value code level token.line is.1 is.2)
     ∙ ap (λ t. run t rest) (both_changed-by n time x y a b block code level)
 
-step_code : (n : Names) (began time : ℕ) (x y a b : Level) (block : Option ℕ) (level : Option Level) (code : List ℕ) (line : ℕ) →
+pub step_code : (n : Names) (began time : ℕ) (x y a b : Level) (block : Option ℕ) (level : Option Level) (code : List ℕ) (line : ℕ) →
     step (state_in n (inside.Change began level) time x y a b block) code line ≡ stays (change_of_code (state_at n time x y a b block) level code line)
 unfolding step
 step_code n began time x y a b block level code line = refl
@@ -274,7 +274,7 @@ last_in_front : (samples more : List Sample) (last : Result (Option Sample) Refu
 last_in_front samples more (Ok last) = ap Ok (append_assoc samples more (option_to_list last))
 last_in_front samples more (Err refusal) = refl
 
-ended-front : (samples : List Sample) (said : Run) → ended (with_front samples said) ≡ in_front samples (ended said)
+pub ended-front : (samples : List Sample) (said : Run) → ended (with_front samples said) ≡ in_front samples (ended said)
 ended-front samples (Ok p) = last_in_front samples p.1 (at_end p.0)
 ended-front samples (Err refusal) = refl
 

@@ -215,3 +215,18 @@ dump_samples scl sda d =
     let scl_first = level_after scl_code Unknown d.first in
     let sda_first = level_after sda_code Unknown d.first in
     sample_at 0 Unknown Unknown scl_first sda_first ++ stamp_samples scl_code sda_code scl_first sda_first d.stamps
+
+-- Definitions alone are a dump too, of which nothing was recorded.
+pub record IsDefinitions (scl sda : List ℕ) (declarations : List Declaration) : Type 0 where
+  pub are : AreDeclarations declarations
+  pub scl_named : is_empty (code_for scl declarations) ≡ false
+  pub sda_named : is_empty (code_for sda declarations) ≡ false
+
+-- The tokens are spelled as a dump that has these samples.
+abbrev pub Spells : (scl sda : List ℕ) → List Token → List Sample → Type 0
+Spells scl sda tokens samples =
+    ((d : Dump) × IsDump scl sda d × (tokens ≡ dump_tokens d) × (samples ≡ dump_samples scl sda d))
+    ⊎ ((declarations : List Declaration)
+    × IsDefinitions scl sda declarations
+    × (tokens ≡ declarations_tokens declarations)
+    × (samples ≡ []))
