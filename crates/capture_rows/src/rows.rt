@@ -102,7 +102,7 @@ fn a_refusal_comes_with_the_white_space_behind_its_token(rt: HostRuntime) -> Res
     Ok(())
 }
 
-// Without a refused allocation each piece is fed once; 'rt try --test --fail-alloc 1..' refuses each of them in turn.
+// Without a refused allocation each piece is fed once; 'rt try --test --fail-alloc N' refuses the Nth.
 #[test]
 fn a_piece_is_fed_again_after_want_of_memory(rt: HostRuntime) -> Result<(), Fail> {
     let dump = format!(in rt.alloc(); "{DEFINITIONS}#3 1! 1\" #4 0!")?;

@@ -8,3 +8,4 @@ pub mod StampLemmas
 pub mod DeclarationLemmas
 pub mod SpelledChanges
 pub mod SpelledDumps
+pub mod RunsLemmas

@@ -9,3 +9,4 @@ pub mod Views
 pub mod Pieces
 pub mod Readers
 pub mod Grammar
+pub mod Runs

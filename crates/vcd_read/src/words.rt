@@ -93,7 +93,7 @@ pub(crate) fn is_code(bytes: &[u8]) -> bool
 fn is_code_byte(byte: u8) -> bool
     ensures { result ≡ is_code_byte byte }
 {
-    33 <= byte && byte <= 126
+    b'!' <= byte && byte <= b'~'
 }
 
 /// The time that the digits write.
