@@ -1,6 +1,9 @@
 // Captures, and what they say.
 
-use crate::dumps::{CAPTURES, COMMANDS, DEFINITIONS, SCALARS, TIMES, VECTORS, WHITE_SPACE, WHOLE};
+use crate::dumps::{
+    BROKEN_DEFINITIONS, CAPTURES, COMMANDS, DEFINITIONS, SCALARS, TIMES, VECTORS, WHITE_SPACE,
+    WHOLE,
+};
 use crate::readers::{expect, in_pieces, named};
 use std::alloc::Global;
 use std::process::Abort;
@@ -64,6 +67,14 @@ fn white_space(rt: HostRuntime) -> Result<(), Fail> {
 #[test]
 fn whole_dumps(rt: HostRuntime) -> Result<(), Fail> {
     for (dump, answer) in WHOLE {
+        expect(&rt, rt.alloc(), dump.as_bytes(), answer)?;
+    }
+    Ok(())
+}
+
+#[test]
+fn broken_definitions(rt: HostRuntime) -> Result<(), Fail> {
+    for (dump, answer) in BROKEN_DEFINITIONS {
         expect(&rt, rt.alloc(), dump.as_bytes(), answer)?;
     }
     Ok(())
