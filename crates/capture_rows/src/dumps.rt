@@ -259,11 +259,36 @@ $var wire 1 b sda $end $upscope $end $enddefinitions $end 0a 1ab 1b",
         "0HL",
     ),
     (
-        "$var wire 1 a sda $end $var wire 1 longer_than_other_codes scl $end $enddefinitions $end 1longer_than_other_codes 0a 0longer_than_other_code",
+        "$var wire 1 a sda $end $var wire 1 longer_than_others scl $end $enddefinitions $end \
+1longer_than_others 0a 0longer_than_other",
         "0HL",
     ),
     (
         "$var wire 1 a scl $end $var wire 1 b sda $end $enddefinitions x y $end 1a $enddefinitions 0a $end 1b",
         "0HH",
+    ),
+];
+
+/// Dumps whose seven lines of definitions are cut short or changed.
+pub const BROKEN_DEFINITIONS: [(&str, &str); 5] = [
+    ("$timescale\n", "V4 line 1"),
+    (
+        "$timescale\n1 us $end\n$scope module top $end\n$var wire 1 ! scl $end\n",
+        "V1 sda",
+    ),
+    (
+        "$timescale\n1 us $end\n$scope module top $end\n$var wire 1 ! scl $end\n$var wire 1 \" sda $end\n\
+$upscope $end\n$enddef",
+        "V4 line 7",
+    ),
+    (
+        "$timescale\n1 us $end\n$scope module top $end\n$var wire 1 $end\n$var wire 1 \" sda $end\n\
+$upscope $end\n$enddefinitions $end\n",
+        "V2 line 4",
+    ),
+    (
+        "$timescale\n1 us $end\n$scope module top $end\n$var wire 1 ! scl $end\n$var wire 1 \" sda $end\n\
+$upscope $end\n",
+        "",
     ),
 ];

@@ -1,5 +1,5 @@
-//! Tests of captures, through the public calls of `vcd_read`. They stand apart from that crate, which is then proved once
-//! and not once more with its tests.
+//! Tests of captures, through the public calls of `vcd_read`. They stand apart from that crate, which is then proved
+//! once and not once more with its tests.
 #![tactic(auto)]
 
 #[cfg(test)]

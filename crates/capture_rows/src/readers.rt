@@ -88,7 +88,8 @@ fn letter(level: Level) -> char {
     }
 }
 
-/// The dump has these samples or this refusal: read whole, byte by byte, in other pieces, and cut in two at every place.
+/// The dump has these samples or this refusal: read whole, byte by byte, in other pieces, and cut in two at every
+/// place.
 pub fn expect(rt: &impl Abort, alloc: Global, dump: &[u8], answer: &str) -> Result<(), Fail> {
     for bytes in [dump.len(), 1, 2, 7] {
         let found = in_pieces(alloc, dump, bytes)?;

@@ -1,6 +1,9 @@
 // Captures, and what they say.
 
-use crate::dumps::{CAPTURES, COMMANDS, DEFINITIONS, SCALARS, TIMES, VECTORS, WHITE_SPACE, WHOLE};
+use crate::dumps::{
+    BROKEN_DEFINITIONS, CAPTURES, COMMANDS, DEFINITIONS, SCALARS, TIMES, VECTORS, WHITE_SPACE,
+    WHOLE,
+};
 use crate::readers::{expect, in_pieces, named};
 use std::alloc::Global;
 use std::process::Abort;
@@ -70,6 +73,14 @@ fn whole_dumps(rt: HostRuntime) -> Result<(), Fail> {
 }
 
 #[test]
+fn broken_definitions(rt: HostRuntime) -> Result<(), Fail> {
+    for (dump, answer) in BROKEN_DEFINITIONS {
+        expect(&rt, rt.alloc(), dump.as_bytes(), answer)?;
+    }
+    Ok(())
+}
+
+#[test]
 fn lines_of_other_names(rt: HostRuntime) -> Result<(), Fail> {
     let dump = "$var wire 1 a clk $end $var wire 1 b dat $end $enddefinitions $end 1a 0b #3 xa";
     for (scl, sda, answer) in [
@@ -102,7 +113,7 @@ fn a_refusal_comes_with_the_white_space_behind_its_token(rt: HostRuntime) -> Res
     Ok(())
 }
 
-// Without a refused allocation each piece is fed once; 'rt try --test --fail-alloc 1..' refuses each of them in turn.
+// Without a refused allocation each piece is fed once; 'rt try --test --fail-alloc N' refuses the Nth.
 #[test]
 fn a_piece_is_fed_again_after_want_of_memory(rt: HostRuntime) -> Result<(), Fail> {
     let dump = format!(in rt.alloc(); "{DEFINITIONS}#3 1! 1\" #4 0!")?;

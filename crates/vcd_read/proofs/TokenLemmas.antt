@@ -49,12 +49,12 @@ second true b x y z not_first is_second = absurd cc
 second false false x y z not_first is_second = absurd cc
 second false true x y z not_first is_second = refl
 
-tokens_of-put : (line first byte : ℕ) (bytes : List ℕ) → is_white first ≡ false → is_white byte ≡ false →
+pub tokens_of-put : (line first byte : ℕ) (bytes : List ℕ) → is_white first ≡ false → is_white byte ≡ false →
     tokens_of line (first ∷ (byte ∷ bytes)) ≡ put_before first (tokens_of line (byte ∷ bytes))
 tokens_of-put line first byte bytes other_first other =
     third (is_white first) (is_white byte) _ _ _ other_first other
 
-tokens_of-one : (line first byte : ℕ) (bytes : List ℕ) → is_white first ≡ false → is_white byte ≡ true →
+pub tokens_of-one : (line first byte : ℕ) (bytes : List ℕ) → is_white first ≡ false → is_white byte ≡ true →
     tokens_of line (first ∷ (byte ∷ bytes)) ≡ record { bytes = first ∷ []; line = line } ∷ tokens_of line (byte ∷ bytes)
 tokens_of-one line first byte bytes other white = second (is_white first) (is_white byte) _ _ _ other white
 

@@ -73,20 +73,20 @@ command_among_changes s (Some Changes) line = elim s.block [
 ]
 command_among_changes s (Some _) line = Ok (record s { context = inside.Skipped line })
 
-abbrev time_change : State → Option ℕ → ℕ → Step
+abbrev pub time_change : State → Option ℕ → ℕ → Step
 time_change s None line = Err (BadToken line)
 time_change s (Some time) line = time_reached s time line
 
-abbrev vector_change : State → Option Level → ℕ → Result State Refusal
+abbrev pub vector_change : State → Option Level → ℕ → Result State Refusal
 vector_change s None line = Err (BadToken line)
 vector_change s (Some level) line = Ok (record s { context = inside.Change line (Some level) })
 
-abbrev scalar_change : State → Option Level → List ℕ → ℕ → Result State Refusal
+abbrev pub scalar_change : State → Option Level → List ℕ → ℕ → Result State Refusal
 scalar_change s None code line = Err (BadToken line)
 scalar_change s (Some level) code line = change_of_code s (Some level) code line
 
--- a token that begins with this byte, outside commands: `#` and a time, a command, `b` and a vector, `r` or `s` and a real
--- number or a string, or a value and its code
+-- a token that begins with this byte, outside commands: `#` and a time, a command, `b` and a vector, `r` or `s` and a
+-- real number or a string, or a value and its code
 abbrev pub change_by : ℕ → List ℕ → State → ℕ → Step
 change_by first rest s line =
     if first == 35 then time_change s (time_of rest) line

@@ -14,7 +14,7 @@ use Rattle.vcd_read.specs.declared.words.Command.TheVariants.{Var, EndDefinition
 use Rattle.vcd_read.specs.States.{Line, State}
 use Rattle.vcd_read.specs.Words.{is_end, is_empty, command_of}
 
-abbrev opened : ℕ → State → Option Command → Result State Refusal
+abbrev pub opened : ℕ → State → Option Command → Result State Refusal
 opened line s (Some Var) = Ok (record s { context = inside.Var line seen.Nothing })
 opened line s (Some EndDefinitions) = Ok (record s { context = inside.EndDefinitions line })
 opened line s (Some Other) = Ok (record s { context = inside.Skipped line })
@@ -29,7 +29,7 @@ abbrev pub named_by : List ℕ → List ℕ → Line → Line
 named_by reference code line =
     if is_empty line.code && bytes_eq reference line.name then record line { code = code } else line
 
-abbrev declared : Bool → List ℕ → State → State
+abbrev pub declared : Bool → List ℕ → State → State
 declared false reference s = s
 declared true reference s = record s { scl = named_by reference s.code s.scl; sda = named_by reference s.code s.sda }
 
@@ -38,7 +38,8 @@ abbrev pub var_token : ℕ → Seen → State → List ℕ → State
 var_token line seen.Nothing s token = record s { context = inside.Var line seen.Type }
 var_token line seen.Type s token = record s { context = inside.Var line (seen.Size (bytes_eq token (codes "1"))) }
 var_token line (seen.Size one_bit) s token = record s { context = inside.Var line (seen.Code one_bit); code = token }
-var_token line (seen.Code one_bit) s token = record (declared one_bit token s) { context = inside.Var line seen.Reference }
+var_token line (seen.Code one_bit) s token =
+    record (declared one_bit token s) { context = inside.Var line seen.Reference }
 var_token line seen.Reference s token = s
 
 abbrev var_end : Seen → State → ℕ → Result State Refusal

@@ -6,17 +6,18 @@ use Rattle.vcd_read.specs.declared.dumps.Context.TheVariants as inside
 use Rattle.vcd_read.specs.declared.errors.Refusal.{Refusal}
 use Rattle.vcd_read.specs.declared.errors.Refusal.TheVariants.{NoSignal, Unended}
 use Rattle.vcd_read.specs.declared.samples.Sample.{Sample}
+use Rattle.vcd_read.specs.declared.samples.Signal.{Signal}
 use Rattle.vcd_read.specs.Changes.{Step, stays, change, change_of_code, stamp_sample}
 use Rattle.vcd_read.specs.Definitions.{definition, inside_var, inside_end_definitions, missing}
 use Rattle.vcd_read.specs.States.{State, state_at_first}
 use Rattle.vcd_read.specs.Tokens.{Token, tokens_of, up_to_white}
 use Rattle.vcd_read.specs.Words.{is_end}
 
-abbrev outside : State → List ℕ → ℕ → Step
+abbrev pub outside : State → List ℕ → ℕ → Step
 outside s token line = if s.defined then change s token line else stays (definition s token line)
 
 -- The next token, in the place where it stands.
-abbrev token_in : Context → State → List ℕ → ℕ → Step
+abbrev pub token_in : Context → State → List ℕ → ℕ → Step
 token_in inside.Nothing s token line = outside s token line
 token_in (inside.Skipped began) s token line =
     Ok ((if is_end token then record s { context = inside.Nothing } else s), None)
@@ -56,12 +57,16 @@ context_line (inside.Change line level) = Some line
 abbrev pub open_line : State → Option ℕ
 open_line s = elim s.block [ Some line ↦ Some line | None ↦ context_line s.context ]
 
--- The end of the text closes the last time stamp. Nothing may be open, and the definitions must name both signals; without
--- `$enddefinitions` there are no changes and no samples.
+-- The end of the text closes the last time stamp. Nothing may be open, and the definitions must name both signals;
+-- without `$enddefinitions` there are no changes and no samples.
+abbrev no_changes : Option Signal → Result (Option Sample) Refusal
+no_changes (Some signal) = Err (NoSignal signal)
+no_changes None = Ok None
+
 abbrev pub at_end : State → Result (Option Sample) Refusal
 at_end s = elim (open_line s) [
   | Some line ↦ Err (Unended line)
-  | None ↦ if s.defined then Ok (stamp_sample s) else elim (missing s) [ Some signal ↦ Err (NoSignal signal) | None ↦ Ok None ]
+  | None ↦ if s.defined then Ok (stamp_sample s) else no_changes (missing s)
 ]
 
 abbrev pub with_last : List Sample → Result (Option Sample) Refusal → Result (List Sample) Refusal

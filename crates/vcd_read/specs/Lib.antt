@@ -8,3 +8,5 @@ pub mod Refusals
 pub mod Views
 pub mod Pieces
 pub mod Readers
+pub mod Grammar
+pub mod Runs

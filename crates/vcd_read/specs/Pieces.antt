@@ -1,7 +1,7 @@
--- A dump that comes in pieces. What is said here is byte by byte, as a reader goes; the clauses of the public calls say by
--- whole texts what it comes to.
-use Rattle.std.specs.Prelude.{ℕ, ◌+◌, ◌≤◌, List, [], ◌∷◌, ◌++◌, Result, Ok, Err}
-use Rattle.std.specs.Prelude.{if◌then◌else◌, option_to_list, vec_len, vec_capacity}
+-- A dump that comes in pieces. What is said here is byte by byte, as a reader goes; the clauses of the public calls say
+-- by whole texts what it comes to.
+use Rattle.std.specs.Prelude.{◌≡◌, ℕ, ◌+◌, ◌≤◌, List, [], ◌∷◌, ◌++◌, Result, Ok, Err}
+use Rattle.std.specs.Prelude.{if◌then◌else◌, option_to_list, vec_len, vec_capacity, MatchResult}
 use Rattle.vcd_read.specs.declared.errors.Refusal.{Refusal}
 use Rattle.vcd_read.specs.declared.samples.Sample.{Sample}
 use Rattle.vcd_read.specs.declared.scanner.Scanner.{Scanner}
@@ -12,7 +12,8 @@ use Rattle.vcd_read.specs.Tokens.{is_white, line_after}
 use Rattle.vcd_read.specs.Views.{state_of, HasRoom}
 use Rattle.vcd_read.specs.Words.{is_empty}
 
--- line: that of the next byte; held: the token that has not ended; state and samples: what the tokens before it have said
+-- line: that of the next byte; held: the token that has not ended; state and samples: what the tokens before it have
+-- said
 pub record Kept : Type 0 where
   pub line : ℕ
   pub held : List ℕ
@@ -33,6 +34,10 @@ kept_after k (Err refusal) = Err refusal
 -- the token that is held, if any, has come to its end
 abbrev pub token_ended : Kept → Scan
 token_ended k = if is_empty k.held then Ok k else kept_after k (step k.state k.held k.line)
+
+-- with more bytes held
+abbrev pub with_held : List ℕ → Kept → Kept
+with_held bytes k = record k { held = k.held ++ bytes }
 
 abbrev pub behind_white : ℕ → Scan → Scan
 behind_white byte (Ok k) = Ok (record k { line = line_after k.line byte })
@@ -60,6 +65,10 @@ samples_at_end k = ended_by (token_ended k)
 
 abbrev pub kept_of : Scanner → Kept
 kept_of s = record { line = s.line; held = s.held.items; state = state_of s.dump; samples = s.samples.items }
+
+-- The call returned what the definition gives, with this kept where it is no refusal.
+abbrev pub Scans : {A : Type 0} → Result A Refusal → Scan → Kept → Type 0
+Scans result given k = MatchResult result (λ _. given ≡ Ok k) (λ refusal. given ≡ Err refusal)
 
 -- what is held can grow by so many bytes, and end there
 abbrev pub RoomForToken : ℕ → Scanner → Type 0

@@ -13,8 +13,8 @@ pub record Line : Type 0 where
   pub before : Level
   pub level : Level
 
--- context: what the next token belongs to; block: where a `$dumpvars` or its like began that has not ended; code: the third
--- token of the latest `$var`; defined: whether the definitions have ended
+-- context: what the next token belongs to; block: where a `$dumpvars` or its like began that has not ended; code: the
+-- third token of the latest `$var`; defined: whether the definitions have ended
 pub record State : Type 0 where
   pub scl : Line
   pub sda : Line

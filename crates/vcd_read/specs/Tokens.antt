@@ -1,5 +1,5 @@
--- The tokens of a dump, each with its line (IEEE 1364-2005, 18.2.1: the file is free-format, its tokens are separated by
--- white space). A line is one more than the number of line feeds before the token.
+-- The tokens of a dump, each with its line (IEEE 1364-2005, 18.2.1: the file is free-format, its tokens are separated
+-- by white space). A line is one more than the number of line feeds before the token.
 use Rattle.std.specs.Prelude.{ℕ, ◌+◌, ◌-◌, ◌^◌, min, Bool, true, false, ◌&&◌, ◌||◌, ◌==◌, nat_le, List, [], ◌∷◌}
 use Rattle.std.specs.Prelude.{if◌then◌else◌}
 

@@ -44,7 +44,10 @@ level_of value =
 -- the level of the rightmost of these digits, or of the digit before them; none where one of them is no value
 abbrev pub rightmost_level : Option Level → List ℕ → Option Level
 rightmost_level before [] = before
-rightmost_level before (digit ∷ digits) = elim (level_of digit) [ None ↦ None | Some level ↦ rightmost_level (Some level) digits ]
+rightmost_level before (digit ∷ digits) = elim (level_of digit) [
+  | None ↦ None
+  | Some level ↦ rightmost_level (Some level) digits
+]
 
 -- what the digits of a vector change say of a line: one digit at least
 abbrev pub vector_level : List ℕ → Option Level

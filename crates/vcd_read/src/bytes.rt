@@ -8,7 +8,7 @@ ghost use Rattle.vcd_read.specs.Tokens.{is_white, line_after};
 pub(crate) fn is_white(byte: u8) -> bool
     ensures { result ≡ is_white byte }
 {
-    (9 <= byte && byte <= 13) || byte == b' '
+    (b'\t' <= byte && byte <= b'\r') || byte == b' '
 }
 
 /// The line of what stands behind this byte, where the byte stands on this line.

@@ -1,8 +1,7 @@
 // Times and value changes: IEEE 1364-2005, 18.2.1 and 18.2.2, and the commands among them, 18.2.3.
 
-ghost use Rattle.std.specs.Prelude.{◌≡◌, ℕ, ◌≤◌, length, vec_capacity, Some, None};
-ghost use Rattle.vcd_read.specs.Changes.{change, change_by, change_of_code, command_among_changes, time_reached};
-ghost use Rattle.vcd_read.specs.Changes.{both_changed, stamp_sample};
+ghost use Rattle.std.specs.Prelude.{◌≡◌, ℕ, Some, None};
+ghost use Rattle.vcd_read.specs.Changes.{change, change_of_code, command_among_changes, time_reached, stamp_sample};
 ghost use Rattle.vcd_read.specs.Views.{state_of, HasRoom, Leaves, Steps};
 
 use crate::dumps::{Context, Dump};

@@ -1,6 +1,6 @@
 // The definitions of a dump: IEEE 1364-2005, 18.2.3, declaration commands.
 
-ghost use Rattle.std.specs.Prelude.{◌≡◌, ℕ, ◌≤◌, length, vec_len, vec_capacity, Some, None};
+ghost use Rattle.std.specs.Prelude.{◌≡◌, ℕ, length, Some, None};
 ghost use Rattle.vcd_read.specs.Definitions.{definition, inside_var, var_token, definitions_end, missing};
 ghost use Rattle.vcd_read.specs.Views.{state_of, HasRoom, Leaves};
 

@@ -1,8 +1,9 @@
 // The bytes of a dump, cut into tokens.
 
-ghost use Rattle.std.specs.Prelude.{◌≡◌, ℕ, ◌+◌, ◌≤◌, ◌++◌, [], length, vec_len, vec_capacity, IfOk, OnOk, MatchResult, Ok, Err};
-ghost use Rattle.vcd_read.specs.Pieces.{kept_at_first, kept_of, bytes_read, token_ended, samples_at_end, RoomForToken, RoomForSamples};
-ghost use Rattle.vcd_read.specs.Views.{state_of};
+ghost use Rattle.std.specs.Prelude.{◌≡◌, ℕ, ◌+◌, ◌<◌, ◌≤◌, ◌++◌, [], length, vec_len, vec_capacity, option_to_list};
+ghost use Rattle.std.specs.Prelude.{IfOk, OnOk, MatchResult, Ok, Err};
+ghost use Rattle.vcd_read.specs.Pieces.{kept_at_first, kept_of, with_held, bytes_read, token_ended};
+ghost use Rattle.vcd_read.specs.Pieces.{samples_at_end, Scans, RoomForToken, RoomForSamples};
 
 use crate::bytes::{is_white, line_after};
 use crate::dumps::Dump;
@@ -58,8 +59,7 @@ impl Scanner {
     pub(crate) fn read(&mut self, piece: &[u8]) -> Result<(), Refusal>
         requires token_room { RoomForToken (length piece.now) self.old }
         requires samples_room { RoomForSamples (length piece.now + 2) self.old }
-        ensures kept { MatchResult result (λ _. bytes_read (kept_of self.old) piece.now ≡ Ok (kept_of self.new))
-            (λ refusal. bytes_read (kept_of self.old) piece.now ≡ Err refusal) }
+        ensures kept { Scans result (bytes_read (kept_of self.old) piece.now) (kept_of self.new) }
         ensures token_room { RoomForToken 0 self.new }
         ensures samples_room { RoomForSamples 2 self.new }
     {
@@ -76,30 +76,41 @@ impl Scanner {
     }
 
     // What is held, with this behind it, has come to its end.
+    #[inline(always)]
     fn end_token(&mut self, rest: &[u8]) -> Result<(), Refusal>
         requires token_room { RoomForToken (length rest.now) self.old }
         requires samples_room { RoomForSamples 1 self.old }
-        ensures kept { MatchResult result
-            (λ _. token_ended (record (kept_of self.old) { held = self.old.held.items ++ rest.now }) ≡ Ok (kept_of self.new))
-            (λ refusal. token_ended (record (kept_of self.old) { held = self.old.held.items ++ rest.now }) ≡ Err refusal) }
+        ensures kept { Scans result (token_ended (with_held rest.now (kept_of self.old))) (kept_of self.new) }
         ensures nothing_held { OnOk result (self.new.held.items ≡ []) }
         ensures token_room { (n : ℕ) → RoomForToken (n + length rest.now) self.old → RoomForToken n self.new }
         ensures samples_room { (n : ℕ) → RoomForSamples (n + 1) self.old → RoomForSamples n self.new }
     {
-        let sample = if self.held.is_empty() {
-            if rest.is_empty() {
-                return Ok(());
-            }
-            self.dump.read(rest, self.line)?
-        } else {
-            let _ = self.held.extend_from_slice(rest);
-            let sample = self.dump.read(self.held.as_slice(), self.line)?;
-            self.held.clear();
-            sample
-        };
-        if let Some(sample) = sample {
-            self.samples.push_reserved(sample);
+        if !self.held.is_empty() {
+            return self.end_held(rest);
         }
+        if rest.is_empty() {
+            return Ok(());
+        }
+        let sample = self.dump.read(rest, self.line)?;
+        keep(&mut self.samples, sample);
+        Ok(())
+    }
+
+    // The same where something is held.
+    #[inline(never)]
+    fn end_held(&mut self, rest: &[u8]) -> Result<(), Refusal>
+        requires token_room { RoomForToken (length rest.now) self.old }
+        requires samples_room { RoomForSamples 1 self.old }
+        requires some_held { 0 < vec_len self.old.held }
+        ensures kept { Scans result (token_ended (with_held rest.now (kept_of self.old))) (kept_of self.new) }
+        ensures nothing_held { OnOk result (self.new.held.items ≡ []) }
+        ensures token_room { (n : ℕ) → RoomForToken (n + length rest.now) self.old → RoomForToken n self.new }
+        ensures samples_room { (n : ℕ) → RoomForSamples (n + 1) self.old → RoomForSamples n self.new }
+    {
+        let _ = self.held.extend_from_slice(rest);
+        let sample = self.dump.read(self.held.as_slice(), self.line)?;
+        self.held.clear();
+        keep(&mut self.samples, sample);
         Ok(())
     }
 
@@ -116,5 +127,18 @@ impl Scanner {
         }
         let Scanner { samples, .. } = self;
         Ok(samples)
+    }
+}
+
+// Keeps the sample, if there is one.
+#[inline(always)]
+fn keep(samples: &mut Vec<Sample>, sample: Option<Sample>)
+    requires { vec_len samples.old + 1 ≤ vec_capacity samples.old }
+    ensures items { samples.new.items ≡ samples.old.items ++ option_to_list sample }
+    ensures len { vec_len samples.new ≤ vec_len samples.old + 1 }
+    ensures capacity { vec_capacity samples.new ≡ vec_capacity samples.old }
+{
+    if let Some(sample) = sample {
+        samples.push_reserved(sample);
     }
 }

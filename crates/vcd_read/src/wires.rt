@@ -1,6 +1,6 @@
 // One of the two lines of the bus, as a dump tells of it.
 
-ghost use Rattle.std.specs.Prelude.{◌≡◌, ◌≤◌, [], length, vec_len, vec_capacity, IfOk, is_some};
+ghost use Rattle.std.specs.Prelude.{◌≡◌, ◌≤◌, length, vec_capacity, IfOk};
 
 use crate::samples::Level;
 use std::alloc::{AllocError, Global};
@@ -55,6 +55,7 @@ impl Wire {
     }
 
     /// A change of this code sets the level.
+    #[inline(always)]
     pub(crate) fn change(&mut self, code: &[u8], level: Level)
         ensures line { line_of self.new ≡ changed code.now level (line_of self.old) }
         ensures code { self.new.code ≡ self.old.code }

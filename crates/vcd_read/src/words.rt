@@ -1,7 +1,8 @@
 // What a single token says.
 
 ghost use Rattle.std.specs.Prelude.{◌≡◌};
-ghost use Rattle.vcd_read.specs.Words.{command_of, named_command, is_end, level_of, vector_level, is_code, is_code_byte, time_of};
+ghost use Rattle.vcd_read.specs.Words.{command_of, named_command, is_end, level_of, vector_level};
+ghost use Rattle.vcd_read.specs.Words.{is_code, is_code_byte, time_of};
 
 use crate::samples::Level;
 
@@ -57,6 +58,7 @@ pub(crate) fn is_end(token: &[u8]) -> bool
 }
 
 /// The level that a value stands for.
+#[inline(always)]
 pub(crate) fn level_of(value: u8) -> Option<Level>
     ensures { result ≡ level_of value }
 {
@@ -80,19 +82,22 @@ pub(crate) fn vector_level(digits: &[u8]) -> Option<Level>
 }
 
 /// Whether these bytes are an identifier code.
+#[inline(always)]
 pub(crate) fn is_code(bytes: &[u8]) -> bool
     ensures { result ≡ is_code bytes.now }
 {
     !bytes.is_empty() && bytes.iter().all(|byte| is_code_byte(*byte))
 }
 
+#[inline(always)]
 fn is_code_byte(byte: u8) -> bool
     ensures { result ≡ is_code_byte byte }
 {
-    33 <= byte && byte <= 126
+    b'!' <= byte && byte <= b'~'
 }
 
 /// The time that the digits write.
+#[inline(always)]
 pub(crate) fn time_of(digits: &[u8]) -> Option<u64>
     ensures { result ≡ time_of digits.now }
 {
