@@ -1,0 +1,370 @@
+// Recorded wires, from a plan and a dump to the lines of the report, and from marks to those who explain them.
+
+use crate::memory::{page, source, written};
+use capture_check::{
+    Event, Listener, Mark, Transaction, Until, Watch, What, events, explain, explain_all,
+    transactions,
+};
+use plan_text::read_plan;
+use report::{RunError, Status, run_capture};
+use std::alloc::{AllocError, Global};
+use std::test::Fail;
+use std::thread::Threads;
+use vcd_read::{Level, Reader, Sample};
+
+// A controller stops behind an acknowledged header, and another one writes a byte to the same target.
+const PLAN: &str = "\
+plan 1
+message m write 1001000 stop else stop ;
+message n write 1001000 0000000x stop else stop else stop ;
+controller a m ;
+controller b n ;
+";
+
+const DEFINITIONS: &str = "\
+$timescale
+1 us $end
+$scope module top $end
+$var wire 1 ! scl $end
+$var wire 1 \" sda $end
+$upscope $end
+$enddefinitions $end
+";
+
+// The header 1001000 for a write.
+const HEADER: &str = "\
+#0 1! 1\"
+#10 0\" #15 0!
+#16 1\" #20 1! #25 0!
+#26 0\" #30 1! #35 0!
+#40 1! #45 0!
+#46 1\" #50 1! #55 0!
+#56 0\" #60 1! #65 0!
+#70 1! #75 0!
+#80 1! #85 0!
+#90 1! #95 0!
+";
+
+// A target acknowledges it, or none does; then comes a STOP.
+const ACKNOWLEDGED: &str = "#100 1! #105 0!\n#110 1! #115 1\"\n";
+const REFUSED: &str = "#96 1\" #100 1! #105 0!\n#106 0\" #110 1! #115 1\"\n";
+
+// What the run writes, and its status.
+fn report<R: Threads + Sync>(
+    rt: &R,
+    alloc: Global,
+    dump: &str,
+    sda: &str,
+) -> Result<(Result<Status, RunError>, String), Fail> {
+    let mut page = page(alloc);
+    let answer = run_capture(
+        rt,
+        alloc,
+        &mut source(PLAN.as_bytes()),
+        &mut source(dump.as_bytes()),
+        &mut page,
+        "scl",
+        sda,
+    );
+    Ok((answer, written(page)?))
+}
+
+#[test]
+fn captures_are_told_line_by_line(rt: HostRuntime) -> Result<(), Fail> {
+    let alloc = rt.alloc();
+    let captures = [
+        (
+            HEADER,
+            ACKNOWLEDGED,
+            Status::Good,
+            "10-115 a/m\n1 transactions, 0 unexplained\n",
+        ),
+        (
+            HEADER,
+            REFUSED,
+            Status::Good,
+            "10-115 a/m b/n\n1 transactions, 0 unexplained\n",
+        ),
+        (
+            "#0 1! 1\" #10 0\" #15 0! #16 1\" #20 1! #25 0! #26 0\" #30 1! #35 0! #40 1! #45 0!",
+            "",
+            Status::Good,
+            "10- unfinished\n0 transactions, 0 unexplained\n",
+        ),
+        (
+            "#0 1! 1\" #5 0\" #9 1\"",
+            "",
+            Status::Bad,
+            "5-9 unexplained\n1 transactions, 1 unexplained\n",
+        ),
+        (
+            "#0 1! 1\" #5 0! 0\" #7 1! #9 1\"",
+            "",
+            Status::Good,
+            "0 transactions, 0 unexplained\n",
+        ),
+        (
+            "#0 1! 1\" #5 0\" #7 x\" #9 1\" #12 0\" #14 1\"",
+            "",
+            Status::Bad,
+            "5-7 cut\n12-14 unexplained\n1 transactions, 1 unexplained\n",
+        ),
+        ("", "", Status::Good, "0 transactions, 0 unexplained\n"),
+    ];
+    for (first, then, status, lines) in captures {
+        let dump = format!(in alloc; "{DEFINITIONS}{first}{then}")?;
+        let (answer, found) = report(&rt, alloc, dump.as_str(), "sda")?;
+        assert_eq!(rt; found.as_str(), lines, "{first}{then}");
+        assert_eq!(rt; answer, Ok(status), "{first}{then}");
+    }
+    Ok(())
+}
+
+#[test]
+fn a_refused_capture_writes_nothing(rt: HostRuntime) -> Result<(), Fail> {
+    let alloc = rt.alloc();
+    let captures = [
+        ("#5 #4", "sda", "V3 line 8"),
+        ("#5\n#4", "sda", "V3 line 9"),
+        ("2!", "sda", "V2 line 8"),
+        ("$comment", "sda", "V4 line 8"),
+        ("#0 1! 1\"", "data", "V1 sda"),
+    ];
+    for (changes, sda, refusal) in captures {
+        let dump = format!(in alloc; "{DEFINITIONS}{changes}")?;
+        let (answer, found) = report(&rt, alloc, dump.as_str(), sda)?;
+        let said = match answer {
+            Ok(_) => String::from_str(alloc, "a report")?,
+            Err(error) => format!(in alloc; "{error}")?,
+        };
+        assert_eq!(rt; said.as_str(), refusal, "{changes}");
+        assert_eq!(rt; found.as_str(), "");
+    }
+    Ok(())
+}
+
+// The levels of a word of `0` and `1`, as marks.
+fn push_levels(marks: &mut Vec<Mark>, levels: &str) -> Result<(), AllocError> {
+    for level in levels.as_bytes() {
+        marks.push(Mark::Level(*level == b'1'))?;
+    }
+    Ok(())
+}
+
+// A transaction with these levels, which a STOP ends.
+fn stopped(alloc: Global, levels: &str) -> Result<Transaction, AllocError> {
+    let mut marks = Vec::new(alloc);
+    push_levels(&mut marks, levels)?;
+    marks.push(Mark::Stop)?;
+    Ok(Transaction {
+        from: 10,
+        until: Until::Stopped(115),
+        marks,
+    })
+}
+
+#[test]
+fn a_read_is_explained_by_a_range_with_its_count(rt: HostRuntime) -> Result<(), Fail> {
+    let alloc = rt.alloc();
+    // Three bytes, acknowledged by 0, 0 and 1.
+    let transaction = stopped(alloc, "100100010101010100010101010101010101")?;
+    for (counts, explainers) in [("2..4", [0].as_slice()), ("4..6", [].as_slice())] {
+        let text = format!(in alloc;
+            "plan 2 message m read 1001000 {counts} stop else stop ; controller a m ;"
+        )?;
+        let plan = read_plan(alloc, text.as_bytes())?;
+        let found = explain(alloc, &plan, &transaction)?;
+        assert_eq!(rt; found.as_slice(), explainers, "{counts}");
+    }
+    Ok(())
+}
+
+#[test]
+fn an_interrupt_is_told_by_the_eight_bits_of_its_header(rt: HostRuntime) -> Result<(), Fail> {
+    let alloc = rt.alloc();
+    let plan = read_plan(
+        alloc,
+        b"plan 1 message m read 1001000 1 stop else stop ; controller a m ; interrupt t 1001000 ;",
+    )?;
+    for (levels, explainers) in [
+        ("100100010000000001", [0, 1].as_slice()),
+        ("10010001011", [1].as_slice()),
+        ("1001000100000000", [1].as_slice()),
+        ("100100000", [].as_slice()),
+        ("1001000", [].as_slice()),
+    ] {
+        let found = explain(alloc, &plan, &stopped(alloc, levels)?)?;
+        assert_eq!(rt; found.as_slice(), explainers, "{levels}");
+    }
+    Ok(())
+}
+
+#[test]
+fn nobody_explains_what_was_cut_or_goes_on(rt: HostRuntime) -> Result<(), Fail> {
+    let alloc = rt.alloc();
+    let plan = read_plan(alloc, PLAN.as_bytes())?;
+    for until in [Until::Cut(115), Until::Unfinished] {
+        let mut transaction = stopped(alloc, "100100000")?;
+        assert_eq!(rt; explain(alloc, &plan, &transaction)?.as_slice(), [0].as_slice());
+        transaction.until = until;
+        assert_eq!(rt; explain(alloc, &plan, &transaction)?.len(), 0);
+    }
+    Ok(())
+}
+
+// The transaction of the acknowledged header, from its dump.
+fn acknowledged(alloc: Global) -> Result<Vec<Transaction>, Fail> {
+    let mut reader = Reader::new(alloc, "scl", "sda")?;
+    reader.feed(DEFINITIONS.as_bytes())?;
+    reader.feed(HEADER.as_bytes())?;
+    reader.feed(ACKNOWLEDGED.as_bytes())?;
+    let samples = reader.end()?;
+    let events = events(alloc, samples.as_slice())?;
+    Ok(transactions(alloc, events.as_slice())?)
+}
+
+#[test]
+fn three_thousand_transactions_are_explained_as_one(rt: HostRuntime) -> Result<(), Fail> {
+    let alloc = rt.alloc();
+    let plan = read_plan(alloc, PLAN.as_bytes())?;
+    let mut copies = Vec::new(alloc);
+    for _ in 0..3000 {
+        for transaction in acknowledged(alloc)? {
+            copies.push(transaction)?;
+        }
+    }
+    let all = explain_all(&rt, alloc, &plan, copies.as_slice())?;
+    assert_eq!(rt; all.len(), 3000);
+    for explainers in &all {
+        assert_eq!(rt; explainers.as_slice(), [0].as_slice());
+    }
+    Ok(())
+}
+
+// ---- the two tables
+
+// The levels of SCL and SDA: `1`, `0` and `x`.
+fn level(byte: u8) -> Level {
+    match byte {
+        b'1' => Level::High,
+        b'0' => Level::Low,
+        _ => Level::Unknown,
+    }
+}
+
+// The event between two samples, where nothing has happened in the HIGH period before.
+fn between(first: &str, second: &str) -> Option<What> {
+    let mut watch = Watch::new();
+    let mut last = None;
+    for (time, levels) in [first, second].iter().enumerate() {
+        let bytes = levels.as_bytes();
+        let scl = bytes.first().map_or(Level::Unknown, |byte| level(*byte));
+        let sda = bytes.last().map_or(Level::Unknown, |byte| level(*byte));
+        last = watch.next(&Sample {
+            time: time as u64,
+            scl,
+            sda,
+        });
+    }
+    last.map(|event| event.what)
+}
+
+#[test]
+fn neighbouring_samples_make_the_events_of_the_table(rt: HostRuntime) {
+    for (first, second, what) in [
+        ("xx", "11", Some(What::Known(true))),
+        ("x1", "10", Some(What::Known(false))),
+        ("1x", "01", Some(What::Known(false))),
+        ("xx", "00", Some(What::Known(false))),
+        ("xx", "1x", None),
+        ("11", "x1", Some(What::Unknown)),
+        ("00", "0x", Some(What::Unknown)),
+        ("11", "0x", Some(What::Unknown)),
+        ("11", "10", Some(What::Start)),
+        ("10", "11", Some(What::Stop)),
+        ("11", "01", Some(What::Bit(true))),
+        ("10", "00", Some(What::Bit(false))),
+        ("11", "00", Some(What::Bit(true))),
+        ("10", "01", Some(What::Bit(false))),
+        ("00", "10", None),
+        ("01", "10", None),
+        ("00", "01", None),
+        ("01", "00", None),
+    ] {
+        assert_eq!(rt; between(first, second), what, "{first} to {second}");
+    }
+}
+
+// How a listener that heard these takes the next one: the transaction that it ends, and the one that goes on then.
+fn heard(
+    alloc: Global,
+    before: &[What],
+    next: What,
+) -> Result<(Option<Until>, Option<u64>), AllocError> {
+    let mut listener = Listener::new();
+    for what in before {
+        let _ = listener.next(
+            alloc,
+            &Event {
+                time: 1,
+                what: *what,
+            },
+        )?;
+    }
+    let ended = listener.next(
+        alloc,
+        &Event {
+            time: 2,
+            what: next,
+        },
+    )?;
+    let ended = ended.map(|transaction| transaction.until);
+    Ok((ended, listener.end().map(|transaction| transaction.from)))
+}
+
+#[test]
+fn events_end_and_begin_transactions_as_the_table_says(rt: HostRuntime) -> Result<(), Fail> {
+    let alloc = rt.alloc();
+    let unknown = [].as_slice();
+    let free = [What::Stop].as_slice();
+    let busy = [What::Stop, What::Start].as_slice();
+    for (before, next, ended, going_on) in [
+        (unknown, What::Start, None, None),
+        (free, What::Start, None, Some(2)),
+        (busy, What::Start, None, Some(1)),
+        (busy, What::Bit(true), None, Some(1)),
+        (busy, What::Known(true), None, Some(1)),
+        (busy, What::Known(false), None, Some(1)),
+        (busy, What::Unknown, Some(Until::Cut(2)), None),
+        (busy, What::Stop, Some(Until::Stopped(2)), None),
+        (free, What::Stop, None, None),
+        (free, What::Bit(true), None, None),
+    ] {
+        assert_eq!(rt;
+            heard(alloc, before, next)?,
+            (ended, going_on),
+            "{before:?} {next:?}"
+        );
+    }
+    Ok(())
+}
+
+// Whether a START after this one is heard, which it is on a free bus alone.
+#[test]
+fn a_start_is_heard_on_a_free_bus(rt: HostRuntime) -> Result<(), Fail> {
+    let alloc = rt.alloc();
+    for (what, is_free) in [
+        (What::Known(true), true),
+        (What::Known(false), false),
+        (What::Unknown, false),
+        (What::Stop, true),
+        (What::Bit(true), false),
+    ] {
+        let (_, going_on) = heard(alloc, [what].as_slice(), What::Start)?;
+        assert_eq!(rt; going_on.is_some(), is_free, "unknown, {what:?}");
+        let (_, going_on) = heard(alloc, [What::Stop, what].as_slice(), What::Start)?;
+        let stays_free = !matches!(what, What::Known(false) | What::Unknown);
+        assert_eq!(rt; going_on.is_some(), stays_free, "free, {what:?}");
+    }
+    Ok(())
+}
