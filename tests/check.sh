@@ -226,6 +226,8 @@ want 0 "$(cat "$tests/expected/certify_help.txt")" ""
 run "help on certify" certify --help
 want 0 "$(cat "$tests/expected/verify_help.txt")" ""
 run "help on verify" verify --help
+want 0 "$(cat "$tests/expected/capture_help.txt")" ""
+run "help on capture" capture --help
 want 2 "" "$(cat help.txt)"
 run "no argument"
 
