@@ -14,8 +14,8 @@ cd -- "$work" || exit 1
 passed=0
 failed=0
 
-# case NAME STATUS OUT ERR ARG..: one call of `twire capture`.
-case() {
+# expect NAME STATUS OUT ERR ARG..: one call of `twire capture`.
+expect() {
     local name=$1 status=$2 out=$3 err=$4
     shift 4
     local found_out found_err found_status
@@ -39,7 +39,7 @@ message n write 1001000 0000000x stop else stop else stop ;
 controller a m ;
 controller b n ;
 PLAN
-echo "plan 1 message" >bad_plan
+echo "plan 1 ;" >bad_plan
 
 # dump NAME LINE..: the usual definitions, and these lines from line 8 on.
 dump() {
@@ -53,33 +53,33 @@ dump() {
 "$tests/../tools/dump" 100100000 | sed 's/scl/clock_line/; s/sda/data_line/' >named
 "$tests/../tools/dump" 100100000 | head -n 20 >cut
 
-case "acknowledged" 0 $'5-160 a/m\n1 transactions, 0 unexplained' "" plan acknowledged
-case "refused" 0 $'5-160 a/m b/n\n1 transactions, 0 unexplained' "" plan refused
-case "bytes that nobody sends" 1 $'5-400 unexplained\n405-800 unexplained\n2 transactions, 2 unexplained' "" plan bytes
-case "cut" 0 $'5- unfinished\n0 transactions, 0 unexplained' "" plan cut
-case "names by options" 0 $'5-160 a/m\n1 transactions, 0 unexplained' "" plan named --scl clock_line --sda data_line
-case "names that are not there" 2 "" "refused V1 scl" plan named
-case "one name that is not there" 2 "" "refused V1 sda" plan named --scl clock_line
-case "an empty name" 2 "" "refused V1 scl" plan named --scl ""
+expect "acknowledged" 0 $'5-160 a/m\n1 transactions, 0 unexplained' "" plan acknowledged
+expect "refused" 0 $'5-160 a/m b/n\n1 transactions, 0 unexplained' "" plan refused
+expect "bytes that nobody sends" 1 $'5-400 unexplained\n405-800 unexplained\n2 transactions, 2 unexplained' "" plan bytes
+expect "cut" 0 $'5- unfinished\n0 transactions, 0 unexplained' "" plan cut
+expect "names by options" 0 $'5-160 a/m\n1 transactions, 0 unexplained' "" plan named --scl clock_line --sda data_line
+expect "names that are not there" 2 "" "refused V1 scl" plan named
+expect "one name that is not there" 2 "" "refused V1 sda" plan named --scl clock_line
+expect "an empty name" 2 "" "refused V1 scl" plan named --scl ""
 
 dump levels '#0 1! 1" #5 0" #7 x" #9 1" #12 0" #14 1"'
-case "a level that is unknown" 1 $'5-7 cut\n12-14 unexplained\n1 transactions, 1 unexplained' "" plan levels
+expect "a level that is unknown" 1 $'5-7 cut\n12-14 unexplained\n1 transactions, 1 unexplained' "" plan levels
 dump back '#5 #4'
-case "a time that goes back" 2 "" "refused V3 line 8" plan back
+expect "a time that goes back" 2 "" "refused V3 line 8" plan back
 dump stray '#5' '?'
-case "a token of no kind" 2 "" "refused V2 line 9" plan stray
+expect "a token of no kind" 2 "" "refused V2 line 9" plan stray
 dump open '#5' '$comment'
-case "an open comment" 2 "" "refused V4 line 9" plan open
+expect "an open comment" 2 "" "refused V4 line 9" plan open
 : >empty
-case "an empty dump" 2 "" "refused V1 scl" plan empty
+expect "an empty dump" 2 "" "refused V1 scl" plan empty
 
 # Files are opened first, then the plan is read and judged, then the dump.
-case "no such dump" 2 "" "refused read" plan missing
-case "no such dump, and a plan that is refused" 2 "" "refused read" bad_plan missing
-case "a refused plan" 2 "" "refused P3 line 1" bad_plan stray
-case "a directory as the dump" 2 "" "refused read" plan /
-case "a refused plan, and a directory as the dump" 2 "" "refused P3 line 1" bad_plan /
-case "an example" 0 $'5-160 service/probe_10\n1 transactions, 0 unexplained' "" \
+expect "no such dump" 2 "" "refused read" plan missing
+expect "no such dump, and a plan that is refused" 2 "" "refused read" bad_plan missing
+expect "a refused plan" 2 "" "refused P3 line 1" bad_plan stray
+expect "a directory as the dump" 2 "" "refused read" plan /
+expect "a refused plan, and a directory as the dump" 2 "" "refused P3 line 1" bad_plan /
+expect "an example" 0 $'5-160 service/probe_10\n1 transactions, 0 unexplained' "" \
     "$tests/../examples/stop_meets_data.plan" "$tests/../examples/stop_meets_data.vcd"
 
 # The dump through a pipe, in two pieces.
