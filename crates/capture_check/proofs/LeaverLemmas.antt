@@ -96,6 +96,7 @@ explainers_within plan t ps are p c = go t.until are
   where
     none : ps ≡ [] → p < participant_count plan
     none e = let has : Contains [] p = subst (λ qs. Contains qs p) e c in absurd (omega (arith, has.1))
+
     go : (until : Until) → AreExplainersUntil until plan t.marks ps → p < participant_count plan
     go (ending.Stopped time) h = participant_within plan t.marks p ((h.each p).0 c)
     go (ending.Cut time) e = none e

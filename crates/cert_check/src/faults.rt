@@ -10,7 +10,7 @@ ghost use Rattle.cert_check.specs.PairFaults.{IsPairFault};
 ghost use Rattle.plan_core.specs.Senders.{what_is_sent};
 ghost use Rattle.cert_check.specs.Wires.{MayPut, ClashAfter};
 
-use crate::bits::{byte_bits, frame_bits, first_header};
+use crate::bits::{byte_bits, first_header, frame_bits};
 use crate::wires::{Along, Answered, along_bits, along_byte, along_read};
 use certificate::Fault;
 use message_tree::{Frame, Item, Kind, Payload, Tail};

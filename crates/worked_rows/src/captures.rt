@@ -47,6 +47,7 @@ const HEADER: &str = "\
 
 // A target acknowledges it, or none does; then comes a STOP.
 const ACKNOWLEDGED: &str = "#100 1! #105 0!\n#110 1! #115 1\"\n";
+
 const REFUSED: &str = "#96 1\" #100 1! #105 0!\n#106 0\" #110 1! #115 1\"\n";
 
 // What the run writes, and its status.
@@ -205,7 +206,10 @@ fn nobody_explains_what_was_cut_or_goes_on(rt: HostRuntime) -> Result<(), Fail> 
     let plan = read_plan(alloc, PLAN.as_bytes())?;
     for until in [Until::Cut(115), Until::Unfinished] {
         let mut transaction = stopped(alloc, "100100000")?;
-        assert_eq!(rt; explain(alloc, &plan, &transaction)?.as_slice(), [0].as_slice());
+        assert_eq!(rt;
+            explain(alloc, &plan, &transaction)?.as_slice(),
+            [0].as_slice()
+        );
         transaction.until = until;
         assert_eq!(rt; explain(alloc, &plan, &transaction)?.len(), 0);
     }
