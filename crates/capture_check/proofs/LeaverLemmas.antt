@@ -25,7 +25,7 @@ below_or_same p n h = elim (eq-or-lt_of_le {n = p} {m = n} (omega (arith, h))) [
 leaver_at : (plan : Contents) (marks : List Mark) (q : Option Participant) → SomebodyMayLeave (sender_of plan q) marks → q ≡ None → ⊥
 leaver_at plan marks q h e = subst (λ (r : Option Participant). SomebodyMayLeave (sender_of plan r) marks) e h
 
-participant_within : (plan : Contents) (marks : List Mark) (p : ℕ) → Leaver plan marks p → p < participant_count plan
+pub participant_within : (plan : Contents) (marks : List Mark) (p : ℕ) → Leaver plan marks p → p < participant_count plan
 unfolding sender_at
 participant_within plan marks p h = elim (slice_get_cases (participants_of plan) p).1 [
   | inl within ↦ within.1
@@ -96,6 +96,7 @@ explainers_within plan t ps are p c = go t.until are
   where
     none : ps ≡ [] → p < participant_count plan
     none e = let has : Contains [] p = subst (λ qs. Contains qs p) e c in absurd (omega (arith, has.1))
+
     go : (until : Until) → AreExplainersUntil until plan t.marks ps → p < participant_count plan
     go (ending.Stopped time) h = participant_within plan t.marks p ((h.each p).0 c)
     go (ending.Cut time) e = none e

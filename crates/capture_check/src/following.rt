@@ -34,7 +34,11 @@ impl Follower {
     }
 
     /// The transactions that end within these samples, in order. Where memory is refused, what was followed so far is lost.
-    pub fn follow(&mut self, alloc: Global, samples: &[Sample]) -> Result<Vec<Transaction>, AllocError>
+    pub fn follow(
+        &mut self,
+        alloc: Global,
+        samples: &[Sample],
+    ) -> Result<Vec<Transaction>, AllocError>
         ensures { IfOk result (λ found. (more : List Sample) →
             map recorded found.items ++ transactions_behind (place_of self.new) more
             ≡ transactions_behind (place_of self.old) (samples.now ++ more)) }
