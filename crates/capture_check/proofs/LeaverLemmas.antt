@@ -25,7 +25,7 @@ below_or_same p n h = elim (eq-or-lt_of_le {n = p} {m = n} (omega (arith, h))) [
 leaver_at : (plan : Contents) (marks : List Mark) (q : Option Participant) → SomebodyMayLeave (sender_of plan q) marks → q ≡ None → ⊥
 leaver_at plan marks q h e = subst (λ (r : Option Participant). SomebodyMayLeave (sender_of plan r) marks) e h
 
-participant_within : (plan : Contents) (marks : List Mark) (p : ℕ) → Leaver plan marks p → p < participant_count plan
+pub participant_within : (plan : Contents) (marks : List Mark) (p : ℕ) → Leaver plan marks p → p < participant_count plan
 unfolding sender_at
 participant_within plan marks p h = elim (slice_get_cases (participants_of plan) p).1 [
   | inl within ↦ within.1

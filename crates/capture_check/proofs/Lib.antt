@@ -1,3 +1,4 @@
 pub mod AlongLemmas
 pub mod LeaverLemmas
 pub mod WorkerLemmas
+pub mod RunLemmas

@@ -5,3 +5,4 @@ pub mod Transactions
 pub mod Marks
 pub mod Along
 pub mod Explained
+pub mod RunMarks

@@ -4,12 +4,13 @@
 //! `watching` goes from samples to events and `listening` from events to transactions, each by a value that goes on from
 //! one to the next and by a call for whole lists; `following` does both, for captures that are read in blocks. `texts`
 //! follows the marks of a transaction through a message, `explaining` asks each participant, and `workers` explains many
-//! transactions by several threads.
+//! transactions by several threads. `laws` says of which transactions the runs of a plan are the explanation.
 #![tactic(auto)]
 
 mod bits;
 pub mod explaining;
 pub mod following;
+pub mod laws;
 pub mod listening;
 mod texts;
 pub mod watching;

@@ -1,3 +1,4 @@
+mod captures;
 mod depth;
 mod generated;
 mod plans;

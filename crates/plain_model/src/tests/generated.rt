@@ -7,13 +7,13 @@ use std::test::Fail;
 
 // A linear congruential generator.
 #[derive(Drop)]
-struct Dice {
-    state: u64,
+pub struct Dice {
+    pub state: u64,
 }
 
 impl Dice {
     // A number below `sides`, or 0.
-    fn throw(&mut self, sides: u32) -> u32 {
+    pub fn throw(&mut self, sides: u32) -> u32 {
         self.state = self
             .state
             .wrapping_mul(6_364_136_223_846_793_005)
@@ -100,7 +100,7 @@ fn push_message(text: &mut String, dice: &mut Dice) -> Result<(), AllocError> {
 }
 
 // Three controllers, two of them with two messages, and two interrupts.
-fn plan_words(alloc: Global, dice: &mut Dice) -> Result<String, AllocError> {
+pub fn plan_words(alloc: Global, dice: &mut Dice) -> Result<String, AllocError> {
     let mut text = String::from_str(alloc, "plan 2")?;
     for name in ["m", "n", "o", "p"] {
         write!(text, " message {name} ")?;
