@@ -78,6 +78,9 @@ fn work_together<
     ensures len { IfOk result.0 (λ v. vec_len v ≡ vec_len jobs) }
     ensures parts { IfOk result.0 (λ v. All (IsPart (λ i x. F.post f.now i (Ok x)) owner.queue) v.items) }
 {
+    if jobs.is_empty() {
+        return (Ok(Vec::new(alloc)), own_all(alloc, owner, gate, f));
+    }
     thread::join(
         rt,
         move || -> Result<Vec<Part<X>>, AllocError>
