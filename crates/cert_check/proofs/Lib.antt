@@ -1,4 +1,3 @@
-pub mod Senders
 pub mod Checked
 pub mod WireLemmas
 pub mod TallyLemmas

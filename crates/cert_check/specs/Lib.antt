@@ -3,7 +3,6 @@ pub mod PairFaults
 pub mod Accepts
 pub mod Holds
 pub mod Refused
-pub mod Starts
 pub mod Reads
 pub mod Wires
 pub mod Judged

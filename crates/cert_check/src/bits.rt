@@ -5,10 +5,10 @@ ghost use Rattle.message_tree.specs.Bits.{SplitAt};
 ghost use Rattle.message_tree.specs.Patterns.{address_bits, pattern_bits};
 ghost use Rattle.message_tree.specs.Trees.{frame_tree};
 ghost use Rattle.certificate.specs.Proves.{frame_header, header_of};
-ghost use Rattle.cert_check.specs.Starts.{start_sender};
+ghost use Rattle.plan_core.specs.Senders.{what_is_sent};
 
-use crate::starts::Start;
 use message_tree::{Address, Bit, Frame, Pattern};
+use plan_core::Sends;
 
 /// The eight bits of the header with this address and direction.
 pub(crate) fn header_bits(address: &Address, direction: Bit) -> [Bit; 8]
@@ -37,12 +37,12 @@ pub(crate) fn frame_bits(frame: &Frame) -> [Bit; 8]
 }
 
 /// The eight bits of a participant's first header.
-pub(crate) fn start_bits(start: &Start<'_>) -> [Bit; 8]
-    ensures { result ≡ header_of (start_sender start.now) }
+pub(crate) fn first_header(start: &Sends<'_>) -> [Bit; 8]
+    ensures { result ≡ header_of (what_is_sent start.now) }
 {
     match start {
-        Start::Message(frame) => frame_bits(frame),
-        Start::Interrupt(address) => header_bits(address, Bit::One),
+        Sends::Message(frame) => frame_bits(frame),
+        Sends::Interrupt(address) => header_bits(address, Bit::One),
     }
 }
 

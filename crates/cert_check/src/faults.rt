@@ -7,15 +7,14 @@ ghost use Rattle.message_tree.specs.Trees.{frame_tree, payload_tree, tail_tree};
 ghost use Rattle.plan_core.specs.PlanContents.{plan_contents};
 ghost use Rattle.plan_core.specs.Pairs.{pairs_of};
 ghost use Rattle.cert_check.specs.PairFaults.{IsPairFault};
-ghost use Rattle.cert_check.specs.Starts.{start_sender};
+ghost use Rattle.plan_core.specs.Senders.{what_is_sent};
 ghost use Rattle.cert_check.specs.Wires.{MayPut, ClashAfter};
 
-use crate::bits::{byte_bits, frame_bits, start_bits};
-use crate::starts::{Start, start_of};
+use crate::bits::{byte_bits, frame_bits, first_header};
 use crate::wires::{Along, Answered, along_bits, along_byte, along_read};
 use certificate::Fault;
 use message_tree::{Frame, Item, Kind, Payload, Tail};
-use plan_core::Plan;
+use plan_core::{Plan, Sends};
 
 /// Whether the pair with number `i` has this fault when it starts alone. Any of its faults will do, not only the first.
 /// It takes no memory.
@@ -25,13 +24,13 @@ pub fn check_fault(plan: &Plan, i: u32, fault: &Fault) -> bool
         IsPairFault (plan_contents plan.now) i fault.now.wire.items fault.now.first fault.now.second }
 {
     let (x, y) = plan.pair(i);
-    may_clash(&start_of(plan, x), &start_of(plan, y), fault)
+    may_clash(&plan.sends(x), &plan.sends(y), fault)
 }
 
 // Whether the two may put items of these kinds after this wire, and these must not meet.
-fn may_clash(s: &Start<'_>, t: &Start<'_>, fault: &Fault) -> bool
+fn may_clash(s: &Sends<'_>, t: &Sends<'_>, fault: &Fault) -> bool
     ensures { IsTrue result ↔
-        ClashAfter (start_sender s.now) (start_sender t.now) fault.now.wire.items fault.now.first fault.now.second }
+        ClashAfter (what_is_sent s.now) (what_is_sent t.now) fault.now.wire.items fault.now.first fault.now.second }
 {
     let wire = fault.wire.as_slice();
     kinds_clash(fault.first, fault.second)
@@ -47,12 +46,12 @@ fn kinds_clash(j: Kind, k: Kind) -> bool
 }
 
 // Whether the participant may put an item of this kind after this wire.
-fn may_put(start: &Start<'_>, wire: &[Item], kind: Kind) -> bool
-    ensures { IsTrue result ↔ MayPut (SenderText (start_sender start.now)) wire.now kind }
+fn may_put(start: &Sends<'_>, wire: &[Item], kind: Kind) -> bool
+    ensures { IsTrue result ↔ MayPut (SenderText (what_is_sent start.now)) wire.now kind }
 {
     match start {
-        Start::Message(frame) => frame_may_put(frame, wire, kind),
-        Start::Interrupt(_) => match along_bits(&start_bits(start), wire) {
+        Sends::Message(frame) => frame_may_put(frame, wire, kind),
+        Sends::Interrupt(_) => match along_bits(&first_header(start), wire) {
             Along::Off => false,
             Along::Within(offered) => offered == kind,
             Along::Behind(wire) => wire.is_empty() && kind == Kind::Claim,

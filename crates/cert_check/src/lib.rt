@@ -16,7 +16,6 @@ pub mod faults;
 pub mod laws;
 mod nodes;
 pub mod pairs;
-mod starts;
 mod tallies;
 mod wires;
 

@@ -7,13 +7,12 @@ ghost use Rattle.certificate.specs.Proves.{Proves, ProvesHeaders, header_of};
 ghost use Rattle.plan_core.specs.PlanContents.{plan_contents};
 ghost use Rattle.plan_core.specs.Pairs.{pairs_of};
 ghost use Rattle.cert_check.specs.Proved.{ProvesPair};
-ghost use Rattle.cert_check.specs.Starts.{start_sender};
+ghost use Rattle.plan_core.specs.Senders.{what_is_sent};
 
-use crate::bits::{are_split_at, start_bits};
+use crate::bits::{are_split_at, first_header};
 use crate::nodes::frames_proved;
-use crate::starts::{Start, start_of};
 use certificate::Cert;
-use plan_core::Plan;
+use plan_core::{Plan, Sends};
 
 /// Whether the proof proves the pair with number `i`. It takes no memory.
 pub fn check_pair(plan: &Plan, i: u32, cert: &Cert) -> bool
@@ -21,29 +20,29 @@ pub fn check_pair(plan: &Plan, i: u32, cert: &Cert) -> bool
     ensures { IsTrue result ↔ ProvesPair (plan_contents plan.now) i (proof_tree cert.now) }
 {
     let (x, y) = plan.pair(i);
-    are_proved(&start_of(plan, x), &start_of(plan, y), cert)
+    are_proved(&plan.sends(x), &plan.sends(y), cert)
 }
 
 // Whether the proof proves what these two send.
-fn are_proved(s: &Start<'_>, t: &Start<'_>, cert: &Cert) -> bool
-    ensures { IsTrue result ↔ Proves (proof_tree cert.now) (start_sender s.now) (start_sender t.now) }
+fn are_proved(s: &Sends<'_>, t: &Sends<'_>, cert: &Cert) -> bool
+    ensures { IsTrue result ↔ Proves (proof_tree cert.now) (what_is_sent s.now) (what_is_sent t.now) }
 {
     match s {
-        Start::Message(f) => match t {
-            Start::Message(g) => frames_proved(f, g, cert),
-            Start::Interrupt(_) => headers_proved(s, t, cert),
+        Sends::Message(f) => match t {
+            Sends::Message(g) => frames_proved(f, g, cert),
+            Sends::Interrupt(_) => headers_proved(s, t, cert),
         },
-        Start::Interrupt(_) => headers_proved(s, t, cert),
+        Sends::Interrupt(_) => headers_proved(s, t, cert),
     }
 }
 
 // Whether the proof is that of a bit of their first headers.
-fn headers_proved(s: &Start<'_>, t: &Start<'_>, cert: &Cert) -> bool
+fn headers_proved(s: &Sends<'_>, t: &Sends<'_>, cert: &Cert) -> bool
     ensures { IsTrue result ↔
-        ProvesHeaders (proof_tree cert.now) (header_of (start_sender s.now)) (header_of (start_sender t.now)) }
+        ProvesHeaders (proof_tree cert.now) (header_of (what_is_sent s.now)) (header_of (what_is_sent t.now)) }
 {
     match cert {
-        Cert::Part(place) => are_split_at(&start_bits(s), &start_bits(t), *place),
+        Cert::Part(place) => are_split_at(&first_header(s), &first_header(t), *place),
         _ => false,
     }
 }

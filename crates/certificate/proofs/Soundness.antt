@@ -17,7 +17,8 @@ use Rattle.message_tree.specs.Trees.{FrameTree, PayloadTree, TailTree}
 use Rattle.message_tree.specs.Texts.{Language, Allows, SentThen, HeardThen, AnswerThen, AgainThen, Only, ByteThen, BytesThen, ReadThen, write_header, read_header, FrameText, PayloadText, TailText, Sender, message, interrupt, SenderText}
 use Rattle.message_tree.proofs.KindLemmas.{one_kind}
 use Rattle.certificate.specs.Proofs.{ProofTree, part, short, byte, read, again, alike}
-use Rattle.certificate.specs.Proves.{OneKind, ProvesFrames, ProvesPayloads, ProvesTails, header_of, ProvesHeaders, Proves, NeverClash}
+use Rattle.certificate.specs.Laws.{OneKind, NeverClash}
+use Rattle.certificate.specs.Proves.{ProvesFrames, ProvesPayloads, ProvesTails, header_of, ProvesHeaders, Proves}
 
 -- ---- bits that are sent
 

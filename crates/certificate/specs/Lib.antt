@@ -7,3 +7,4 @@ pub mod Reading
 pub mod Refusals
 pub mod Texts
 pub mod Drops
+pub mod Laws

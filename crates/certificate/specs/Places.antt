@@ -1,6 +1,7 @@
 -- What the functions of the reader say of the bytes: what is left of them, and what is expected there.
 -- Only private contracts and proofs use this.
 use Rattle.std.specs.Prelude.{◌≡◌, ◌≢◌, ℕ, suc, ◌<◌, List, [], ◌∷◌, ◌++◌, length, Option, Some, codes, decimal, All}
+use Rattle.message_tree.specs.Codes.{code}
 use Rattle.message_tree.specs.declared.items.Item.{Item}
 use Rattle.message_tree.specs.Symbols.{wire_text}
 use Rattle.certificate.specs.declared.errors.CertError.{CertError}
@@ -106,12 +107,12 @@ pub record ProofRead (room : ℕ) (tree : ProofTree) (old new : Place) : Type 0 
 -- a space, and a whole proof
 pub record BelowRead (room : ℕ) (tree : ProofTree) (old new : Place) : Type 0 where
   pub printable : IsPrintableProof room tree
-  pub reads : Reads (32 ∷ proof_text tree) old (this 32 ∷ (proof room ∷ [])) new []
+  pub reads : Reads (code " " ∷ proof_text tree) old (this (code " ") ∷ (proof room ∷ [])) new []
 
 -- a whole proof and the end of its line
 pub record LineRead (tree : ProofTree) (old new : Place) : Type 0 where
   pub printable : IsPrintableProof 512 tree
-  pub reads : Reads (proof_line tree) old (proof 512 ∷ (this 10 ∷ [])) new []
+  pub reads : Reads (proof_line tree) old (proof 512 ∷ (this (code "\n") ∷ [])) new []
 
 -- the symbols so far of a wire
 pub record WireRead (items : List Item) (old new : Place) : Type 0 where

@@ -1,5 +1,6 @@
 -- What is still to be written of a proof. Only private contracts and proofs use this.
 use Rattle.std.specs.Prelude.{ℕ, ◌+◌, List, [], ◌∷◌, ◌++◌, map}
+use Rattle.message_tree.specs.Codes.{code}
 use Rattle.std.proofs.Common.{Bor}
 use Rattle.certificate.specs.declared.values.Cert.{Cert}
 use Rattle.certificate.specs.Proofs.{ProofTree, part, short, byte, read, again, alike, proof_tree}
@@ -12,7 +13,7 @@ trees_of items = map (λ p. proof_tree p.now) items
 -- The proofs that are still to be written, each after a space. The last of the list comes first.
 abbrev pub pending_text : List ProofTree → List ℕ
 pending_text [] = []
-pending_text (tree ∷ trees) = pending_text trees ++ (32 ∷ proof_text tree)
+pending_text (tree ∷ trees) = pending_text trees ++ (code " " ∷ proof_text tree)
 
 abbrev pub nodes : ProofTree → ℕ
 nodes (part place) = 1

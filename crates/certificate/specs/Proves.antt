@@ -3,10 +3,8 @@
 use Rattle.std.specs.Prelude.{◌≡◌, ◌⊎◌, List, [], ◌∷◌, ◌++◌}
 use Rattle.message_tree.specs.declared.bits.Bit.{Bit}
 use Rattle.message_tree.specs.declared.bits.Bit.TheVariants.{One}
-use Rattle.message_tree.specs.declared.items.Item.{Item}
 use Rattle.message_tree.specs.Bits.{SplitAt}
 use Rattle.message_tree.specs.Counts.{Meet}
-use Rattle.message_tree.specs.Items.{kind_of, Clash}
 use Rattle.message_tree.specs.Patterns.{pattern_bits}
 use Rattle.message_tree.specs.Texts.{Language, Sender, message, interrupt, write_header, read_header}
 use Rattle.message_tree.specs.Trees as tree
@@ -50,12 +48,3 @@ ProvesHeaders _ xs ys = ⊥
 abbrev pub Proves : ProofTree → Sender → Sender → Type 0
 Proves p (message f) (message g) = ProvesFrames p f g
 Proves p s t = ProvesHeaders p (header_of s) (header_of t)
-
--- what goes on after one beginning goes on with items of one kind
-abbrev pub OneKind : Language → Type 0
-OneKind P = (u v w : List Item) (x y : Item) → P (u ++ x ∷ v) → P (u ++ y ∷ w) → kind_of x ≡ kind_of y
-
--- no two of these lists go on, after the same beginning, with items that clash
-abbrev pub NeverClash : Language → Language → Type 0
-NeverClash P Q =
-    (u v w : List Item) (x y : Item) → P (u ++ x ∷ v) → Q (u ++ y ∷ w) → Clash x y → ⊥

@@ -4,6 +4,7 @@ use Rattle.std.specs.Prelude.{◌≡◌, ◌≢◌, ℕ, zero, suc, ◌+◌, ◌
 use Rattle.std.specs.Prelude.{◌==◌, List, [], ◌∷◌, ◌++◌, length, map, drop, Option, Some, None, Result, Ok, Err, codes}
 use Rattle.std.specs.Prelude.{All, if◌then◌else◌}
 use Rattle.std.specs.Char.{is_ascii_digit}
+use Rattle.message_tree.specs.Codes.{code}
 use Rattle.message_tree.specs.declared.items.Item.{Item}
 use Rattle.message_tree.specs.declared.items.Item.TheVariants as item
 use Rattle.message_tree.specs.declared.items.Kind.{Kind}
@@ -44,15 +45,15 @@ each bytes = map this bytes
 
 -- behind `p`: a number of proofs, and the proofs
 abbrev pub proofs_expected : List Expected
-proofs_expected = each (codes "airs ") ++ (number 10 ∷ (lines ∷ []))
+proofs_expected = each (codes "airs ") ++ (number (code "\n") ∷ (lines ∷ []))
 
 -- a wire and two kinds
 abbrev pub fault_expected : List Expected
-fault_expected = wire ∷ (kind ∷ (this 32 ∷ (kind ∷ (this 10 ∷ []))))
+fault_expected = wire ∷ (kind ∷ (this (code " ") ∷ (kind ∷ (this (code "\n") ∷ []))))
 
 -- behind `f`: the number of a pair, and where it clashes
 abbrev pub flaw_expected : List Expected
-flaw_expected = each (codes "ault ") ++ (number 32 ∷ fault_expected)
+flaw_expected = each (codes "ault ") ++ (number (code " ") ∷ fault_expected)
 
 -- expected next, where the byte passes its test
 abbrev pub where_true : Bool → ℕ → List Expected → Step
@@ -61,7 +62,7 @@ where_true test line more = if test then Ok more else Err (Format line)
 -- the proofs below a node, each after a space
 abbrev pub below : ℕ → ℕ → List Expected
 below zero room = []
-below (suc n) room = this 32 ∷ (proof room ∷ below n room)
+below (suc n) room = this (code " ") ∷ (proof room ∷ below n room)
 
 -- a token is complete, a node with so many proofs below it
 abbrev pub node_step : ℕ → ℕ → ℕ → Step
@@ -71,16 +72,16 @@ node_step line (suc room) proofs = Ok (below proofs room)
 -- `R` and `.` have no proof below them, `S` one, `B` and `D` two; `P` needs the place of a bit
 abbrev pub proof_step : ℕ → ℕ → ℕ → Step
 proof_step line room letter =
-    if letter == 80 then Ok (place_digit room ∷ [])
-    else if letter == 82 then node_step line room 0
-    else if letter == 46 then node_step line room 0
-    else if letter == 83 then node_step line room 1
-    else if letter == 66 then node_step line room 2
-    else if letter == 68 then node_step line room 2
+    if letter == code "P" then Ok (place_digit room ∷ [])
+    else if letter == code "R" then node_step line room 0
+    else if letter == code "." then node_step line room 0
+    else if letter == code "S" then node_step line room 1
+    else if letter == code "B" then node_step line room 2
+    else if letter == code "D" then node_step line room 2
     else Err (Format line)
 
 abbrev pub is_place : ℕ → Bool
-is_place digit = nat_le 48 digit && nat_le digit 55
+is_place digit = nat_le (code "0") digit && nat_le digit (code "7")
 
 -- the digits of this number go on
 abbrev pub digit_step : ℕ → ℕ → ℕ → Step
@@ -89,16 +90,16 @@ digit_step line n end = where_true (nat_lt n (2 ^ 32)) line (digits n end ∷ []
 -- `0` stands alone
 abbrev pub number_step : ℕ → ℕ → ℕ → Step
 number_step line end digit =
-    if digit == 48 then Ok (this end ∷ []) else where_true (is_ascii_digit digit) line (digits (digit - 48) end ∷ [])
+    if digit == code "0" then Ok (this end ∷ []) else where_true (is_ascii_digit digit) line (digits (digit - code "0") end ∷ [])
 
 -- the item of a wire that a symbol stands for
 abbrev pub item_of : ℕ → Option Item
 item_of symbol =
-    if symbol == 48 then Some (item.Sent false)
-    else if symbol == 49 then Some (item.Sent true)
-    else if symbol == 108 then Some (item.Heard false)
-    else if symbol == 104 then Some (item.Heard true)
-    else if symbol == 114 then Some item.Again
+    if symbol == code "0" then Some (item.Sent false)
+    else if symbol == code "1" then Some (item.Sent true)
+    else if symbol == code "l" then Some (item.Heard false)
+    else if symbol == code "h" then Some (item.Heard true)
+    else if symbol == code "r" then Some item.Again
     else None
 
 abbrev pub symbol_step : ℕ → Option Item → Step
@@ -108,11 +109,11 @@ symbol_step line None = Err (Format line)
 -- the kind whose word begins with a letter
 abbrev pub kind_of_letter : ℕ → Option Kind
 kind_of_letter letter =
-    if letter == 100 then Some kinds.Sent
-    else if letter == 97 then Some kinds.Heard
-    else if letter == 114 then Some kinds.Again
-    else if letter == 115 then Some kinds.Stop
-    else if letter == 99 then Some kinds.Claim
+    if letter == code "d" then Some kinds.Sent
+    else if letter == code "a" then Some kinds.Heard
+    else if letter == code "r" then Some kinds.Again
+    else if letter == code "s" then Some kinds.Stop
+    else if letter == code "c" then Some kinds.Claim
     else None
 
 abbrev pub kind_step : ℕ → Option Kind → Step
@@ -127,18 +128,18 @@ then_expect (Err fault) after = Err fault
 -- the byte on this line in the place of what is expected: what is expected after it, or its refusal
 abbrev pub step : ℕ → Expected → ℕ → Step
 step line (this value) b = where_true (b == value) line []
-step line body b = if b == 112 then Ok proofs_expected else where_true (b == 102) line flaw_expected
+step line body b = if b == code "p" then Ok proofs_expected else where_true (b == code "f") line flaw_expected
 step line (number end) b = number_step line end b
 step line (digits so_far end) b =
     if b == end then Ok []
-    else if is_ascii_digit b then digit_step line (so_far * 10 + (b - 48)) end
+    else if is_ascii_digit b then digit_step line (so_far * 10 + (b - code "0")) end
     else Err (Format line)
 step line wire b = symbol_step line (item_of b)
-step line symbols b = if b == 32 then Ok [] else symbol_step line (item_of b)
+step line symbols b = if b == code " " then Ok [] else symbol_step line (item_of b)
 step line kind b = kind_step line (kind_of_letter b)
 step line (proof room) b = proof_step line room b
 step line (place_digit room) b = if is_place b then node_step line room 0 else Err (Format line)
-step line lines b = then_expect (proof_step line 512 b) (this 10 ∷ (lines ∷ []))
+step line lines b = then_expect (proof_step line 512 b) (this (code "\n") ∷ (lines ∷ []))
 
 -- the refusal of the text's end
 abbrev pub ends_early : Expected → ℕ → Option CertFault
@@ -147,7 +148,7 @@ ends_early expected line = Some (Format line)
 
 -- a line ends with its line feed
 abbrev pub line_after : ℕ → ℕ → ℕ
-line_after line b = if b == 10 then line + 1 else line
+line_after line b = if b == code "\n" then line + 1 else line
 
 -- the refusal of a step, or of what comes after it
 abbrev pub go_on : Step → (List Expected → Option CertFault) → Option CertFault

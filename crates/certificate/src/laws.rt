@@ -4,7 +4,8 @@
 ghost use Rattle.std.specs.Prelude.{◌≡◌, ◌⊎◌, ℕ, List};
 ghost use Rattle.message_tree.specs.Texts.{Sender, SenderText};
 ghost use Rattle.certificate.specs.Proofs.{ProofTree};
-ghost use Rattle.certificate.specs.Proves.{Proves, NeverClash, OneKind};
+ghost use Rattle.certificate.specs.Laws.{NeverClash, OneKind};
+ghost use Rattle.certificate.specs.Proves.{Proves};
 ghost use Rattle.certificate.specs.declared.errors.CertFault.{CertFault};
 ghost use Rattle.certificate.specs.Certificates.{Certificate};
 ghost use Rattle.certificate.specs.Refusals.{First};

@@ -1,7 +1,7 @@
 // Builders and plans: what is refused, and what a plan then holds.
 
 use message_tree::{Address, Frame, Pattern, Payload, Tail};
-use plan_core::{BuildError, Builder, Name, NameError, Participant, Plan};
+use plan_core::{BuildError, Builder, Name, NameError, Participant, Plan, Sends};
 use std::alloc::{AllocError, Global};
 use std::process::Abort;
 use std::test::Fail;
@@ -218,6 +218,28 @@ fn participant(plan: &Plan, i: u32) -> Option<Participant> {
         Some(plan.participant(i))
     } else {
         None
+    }
+}
+
+// The nodes of the message that a participant sends.
+fn sent_nodes(plan: &Plan, i: u32) -> Option<u32> {
+    if i >= plan.participants() {
+        return None;
+    }
+    match plan.sends(i) {
+        Sends::Message(frame) => Some(frame.nodes()),
+        Sends::Interrupt(_) => None,
+    }
+}
+
+// The address of a participant that interrupts.
+fn sent_address(plan: &Plan, i: u32) -> Option<Address> {
+    if i >= plan.participants() {
+        return None;
+    }
+    match plan.sends(i) {
+        Sends::Interrupt(address) => Some(address),
+        Sends::Message(_) => None,
     }
 }
 
@@ -708,6 +730,8 @@ fn fill_one_and_one(rt: &impl Abort, builder: &mut Builder, alloc: Global) -> Re
 fn expect_one_and_one(rt: &impl Abort, plan: &Plan, alloc: Global) -> Result<(), Fail> {
     expect_counts(rt, plan, [1, 1, 1, 2, 1]);
     assert_eq!(rt; participant(plan, 1), Some(Participant::Interrupt(0)));
+    assert_eq!(rt; sent_nodes(plan, 0), Some(1));
+    assert_eq!(rt; sent_address(plan, 1), Some(Address::new(0x7f, 0x48)));
     expect_pairs(rt, plan, &[(0, 0, 1)]);
     expect_label(rt, alloc, plan, 0, "a/m")?;
     expect_label(rt, alloc, plan, 1, "!t")?;

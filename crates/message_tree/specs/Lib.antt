@@ -3,6 +3,7 @@ pub mod Bits
 pub mod Patterns
 pub mod Counts
 pub mod Items
+pub mod Codes
 pub mod Symbols
 pub mod Trees
 pub mod Texts

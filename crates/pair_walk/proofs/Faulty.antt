@@ -1,5 +1,5 @@
 -- From the first clash of what two participants send to the verdict of their pair.
-use Rattle.std.proofs.Common.{◌≡◌, ℕ, zero, suc, ◌+◌, ◌-◌, ◌<◌, ◌≤◌, Option, Some, List, [], ◌∷◌, ◌++◌, map, not, slice_get, sym, ◌∙◌, subst, arith, inl, inr}
+use Rattle.std.proofs.Common.{◌≡◌, ℕ, zero, suc, ◌+◌, ◌-◌, ◌<◌, ◌≤◌, Option, Some, None, List, [], ◌∷◌, ◌++◌, map, not, slice_get, refl, sym, ◌∙◌, subst, arith, inl, inr}
 use Rattle.std.specs.List.{range_with_len, flat_map, All, AllByRecursion}
 use Rattle.std.proofs.lemmas.List.Elements.{recursion_from_All, All-nil, All-cons, All-append, All-map, All-filter}
 use Rattle.message_tree.specs.declared.items.Item.{Item}
@@ -7,6 +7,7 @@ use Rattle.message_tree.specs.declared.items.Kind.{Kind}
 use Rattle.message_tree.specs.Items.{kind_of, KindsClash}
 use Rattle.message_tree.specs.Texts.{Sender, SenderText}
 use Rattle.certificate.specs.Proofs.{ProofTree}
+use Rattle.certificate.specs.declared.values.Fault as value
 use Rattle.certificate.proofs.Soundness.{sound}
 use Rattle.plan_core.specs.Contents.{Contents}
 use Rattle.plan_core.specs.Participants.{TextOf, sender_at, participant_count, apart}
@@ -16,7 +17,7 @@ use Rattle.plan_core.specs.Faults.{OffersKind}
 use Rattle.plan_core.proofs.Model.{fault_of_pair, still_in, in_pair}
 use Rattle.pair_walk.specs.Canonical.{IsCanonical}
 use Rattle.pair_walk.specs.FirstClash.{GoesOnWith, IsFirstClash}
-use Rattle.pair_walk.specs.Verdicts.{IsFirstFault, IsSafeProof}
+use Rattle.pair_walk.specs.Verdicts.{IsFirstFault, IsFirstFaultIfAny, IsSafeProof, CanonicalBetween}
 use Rattle.pair_walk.proofs.Unique.{canonical_proves}
 
 -- ---- the numbers of a pair
@@ -74,6 +75,15 @@ module _ (plan : Contents) (x y : ℕ) (s t : Sender) (lt : x < y) (is_s : sende
             f.earliest v p.1 q.1 p.0 q.0 p.2 q.2 c;
       }
 
+  first_clash : (u : List Item) (j k : Kind) → IsFirstFault plan x y u j k → IsFirstClash (SenderText s) (SenderText t) u j k
+  first_clash u j k f =
+      record {
+        first = offers_first u j f.fault.first_offers;
+        second = offers_second u k f.fault.second_offers;
+        clash = f.fault.clash;
+        earliest = λ a b c p q h i e. f.earliest a (kind_of p) (kind_of q) (fault_of_pair plan x y a (kind_of p) (kind_of q) lt (first_offers a (kind_of p) (p, b, h, refl), second_offers a (kind_of q) (q, c, i, refl), e));
+      }
+
   -- the two of a fault of the pair are its lower and its higher number
   in_its_order : (a b : ℕ) → In a (pair x y) → In b (pair x y) → a < b → (a ≡ x) × (b ≡ y)
   in_its_order a b i j l =
@@ -94,6 +104,38 @@ module _ (plan : Contents) (x y : ℕ) (s t : Sender) (lt : x < y) (is_s : sende
             let k = subst (λ (m : Kind). KindsClash m (kind_of b.0)) (sym a.3) (subst (KindsClash h.3) (sym b.3) f.clash) in
             sound p s t (canonical_proves p s t c) h.0 a.1 b.1 a.0 b.0 a.2 b.2 k;
       }
+
+-- ---- what a pair comes to depends on what its two send alone
+
+module _ (plan : Contents) (x y v w : ℕ) (lt : x < y) (less : v < w) where
+  same_by_senders : (s t : Option Sender) → sender_at plan x ≡ s → sender_at plan y ≡ t → sender_at plan v ≡ s → sender_at plan w ≡ t → (found : Option value.Fault) → IsFirstFaultIfAny plan x y found → IsFirstFaultIfAny plan v w found
+  same_by_senders (Some s) (Some t) at_x at_y at_v at_w (Some fault) f =
+      first_fault plan v w s t less at_v at_w fault.wire.items fault.first fault.second (first_clash plan x y s t lt at_x at_y fault.wire.items fault.first fault.second f)
+  same_by_senders (Some s) (Some t) at_x at_y at_v at_w None f =
+      (f.0, safe_proof plan v w s t less at_v at_w f.0 (rw (at_x, at_y) at f.1.canonical))
+  same_by_senders None t at_x at_y at_v at_w (Some fault) f =
+      let o = f.fault.first_offers in
+      absurd (subst (λ (q : Option Sender). TextOf q (fault.wire.items ++ o.0 ∷ o.1.0)) at_x o.1.1)
+  same_by_senders s None at_x at_y at_v at_w (Some fault) f =
+      let o = f.fault.second_offers in
+      absurd (subst (λ (q : Option Sender). TextOf q (fault.wire.items ++ o.0 ∷ o.1.0)) at_y o.1.1)
+  same_by_senders None t at_x at_y at_v at_w None f =
+      absurd (subst (λ (q : Option Sender). CanonicalBetween q (sender_at plan y) f.0) at_x f.1.canonical)
+  same_by_senders (Some s) None at_x at_y at_v at_w None f = absurd (rw (at_x, at_y) at f.1.canonical)
+
+  pub same_senders : sender_at plan x ≡ sender_at plan v → sender_at plan y ≡ sender_at plan w → (found : Option value.Fault) → IsFirstFaultIfAny plan x y found → IsFirstFaultIfAny plan v w found
+  same_senders e f found h =
+      same_by_senders (sender_at plan v) (sender_at plan w) e f refl refl found h
+
+  same_proof_by : (s t : Option Sender) → sender_at plan x ≡ s → sender_at plan y ≡ t → sender_at plan v ≡ s → sender_at plan w ≡ t → (p : ProofTree) → IsSafeProof plan x y p → IsSafeProof plan v w p
+  same_proof_by (Some s) (Some t) at_x at_y at_v at_w p f =
+      safe_proof plan v w s t less at_v at_w p (rw (at_x, at_y) at f.canonical)
+  same_proof_by None t at_x at_y at_v at_w p f =
+      absurd (subst (λ (q : Option Sender). CanonicalBetween q (sender_at plan y) p) at_x f.canonical)
+  same_proof_by (Some s) None at_x at_y at_v at_w p f = absurd (rw (at_x, at_y) at f.canonical)
+
+  pub same_proof : sender_at plan x ≡ sender_at plan v → sender_at plan y ≡ sender_at plan w → (p : ProofTree) → IsSafeProof plan x y p → IsSafeProof plan v w p
+  same_proof e f p h = same_proof_by (sender_at plan v) (sender_at plan w) e f refl refl p h
 
 -- ---- at the pair with a number
 

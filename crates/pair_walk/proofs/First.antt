@@ -10,7 +10,7 @@ use Rattle.message_tree.specs.Bits.{SplitAt, NeverSplit}
 use Rattle.message_tree.specs.Counts.{Meet}
 use Rattle.message_tree.specs.Items.{KindsClash}
 use Rattle.message_tree.specs.Texts.{Language, Allows, SentThen, HeardThen, AnswerThen, AgainThen, ByteThen, BytesThen, ReadThen}
-use Rattle.certificate.specs.Proves.{NeverClash}
+use Rattle.certificate.specs.Laws.{NeverClash}
 use Rattle.certificate.proofs.Soundness.{both_sent, both_heard, never_bytes}
 use Rattle.pair_walk.specs.Wires.{agreed_bit, agreed, read_wire}
 use Rattle.pair_walk.specs.FirstClash.{ComesBefore, GoesOnWith, AllFrom, IsFirstClash}

@@ -2,8 +2,8 @@
 use Rattle.std.proofs.Common.{◌≡◌, ℕ, zero, suc, ◌-◌, ◌<◌, false, List, [], ◌∷◌, ◌++◌, reverse, replicate, refl, ap, sym, ◌∙◌, append_assoc, arith}
 use Rattle.message_tree.specs.declared.items.Item.{Item}
 use Rattle.message_tree.specs.declared.items.Item.TheVariants.{Sent, Heard}
-use Rattle.pair_walk.specs.declared.compare.Halt.{Halt}
-use Rattle.pair_walk.specs.declared.compare.Halt.TheVariants.{Clash, NoMemory}
+use Rattle.pair_walk.specs.declared.halts.Halt.{Halt}
+use Rattle.pair_walk.specs.declared.halts.Halt.TheVariants.{Clash, NoMemory}
 use Rattle.pair_walk.specs.Compare.{HaltsBehind}
 use Rattle.pair_walk.specs.Wires.{read_wire}
 

@@ -1,5 +1,5 @@
 -- The first clash of two trees, node by node.
-use Rattle.std.proofs.Common.{◌≡◌, ℕ, ◌+◌, min, Bool, true, false, Option, Some, None, Result, Ok, Err, MatchResult, MatchOption, unwrap_or, List, [], ◌∷◌, ◌++◌, length, reverse, refl, ap, sym, ◌∙◌, subst, inl, inr}
+use Rattle.std.proofs.Common.{◌≡◌, ℕ, ◌+◌, min, Bool, true, false, Option, Some, None, MatchOption, unwrap_or, List, [], ◌∷◌, ◌++◌, length, reverse, refl, ap, sym, ◌∙◌, subst, inl, inr}
 use Rattle.message_tree.specs.declared.bits.Bit.{Bit}
 use Rattle.message_tree.specs.declared.bits.Bit.TheVariants.{Zero, One}
 use Rattle.message_tree.specs.declared.bits.Address.{Address}
@@ -18,13 +18,13 @@ use Rattle.message_tree.specs.Patterns.{pattern_bits, address_bits}
 use Rattle.message_tree.specs.Trees as tree
 use Rattle.message_tree.specs.Trees.{FrameTree, PayloadTree, TailTree}
 use Rattle.message_tree.specs.Texts.{Language, SentThen, AnswerThen, ReadThen, write_header, read_header, FrameText, PayloadText, TailText}
-use Rattle.certificate.specs.declared.values.Cert.{Cert}
-use Rattle.certificate.specs.Proofs.{ProofTree, part, byte, read, again, alike, proof_tree}
-use Rattle.certificate.specs.Proves.{NeverClash, ProvesFrames, ProvesPayloads, ProvesTails}
+use Rattle.certificate.specs.Proofs.{ProofTree, part, byte, read, again, alike}
+use Rattle.certificate.specs.Laws.{NeverClash}
+use Rattle.certificate.specs.Proves.{ProvesFrames, ProvesPayloads, ProvesTails}
 use Rattle.certificate.proofs.Soundness.{never_read, sound_payloads, sound_tails}
-use Rattle.pair_walk.specs.declared.compare.Halt.{Halt}
-use Rattle.pair_walk.specs.declared.compare.Halt.TheVariants.{NoMemory}
-use Rattle.pair_walk.specs.declared.compare.Halt.TheVariants as halt
+use Rattle.pair_walk.specs.declared.halts.Halt.{Halt}
+use Rattle.pair_walk.specs.declared.halts.Halt.TheVariants.{NoMemory}
+use Rattle.pair_walk.specs.declared.halts.Halt.TheVariants as halt
 use Rattle.pair_walk.specs.Canonical.{CanonicalFrames, CanonicalReads, CanonicalPayloads, CanonicalTails}
 use Rattle.pair_walk.specs.Compare.{Halts, HaltsBehind, ClashesAtOnce, kind_of_tail}
 use Rattle.pair_walk.specs.FirstClash.{GoesOnWith, IsFirstClash}
@@ -49,12 +49,6 @@ halts_at_once P Q j k (halt.Clash c) f g n e =
     let none : reverse c.back.items ≡ [] = ap reverse e.0 in
     subst (λ (u : List Item). IsFirstClash P Q u c.first c.second) (sym none) (subst (λ (a : Kind). IsFirstClash P Q [] a c.second) (sym e.1) (subst (λ (b : Kind). IsFirstClash P Q [] j b) (sym e.2) here))
 halts_at_once P Q j k halt.NoMemory f g n e = absurd e
-
--- a proof that was made, or no memory
-pub made : (r : Result Cert Halt) (t : ProofTree) (F : ProofTree → Type 0) (P Q : Language) → MatchResult r (λ cert. proof_tree cert ≡ t) (λ h. h ≡ NoMemory) → F t → MatchResult r (λ cert. F (proof_tree cert)) (Halts P Q)
-made (Ok cert) t F P Q e f = subst F (sym e) f
-made (Err halt.NoMemory) t F P Q e f = tt
-made (Err (halt.Clash c)) t F P Q e f = cc
 
 -- ---- a proof of a verdict proves
 
@@ -129,6 +123,17 @@ module _ (a b : Address) (x : PayloadTree) (r : TailTree) (y : PayloadTree) (s :
       let Q = AnswerThen (PayloadText y) (TailText s) in
       subst (λ (w : List Item). IsFirstClash (SentThen (write_header a) P) (SentThen (write_header b) Q) w j k) (write_wire a b true u) (first_sent (write_header a) (write_header b) P Q (Heard true ∷ u) j k (length_of_write a b) write_headers (first_refused (PayloadText x) (TailText r) (PayloadText y) (TailText s) u j k (sound_payloads p x y (payloads_proved p x y c)) f))
 
+  pub writes_acked : (items : List Item) → items ≡ agreed (address_bits a) (address_bits b) ++ (Sent false ∷ Heard false ∷ []) → (h m : Halt) → Halts (PayloadText x) (PayloadText y) h → HaltsBehind items h m → Halts (FrameText (tree.write a x r)) (FrameText (tree.write b y s)) m
+  writes_acked items i h m p q =
+      halts_behind (PayloadText x) (PayloadText y) (FrameText (tree.write a x r)) (FrameText (tree.write b y s)) items h m (λ u j k c. rw i (write_acked u j k c)) p q
+
+  pub writes_refused : (items : List Item) → items ≡ agreed (address_bits a) (address_bits b) ++ (Sent false ∷ Heard true ∷ []) → (acked : ProofTree) → CanonicalPayloads acked x y → (h m : Halt) → Halts (TailText r) (TailText s) h → HaltsBehind items h m → Halts (FrameText (tree.write a x r)) (FrameText (tree.write b y s)) m
+  writes_refused items i acked e h m p q =
+      halts_behind (TailText r) (TailText s) (FrameText (tree.write a x r)) (FrameText (tree.write b y s)) items h m (λ u j k c. rw i (write_refused acked e u j k c)) p q
+
+  pub writes_proved : (acked refused : ProofTree) → CanonicalPayloads acked x y → CanonicalTails refused r s → CanonicalFrames (byte acked refused) (tree.write a x r) (tree.write b y s)
+  writes_proved acked refused e t = (write_headers, e, t)
+
 module _ (a b : Address) (c d : Count) (x r y s : TailTree) (n : NeverSplit (address_bits a) (address_bits b)) where
   read_headers : NeverSplit (read_header a) (read_header b)
   read_headers = never_in_header (address_bits a) (address_bits b) One (length_of_addresses a b) n
@@ -145,6 +150,17 @@ module _ (a b : Address) (c d : Count) (x r y s : TailTree) (n : NeverSplit (add
       let Q = AnswerThen (ReadThen d (TailText y)) (TailText s) in
       subst (λ (w : List Item). IsFirstClash (SentThen (read_header a) P) (SentThen (read_header b) Q) w j k) (read_header_wire a b true u) (first_sent (read_header a) (read_header b) P Q (Heard true ∷ u) j k (length_of_read a b) read_headers (first_refused (ReadThen c (TailText x)) (TailText r) (ReadThen d (TailText y)) (TailText s) u j k (reads_never_clash p c d x y h) f))
 
+  pub reads_acked : (items : List Item) → items ≡ agreed (address_bits a) (address_bits b) ++ (Sent true ∷ Heard false ∷ []) → (h m : Halt) → Halts (ReadThen c (TailText x)) (ReadThen d (TailText y)) h → HaltsBehind items h m → Halts (FrameText (tree.read a c x r)) (FrameText (tree.read b d y s)) m
+  reads_acked items i h m p q =
+      halts_behind (ReadThen c (TailText x)) (ReadThen d (TailText y)) (FrameText (tree.read a c x r)) (FrameText (tree.read b d y s)) items h m (λ u j k e. rw i (read_acked u j k e)) p q
+
+  pub reads_refused : (items : List Item) → items ≡ agreed (address_bits a) (address_bits b) ++ (Sent true ∷ Heard true ∷ []) → (after : ProofTree) → CanonicalReads after c d x y → (h m : Halt) → Halts (TailText r) (TailText s) h → HaltsBehind items h m → Halts (FrameText (tree.read a c x r)) (FrameText (tree.read b d y s)) m
+  reads_refused items i after e h m p q =
+      halts_behind (TailText r) (TailText s) (FrameText (tree.read a c x r)) (FrameText (tree.read b d y s)) items h m (λ u j k t. rw i (read_refused after e u j k t)) p q
+
+  pub reads_proved : (after refused : ProofTree) → CanonicalReads after c d x y → CanonicalTails refused r s → CanonicalFrames (read after refused) (tree.read a c x r) (tree.read b d y s)
+  reads_proved after refused e t = (read_headers, e, t)
+
 module _ (a b : Pattern) (x : PayloadTree) (r : TailTree) (y : PayloadTree) (s : TailTree) (n : NeverSplit (pattern_bits a) (pattern_bits b)) where
   byte_acked : (u : List Item) (j k : Kind) → IsFirstClash (PayloadText x) (PayloadText y) u j k → IsFirstClash (PayloadText (tree.byte a x r)) (PayloadText (tree.byte b y s)) ((agreed (pattern_bits a) (pattern_bits b) ++ Heard false ∷ []) ++ u) j k
   byte_acked u j k f =
@@ -158,43 +174,13 @@ module _ (a b : Pattern) (x : PayloadTree) (r : TailTree) (y : PayloadTree) (s :
       let Q = AnswerThen (PayloadText y) (TailText s) in
       subst (λ (w : List Item). IsFirstClash (SentThen (pattern_bits a) P) (SentThen (pattern_bits b) Q) w j k) (byte_wire a b true u) (first_sent (pattern_bits a) (pattern_bits b) P Q (Heard true ∷ u) j k (length_of_patterns a b) n (first_refused (PayloadText x) (TailText r) (PayloadText y) (TailText s) u j k (sound_payloads p x y (payloads_proved p x y c)) f))
 
--- ---- the same, as a comparison of frames, payloads or tails meets it
+  pub bytes_acked : (items : List Item) → items ≡ agreed (pattern_bits a) (pattern_bits b) ++ Heard false ∷ [] → (h m : Halt) → Halts (PayloadText x) (PayloadText y) h → HaltsBehind items h m → Halts (PayloadText (tree.byte a x r)) (PayloadText (tree.byte b y s)) m
+  bytes_acked items i h m p q =
+      halts_behind (PayloadText x) (PayloadText y) (PayloadText (tree.byte a x r)) (PayloadText (tree.byte b y s)) items h m (λ u j k c. rw i (byte_acked u j k c)) p q
 
-module _ (f g : FrameTree) (a b : Address) (x : PayloadTree) (r : TailTree) (y : PayloadTree) (s : TailTree) (is_f : f ≡ tree.write a x r) (is_g : g ≡ tree.write b y s) (n : NeverSplit (address_bits a) (address_bits b)) where
-  pub frames_write_acked : (items : List Item) → items ≡ agreed (address_bits a) (address_bits b) ++ (Sent false ∷ Heard false ∷ []) → (h m : Halt) → Halts (PayloadText x) (PayloadText y) h → HaltsBehind items h m → Halts (FrameText f) (FrameText g) m
-  frames_write_acked items i h m p q =
-      rw (is_f, is_g) (halts_behind (PayloadText x) (PayloadText y) (FrameText (tree.write a x r)) (FrameText (tree.write b y s)) items h m (λ u j k c. rw i (write_acked a b x r y s n u j k c)) p q)
-
-  pub frames_write_refused : (items : List Item) → items ≡ agreed (address_bits a) (address_bits b) ++ (Sent false ∷ Heard true ∷ []) → (acked : ProofTree) → CanonicalPayloads acked x y → (h m : Halt) → Halts (TailText r) (TailText s) h → HaltsBehind items h m → Halts (FrameText f) (FrameText g) m
-  frames_write_refused items i acked e h m p q =
-      rw (is_f, is_g) (halts_behind (TailText r) (TailText s) (FrameText (tree.write a x r)) (FrameText (tree.write b y s)) items h m (λ u j k c. rw i (write_refused a b x r y s n acked e u j k c)) p q)
-
-  pub frames_write_proved : (acked refused : ProofTree) → CanonicalPayloads acked x y → CanonicalTails refused r s → CanonicalFrames (byte acked refused) f g
-  frames_write_proved acked refused e t = rw (is_f, is_g) (write_headers a b x r y s n, e, t)
-
-module _ (f g : FrameTree) (a b : Address) (c d : Count) (x r y s : TailTree) (is_f : f ≡ tree.read a c x r) (is_g : g ≡ tree.read b d y s) (n : NeverSplit (address_bits a) (address_bits b)) where
-  pub frames_read_acked : (items : List Item) → items ≡ agreed (address_bits a) (address_bits b) ++ (Sent true ∷ Heard false ∷ []) → (h m : Halt) → Halts (ReadThen c (TailText x)) (ReadThen d (TailText y)) h → HaltsBehind items h m → Halts (FrameText f) (FrameText g) m
-  frames_read_acked items i h m p q =
-      rw (is_f, is_g) (halts_behind (ReadThen c (TailText x)) (ReadThen d (TailText y)) (FrameText (tree.read a c x r)) (FrameText (tree.read b d y s)) items h m (λ u j k e. rw i (read_acked a b c d x r y s n u j k e)) p q)
-
-  pub frames_read_refused : (items : List Item) → items ≡ agreed (address_bits a) (address_bits b) ++ (Sent true ∷ Heard true ∷ []) → (after : ProofTree) → CanonicalReads after c d x y → (h m : Halt) → Halts (TailText r) (TailText s) h → HaltsBehind items h m → Halts (FrameText f) (FrameText g) m
-  frames_read_refused items i after e h m p q =
-      rw (is_f, is_g) (halts_behind (TailText r) (TailText s) (FrameText (tree.read a c x r)) (FrameText (tree.read b d y s)) items h m (λ u j k t. rw i (read_refused a b c d x r y s n after e u j k t)) p q)
-
-  pub frames_read_proved : (after refused : ProofTree) → CanonicalReads after c d x y → CanonicalTails refused r s → CanonicalFrames (read after refused) f g
-  frames_read_proved after refused e t = rw (is_f, is_g) (read_headers a b c d x r y s n, e, t)
-
-module _ (v w : PayloadTree) (a b : Pattern) (x : PayloadTree) (r : TailTree) (y : PayloadTree) (s : TailTree) (is_v : v ≡ tree.byte a x r) (is_w : w ≡ tree.byte b y s) (n : NeverSplit (pattern_bits a) (pattern_bits b)) where
-  pub payloads_acked : (items : List Item) → items ≡ agreed (pattern_bits a) (pattern_bits b) ++ Heard false ∷ [] → (h m : Halt) → Halts (PayloadText x) (PayloadText y) h → HaltsBehind items h m → Halts (PayloadText v) (PayloadText w) m
-  payloads_acked items i h m p q =
-      rw (is_v, is_w) (halts_behind (PayloadText x) (PayloadText y) (PayloadText (tree.byte a x r)) (PayloadText (tree.byte b y s)) items h m (λ u j k c. rw i (byte_acked a b x r y s n u j k c)) p q)
-
-  pub payloads_refused : (items : List Item) → items ≡ agreed (pattern_bits a) (pattern_bits b) ++ Heard true ∷ [] → (acked : ProofTree) → CanonicalPayloads acked x y → (h m : Halt) → Halts (TailText r) (TailText s) h → HaltsBehind items h m → Halts (PayloadText v) (PayloadText w) m
-  payloads_refused items i acked e h m p q =
-      rw (is_v, is_w) (halts_behind (TailText r) (TailText s) (PayloadText (tree.byte a x r)) (PayloadText (tree.byte b y s)) items h m (λ u j k c. rw i (byte_refused a b x r y s n acked e u j k c)) p q)
-
-  pub payloads_byte_proved : (acked refused : ProofTree) → CanonicalPayloads acked x y → CanonicalTails refused r s → CanonicalPayloads (byte acked refused) v w
-  payloads_byte_proved acked refused e t = rw (is_v, is_w) (n, e, t)
+  pub bytes_refused : (items : List Item) → items ≡ agreed (pattern_bits a) (pattern_bits b) ++ Heard true ∷ [] → (acked : ProofTree) → CanonicalPayloads acked x y → (h m : Halt) → Halts (TailText r) (TailText s) h → HaltsBehind items h m → Halts (PayloadText (tree.byte a x r)) (PayloadText (tree.byte b y s)) m
+  bytes_refused items i acked e h m p q =
+      halts_behind (TailText r) (TailText s) (PayloadText (tree.byte a x r)) (PayloadText (tree.byte b y s)) items h m (λ u j k c. rw i (byte_refused acked e u j k c)) p q
 
 -- ---- clashes at once
 

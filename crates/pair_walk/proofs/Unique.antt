@@ -11,7 +11,8 @@ use Rattle.message_tree.specs.Trees as tree
 use Rattle.message_tree.specs.Trees.{FrameTree, PayloadTree, TailTree}
 use Rattle.message_tree.specs.Texts.{Sender, message, interrupt}
 use Rattle.certificate.specs.Proofs.{ProofTree, part, short, byte, read, again, alike}
-use Rattle.certificate.specs.Proves.{Proves, ProvesHeaders, OneKind}
+use Rattle.certificate.specs.Laws.{OneKind}
+use Rattle.certificate.specs.Proves.{Proves, ProvesHeaders}
 use Rattle.certificate.proofs.Soundness.{offers_one_kind}
 use Rattle.plan_core.specs.Contents.{Contents}
 use Rattle.plan_core.specs.Participants.{TextOf, sender_at}

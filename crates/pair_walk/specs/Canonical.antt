@@ -1,5 +1,5 @@
--- The proof that a verdict gives (ours): the one in which Part stands wherever two headers or bytes have a bit that is known in
--- both and different, and names the first such bit.
+-- The proof that a verdict gives (ours): the one in which Part stands wherever two headers or bytes have a bit that is
+-- known in both and different, and names the first such bit.
 use Rattle.std.specs.Prelude.{◌≡◌, ◌⊎◌, List}
 use Rattle.message_tree.specs.declared.bits.Bit.{Bit}
 use Rattle.message_tree.specs.declared.counts.Count.{Count}

@@ -1,11 +1,14 @@
-//! The verdict of a pair of participants: a proof that they never clash, or their first fault.
+//! The verdict of a pair of participants: a proof that they never clash, or their first fault. One comparison gives the
+//! whole verdict and, with no proof made, the first fault alone.
 #![tactic(auto)]
 
 mod compare;
+mod halts;
 mod headers;
 pub mod laws;
+mod makes;
 mod starts;
 pub mod walk_pair;
 mod wires;
 
-pub use walk_pair::{Outcome, Verdict, walk};
+pub use walk_pair::{Outcome, Verdict, first_fault, walk};

@@ -1,17 +1,15 @@
 // Two participants of a plan compared, from the START on.
 
-ghost use Rattle.std.specs.Prelude.{◌≡◌, ◌<◌, Some, MatchResult};
-ghost use Rattle.message_tree.specs.Texts.{SenderText};
-ghost use Rattle.certificate.specs.Proofs.{proof_tree};
+ghost use Rattle.std.specs.Prelude.{◌≡◌, ◌<◌, Some};
 ghost use Rattle.plan_core.specs.Participants.{participant_count, sender_at};
 ghost use Rattle.plan_core.specs.PlanContents.{plan_contents};
-ghost use Rattle.pair_walk.specs.Canonical.{IsCanonical};
-ghost use Rattle.pair_walk.specs.Compare.{Halts};
+ghost use Rattle.pair_walk.specs.Compare.{ComparesSenders};
 ghost use Rattle.pair_walk.specs.Starts.{start_sender};
 
-use crate::compare::{Halt, compare_frames};
+use crate::compare::compare_frames;
+use crate::halts::Halt;
 use crate::headers::{interrupt_and_message, message_and_interrupt, two_interrupts};
-use certificate::Cert;
+use crate::makes::Makes;
 use message_tree::{Address, Frame};
 use plan_core::{Participant, Plan};
 use std::alloc::Global;
@@ -39,9 +37,12 @@ pub(crate) fn start_of(plan: &Plan, p: u32) -> Start<'_>
 }
 
 /// Two participants, from their first headers on.
-pub(crate) fn compare_starts(alloc: Global, s: &Start<'_>, t: &Start<'_>) -> Result<Cert, Halt>
-    ensures { MatchResult result (λ cert. IsCanonical (proof_tree cert) (start_sender s.now) (start_sender t.now))
-        (Halts (SenderText (start_sender s.now)) (SenderText (start_sender t.now))) }
+pub(crate) fn compare_starts<M: Makes>(
+    alloc: Global,
+    s: &Start<'_>,
+    t: &Start<'_>,
+) -> Result<M, Halt>
+    ensures { ComparesSenders M.shows (start_sender s.now) (start_sender t.now) result }
 {
     match s {
         Start::Message(f) => match t {

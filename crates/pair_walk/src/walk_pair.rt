@@ -1,11 +1,13 @@
-// The verdict of a pair of a plan.
+// What holds of a pair of a plan: its verdict, or its first fault alone.
 
 ghost use Rattle.std.specs.Prelude.{◌≡◌, ℕ, ◌<◌, length, reverse, slice_get, Some, IfOk};
 ghost use Rattle.plan_core.specs.PlanContents.{plan_contents};
 ghost use Rattle.plan_core.specs.Pairs.{pairs_of};
-ghost use Rattle.pair_walk.specs.Verdicts.{IsVerdict};
+ghost use Rattle.pair_walk.specs.Compare.{Judges};
+ghost use Rattle.pair_walk.specs.Verdicts.{IsVerdict, IsFirstFaultIfAny};
 
-use crate::compare::{Halt, Meeting};
+use crate::halts::{Halt, Meeting};
+use crate::makes::{Makes, Nothing};
 use crate::starts::{compare_starts, start_of};
 use certificate::{Cert, Fault};
 use plan_core::Plan;
@@ -37,16 +39,38 @@ pub fn walk(alloc: Global, plan: &Plan, i: u32) -> Result<Verdict, AllocError>
         slice_get (pairs_of (plan_contents plan.now)) i ≡ Some (x, y) →
         IsVerdict (plan_contents plan.now) x y verdict.outcome) }
 {
+    let outcome = match judge(alloc, plan, i)? {
+        Ok(cert) => Outcome::Safe(cert),
+        Err(fault) => Outcome::Unsafe(fault),
+    };
+    Ok(Verdict { pair: i, outcome })
+}
+
+/// The first fault of the pair with number `i`, as its verdict has it, or `None` where the two never clash. No proof is
+/// made: memory is taken for the wire of the fault alone.
+pub fn first_fault(alloc: Global, plan: &Plan, i: u32) -> Result<Option<Fault>, AllocError>
+    requires { i < length (pairs_of (plan_contents plan.now)) }
+    ensures { IfOk result (λ found. (x y : ℕ) →
+        slice_get (pairs_of (plan_contents plan.now)) i ≡ Some (x, y) →
+        IsFirstFaultIfAny (plan_contents plan.now) x y found) }
+{
+    match judge(alloc, plan, i)? {
+        Ok(Nothing) => Ok(None),
+        Err(fault) => Ok(Some(fault)),
+    }
+}
+
+// What is made of the pair with number `i`, or its first fault.
+fn judge<M: Makes>(alloc: Global, plan: &Plan, i: u32) -> Result<Result<M, Fault>, AllocError>
+    requires { i < length (pairs_of (plan_contents plan.now)) }
+    ensures { IfOk result (λ judged. (x y : ℕ) →
+        slice_get (pairs_of (plan_contents plan.now)) i ≡ Some (x, y) →
+        Judges M.shows (plan_contents plan.now) x y judged) }
+{
     let (x, y) = plan.pair(i);
     match compare_starts(alloc, &start_of(plan, x), &start_of(plan, y)) {
-        Ok(cert) => Ok(Verdict {
-            pair: i,
-            outcome: Outcome::Safe(cert),
-        }),
-        Err(Halt::Clash(meeting)) => Ok(Verdict {
-            pair: i,
-            outcome: Outcome::Unsafe(fault_of(meeting)),
-        }),
+        Ok(made) => Ok(Ok(made)),
+        Err(Halt::Clash(meeting)) => Ok(Err(fault_of(meeting))),
         Err(Halt::NoMemory) => Err(AllocError),
     }
 }

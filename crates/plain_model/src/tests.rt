@@ -1,6 +1,6 @@
-mod build;
 mod depth;
 mod generated;
+mod plans;
 mod rows;
 mod sets;
 mod words;

@@ -11,3 +11,4 @@ pub mod LabelLemmas
 pub mod PairLaws
 pub mod LabelLaws
 pub mod KnownLemmas
+pub mod SenderLemmas

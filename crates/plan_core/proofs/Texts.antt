@@ -16,7 +16,7 @@ use Rattle.plan_core.specs.Contents.{Contents}
 use Rattle.plan_core.specs.Participants.{Text, TextOf, sender_at, sender_of, message_sender, interrupt_sender, participants_of, participant_count, sendings_from, interrupt_bits}
 use Rattle.plan_core.specs.Rounds.{Follows}
 use Rattle.plan_core.specs.Runs.{HasEnded}
-use Rattle.plan_core.specs.Laws.{IsNumbered, IsShort}
+use Rattle.plan_core.specs.Laws.{SendsItsMessages, HasShortMessages}
 
 -- the last item of u is the first that ends a transmission
 pub record Ends (u : List Item) : Type 0 where
@@ -95,7 +95,7 @@ module _ (plan : Contents) where
   text_at (q ∷ ps) zero h l = h.0
   text_at (q ∷ ps) (suc p) h l = text_at ps p h.1 (omega arith)
 
-  pub some_text : IsNumbered plan → (p : ℕ) → p < participant_count plan → HasText (Text plan p)
+  pub some_text : SendsItsMessages plan → (p : ℕ) → p < participant_count plan → HasText (Text plan p)
   unfolding sender_at HasItsText
   some_text n p h =
       let sendings = sendings_have_texts 0 plan.controllers (recursion_from_All (λ k. All (λ m. m < length plan.messages) k.1) plan.controllers n) in
@@ -114,12 +114,12 @@ bounded_header [] k u t = absurd t
 bounded_header (i ∷ is) zero u t = omega (arith, (longest_interrupt (interrupt_bits i.1)).bound u t)
 bounded_header (i ∷ is) (suc k) u t = bounded_header is k u t
 
-bounded_participant : (plan : Contents) (p : Option Participant) (u : List Item) → IsShort plan → TextOf (sender_of plan p) u → length u ≤ 2560
+bounded_participant : (plan : Contents) (p : Option Participant) (u : List Item) → HasShortMessages plan → TextOf (sender_of plan p) u → length u ≤ 2560
 bounded_participant plan None u h t = absurd t
 bounded_participant plan (Some (Sending c m)) u h t = bounded_message plan.messages m u (recursion_from_All (λ m. frame_bytes m.1 ≤ 256) plan.messages h) t
 bounded_participant plan (Some (Interrupt k)) u h t = bounded_header plan.interrupts k u t
 
-pub bounded_text : (plan : Contents) (p : ℕ) (u : List Item) → IsShort plan → Text plan p u → length u ≤ 2560
+pub bounded_text : (plan : Contents) (p : ℕ) (u : List Item) → HasShortMessages plan → Text plan p u → length u ≤ 2560
 unfolding sender_at
 bounded_text plan p u h t = bounded_participant plan (slice_get (participants_of plan) p) u h t
 
@@ -133,7 +133,7 @@ whole_at_end plan p u rest (v, inr e) t =
     subst (Text plan p) (ap (λ (w : List Item). u ++ w) none ∙ append-nil u) t
 
 -- who follows a wire bounds its length
-pub length_bound : (plan : Contents) (p : ℕ) (u : List Item) → IsShort plan → (u ≡ []) ⊎ Follows plan p u → length u ≤ 2560
+pub length_bound : (plan : Contents) (p : ℕ) (u : List Item) → HasShortMessages plan → (u ≡ []) ⊎ Follows plan p u → length u ≤ 2560
 length_bound plan p u h (inl e) = rw e (omega arith)
 length_bound plan p u h (inr f) = omega (arith, bounded_text plan p (u ++ f.0) h f.1, length-append u f.0)
 

@@ -13,12 +13,12 @@ use Rattle.plan_core.specs.Runs.{Reaches}
 use Rattle.plan_core.specs.Faults.{OffersKind}
 
 -- the numbers of messages that controllers send are those of messages
-abbrev pub IsNumbered : Contents → Type 0
-IsNumbered plan = All (λ controller. All (λ m. m < length plan.messages) controller.1) plan.controllers
+abbrev pub SendsItsMessages : Contents → Type 0
+SendsItsMessages plan = All (λ controller. All (λ m. m < length plan.messages) controller.1) plan.controllers
 
 -- no path of a message has more bytes than it may have
-abbrev pub IsShort : Contents → Type 0
-IsShort plan = All (λ message. frame_bytes message.1 ≤ MOST_BYTES) plan.messages
+abbrev pub HasShortMessages : Contents → Type 0
+HasShortMessages plan = All (λ message. frame_bytes message.1 ≤ MOST_BYTES) plan.messages
 
 -- no interrupt has claimed
 abbrev pub NoClaim : List Item → Type 0

@@ -2,6 +2,7 @@ pub mod Contents
 pub mod Participants
 pub mod Lawful
 pub mod Rounds
+pub mod Senders
 pub mod Runs
 pub mod Faults
 pub mod Laws

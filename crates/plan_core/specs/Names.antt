@@ -3,6 +3,7 @@ use Rattle.std.specs.Prelude.{◌≡◌, ℕ, Bool, true, false, ◌&&◌, ◌||
 use Rattle.std.specs.Char.{is_ascii_alphabetic, is_ascii_alphanumeric}
 use Rattle.std.specs.List.{list_all, list_any}
 use Rattle.std.specs.Str.{bytes_eq}
+use Rattle.message_tree.specs.Codes.{code}
 
 -- the words that the plan's text keeps for itself
 abbrev pub reserved_words : List (List ℕ)
@@ -20,7 +21,7 @@ begins_with_letter (byte ∷ bytes) = is_ascii_alphabetic byte
 
 -- an ASCII letter, a digit or `_`
 abbrev pub is_name_byte : ℕ → Bool
-is_name_byte byte = is_ascii_alphanumeric byte || byte == 95
+is_name_byte byte = is_ascii_alphanumeric byte || byte == code "_"
 
 -- a letter, then letters, digits and `_`, of 1 to 32 bytes, and no reserved word
 unfoldable pub is_name : List ℕ → Bool

@@ -9,13 +9,13 @@ ghost use Rattle.plan_core.specs.Lawful.{Set, In, IsLawful, pair, IsPair};
 ghost use Rattle.plan_core.specs.Rounds.{Follows, Offers, IsRound, NoClash};
 ghost use Rattle.plan_core.specs.Runs.{Reaches, IsReached, HasEnded, Whole};
 ghost use Rattle.plan_core.specs.Faults.{Fault, IsFaulty, IsSafe};
-ghost use Rattle.plan_core.specs.Laws.{IsNumbered, IsShort, NoClaim, BothLive, MayClash, HasNext, HasOneWire};
+ghost use Rattle.plan_core.specs.Laws.{SendsItsMessages, HasShortMessages, NoClaim, BothLive, MayClash, HasNext, HasOneWire};
 
 /// Who is live after the wire `u` has a text that begins with `u`. Two participants who both have such a text are both
 /// live there when they start alone, unless a claim is in `u`, since two claims clash; one alone always is.
 pub fn live_participants_follow()
     ensures followed { (plan : Contents) (s live : Set) (u : List Item) (p : ℕ) →
-        IsNumbered plan → IsReached plan s u live → In p live → Follows plan p u }
+        SendsItsMessages plan → IsReached plan s u live → In p live → Follows plan p u }
     ensures both { (plan : Contents) (x y : ℕ) (u : List Item) →
         NoClaim u → Follows plan x u → Follows plan y u → BothLive plan x y u }
     ensures alone { (plan : Contents) (p : ℕ) (u : List Item) → Follows plan p u → BothLive plan p p u }
@@ -42,7 +42,7 @@ pub fn runs_are_sound()
     ensures wire { (plan : Contents) (s live : Set) (u : List Item) (put : ℕ → Item) →
         IsReached plan s u live → IsRound plan u live put → NoClash live put → HasOneWire live put }
     ensures bound { (plan : Contents) (s live : Set) (u : List Item) →
-        IsShort plan → IsReached plan s u live → length u ≤ 2560 }
+        HasShortMessages plan → IsReached plan s u live → length u ≤ 2560 }
     ensures whole { (plan : Contents) (s live : Set) (u : List Item) (p : ℕ) →
         Reaches plan s u live → HasEnded u → In p live → Whole plan p u }
 {}
@@ -53,7 +53,7 @@ pub fn safe_plans_go_on()
     ensures clash { (plan : Contents) (s live : Set) (u : List Item) (put : ℕ → Item) →
         IsSafe plan → IsReached plan s u live → IsRound plan u live put → NoClash live put }
     ensures next { (plan : Contents) (s live : Set) (u : List Item) →
-        IsNumbered plan → IsSafe plan → IsReached plan s u live → (HasEnded u → ⊥) → HasNext plan u live }
+        SendsItsMessages plan → IsSafe plan → IsReached plan s u live → (HasEnded u → ⊥) → HasNext plan u live }
     ensures answers { (plan : Contents) (s live : Set) (u : List Item) (p : ℕ) (b c : Bool) →
-        IsNumbered plan → IsSafe plan → IsReached plan s u live → In p live → Offers plan p u (Heard b) → IsRound plan u live (λ _. Heard c) }
+        SendsItsMessages plan → IsSafe plan → IsReached plan s u live → In p live → Offers plan p u (Heard b) → IsRound plan u live (λ _. Heard c) }
 {}

@@ -9,8 +9,10 @@ pub mod names;
 pub mod pair_laws;
 mod pairs;
 pub mod plans;
+pub mod senders;
 
 pub use builder::{BuildError, Builder};
 pub use labels::labels_differ;
 pub use names::{Name, NameError};
 pub use plans::{Participant, Plan};
+pub use senders::Sends;

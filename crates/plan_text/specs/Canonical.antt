@@ -4,6 +4,7 @@
 use Rattle.std.specs.Prelude.{◌≡◌, ℕ, Bool, false, ◌||◌, nat_lt, List, [], ◌∷◌, ◌++◌, length, map, codes, decimal, ◌==◌}
 use Rattle.std.specs.Prelude.{if◌then◌else◌}
 use Rattle.std.specs.List.{list_any, flat_map}
+use Rattle.message_tree.specs.Codes.{code}
 use Rattle.message_tree.specs.declared.bits.Bit.{Bit}
 use Rattle.message_tree.specs.declared.bits.Bit.TheVariants.{Zero, One, Either}
 use Rattle.message_tree.specs.declared.bits.Address.{Address}
@@ -18,9 +19,9 @@ use Rattle.message_tree.specs.Trees.{FrameTree, write, read, PayloadTree, byte, 
 
 -- a bit as it is written: '0', '1' or 'x'
 abbrev pub bit_symbol : Bit → ℕ
-bit_symbol Zero = 48
-bit_symbol One = 49
-bit_symbol Either = 120
+bit_symbol Zero = code "0"
+bit_symbol One = code "1"
+bit_symbol Either = code "x"
 
 -- the word of an address
 abbrev pub address_word : Address → List ℕ
@@ -61,7 +62,7 @@ abbrev mutual
 -- words, each after one space
 abbrev pub spaced : List (List ℕ) → List ℕ
 spaced [] = []
-spaced (word ∷ words) = (32 ∷ word) ++ spaced words
+spaced (word ∷ words) = (code " " ∷ word) ++ spaced words
 
 -- a text grows by these words
 abbrev pub Adds : List ℕ → List ℕ → List (List ℕ) → Type 0

@@ -2,6 +2,7 @@
 -- Only private contracts and proofs use this.
 use Rattle.std.specs.Prelude.{◌≡◌, ℕ, ◌+◌, ◌≤◌, ◌<◌, Bool, true, false, ◌||◌, ◌==◌, List, [], ◌∷◌, ◌++◌, length, Option}
 use Rattle.std.specs.Prelude.{Some, None}
+use Rattle.message_tree.specs.Codes.{code}
 use Rattle.plan_core.specs.Contents.{Contents}
 use Rattle.plan_text.specs.declared.errors.PlanError.{PlanError}
 use Rattle.plan_text.specs.declared.errors.PlanError.TheVariants as errors
@@ -39,7 +40,7 @@ left_of dots tokens = spec.tokens_of dots tokens.line tokens.rest.now
 
 -- white space, or the sign that begins a comment
 abbrev pub is_skipped : ℕ → Bool
-is_skipped byte = byte == 10 || byte == 32 || byte == 9 || byte == 13 || byte == 35
+is_skipped byte = byte == code "\n" || byte == code " " || byte == code "\t" || byte == code "\r" || byte == code "#"
 
 -- neither white space nor a comment stands at the front
 abbrev pub BeginsHere : List ℕ → Type 0

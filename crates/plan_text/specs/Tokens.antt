@@ -2,6 +2,7 @@
 use Rattle.std.specs.Prelude.{ℕ, zero, suc, ◌+◌, Bool, true, false, ◌&&◌, ◌||◌, ◌==◌, nat_lt, List, [], ◌∷◌, Option}
 use Rattle.std.specs.Prelude.{Some, None, codes, if◌then◌else◌}
 use Rattle.std.specs.Str.{bytes_eq}
+use Rattle.message_tree.specs.Codes.{code}
 use Rattle.plan_core.specs.Names.{is_name_byte}
 use Rattle.plan_text.specs.declared.symbols.Keyword.{Keyword}
 use Rattle.plan_text.specs.declared.symbols.Keyword.TheVariants.{Plan, Message, Controller, Interrupt, Never, Write}
@@ -75,14 +76,14 @@ pub data Class : Type 0 where
   stray_byte : Class
 
 abbrev pub is_word_part : Bool → ℕ → Bool
-is_word_part dots byte = is_name_byte byte || (dots && byte == 46)
+is_word_part dots byte = is_name_byte byte || (dots && byte == code ".")
 
 abbrev pub class_of : Bool → ℕ → Class
 class_of dots byte =
-    if byte == 10 then line_feed
-    else if byte == 32 || byte == 9 || byte == 13 then blank
-    else if byte == 35 then number_sign
-    else if byte == 59 then semicolon_sign
+    if byte == code "\n" then line_feed
+    else if byte == code " " || byte == code "\t" || byte == code "\r" then blank
+    else if byte == code "#" then number_sign
+    else if byte == code ";" then semicolon_sign
     else if is_word_part dots byte then word_part
     else if nat_lt byte 128 then stray_byte
     else foreign_byte

@@ -4,19 +4,20 @@ use Rattle.std.specs.Prelude.{if◌then◌else◌}
 use Rattle.std.specs.Char.{is_ascii_digit}
 use Rattle.std.specs.List.{list_all}
 use Rattle.std.specs.Str.Parse.{digits_value}
+use Rattle.message_tree.specs.Codes.{code}
 use Rattle.message_tree.specs.declared.counts.Count.{Count}
 use Rattle.message_tree.specs.Counts.{least_of, greatest_of}
 
 -- `0`, `1` or `x`
 abbrev pub is_bit : ℕ → Bool
-is_bit byte = byte == 48 || byte == 49 || byte == 120
+is_bit byte = byte == code "0" || byte == code "1" || byte == code "x"
 
 -- n characters, each `0`, `1` or `x`
 abbrev pub is_pattern : ℕ → List ℕ → Bool
 is_pattern n bytes = length bytes == n && list_all is_bit bytes
 
 abbrev pub is_known_bit : ℕ → Bool
-is_known_bit byte = byte == 48 || byte == 49
+is_known_bit byte = byte == code "0" || byte == code "1"
 
 -- seven characters, each `0` or `1`
 abbrev pub is_known_address : List ℕ → Bool
@@ -36,7 +37,7 @@ abbrev pub around_dots : List ℕ → Option (List ℕ × List ℕ)
 around_dots [] = None
 around_dots (byte ∷ []) = None
 around_dots (byte ∷ second ∷ bytes) =
-    if byte == 46 then (if second == 46 then Some ([], bytes) else None)
+    if byte == code "." then (if second == code "." then Some ([], bytes) else None)
     else add_front byte (around_dots (second ∷ bytes))
 
 abbrev both_digits : Option (List ℕ × List ℕ) → Option (List ℕ × List ℕ)

@@ -1,5 +1,5 @@
 -- What certify writes is accepted: of a safe plan as safe, and of another as unsafe.
-use Rattle.std.proofs.Common.{◌≡◌, ◌≢◌, ◌⊎◌, inl, inr, ℕ, zero, suc, ◌+◌, ◌*◌, ◌^◌, ◌<◌, ◌≤◌, Bool, true, false, Option, Some, None, List, [], ◌∷◌, ◌++◌, length, get_or, slice_get, map, refl, subst, ap, sym, ◌∙◌, arith, length-append}
+use Rattle.std.proofs.Common.{◌≡◌, ◌≢◌, ◌⊎◌, inl, inr, ℕ, zero, suc, ◌*◌, ◌^◌, ◌<◌, ◌≤◌, false, Option, Some, None, List, [], ◌∷◌, ◌++◌, length, get_or, slice_get, map, refl, subst, ap, sym, ◌∙◌, arith, length-append}
 use Rattle.std.specs.Prelude.{All}
 use Rattle.std.specs.List.{AllByRecursion}
 use Rattle.std.proofs.lemmas.List.{length-map}
@@ -19,7 +19,6 @@ use Rattle.message_tree.specs.Trees as tree
 use Rattle.message_tree.specs.Trees.{FrameTree}
 use Rattle.certificate.specs.Certificates.{Certificate, proofs, flaw}
 use Rattle.certificate.specs.Proofs.{ProofTree, alike, proof_tree}
-use Rattle.certificate.specs.Texts as certificates
 use Rattle.certificate.specs.Texts.{IsPrintableProof, IsPrintable, GoesOn, cert_text}
 use Rattle.certificate.specs.declared.values.Fault.{Fault}
 use Rattle.plan_core.specs.Contents.{Contents}
@@ -29,7 +28,6 @@ use Rattle.plan_core.specs.Lawful.{pair}
 use Rattle.plan_core.specs.Limits.{IsWithinLimits}
 use Rattle.plan_core.specs.Pairs.{pairs_of}
 use Rattle.plan_core.specs.Participants.{message_sender, interrupt_sender, interrupt_bits, sender_of, sender_at, participants_of, participant_count, TextOf, Text}
-use Rattle.plan_core.specs.Rounds.{Offers}
 use Rattle.plan_core.specs.declared.plans.Participant.{Participant}
 use Rattle.plan_core.specs.declared.plans.Participant.TheVariants.{Sending, Interrupt}
 use Rattle.plan_core.proofs.ContentsLemmas.{participant_count-few, pairs_of-is}
@@ -45,7 +43,6 @@ use Rattle.verdicts.specs.Certificates.{with_proof, outcome_certificate, certifi
 use Rattle.verdicts.specs.Verdicts.{AreVerdicts, IsSafeOutcome, AreSafe}
 use Rattle.verdicts.proofs.TableLemmas.{safe_plan, safe_verdicts}
 use Rattle.cert_check.specs.Accepts.{IsCertified, IsRefuted}
-use Rattle.cert_check.specs.PairFaults.{IsPairFault}
 use Rattle.cert_check.specs.Proved.{ProvesPair, Certifies}
 use Rattle.plan_text.specs.Grammar.{Spells}
 use Rattle.report.proofs.PrintableLemmas.{IsSmall, canonical_printable, length_of_header}

@@ -1,7 +1,6 @@
 -- What the runs of certify and verify know of their texts.
 use Rattle.std.proofs.Common.{◌≡◌, List, ℕ, Result, Ok, Err, refl, subst}
 use Rattle.certificate.specs.declared.errors.CertFault.{CertFault}
-use Rattle.certificate.specs.Certificates.{Certificate}
 use Rattle.certificate.specs.Texts.{cert_text}
 use Rattle.cert_check.specs.Accepts.{IsCertified, IsRefuted, IsMistaken}
 use Rattle.cert_check.specs.declared.answers.AcceptError.{AcceptError}

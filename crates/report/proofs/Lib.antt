@@ -5,3 +5,5 @@ pub mod DeviceLemmas
 pub mod LineLemmas
 pub mod RunLemmas
 pub mod CheckLemmas
+pub mod CaptureLemmas
+pub mod CaptureReading

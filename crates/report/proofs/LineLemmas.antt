@@ -1,49 +1,93 @@
--- The lines of a list of verdicts, one by one.
-use Rattle.std.proofs.Common.{◌≡◌, ℕ, zero, suc, ◌+◌, ◌<◌, Some, List, [], ◌∷◌, ◌++◌, length, get_or, slice_get, drop, refl, ap, sym, ◌∙◌, append_assoc, add-one, arith}
+-- The lines of faults, and those of the verdicts that they stand for.
+use Rattle.std.proofs.Common.{◌≡◌, ℕ, zero, suc, ◌+◌, ◌<◌, Some, List, [], ◌∷◌, ◌++◌, length, slice_get, drop, refl, ap, sym, ◌∙◌, append_assoc, add-one, subst, arith}
 use Rattle.certificate.specs.declared.values.Fault.{Fault}
 use Rattle.pair_walk.specs.declared.walk_pair.Outcome.{Outcome}
 use Rattle.pair_walk.specs.declared.walk_pair.Outcome.TheVariants.{Safe, Unsafe}
 use Rattle.pair_walk.specs.declared.walk_pair.Verdict.{Verdict}
 use Rattle.plan_core.specs.Contents.{Contents}
-use Rattle.report.specs.Lines.{outcome_line, outcome_lines, fault_line, faulty, fault_count}
+use Rattle.plan_core.specs.Pairs.{pairs_of}
+use Rattle.verdicts.specs.Faults.{outcome_fault, faults_of}
+use Rattle.verdicts.specs.Verdicts.{AreVerdicts}
+use Rattle.report.specs.FaultLines.{line_of, fault_lines, fault_report}
+use Rattle.report.specs.Lines.{outcome_line, outcome_lines, fault_line, faulty, fault_count, last_line, check_lines}
+
+drop_suc : {X : Type 0} (xs : List X) (k : ℕ) (x : X) → slice_get xs k ≡ Some x → drop k xs ≡ x ∷ drop (suc k) xs
+drop_suc [] k x e = cc
+drop_suc (y ∷ xs) zero x e = let d : y ≡ x = cc in ap (λ z. z ∷ xs) d
+drop_suc (y ∷ xs) (suc k) x e = drop_suc xs k x e
+
+-- one more fault is written
+pub fault_step : (plan : Contents) (faults : List (ℕ × Fault)) (k i : ℕ) (fault : Fault) (p : ℕ × ℕ) (text more all : List ℕ) → slice_get faults k ≡ Some (i, fault) → slice_get (pairs_of plan) i ≡ Some p → more ≡ text ++ fault_line plan i p fault → text ++ fault_lines plan (drop k faults) ≡ all → more ++ fault_lines plan (drop (k + 1) faults) ≡ all
+fault_step plan faults k i fault p text more all at pair e so_far =
+    let left : List ℕ = fault_lines plan (drop (suc k) faults) in
+    let line : line_of plan i (slice_get (pairs_of plan) i) fault ≡ fault_line plan i p fault = ap (λ o. line_of plan i o fault) pair in
+    let lines : fault_lines plan (drop k faults) ≡ fault_line plan i p fault ++ left = ap (fault_lines plan) (drop_suc faults k (i, fault) at) ∙ ap (λ t. t ++ left) line in
+    rw add-one (ap (λ t. t ++ left) e ∙ (append_assoc text (fault_line plan i p fault) left ∙ (ap (λ t. text ++ t) (sym lines) ∙ so_far)))
+
+-- ---- from verdicts to faults
+
+line_of_outcome : (plan : Contents) (i pair : ℕ) (p : ℕ × ℕ) (o : Outcome) (later : List (ℕ × Fault)) → pair ≡ i → slice_get (pairs_of plan) i ≡ Some p → fault_lines plan (outcome_fault pair o later) ≡ outcome_line plan i p o ++ fault_lines plan later
+line_of_outcome plan i pair p (Safe cert) later e at = refl
+line_of_outcome plan i pair p (Unsafe fault) later e at =
+    ap (λ k. line_of plan k (slice_get (pairs_of plan) k) fault ++ fault_lines plan later) e ∙ ap (λ o. line_of plan i o fault ++ fault_lines plan later) at
+
+lines_from : (plan : Contents) (i : ℕ) (vs : List Verdict) (ps : List (ℕ × ℕ)) → length vs ≡ length ps → ((j : ℕ) (v : Verdict) → slice_get vs j ≡ Some v → v.pair ≡ i + j) → ((j : ℕ) (p : ℕ × ℕ) → slice_get ps j ≡ Some p → slice_get (pairs_of plan) (i + j) ≡ Some p) → fault_lines plan (faults_of vs) ≡ outcome_lines plan i vs ps
+lines_from plan i [] ps l numbers pairs = refl
+lines_from plan i (v ∷ vs) [] l numbers pairs = absurd (omega arith)
+lines_from plan i (v ∷ vs) (p ∷ ps) l numbers pairs =
+    let here : v.pair ≡ i = omega (arith, numbers 0 v refl) in
+    let zero_on : i + 0 ≡ i = omega arith in
+    let at : slice_get (pairs_of plan) i ≡ Some p = subst (λ k. slice_get (pairs_of plan) k ≡ Some p) zero_on (pairs 0 p refl) in
+    let later = lines_from plan (i + 1) vs ps (omega arith) (λ j w e. omega (arith, numbers (suc j) w e)) (λ j q e.
+    let on : i + suc j ≡ i + 1 + j = omega arith in
+    subst (λ k. slice_get (pairs_of plan) k ≡ Some q) on (pairs (suc j) q e)) in
+    line_of_outcome plan i v.pair p v.outcome (faults_of vs) here at ∙ ap (λ t. outcome_line plan i p v.outcome ++ t) later
+
+count_of_outcome : (pair : ℕ) (o : Outcome) (later : List (ℕ × Fault)) → length (outcome_fault pair o later) ≡ faulty o + length later
+count_of_outcome pair (Safe cert) later = omega arith
+count_of_outcome pair (Unsafe fault) later = omega arith
+
+count_is : (vs : List Verdict) → length (faults_of vs) ≡ fault_count vs
+count_is [] = refl
+count_is (v ∷ vs) =
+    count_of_outcome v.pair v.outcome (faults_of vs) ∙ ap (λ n. faulty v.outcome + n) (count_is vs)
 
 module _ {X : Type 0} where
-  drop_suc : (xs : List X) (i : ℕ) (x : X) → i < length xs → x ≡ get_or xs i x → drop i xs ≡ x ∷ drop (suc i) xs
-  drop_suc [] i x h e = absurd (omega arith)
-  drop_suc (y ∷ xs) zero x h e = let d : x ≡ y = e in ap (λ (z : X). z ∷ xs) (sym d)
-  drop_suc (y ∷ xs) (suc i) x h e = drop_suc xs i x (omega arith) e
-
-  drop_at : (xs : List X) (i : ℕ) (x : X) → i < length xs → x ≡ get_or xs i x → drop i xs ≡ x ∷ drop (i + 1) xs
-  drop_at xs i x h e = rw add-one (drop_suc xs i x h e)
-
-  some_at : (xs : List X) (i : ℕ) → i < length xs → (x : X) × (slice_get xs i ≡ Some x) × (x ≡ get_or xs i x)
+  pub some_at : (xs : List X) (i : ℕ) → i < length xs → (x : X) × (slice_get xs i ≡ Some x)
   some_at [] i h = absurd (omega arith)
-  some_at (y ∷ xs) zero h = (y, refl, refl)
+  some_at (y ∷ xs) zero h = (y, refl)
   some_at (y ∷ xs) (suc i) h = some_at xs i (omega arith)
 
-module _ (plan : Contents) (vs : List Verdict) (ps : List (ℕ × ℕ)) (i : ℕ) (v : Verdict) (within : i < length vs) (same : length vs ≡ length ps) (is_v : v ≡ get_or vs i v) where
-  lines_step : (p : ℕ × ℕ) → p ≡ get_or ps i p → outcome_lines plan i (drop i vs) (drop i ps) ≡ outcome_line plan i p v.outcome ++ outcome_lines plan (i + 1) (drop (i + 1) vs) (drop (i + 1) ps)
-  lines_step p e =
-      rw (drop_at vs i v within is_v, drop_at ps i p (omega arith) e) refl
+  at_within : (xs : List X) (i : ℕ) (x : X) → slice_get xs i ≡ Some x → i < length xs
+  at_within [] i x e = cc
+  at_within (y ∷ xs) zero x e = omega arith
+  at_within (y ∷ xs) (suc i) x e = omega (arith, at_within xs i x e)
 
-  pub count_step : fault_count (drop i vs) ≡ faulty v.outcome + fault_count (drop (i + 1) vs)
-  count_step = rw (drop_at vs i v within is_v) refl
+-- each verdict has the number of its place
+numbers_are : (plan : Contents) (vs : List Verdict) → AreVerdicts plan vs → (j : ℕ) (v : Verdict) → slice_get vs j ≡ Some v → v.pair ≡ j
+numbers_are plan vs right j v e =
+    let p = some_at (pairs_of plan) j (omega (arith, right.whole, at_within vs j v e)) in
+    (right.each j p.0.0 p.0.1 v e p.1).0
 
-  no_line : (o : Outcome) (p : ℕ × ℕ) → faulty o ≡ 0 → outcome_line plan i p o ≡ []
-  no_line (Safe cert) p h = refl
-  no_line (Unsafe fault) p h = cc
+-- the report of the faults among a plan's verdicts has the lines of those verdicts
+pub report_is : (plan : Contents) (vs : List Verdict) (faults : List (ℕ × Fault)) → AreVerdicts plan vs → faults ≡ faults_of vs → fault_report plan faults ≡ check_lines plan vs
+report_is plan vs faults right these =
+    let n = length (pairs_of plan) in
+    let lines = lines_from plan 0 vs (pairs_of plan) right.whole (λ j v e. omega (arith, numbers_are plan vs right j v e)) (λ j p e. let on : 0 + j ≡ j = omega arith in subst (λ k. slice_get (pairs_of plan) k ≡ Some p) (sym on) e) in
+    ap (fault_report plan) these ∙ (ap (λ t. t ++ last_line n (length (faults_of vs))) lines ∙ ap (λ k. outcome_lines plan 0 vs (pairs_of plan) ++ last_line n k) (count_is vs))
 
-  -- a pair that is safe adds nothing
-  pub safe_step : (text all : List ℕ) → faulty v.outcome ≡ 0 → text ++ outcome_lines plan i (drop i vs) (drop i ps) ≡ all → text ++ outcome_lines plan (i + 1) (drop (i + 1) vs) (drop (i + 1) ps) ≡ all
-  safe_step text all f e =
-      let p = some_at ps i (omega arith) in
-      let none : outcome_line plan i p.0 v.outcome ≡ [] = no_line v.outcome p.0 f in
-      sym (ap (λ (t : List ℕ). text ++ t) (lines_step p.0 p.2 ∙ ap (λ (t : List ℕ). t ++ outcome_lines plan (i + 1) (drop (i + 1) vs) (drop (i + 1) ps)) none)) ∙ e
+within_of : (n : ℕ) (vs : List Verdict) → ((j : ℕ) (v : Verdict) → slice_get vs j ≡ Some v → v.pair < n) → (k : ℕ) (f : ℕ × Fault) → slice_get (faults_of vs) k ≡ Some f → f.0 < n
+within_of n [] h k f e = cc
+within_of n (v ∷ vs) h k f e =
+    within_outcome v.pair v.outcome (faults_of vs) (h 0 v refl) (within_of n vs (λ j w d. h (suc j) w d)) k f e
+  where
+    within_outcome : (pair : ℕ) (o : Outcome) (later : List (ℕ × Fault)) → pair < n → ((k : ℕ) (f : ℕ × Fault) → slice_get later k ≡ Some f → f.0 < n) → (k : ℕ) (f : ℕ × Fault) → slice_get (outcome_fault pair o later) k ≡ Some f → f.0 < n
+    within_outcome pair (Safe cert) later here after k f e = after k f e
+    within_outcome pair (Unsafe fault) later here after zero f e =
+        let same : (pair, fault) ≡ f = cc in subst (λ (g : ℕ × Fault). g.0 < n) same here
+    within_outcome pair (Unsafe fault) later here after (suc k) f e = after k f e
 
-  -- a pair with a fault adds its line
-  pub fault_step : (fault : Fault) (text more all : List ℕ) → v.outcome ≡ Unsafe fault → ((p : ℕ × ℕ) → slice_get ps i ≡ Some p → more ≡ text ++ fault_line plan i p fault) → text ++ outcome_lines plan i (drop i vs) (drop i ps) ≡ all → more ++ outcome_lines plan (i + 1) (drop (i + 1) vs) (drop (i + 1) ps) ≡ all
-  fault_step fault text more all f m e =
-      let p = some_at ps i (omega arith) in
-      let rest = outcome_lines plan (i + 1) (drop (i + 1) vs) (drop (i + 1) ps) in
-      let line : outcome_line plan i p.0 v.outcome ≡ fault_line plan i p.0 fault = ap (outcome_line plan i p.0) f in
-      ap (λ (t : List ℕ). t ++ rest) (m p.0 p.1) ∙ (append_assoc text (fault_line plan i p.0 fault) rest ∙ (ap (λ (t : List ℕ). text ++ t) (ap (λ (t : List ℕ). t ++ rest) (sym line) ∙ sym (lines_step p.0 p.2)) ∙ e))
+-- a fault among a plan's verdicts is that of one of its pairs
+pub fault_within : (plan : Contents) (vs : List Verdict) (faults : List (ℕ × Fault)) (k : ℕ) (f : ℕ × Fault) → AreVerdicts plan vs → faults ≡ faults_of vs → slice_get faults k ≡ Some f → f.0 < length (pairs_of plan)
+fault_within plan vs faults k f right these e =
+    within_of (length (pairs_of plan)) vs (λ j v d. omega (arith, numbers_are plan vs right j v d, right.whole, at_within vs j v d)) k f (ap (λ fs. slice_get fs k) (sym these) ∙ e)

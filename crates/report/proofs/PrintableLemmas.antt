@@ -1,8 +1,6 @@
 -- What certify writes can be read: the places of its proofs are those of bits, a proof is at most two nodes deep for each
 -- byte of a message, and the wire before a fault goes on.
-use Rattle.std.proofs.Common.{◌≡◌, ◌≢◌, ◌⊎◌, inl, inr, ℕ, zero, suc, ◌+◌, ◌*◌, ◌<◌, ◌≤◌, max, List, [], ◌∷◌, ◌++◌, length, Some, slice_get, refl, subst, ap, sym, ◌∙◌, arith, length-append}
-use Rattle.std.specs.Prelude.{All}
-use Rattle.std.specs.List.{AllByRecursion}
+use Rattle.std.proofs.Common.{◌≡◌, inl, inr, ℕ, zero, suc, ◌+◌, ◌*◌, ◌<◌, ◌≤◌, List, [], ◌∷◌, ◌++◌, length, Some, slice_get, refl, subst, sym, arith, length-append}
 use Rattle.message_tree.specs.declared.bits.Address.{Address}
 use Rattle.message_tree.specs.declared.bits.Bit.{Bit}
 use Rattle.message_tree.specs.declared.bits.Bit.TheVariants.{Zero, One}
@@ -13,7 +11,7 @@ use Rattle.message_tree.specs.Sizes.{frame_bytes, payload_bytes, tail_bytes}
 use Rattle.message_tree.specs.Texts.{Sender, message, interrupt}
 use Rattle.message_tree.specs.Trees as tree
 use Rattle.message_tree.specs.Trees.{FrameTree, PayloadTree, TailTree}
-use Rattle.certificate.specs.Proofs.{ProofTree, part, short, byte, read, again, alike}
+use Rattle.certificate.specs.Proofs.{ProofTree, part, byte, read, again, alike}
 use Rattle.certificate.specs.Proves.{frame_header, header_of}
 use Rattle.certificate.specs.Texts.{IsPrintableProof}
 use Rattle.pair_walk.proofs.Nodes.{length_of_address}

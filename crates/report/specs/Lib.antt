@@ -5,6 +5,10 @@ pub mod Reading
 pub mod Writing
 pub mod Runs
 pub mod Lines
+pub mod FaultLines
 pub mod Checks
 pub mod RunErrors
 pub mod Certificates
+pub mod CaptureLines
+pub mod CaptureViews
+pub mod Captures

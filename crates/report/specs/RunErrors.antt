@@ -4,7 +4,9 @@ use Rattle.cert_check.specs.declared.answers.AcceptError.TheVariants as accept
 use Rattle.plan_text.specs.declared.errors.PlanError.{PlanError}
 use Rattle.plan_text.specs.declared.errors.PlanError.TheVariants as plan
 use Rattle.report.specs.declared.errors.RunError.{RunError}
-use Rattle.report.specs.declared.errors.RunError.TheVariants.{Plan, NoMemory}
+use Rattle.report.specs.declared.errors.RunError.TheVariants.{Plan, Vcd, NoMemory}
+use Rattle.vcd_read.specs.declared.errors.VcdError.{VcdError}
+use Rattle.vcd_read.specs.declared.errors.VcdError.TheVariants as vcd
 
 -- the same refusal; want of memory has no place in the text
 abbrev pub run_error : PlanError → RunError
@@ -15,3 +17,7 @@ run_error e = Plan e
 abbrev pub accept_error : AcceptError → RunError
 accept_error (accept.Plan e) = Plan e
 accept_error accept.NoMemory = NoMemory
+
+abbrev pub vcd_error : VcdError → RunError
+vcd_error vcd.NoMemory = NoMemory
+vcd_error e = Vcd e

@@ -11,13 +11,13 @@ use crate::devices::traits::{Input, Output};
 use crate::errors::RunError;
 use crate::runs::{Status, write_lines};
 use cert_check::{Answer, accept};
-use certificate::{CertFault, print_cert};
+use certificate::CertFault;
 use plan_text::read_plan;
 use std::alloc::{AllocError, Global};
-use verdicts::table;
+use verdicts::{certificate_text, faults};
 
-/// Writes the certificate of the plan that the reader gives: the proofs of all pairs where the plan is safe, and else the
-/// first fault of the first pair that has one. The status is `Good` or `Bad`.
+/// Writes the certificate of the plan that the reader gives: the proofs of all pairs where the plan is safe, and else
+/// the first fault of the first pair that has one. The status is `Good` or `Bad`.
 ///
 /// # Errors
 ///
@@ -37,13 +37,9 @@ pub fn run_certify<I: Input, O: Output>(
 {
     let text = read_within(alloc, plan, READS)?;
     let plan = read_plan(alloc, text.as_slice())?;
-    let table = table(alloc, &plan)?;
-    let status = status_of(&table);
-    let Ok(cert) = table.certify(alloc) else {
-        return Err(RunError::NoMemory);
-    };
-    let report = print_cert(alloc, &cert)?;
-    write_lines(out, report.as_slice(), status)
+    let faults = faults(alloc, &plan)?;
+    let report = certificate_text(alloc, &plan, &faults)?;
+    write_lines(out, report.as_slice(), status_of(faults.is_safe()))
 }
 
 /// Writes what the certificate that the second reader gives says of the plan that the first reader gives: `accepted safe`,

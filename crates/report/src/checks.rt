@@ -1,9 +1,10 @@
 // The run of a check.
 
-ghost use Rattle.std.specs.Prelude.{◌≡◌, ◌≢◌, ◌↔◌, IfOk, IfErr};
+ghost use Rattle.std.specs.Prelude.{◌≡◌, ◌≢◌, ◌↔◌, IsTrue, IfOk, IfErr};
+ghost use Rattle.plan_core.specs.Contents.{Contents};
+ghost use Rattle.plan_core.specs.Faults.{IsSafe};
 ghost use Rattle.report.specs.Checks.{Judges, Checked, RefusesPlan};
 ghost use Rattle.report.specs.Runs.{ReadsText, HaltsAtText, Reports, Stops};
-ghost use Rattle.verdicts.specs.Tables.{IsTable};
 
 use crate::devices::reading::{READS, read_within};
 use crate::devices::traits::{Input, Output};
@@ -12,7 +13,7 @@ use crate::lines::check_report;
 use crate::runs::{Status, write_lines};
 use plan_text::read_plan;
 use std::alloc::Global;
-use verdicts::{Table, table};
+use verdicts::faults;
 
 /// Checks the plan that the reader gives, and writes the verdicts of its unsafe pairs and their number.
 ///
@@ -45,18 +46,14 @@ pub fn run_check<R, I: Input, O: Output>(
     }
     let text = read_within(alloc, plan, READS)?;
     let plan = read_plan(alloc, text.as_slice())?;
-    let table = table(alloc, &plan)?;
-    let report = check_report(alloc, &plan, table.verdicts())?;
-    write_lines(out, report.as_bytes(), status_of(&table))
+    let faults = faults(alloc, &plan)?;
+    let report = check_report(alloc, &plan, &faults)?;
+    write_lines(out, report.as_bytes(), status_of(faults.is_safe()))
 }
 
-// Whether the plan is safe of which this is the table.
-pub(crate) fn status_of(table: &Table) -> Status
-    ensures { (plan : _) → IsTable plan table.now → Judges result plan }
+// The status of a run over a plan that is safe, or is not.
+pub(crate) fn status_of(is_safe: bool) -> Status
+    ensures { (plan : Contents) → (IsTrue is_safe ↔ IsSafe plan) → Judges result plan }
 {
-    if table.is_safe() {
-        Status::Good
-    } else {
-        Status::Bad
-    }
+    if is_safe { Status::Good } else { Status::Bad }
 }

@@ -2,12 +2,13 @@
 
 ghost use Rattle.std.specs.Prelude.{◌≡◌};
 ghost use Rattle.report.specs.declared.errors.RunError.TheVariants.{NoMemory};
-ghost use Rattle.report.specs.RunErrors.{run_error, accept_error};
+ghost use Rattle.report.specs.RunErrors.{run_error, vcd_error, accept_error};
 
 use cert_check::AcceptError;
 use plan_text::PlanError;
 use std::alloc::{AllocError, AllocFailed};
 use thiserror::Error;
+use vcd_read::VcdError;
 
 /// Why a run ends without its report. Only after `Write` has a part of the report been written: its first bytes.
 #[derive(Clone, Copy, Debug, PartialEq, Eq, Error)]
@@ -15,6 +16,9 @@ pub enum RunError {
     /// The plan text is refused. For want of memory the refusal is `NoMemory`.
     #[error("{0}")]
     Plan(PlanError),
+    /// The dump is refused. For want of memory the refusal is `NoMemory`.
+    #[error("{0}")]
+    Vcd(VcdError),
     /// The number of workers is not one that the run takes.
     #[error("workers")]
     Workers,
@@ -36,6 +40,17 @@ impl From<PlanError> for RunError {
         match error {
             PlanError::NoMemory => RunError::NoMemory,
             _ => RunError::Plan(error),
+        }
+    }
+}
+
+impl From<VcdError> for RunError {
+    ghost from_gives = { λ refusal e. e ≡ vcd_error refusal };
+
+    fn from(error: VcdError) -> RunError {
+        match error {
+            VcdError::NoMemory => RunError::NoMemory,
+            _ => RunError::Vcd(error),
         }
     }
 }

@@ -1,14 +1,18 @@
 //! The reports of the program over any readers and writers.
 #![tactic(auto)]
 
+pub mod captures;
 pub mod certificates;
 pub mod checks;
 pub mod devices;
 pub mod errors;
+mod following;
 pub mod laws;
 mod lines;
 pub mod runs;
+mod telling;
 
+pub use captures::run_capture;
 pub use certificates::{run_certify, run_verify};
 pub use checks::run_check;
 pub use devices::faulty::{FaultyReader, FaultyWriter};

@@ -4,36 +4,32 @@ ghost use Rattle.std.specs.Prelude.{◌≡◌, ℕ, ◌<◌, ◌++◌, length, s
 ghost use Rattle.plan_core.specs.PlanContents.{plan_contents};
 ghost use Rattle.plan_core.specs.Pairs.{pairs_of};
 ghost use Rattle.message_tree.specs.Symbols.{wire_text};
-ghost use Rattle.report.specs.Lines.{fault_text, fault_line, last_line, check_lines};
+ghost use Rattle.verdicts.specs.Faults.{AreFaults, fault_list};
+ghost use Rattle.report.specs.FaultLines.{fault_report};
+ghost use Rattle.report.specs.Lines.{fault_text, fault_line, last_line};
 
 use certificate::Fault;
 use message_tree::Item;
-use pair_walk::{Outcome, Verdict};
 use plan_core::Plan;
 use std::alloc::{AllocError, Global};
+use verdicts::Faults;
 
 /// The report of a check: a line for each pair that is not safe, in the order of the pairs, and one that counts them.
 pub(crate) fn check_report(
     alloc: Global,
     plan: &Plan,
-    verdicts: &[Verdict],
+    faults: &Faults,
 ) -> Result<String, AllocError>
-    requires { length verdicts.now ≡ length (pairs_of (plan_contents plan.now)) }
-    ensures { IfOk result (λ report. string_bytes report ≡ check_lines (plan_contents plan.now) verdicts.now) }
+    requires { AreFaults (plan_contents plan.now) (fault_list faults.now) }
+    ensures { IfOk result (λ report.
+        string_bytes report ≡ fault_report (plan_contents plan.now) (fault_list faults.now)) }
 {
     let mut report = String::new(alloc);
-    let mut faults = 0;
-    let pairs = plan.pair_count();
-    for i in 0..pairs {
-        match &verdicts[i as usize].outcome {
-            Outcome::Safe(_) => {}
-            Outcome::Unsafe(fault) => {
-                push_fault(alloc, &mut report, plan, i, fault)?;
-                faults += 1;
-            }
-        }
+    for k in 0..faults.len() {
+        let (i, fault) = faults.get(k);
+        push_fault(alloc, &mut report, plan, i, fault)?;
     }
-    push_count(&mut report, pairs, faults)?;
+    push_count(&mut report, plan.pair_count(), faults.len())?;
     Ok(report)
 }
 
@@ -90,7 +86,7 @@ fn push_wire(report: &mut String, wire: &[Item]) -> Result<(), AllocError>
 
 // The line that counts the pairs with a fault.
 #[tactic(auto, unfolding(crate::specs::Lines::last_line))]
-fn push_count(report: &mut String, pairs: u32, faults: u32) -> Result<(), AllocError>
+fn push_count(report: &mut String, pairs: u32, faults: usize) -> Result<(), AllocError>
     ensures { OnOk result (string_bytes report.new ≡ string_bytes report.old ++ last_line pairs faults) }
 {
     if faults == 0 {

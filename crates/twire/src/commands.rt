@@ -1,7 +1,8 @@
 // The command line.
 
 use crate::help::{
-    ABOUT, AFTER_CERTIFY_HELP, AFTER_CHECK_HELP, AFTER_HELP, AFTER_VERIFY_HELP, VERSION,
+    ABOUT, AFTER_CAPTURE_HELP, AFTER_CERTIFY_HELP, AFTER_CHECK_HELP, AFTER_HELP, AFTER_VERIFY_HELP,
+    VERSION,
 };
 use clap::{Arg, ArgMatches, Command, Error, value_parser};
 use std::alloc::{AllocError, Global};
@@ -10,11 +11,26 @@ use std::alloc::{AllocError, Global};
 #[derive(Clone, Copy, Debug)]
 pub enum Request<'a> {
     /// Whether a plan is safe.
-    Check { plan: &'a str, workers: u32 },
+    Check {
+        plan: &'a str,
+        workers: u32,
+    },
     /// The certificate of a plan.
-    Certify { plan: &'a str },
+    Certify {
+        plan: &'a str,
+    },
     /// Whether a certificate is right for a plan.
-    Verify { plan: &'a str, cert: &'a str },
+    Verify {
+        plan: &'a str,
+        cert: &'a str,
+    },
+    /// Who of a plan explains a recorded bus, on which the two lines have these names.
+    Capture {
+        plan: &'a str,
+        vcd: &'a str,
+        scl: &'a str,
+        sda: &'a str,
+    },
 }
 
 /// The request of a command line, whose first word is the program's name. There is none where a subcommand or a file
@@ -25,6 +41,7 @@ pub fn parse_request<'a>(alloc: Global, words: &'a [String]) -> Result<Option<Re
         Some(("check", check)) => check_request(check),
         Some(("certify", certify)) => certify_request(certify),
         Some(("verify", verify)) => verify_request(verify),
+        Some(("capture", capture)) => capture_request(capture),
         _ => None,
     })
 }
@@ -49,6 +66,15 @@ fn verify_request<'a>(matches: &ArgMatches<'a>) -> Option<Request<'a>> {
     })
 }
 
+fn capture_request<'a>(matches: &ArgMatches<'a>) -> Option<Request<'a>> {
+    Some(Request::Capture {
+        plan: matches.get_str("PLAN")?,
+        vcd: matches.get_str("VCD")?,
+        scl: matches.get_str("scl")?,
+        sda: matches.get_str("sda")?,
+    })
+}
+
 fn command<'a>(alloc: Global) -> Result<Command<'a>, AllocError> {
     Command::new(alloc, "twire")
         .bin_name("twire")?
@@ -59,7 +85,8 @@ fn command<'a>(alloc: Global) -> Result<Command<'a>, AllocError> {
         .arg_required_else_help(true)
         .subcommand(check_command(alloc)?)?
         .subcommand(certify_command(alloc)?)?
-        .subcommand(verify_command(alloc)?)
+        .subcommand(verify_command(alloc)?)?
+        .subcommand(capture_command(alloc)?)
 }
 
 fn check_command<'a>(alloc: Global) -> Result<Command<'a>, AllocError> {
@@ -94,6 +121,28 @@ fn verify_command<'a>(alloc: Global) -> Result<Command<'a>, AllocError> {
         .after_help(AFTER_VERIFY_HELP)
         .arg(plan_argument(alloc))?
         .arg(cert)
+}
+
+fn capture_command<'a>(alloc: Global) -> Result<Command<'a>, AllocError> {
+    let vcd = Arg::new(alloc, "VCD").required(true).help(
+        "The file with the capture, a value change dump; /dev/stdin reads standard input",
+    );
+    Command::new(alloc, "capture")
+        .about("Explain a recorded bus: which participants may have sent each transaction?")
+        .after_help(AFTER_CAPTURE_HELP)
+        .arg(plan_argument(alloc))?
+        .arg(vcd)?
+        .arg(line_option(alloc, "scl", "The name of SCL in the capture"))?
+        .arg(line_option(alloc, "sda", "The name of SDA in the capture"))
+}
+
+// The option for the name of a line, which is its own name where nothing is said.
+fn line_option<'a>(alloc: Global, line: &'a str, help: &'a str) -> Arg<'a> {
+    Arg::new(alloc, line)
+        .long(line)
+        .value_name("NAME")
+        .default_value(line)
+        .help(help)
 }
 
 fn plan_argument<'a>(alloc: Global) -> Arg<'a> {

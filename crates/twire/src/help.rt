@@ -25,9 +25,11 @@ counts, as '2..4', and 'never main guard ;' for two controllers that never start
 together.
 
 Exit status:
-  0  the plan is safe, or was accepted as safe (or help was asked for)
-  1  the plan is not safe, or was accepted as unsafe
-  2  refused: the command line, the plan, the certificate, a file, or want of memory";
+  0  the plan is safe, or was accepted as safe; a capture is explained (or help was
+     asked for)
+  1  the plan is not safe, or was accepted as unsafe; a capture is not explained
+  2  refused: the command line, the plan, the certificate, the capture, a file, or
+     want of memory";
 
 pub const AFTER_CHECK_HELP: &str = "\
 The report has a line for each unsafe pair of participants,
@@ -77,3 +79,31 @@ A wrong certificate says nothing of the plan: ask 'twire check'. An accepted one
 says nothing of devices that do not keep to the plan.
 
 Exit status: 0 accepted safe, 1 accepted unsafe, 2 wrong or refused.";
+
+pub const AFTER_CAPTURE_HELP: &str = "\
+The capture is a value change dump (IEEE 1364-2005) with a signal of one bit for
+each of the two lines. The report has a line for each transaction, from its START
+on, with the times of the capture:
+
+  10-115 main/set          these participants of the plan may have sent it
+  120-205 unexplained      nobody in the plan sends this
+  210-240 cut              a level was no longer known
+  250- unfinished          it goes on where the capture ends
+
+and then 'N transactions, U unexplained', of those that ended with a STOP. A
+report of '0 transactions' with a capture that has some usually means that the
+names are those of other signals, or that the levels are 'x' all the time.
+
+A refused capture is named on standard error with a code, as 'refused V1 scl' or
+'refused V2 line 9':
+
+  V1  no signal of one bit has the name of SCL, or of SDA
+  V2  something that cannot stand there
+  V3  a time below the last one
+  V4  the capture ends inside of something
+
+GHDL writes nine-state signals: use a four-state type for the two lines, or the
+option of your version that makes a dump four-state. sigrok converts a capture
+with 'sigrok-cli -i FILE -O vcd -o OUT', and its channels have the names to give.
+
+Exit status: 0 all is explained, 1 something is not, 2 refused.";

@@ -2,15 +2,16 @@
 
 use crate::commands::{Request, parse_request};
 use clap::error::ErrorKind;
-use report::{Opened, RunError, Status, Watched, run_certify, run_check, run_verify};
+use report::{Opened, RunError, Status, Watched, run_capture, run_certify, run_check, run_verify};
 use std::rt::{Env, Files};
+use std::thread::Threads;
 use std::{env, fs, io};
 
 // What a path of the command line names: a file, or standard input.
 type Source<F, S> = Opened<Watched<F>, Watched<S>>;
 
 /// Does what the command line asks for, and answers the exit status.
-pub fn run<R: Files + Env + Input + Print + Eprint + AllocGlobal>(rt: &R) -> u8 {
+pub fn run<R: Files + Env + Input + Print + Eprint + AllocGlobal + Threads + Sync>(rt: &R) -> u8 {
     match run_words(rt) {
         Ok(status) => status,
         Err(error) => {
@@ -21,7 +22,7 @@ pub fn run<R: Files + Env + Input + Print + Eprint + AllocGlobal>(rt: &R) -> u8 
     }
 }
 
-fn run_words<R: Files + Env + Input + Print + Eprint + AllocGlobal>(
+fn run_words<R: Files + Env + Input + Print + Eprint + AllocGlobal + Threads + Sync>(
     rt: &R,
 ) -> Result<u8, RunError> {
     let words: Vec<String> = match env::args(rt) {
@@ -35,7 +36,7 @@ fn run_words<R: Files + Env + Input + Print + Eprint + AllocGlobal>(
     }
 }
 
-fn do_request<R: Files + Input + Print + AllocGlobal>(
+fn do_request<R: Files + Input + Print + AllocGlobal + Threads + Sync>(
     rt: &R,
     request: Request<'_>,
 ) -> Result<Status, RunError> {
@@ -53,6 +54,16 @@ fn do_request<R: Files + Input + Print + AllocGlobal>(
             let mut plan = open(rt, plan)?;
             let mut cert = open(rt, cert)?;
             run_verify(rt.alloc(), &mut plan, &mut cert, &mut out)
+        }
+        Request::Capture {
+            plan,
+            vcd,
+            scl,
+            sda,
+        } => {
+            let mut plan = open(rt, plan)?;
+            let mut vcd = open(rt, vcd)?;
+            run_capture(rt, rt.alloc(), &mut plan, &mut vcd, &mut out, scl, sda)
         }
     }
 }

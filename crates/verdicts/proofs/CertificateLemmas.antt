@@ -1,5 +1,5 @@
 -- The certificate of verdicts, as far as they have been taken.
-use Rattle.std.proofs.Common.{◌≡◌, ℕ, List, [], ◌∷◌, ◌++◌, length, map, reverse, refl, ap, sym, ◌∙◌, arith}
+use Rattle.std.proofs.Common.{◌≡◌, List, [], ◌∷◌, ◌++◌, length, reverse, refl, ap, sym, ◌∙◌, arith}
 use Rattle.certificate.specs.Certificates.{Certificate, proofs, flaw}
 use Rattle.std.proofs.lemmas.List.{reverse-append}
 use Rattle.certificate.specs.Proofs.{ProofTree, proof_tree}

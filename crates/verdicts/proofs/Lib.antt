@@ -1,2 +1,5 @@
-pub mod TableLemmas
 pub mod CertificateLemmas
+pub mod FaultLemmas
+pub mod KnownLemmas
+pub mod ProofLines
+pub mod TableLemmas

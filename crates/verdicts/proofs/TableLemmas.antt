@@ -71,3 +71,10 @@ safe_verdicts plan verdicts t safe i v e =
     let listed = at_get (pairs_of plan) i p.0 p.1 in
     let parts = from_pairs plan p.0.0 p.0.1 (i, listed.0, listed.1) in
     safe_outcome plan p.0.0 p.0.1 v.outcome safe (IsPair-from_parts plan p.0.0 p.0.1 parts.0 parts.1 parts.2) (t.each i p.0.0 p.0.1 v e p.1).1
+
+-- no pair of a safe plan has the verdict of a fault
+pub safe_pair : (plan : Contents) (i x y : ℕ) (o : Outcome) → IsSafe plan → slice_get (pairs_of plan) i ≡ Some (x, y) → IsVerdict plan x y o → IsSafeOutcome o
+safe_pair plan i x y o safe e v =
+    let listed = at_get (pairs_of plan) i (x, y) e in
+    let parts = from_pairs plan x y (i, listed.0, listed.1) in
+    safe_outcome plan x y o safe (IsPair-from_parts plan x y parts.0 parts.1 parts.2) v

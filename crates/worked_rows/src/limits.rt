@@ -1,12 +1,12 @@
 // A plan with as many participants and pairs as there may be, with faults at both ends of its pairs.
 
-use pair_walk::{Outcome, Verdict, walk};
+use pair_walk::{Outcome, Verdict, first_fault, walk};
 use plan_core::Plan;
 use plan_text::read_plan;
 use std::alloc::Global;
 use std::process::Abort;
 use std::test::Fail;
-use verdicts::table;
+use verdicts::{Faults, faults, table};
 
 // 32 controllers that send 16 messages each, and 32 interrupts. Message m0 ends where the others send a byte, so each pair
 // of m0 and another message has a fault, the first pair among them. The last two interrupts have one address.
@@ -51,6 +51,13 @@ fn expect_verdicts(rt: &impl Abort, verdicts: &[Verdict]) {
     assert_eq!(rt; faults, 14_881);
 }
 
+fn expect_faults(rt: &impl Abort, faults: &Faults) {
+    assert_eq!(rt; faults.len(), 14_881);
+    assert_eq!(rt; faults.get(0).0, 0);
+    assert_eq!(rt; faults.get(14_880).0, 143_855);
+    assert_eq!(rt; faults.is_safe(), false);
+}
+
 fn expect_walks(rt: &impl Abort, alloc: Global, plan: &Plan) -> Result<(), Fail> {
     assert_eq!(rt; plan.pair_count(), 143_856);
     for i in [0, 1, 2, 71_928, 143_854, 143_855] {
@@ -59,6 +66,9 @@ fn expect_walks(rt: &impl Abort, alloc: Global, plan: &Plan) -> Result<(), Fail>
     }
     assert_eq!(rt; is_unsafe(&walk(alloc, plan, 0)?), true);
     assert_eq!(rt; is_unsafe(&walk(alloc, plan, 143_855)?), true);
+    assert_eq!(rt; first_fault(alloc, plan, 0)?.is_some(), true);
+    assert_eq!(rt; first_fault(alloc, plan, 16)?.is_some(), false);
+    assert_eq!(rt; first_fault(alloc, plan, 143_855)?.is_some(), true);
     Ok(())
 }
 
@@ -71,5 +81,6 @@ fn the_widest_plan_has_all_its_verdicts(rt: HostRuntime) -> Result<(), Fail> {
     let table = table(alloc, &plan)?;
     expect_verdicts(&rt, table.verdicts());
     assert_eq!(rt; table.is_safe(), false);
+    expect_faults(&rt, &faults(alloc, &plan)?);
     Ok(())
 }

@@ -1,10 +1,8 @@
 // Small messages made from a seed, on which `walk`, the slot-by-slot walk and the runs of the pair agree.
 
-use super::build::{add_controller, add_interrupt, add_message, again, byte, read, write};
+use super::plans::plan;
 use super::words::assert_agreement;
-use message_tree::{Frame, Payload, Tail};
-use plan_core::{Builder, Plan};
-use std::alloc::Global;
+use std::alloc::{AllocError, Global};
 use std::test::Fail;
 
 // A linear congruential generator.
@@ -46,94 +44,72 @@ fn data(dice: &mut Dice) -> &'static str {
     }
 }
 
-// The tails of a frame; it may not need all of them.
-#[derive(Drop)]
-struct Tails {
-    refused: Tail,
-    last: Tail,
-    after_first: Tail,
-    after_second: Tail,
+fn counts(dice: &mut Dice) -> &'static str {
+    match dice.throw(5) {
+        0 => "1",
+        1 => "1..3",
+        2 => "2",
+        3 => "2..3",
+        _ => "3..4",
+    }
 }
 
-// A frame with these tails.
-fn frame(alloc: Global, dice: &mut Dice, tails: Tails) -> Result<Frame, Fail> {
-    let Tails {
-        refused,
-        last,
-        after_first,
-        after_second,
-    } = tails;
+// A header with what is sent behind it, up to two data bytes or a read. Says how many bytes of it a target may refuse.
+fn push_bytes(text: &mut String, dice: &mut Dice) -> Result<u32, AllocError> {
     let target = address(dice);
     if dice.throw(3) == 0 {
-        let (least, greatest) = counts(dice);
-        return read(target, least, greatest, last, refused);
+        write!(text, "read {target} {}", counts(dice))?;
+        return Ok(1);
     }
-    let second = maybe_byte(alloc, dice, Payload::Last(last), after_second)?;
-    let first = maybe_byte(alloc, dice, second, after_first)?;
-    Ok(write(alloc, target, first, refused)?)
+    write!(text, "write {target}")?;
+    let bytes = dice.throw(2).wrapping_add(dice.throw(2));
+    for _ in 0..bytes {
+        write!(text, " {}", data(dice))?;
+    }
+    Ok(bytes.wrapping_add(1))
 }
 
-// A data byte before this, or none.
-fn maybe_byte(
-    alloc: Global,
-    dice: &mut Dice,
-    acked: Payload,
-    refused: Tail,
-) -> Result<Payload, Fail> {
-    if dice.throw(2) == 0 {
-        Ok(byte(alloc, data(dice), acked, refused)?)
-    } else {
-        Ok(acked)
+// A frame with no further one behind it.
+fn push_last_frame(text: &mut String, dice: &mut Dice) -> Result<(), AllocError> {
+    let refusals = push_bytes(text, dice)?;
+    text.push_str(" stop")?;
+    for _ in 0..refusals {
+        text.push_str(" else stop")?;
     }
+    Ok(())
 }
 
-fn counts(dice: &mut Dice) -> (u8, u8) {
-    match dice.throw(5) {
-        0 => (1, 1),
-        1 => (1, 3),
-        2 => (2, 2),
-        3 => (2, 3),
-        _ => (3, 4),
-    }
-}
-
-// A STOP, or a repeated START and a frame with no further one.
-fn tail(alloc: Global, dice: &mut Dice) -> Result<Tail, Fail> {
+// A STOP, or a repeated START and a last frame.
+fn push_tail(text: &mut String, dice: &mut Dice) -> Result<(), AllocError> {
     if dice.throw(3) != 0 {
-        return Ok(Tail::Stop);
+        return text.push_str(" stop");
     }
-    let tails = Tails {
-        refused: Tail::Stop,
-        last: Tail::Stop,
-        after_first: Tail::Stop,
-        after_second: Tail::Stop,
-    };
-    Ok(again(alloc, frame(alloc, dice, tails)?)?)
+    text.push_str(" again ")?;
+    push_last_frame(text, dice)
 }
 
 // A message with at most two frames on a path.
-fn message(alloc: Global, dice: &mut Dice) -> Result<Frame, Fail> {
-    let tails = Tails {
-        refused: tail(alloc, dice)?,
-        last: tail(alloc, dice)?,
-        after_first: tail(alloc, dice)?,
-        after_second: tail(alloc, dice)?,
-    };
-    frame(alloc, dice, tails)
+fn push_message(text: &mut String, dice: &mut Dice) -> Result<(), AllocError> {
+    let refusals = push_bytes(text, dice)?;
+    push_tail(text, dice)?;
+    for _ in 0..refusals {
+        text.push_str(" else")?;
+        push_tail(text, dice)?;
+    }
+    Ok(())
 }
 
 // Three controllers, two of them with two messages, and two interrupts.
-fn plan(alloc: Global, dice: &mut Dice) -> Result<Plan, Fail> {
-    let mut builder = Builder::new(alloc);
+fn plan_words(alloc: Global, dice: &mut Dice) -> Result<String, AllocError> {
+    let mut text = String::from_str(alloc, "plan 2")?;
     for name in ["m", "n", "o", "p"] {
-        add_message(&mut builder, alloc, name, message(alloc, dice)?)?;
+        write!(text, " message {name} ")?;
+        push_message(&mut text, dice)?;
+        text.push_str(" ;")?;
     }
-    add_controller(&mut builder, alloc, "a", &["m", "n"])?;
-    add_controller(&mut builder, alloc, "b", &["o", "m"])?;
-    add_controller(&mut builder, alloc, "c", &["p"])?;
-    add_interrupt(&mut builder, alloc, "t", 0b100_1000)?;
-    add_interrupt(&mut builder, alloc, "u", 0b100_1001)?;
-    Ok(builder.finish())
+    text.push_str(" controller a m n ; controller b o m ; controller c p ;")?;
+    text.push_str(" interrupt t 1001000 ; interrupt u 1001001 ;")?;
+    Ok(text)
 }
 
 // Each plan has four pairs of `a` and `b`, four with `c`, ten with an interrupt and one of interrupts: nineteen in all.
@@ -144,7 +120,7 @@ fn the_walks_and_the_runs_agree_on_generated_messages(rt: HostRuntime) -> Result
     let mut faulty = Vec::new(alloc);
     let mut safe = Vec::new(alloc);
     for _ in 0..16 {
-        let plan = plan(alloc, &mut dice)?;
+        let plan = plan(alloc, plan_words(alloc, &mut dice)?.as_str())?;
         assert_eq!(rt; plan.pair_count(), 19);
         for i in 0..plan.pair_count() {
             if assert_agreement(&rt, alloc, &plan, i)? {

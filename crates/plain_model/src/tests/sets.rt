@@ -1,12 +1,8 @@
 // Sets of more than two participants: what faults they have are those of two of them alone.
 
-use super::build::{
-    add_controller, add_interrupt, add_message, add_never, again, read, read_only, write,
-    write_nothing, write_one,
-};
+use super::plans::plan;
 use crate::{Meeting, lawful_sets, play};
-use message_tree::{Frame, Payload, Tail};
-use plan_core::{Builder, Plan};
+use plan_core::Plan;
 use std::alloc::Global;
 use std::process::Abort;
 use std::test::Fail;
@@ -64,67 +60,44 @@ fn assert_pairs_suffice(rt: &impl Abort, alloc: Global, plan: &Plan) -> Result<T
     })
 }
 
-// Controllers `a`, `b` and `c` send these messages, and `t` interrupts.
-fn three_and_an_interrupt(
+// Controllers `a`, `b` and `c` send these messages, and `t` interrupts. So many of the fifteen sets have a fault.
+fn assert_faulty_sets(
+    rt: &impl Abort,
     alloc: Global,
-    a: Frame,
-    b: Frame,
-    c: Frame,
-    address: u8,
-) -> Result<Builder, Fail> {
-    let mut builder = Builder::new(alloc);
-    add_message(&mut builder, alloc, "m", a)?;
-    add_message(&mut builder, alloc, "n", b)?;
-    add_message(&mut builder, alloc, "o", c)?;
-    add_controller(&mut builder, alloc, "a", &["m"])?;
-    add_controller(&mut builder, alloc, "b", &["n"])?;
-    add_controller(&mut builder, alloc, "c", &["o"])?;
-    add_interrupt(&mut builder, alloc, "t", address)?;
-    Ok(builder)
+    messages: [&str; 3],
+    address: &str,
+    faulty: usize,
+) -> Result<(), Fail> {
+    let [a, b, c] = messages;
+    let text = format!(in alloc;
+        "plan 2 message m {a} ; message n {b} ; message o {c} ;
+         controller a m ; controller b n ; controller c o ; interrupt t {address} ;"
+    )?;
+    let tally = assert_pairs_suffice(rt, alloc, &plan(alloc, text.as_str())?)?;
+    assert_eq!(rt; tally, Tally { sets: 15, faulty });
+    Ok(())
 }
 
-// Each two part at a bit or end alike, so none of the fifteen sets has a fault.
+// Each two part at a bit or end alike.
 #[test]
 fn sets_of_safe_pairs_are_safe(rt: HostRuntime) -> Result<(), Fail> {
-    let alloc = rt.alloc();
-    let builder = three_and_an_interrupt(
-        alloc,
-        write_one(alloc, "1001000", "11110000")?,
-        write_one(alloc, "1001000", "11001111")?,
-        write_one(alloc, "1001000", "1100xxxx")?,
-        0b100_1000,
-    )?;
-    let tally = assert_pairs_suffice(&rt, alloc, &builder.finish())?;
-    assert_eq!(rt;
-        tally,
-        Tally {
-            sets: 15,
-            faulty: 0
-        }
-    );
-    Ok(())
+    let messages = [
+        "write 1001000 11110000 stop else stop else stop",
+        "write 1001000 11001111 stop else stop else stop",
+        "write 1001000 1100xxxx stop else stop else stop",
+    ];
+    assert_faulty_sets(&rt, rt.alloc(), messages, "1001000", 0)
 }
 
 // `a` and `b` alone clash, so the four sets that have both have a fault.
 #[test]
 fn one_faulty_pair_makes_four_faulty_sets(rt: HostRuntime) -> Result<(), Fail> {
-    let alloc = rt.alloc();
-    let builder = three_and_an_interrupt(
-        alloc,
-        write_nothing(alloc, "1001000")?,
-        write_one(alloc, "1001000", "0000000x")?,
-        write_nothing(alloc, "1111110")?,
-        0b111_1111,
-    )?;
-    let tally = assert_pairs_suffice(&rt, alloc, &builder.finish())?;
-    assert_eq!(rt;
-        tally,
-        Tally {
-            sets: 15,
-            faulty: 4
-        }
-    );
-    Ok(())
+    let messages = [
+        "write 1001000 stop else stop",
+        "write 1001000 0000000x stop else stop else stop",
+        "write 1111110 stop else stop",
+    ];
+    assert_faulty_sets(&rt, rt.alloc(), messages, "1111111", 4)
 }
 
 // `b` clashes with the interrupt, and nobody else clashes. With `a`, which sends the first 0, both lose arbitration before
@@ -132,62 +105,42 @@ fn one_faulty_pair_makes_four_faulty_sets(rt: HostRuntime) -> Result<(), Fail> {
 // the fault.
 #[test]
 fn a_third_participant_may_keep_two_from_meeting(rt: HostRuntime) -> Result<(), Fail> {
-    let alloc = rt.alloc();
-    let builder = three_and_an_interrupt(
-        alloc,
-        write_nothing(alloc, "0001000")?,
-        read_only("1001000", 1, 2)?,
-        write_nothing(alloc, "1xx1000")?,
-        0b100_1000,
-    )?;
-    let tally = assert_pairs_suffice(&rt, alloc, &builder.finish())?;
-    assert_eq!(rt;
-        tally,
-        Tally {
-            sets: 15,
-            faulty: 2
-        }
-    );
-    Ok(())
+    let messages = [
+        "write 0001000 stop else stop",
+        "read 1001000 1..2 stop else stop",
+        "write 1xx1000 stop else stop",
+    ];
+    assert_faulty_sets(&rt, rt.alloc(), messages, "1001000", 2)
 }
 
-// Repeated STARTs, refusals and ranges of counts.
+// Repeated STARTs, refusals and ranges of counts. `a` and `b` stop together where their header is acknowledged, and where
+// it is refused they read as many bytes; each other two part in the first header.
 #[test]
 fn pairs_suffice_behind_refusals_and_repeated_starts(rt: HostRuntime) -> Result<(), Fail> {
-    let alloc = rt.alloc();
-    let second_try = again(alloc, read_only("1001000", 1, 2)?)?;
-    let third_try = again(alloc, read_only("100100x", 2, 3)?)?;
-    let then_write = again(alloc, write_nothing(alloc, "1001000")?)?;
-    let builder = three_and_an_interrupt(
-        alloc,
-        write(alloc, "1001000", Payload::Last(Tail::Stop), second_try)?,
-        write(alloc, "100100x", Payload::Last(Tail::Stop), third_try)?,
-        read("1001000", 1, 3, then_write, Tail::Stop)?,
-        0b100_1001,
-    )?;
-    let _ = assert_pairs_suffice(&rt, alloc, &builder.finish())?;
-    Ok(())
+    let messages = [
+        "write 1001000 stop else again read 1001000 1..2 stop else stop",
+        "write 100100x stop else again read 100100x 2..3 stop else stop",
+        "read 1001000 1..3 again write 1001000 stop else stop else stop",
+    ];
+    assert_faulty_sets(&rt, rt.alloc(), messages, "1001001", 0)
 }
 
 // Controllers of several messages, two of which never start together.
 #[test]
 fn pairs_suffice_where_controllers_choose_a_message(rt: HostRuntime) -> Result<(), Fail> {
     let alloc = rt.alloc();
-    let mut builder = Builder::new(alloc);
-    add_message(&mut builder, alloc, "m", write_nothing(alloc, "1001000")?)?;
-    add_message(
-        &mut builder,
-        alloc,
-        "n",
-        write_one(alloc, "1001000", "0000000x")?,
-    )?;
-    add_message(&mut builder, alloc, "o", read_only("100100x", 1, 1)?)?;
-    add_controller(&mut builder, alloc, "a", &["m", "n"])?;
-    add_controller(&mut builder, alloc, "b", &["n", "o"])?;
-    add_controller(&mut builder, alloc, "c", &["o", "m"])?;
-    add_interrupt(&mut builder, alloc, "t", 0b100_1000)?;
-    add_never(&mut builder, alloc, "c", "b")?;
-    let tally = assert_pairs_suffice(&rt, alloc, &builder.finish())?;
+    let text = "\
+plan 2
+message m write 1001000 stop else stop ;
+message n write 1001000 0000000x stop else stop else stop ;
+message o read 100100x 1 stop else stop ;
+controller a m n ;
+controller b n o ;
+controller c o m ;
+interrupt t 1001000 ;
+never c b ;
+";
+    let tally = assert_pairs_suffice(&rt, alloc, &plan(alloc, text)?)?;
     // Without the interrupt: `a` alone 2, `b` 2, `c` 2, `a` with `b` 4, `a` with `c` 4. With it each once more, and the
     // interrupt alone.
     assert_eq!(rt; tally.sets, 14 + 14 + 1);

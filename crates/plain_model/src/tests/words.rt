@@ -49,36 +49,14 @@ fn fault_words(
     second: Kind,
 ) -> Result<String, AllocError> {
     let mut words = String::new(alloc);
-    words.push_str(kind_word(first))?;
+    words.push_str(first.word())?;
     words.push_str(" against ")?;
-    words.push_str(kind_word(second))?;
+    words.push_str(second.word())?;
     words.push_str(" after ")?;
     for item in wire {
-        words.push(item_symbol(*item))?;
+        words.push(item.symbol())?;
     }
     Ok(words)
-}
-
-fn kind_word(kind: Kind) -> &'static str {
-    match kind {
-        Kind::Sent => "data",
-        Kind::Heard => "answer",
-        Kind::Again => "restart",
-        Kind::Stop => "stop",
-        Kind::Claim => "claim",
-    }
-}
-
-fn item_symbol(item: Item) -> char {
-    match item {
-        Item::Sent(false) => '0',
-        Item::Sent(true) => '1',
-        Item::Heard(false) => 'l',
-        Item::Heard(true) => 'h',
-        Item::Again => 'r',
-        Item::Stop => 's',
-        Item::Claim => 'c',
-    }
 }
 
 pub const NO_FAULT: &str = "no fault";

@@ -1,20 +1,20 @@
 use Rattle.std.proofs.Common.{arith}
 use Rattle.plan_core.specs.PlanContents.{plan_contents}
 use Rattle.certificate.specs.Proofs.{proof_tree}
-use Rattle.cert_check.specs.Starts.{start_sender}
+use Rattle.plan_core.specs.Senders.{what_is_sent}
 use Rattle.cert_check.proofs.Checked.{pair_within, pair_proved}
 use Rattle.cert_check.proofs.WireLemmas.{along}
 use Rattle.cert_check.proofs.pairs.check_pair.Goals as goal
 
-pub start_of-requires : goal.start_of-requires
-start_of-requires c =
+pub sends-requires : goal.sends-requires
+sends-requires c =
     let within = pair_within (plan_contents c.args.plan.now) c.args.i c.pair-x.result.0 c.pair-x.result.1 c.pair-x.ensures in
     omega (arith, within.0, within.1)
 
-pub start_of-requires-2 : goal.start_of-requires-2
-start_of-requires-2 c =
+pub sends-requires-2 : goal.sends-requires-2
+sends-requires-2 c =
     (pair_within (plan_contents c.args.plan.now) c.args.i c.pair-x.result.0 c.pair-x.result.1 c.pair-x.ensures).1
 
 pub returns : goal.returns
 returns c =
-    along c.are_proved.ensures (pair_proved (plan_contents c.args.plan.now) c.args.i c.pair-x.result.0 c.pair-x.result.1 (start_sender c.start_of.result) (start_sender c.start_of-2.result) (proof_tree c.args.cert.now) c.pair-x.ensures c.start_of.ensures c.start_of-2.ensures)
+    along c.are_proved.ensures (pair_proved (plan_contents c.args.plan.now) c.args.i c.pair-x.result.0 c.pair-x.result.1 (what_is_sent c.sends.result) (what_is_sent c.sends-2.result) (proof_tree c.args.cert.now) c.pair-x.ensures c.sends.ensures c.sends-2.ensures)

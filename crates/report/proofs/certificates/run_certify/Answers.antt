@@ -1,11 +1,9 @@
-use Rattle.std.proofs.Common.{◌∙◌, ap, subst, ℕ, List}
-use Rattle.certificate.specs.Texts.{cert_text}
+use Rattle.std.proofs.Common.{◌∙◌, subst, ℕ, List}
 use Rattle.plan_core.proofs.PlanLemmas.{limits_of}
 use Rattle.plan_core.specs.PlanContents.{plan_contents}
-use Rattle.verdicts.specs.Tables.{table_verdicts}
 use Rattle.report.specs.Certificates.{Certified}
 use Rattle.report.specs.Checks.{RefusesPlan}
-use Rattle.report.specs.Runs.{ReadsText, HaltsAtText, unread, refused, unwritten}
+use Rattle.report.specs.Runs.{ReadsText, HaltsAtText, unread, refused}
 use Rattle.report.specs.RunErrors.{run_error}
 use Rattle.report.specs.declared.errors.RunError.TheVariants as error
 use Rattle.report.proofs.CertificateLemmas.{certifies}
@@ -25,13 +23,10 @@ returns-in_err-plan-clause-stops g c =
     let first = subst (λ (t : List ℕ). RefusesPlan t (run_error e)) c.as_slice.ensures.value (refuses_plan c.as_slice.result.now e c.in_err-plan.ensures.refused) in
     halting_stops (ReadsText reader) Certified g.O.Output.writer (HaltsAtText reader RefusesPlan) c.args.plan.now c.args.out.now _ c.from_residual-in_err-plan.result (run_error e) c.from_residual-in_err-plan.ensures.1 (refused c.in_ok-text.ensures.all first)
 
-pub returns-in_err-table-clause-stops : goal.returns-in_err-table-clause-stops
-returns-in_err-table-clause-stops g c =
+pub returns-in_err-faults-clause-stops : goal.returns-in_err-faults-clause-stops
+returns-in_err-faults-clause-stops g c =
     let reader = g.I.Input.reader in
-    halting_stops (ReadsText reader) Certified g.O.Output.writer (HaltsAtText reader RefusesPlan) c.args.plan.now c.args.out.now _ c.from_residual-in_err-table.result error.NoMemory c.from_residual-in_err-table.ensures.1 (refused c.in_ok-text.ensures.all tt)
-
-pub returns-in_default-clause-stops : goal.returns-in_default-clause-stops
-returns-in_default-clause-stops g c = unwritten (refused c.in_ok-text.ensures.all tt)
+    halting_stops (ReadsText reader) Certified g.O.Output.writer (HaltsAtText reader RefusesPlan) c.args.plan.now c.args.out.now _ c.from_residual-in_err-faults.result error.NoMemory c.from_residual-in_err-faults.ensures.1 (refused c.in_ok-text.ensures.all tt)
 
 pub returns-in_err-report-clause-stops : goal.returns-in_err-report-clause-stops
 returns-in_err-report-clause-stops g c =
@@ -42,14 +37,16 @@ pub returns-clause-report : goal.returns-clause-report
 returns-clause-report g c =
     let reader = g.I.Input.reader in
     let plan = plan_contents c.in_ok-plan.plan in
-    let written = c.as_slice-2.ensures.value ∙ (c.in_ok-report.ensures.spelling ∙ ap cert_text c.in-Ok.ensures.certificate) in
-    let due = certifies c.in_ok-text.text.items c.as_slice.result.now c.as_slice-2.result.now plan (table_verdicts c.in_ok-table.table) c.status_of-status.result c.as_slice.ensures.value c.in_ok-plan.ensures.spelled (limits_of c.in_ok-plan.plan) c.in_ok-table.ensures written (c.status_of-status.ensures plan c.in_ok-table.ensures) in
+    let it = c.in_ok-report.ensures in
+    let written = c.as_slice-2.ensures.value ∙ it.written in
+    let due = certifies c.in_ok-text.text.items c.as_slice.result.now c.as_slice-2.result.now plan it.verdicts c.status_of.result c.as_slice.ensures.value c.in_ok-plan.ensures.spelled (limits_of c.in_ok-plan.plan) it.right written (c.status_of.ensures plan (c.is_safe.ensures plan c.in_ok-faults.ensures)) in
     writing_reports (ReadsText reader) Certified g.O.Output.writer (HaltsAtText reader RefusesPlan) c.args.plan.now c.args.out.now _ _ c.in_ok-text.ensures.all _ _ due c.write_lines.new.out c.write_lines.result c.write_lines.ensures.status c.write_lines.ensures.all
 
 pub returns-clause-stops : goal.returns-clause-stops
 returns-clause-stops g c =
     let reader = g.I.Input.reader in
     let plan = plan_contents c.in_ok-plan.plan in
-    let written = c.as_slice-2.ensures.value ∙ (c.in_ok-report.ensures.spelling ∙ ap cert_text c.in-Ok.ensures.certificate) in
-    let due = certifies c.in_ok-text.text.items c.as_slice.result.now c.as_slice-2.result.now plan (table_verdicts c.in_ok-table.table) c.status_of-status.result c.as_slice.ensures.value c.in_ok-plan.ensures.spelled (limits_of c.in_ok-plan.plan) c.in_ok-table.ensures written (c.status_of-status.ensures plan c.in_ok-table.ensures) in
+    let it = c.in_ok-report.ensures in
+    let written = c.as_slice-2.ensures.value ∙ it.written in
+    let due = certifies c.in_ok-text.text.items c.as_slice.result.now c.as_slice-2.result.now plan it.verdicts c.status_of.result c.as_slice.ensures.value c.in_ok-plan.ensures.spelled (limits_of c.in_ok-plan.plan) it.right written (c.status_of.ensures plan (c.is_safe.ensures plan c.in_ok-faults.ensures)) in
     writing_stops (ReadsText reader) Certified g.O.Output.writer (HaltsAtText reader RefusesPlan) c.args.plan.now c.args.out.now _ _ c.in_ok-text.ensures.all _ _ due c.write_lines.new.out c.write_lines.result c.write_lines.ensures.stops

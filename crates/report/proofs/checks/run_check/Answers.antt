@@ -1,12 +1,12 @@
-use Rattle.std.proofs.Common.{◌∙◌, ap, subst, ℕ, List}
+use Rattle.std.proofs.Common.{◌∙◌, subst, ℕ, List}
 use Rattle.plan_core.specs.PlanContents.{plan_contents}
-use Rattle.verdicts.specs.Tables.{table_verdicts}
+use Rattle.verdicts.specs.Faults.{fault_list}
 use Rattle.report.specs.Checks.{Checked, RefusesPlan}
-use Rattle.report.specs.Lines.{check_lines}
 use Rattle.report.specs.Runs.{ReadsText, HaltsAtText, unread, refused}
 use Rattle.report.specs.RunErrors.{run_error}
 use Rattle.report.specs.declared.errors.RunError.TheVariants as error
 use Rattle.report.proofs.CheckLemmas.{refuses_plan, checks}
+use Rattle.report.proofs.LineLemmas.{report_is}
 use Rattle.report.proofs.RunLemmas.{halting_stops, writing_reports, writing_stops}
 use Rattle.report.proofs.checks.run_check.Goals as goal
 
@@ -22,10 +22,10 @@ returns-in_err-plan-clause-stops g c one =
     let first = subst (λ (t : List ℕ). RefusesPlan t (run_error e)) c.as_slice.ensures.value (refuses_plan c.as_slice.result.now e c.in_err-plan.ensures.refused) in
     halting_stops (ReadsText reader) Checked g.O.Output.writer (HaltsAtText reader RefusesPlan) c.args.plan.now c.args.out.now _ c.from_residual-in_err-plan.result (run_error e) c.from_residual-in_err-plan.ensures.1 (refused c.in_ok-text.ensures.all first)
 
-pub returns-in_err-table-clause-stops : goal.returns-in_err-table-clause-stops
-returns-in_err-table-clause-stops g c one =
+pub returns-in_err-faults-clause-stops : goal.returns-in_err-faults-clause-stops
+returns-in_err-faults-clause-stops g c one =
     let reader = g.I.Input.reader in
-    halting_stops (ReadsText reader) Checked g.O.Output.writer (HaltsAtText reader RefusesPlan) c.args.plan.now c.args.out.now _ c.from_residual-in_err-table.result error.NoMemory c.from_residual-in_err-table.ensures.1 (refused c.in_ok-text.ensures.all tt)
+    halting_stops (ReadsText reader) Checked g.O.Output.writer (HaltsAtText reader RefusesPlan) c.args.plan.now c.args.out.now _ c.from_residual-in_err-faults.result error.NoMemory c.from_residual-in_err-faults.ensures.1 (refused c.in_ok-text.ensures.all tt)
 
 pub returns-in_err-report-clause-stops : goal.returns-in_err-report-clause-stops
 returns-in_err-report-clause-stops g c one =
@@ -36,14 +36,16 @@ pub returns-clause-report : goal.returns-clause-report
 returns-clause-report g c =
     let reader = g.I.Input.reader in
     let plan = plan_contents c.in_ok-plan.plan in
-    let lines = c.as_bytes.ensures.value ∙ (c.in_ok-report.ensures ∙ ap (check_lines plan) c.verdicts.ensures) in
-    let checked = checks c.in_ok-text.text.items c.as_slice.result.now c.as_bytes.result.now plan (table_verdicts c.in_ok-table.table) c.status_of.result c.as_slice.ensures.value c.in_ok-plan.ensures.spelled c.in_ok-table.ensures lines (c.status_of.ensures plan c.in_ok-table.ensures) in
+    let found = c.in_ok-faults.ensures in
+    let lines = c.as_bytes.ensures.value ∙ (c.in_ok-report.ensures ∙ report_is plan found.verdicts (fault_list c.in_ok-faults.faults) found.right found.these) in
+    let checked = checks c.in_ok-text.text.items c.as_slice.result.now c.as_bytes.result.now plan found.verdicts c.status_of.result c.as_slice.ensures.value c.in_ok-plan.ensures.spelled found.right lines (c.status_of.ensures plan (c.is_safe.ensures plan found)) in
     writing_reports (ReadsText reader) Checked g.O.Output.writer (HaltsAtText reader RefusesPlan) c.args.plan.now c.args.out.now _ _ c.in_ok-text.ensures.all _ _ checked c.write_lines.new.out c.write_lines.result c.write_lines.ensures.status c.write_lines.ensures.all
 
 pub returns-clause-stops : goal.returns-clause-stops
 returns-clause-stops g c one =
     let reader = g.I.Input.reader in
     let plan = plan_contents c.in_ok-plan.plan in
-    let lines = c.as_bytes.ensures.value ∙ (c.in_ok-report.ensures ∙ ap (check_lines plan) c.verdicts.ensures) in
-    let checked = checks c.in_ok-text.text.items c.as_slice.result.now c.as_bytes.result.now plan (table_verdicts c.in_ok-table.table) c.status_of.result c.as_slice.ensures.value c.in_ok-plan.ensures.spelled c.in_ok-table.ensures lines (c.status_of.ensures plan c.in_ok-table.ensures) in
+    let found = c.in_ok-faults.ensures in
+    let lines = c.as_bytes.ensures.value ∙ (c.in_ok-report.ensures ∙ report_is plan found.verdicts (fault_list c.in_ok-faults.faults) found.right found.these) in
+    let checked = checks c.in_ok-text.text.items c.as_slice.result.now c.as_bytes.result.now plan found.verdicts c.status_of.result c.as_slice.ensures.value c.in_ok-plan.ensures.spelled found.right lines (c.status_of.ensures plan (c.is_safe.ensures plan found)) in
     writing_stops (ReadsText reader) Checked g.O.Output.writer (HaltsAtText reader RefusesPlan) c.args.plan.now c.args.out.now _ _ c.in_ok-text.ensures.all _ _ checked c.write_lines.new.out c.write_lines.result c.write_lines.ensures.stops

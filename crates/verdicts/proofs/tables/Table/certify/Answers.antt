@@ -1,4 +1,4 @@
-use Rattle.std.proofs.Common.{◌≡◌, List, [], map, reverse, sym, ap, ◌∙◌, arith}
+use Rattle.std.proofs.Common.{List, map, reverse, sym, ap, ◌∙◌, arith}
 use Rattle.std.proofs.lemmas.List.{map_push}
 use Rattle.certificate.specs.Proofs.{proof_tree}
 use Rattle.pair_walk.specs.declared.walk_pair.Verdict.{Verdict}

@@ -1,0 +1,93 @@
+// A capture that comes in parts: from its samples to its transactions.
+
+ghost use Rattle.std.specs.Prelude.{◌≡◌, [], ◌++◌, IfOk, map};
+ghost use Rattle.capture_check.specs.Transactions.{before};
+ghost use Rattle.capture_check.specs.Views.{recorded, recorded_option};
+
+use crate::listening::{Listener, Transaction};
+use crate::watching::Watch;
+use std::alloc::{AllocError, Global};
+use vcd_read::Sample;
+
+/// The bus, followed from sample to sample, however the samples are handed over.
+#[derive(Debug, Drop)]
+pub struct Follower {
+    pub(crate) watch: Watch,
+    pub(crate) listener: Listener,
+}
+
+impl Follower {
+    ghost use Rattle.std.specs.Prelude.{◌≡◌, ◌∷◌, ◌++◌, List, IfOk, map};
+    ghost use Rattle.vcd_read.specs.declared.samples.Sample.{Sample};
+    ghost use Rattle.capture_check.specs.Following.{at_the_start, transactions_behind};
+    ghost use Rattle.capture_check.specs.Transactions.{before};
+    ghost use Rattle.capture_check.specs.Views.{place_of, recorded, recorded_option};
+
+    /// Nothing is known of the bus.
+    pub fn new() -> Follower
+        ensures { place_of result ≡ at_the_start }
+    {
+        Follower {
+            watch: Watch::new(),
+            listener: Listener::new(),
+        }
+    }
+
+    /// The transactions that end within these samples, in order. Where memory is refused, what was followed so far is lost.
+    pub fn follow(&mut self, alloc: Global, samples: &[Sample]) -> Result<Vec<Transaction>, AllocError>
+        ensures { IfOk result (λ found. (more : List Sample) →
+            map recorded found.items ++ transactions_behind (place_of self.new) more
+            ≡ transactions_behind (place_of self.old) (samples.now ++ more)) }
+    {
+        let mut found = Vec::new(alloc);
+        for sample in samples {
+            if let Some(transaction) = self.next(alloc, sample)? {
+                found.push(transaction)?;
+            }
+        }
+        Ok(found)
+    }
+
+    // The transaction that ends with the next sample, if any.
+    fn next(&mut self, alloc: Global, sample: &Sample) -> Result<Option<Transaction>, AllocError>
+        ensures { IfOk result (λ ended. (more : List Sample) →
+            before (recorded_option ended) (transactions_behind (place_of self.new) more)
+            ≡ transactions_behind (place_of self.old) (sample.now ∷ more)) }
+    {
+        match self.watch.next(sample) {
+            Some(event) => self.listener.next(alloc, &event),
+            None => Ok(None),
+        }
+    }
+
+    /// The transactions that end within the last samples, and the one that goes on at the end of the capture, if any.
+    pub fn follow_to_end(
+        mut self,
+        alloc: Global,
+        samples: &[Sample],
+    ) -> Result<Vec<Transaction>, AllocError>
+        ensures { IfOk result (λ found.
+            map recorded found.items ≡ transactions_behind (place_of self) samples.now) }
+    {
+        let found = self.follow(alloc, samples)?;
+        let all = with_last(found, self.listener.end())?;
+        Ok(all)
+    }
+}
+
+// These, and the last one, if any.
+fn with_last(
+    mut found: Vec<Transaction>,
+    last: Option<Transaction>,
+) -> Result<Vec<Transaction>, AllocError>
+    ensures { IfOk result (λ all.
+        map recorded all.items ≡ map recorded found.items ++ before (recorded_option last) []) }
+{
+    match last {
+        Some(transaction) => {
+            found.push(transaction)?;
+            Ok(found)
+        }
+        None => Ok(found),
+    }
+}

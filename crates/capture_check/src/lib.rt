@@ -1,0 +1,22 @@
+//! Recorded wires: what happens on the bus from sample to sample, which transactions that makes, and which participants of
+//! a plan explain them.
+//!
+//! `watching` goes from samples to events and `listening` from events to transactions, each by a value that goes on from
+//! one to the next and by a call for whole lists; `following` does both, for captures that are read in blocks. `texts`
+//! follows the marks of a transaction through a message, `explaining` asks each participant, and `workers` explains many
+//! transactions by several threads.
+#![tactic(auto)]
+
+mod bits;
+pub mod explaining;
+pub mod following;
+pub mod listening;
+mod texts;
+pub mod watching;
+pub mod workers;
+
+pub use explaining::explain;
+pub use following::Follower;
+pub use listening::{Listener, Mark, Transaction, Until, transactions};
+pub use watching::{Event, Watch, What, events};
+pub use workers::explain_all;

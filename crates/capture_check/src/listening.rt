@@ -1,0 +1,137 @@
+// The transactions that events make.
+
+ghost use Rattle.std.specs.Prelude.{◌≡◌, IfOk, map};
+ghost use Rattle.capture_check.specs.Transactions.{transactions_of};
+ghost use Rattle.capture_check.specs.Views.{recorded};
+
+use crate::watching::{Event, What};
+use std::alloc::{AllocError, Global};
+use std::mem;
+
+/// What the wire showed within a transaction.
+#[derive(Clone, Copy, Debug, PartialEq, Eq)]
+pub enum Mark {
+    /// A bit or an acknowledge, by the level of SDA.
+    Level(bool),
+    /// A repeated START.
+    Again,
+    /// The STOP that ends the transaction.
+    Stop,
+}
+
+/// How a transaction ended.
+#[derive(Clone, Copy, Debug, PartialEq, Eq)]
+pub enum Until {
+    /// By a STOP at this time.
+    Stopped(u64),
+    /// At this time a level was no longer known.
+    Cut(u64),
+    /// It goes on where the capture ends.
+    Unfinished,
+}
+
+/// One use of the bus, from a START on. Times are in the unit of the capture.
+#[derive(Debug, Drop)]
+pub struct Transaction {
+    pub from: u64,
+    pub until: Until,
+    pub marks: Vec<Mark>,
+}
+
+// What is known of the bus.
+#[derive(Debug, Drop)]
+pub(crate) enum Heard {
+    Unknown,
+    Free,
+    // A transaction goes on from this time, and has these marks so far.
+    Busy(u64, Vec<Mark>),
+}
+
+/// The bus, followed from event to event.
+#[derive(Debug, Drop)]
+pub struct Listener {
+    pub(crate) heard: Heard,
+}
+
+impl Listener {
+    ghost use Rattle.std.specs.Prelude.{◌≡◌, IfOk, IfErr};
+    ghost use Rattle.capture_check.specs.declared.listening.Until.TheVariants.{Unfinished};
+    ghost use Rattle.capture_check.specs.Transactions.{bus_after, ended, ended_by, unknown};
+    ghost use Rattle.capture_check.specs.Views.{bus_in, bus_of, recorded_option};
+
+    /// Nothing is known of the bus.
+    pub fn new() -> Listener
+        ensures { bus_of result ≡ unknown }
+    {
+        Listener {
+            heard: Heard::Unknown,
+        }
+    }
+
+    /// The transaction that the next event ends, if any. Where memory is refused, the listener stays as it was.
+    pub fn next(&mut self, alloc: Global, event: &Event) -> Result<Option<Transaction>, AllocError>
+        ensures ended { IfOk result (λ t. recorded_option t ≡ ended_by (bus_of self.old) event.now.time event.now.what) }
+        ensures bus { IfOk result (λ t. bus_of self.new ≡ bus_after (bus_of self.old) event.now.time event.now.what) }
+        ensures unchanged { IfErr result (λ e. bus_of self.new ≡ bus_of self.old) }
+    {
+        match (&mut self.heard, event.what) {
+            (Heard::Busy(_, marks), What::Start) => marks.push(Mark::Again)?,
+            (Heard::Busy(_, marks), What::Bit(level)) => marks.push(Mark::Level(level))?,
+            (Heard::Busy(_, marks), What::Stop) => {
+                marks.push(Mark::Stop)?;
+                return Ok(self.finish(Heard::Free, Until::Stopped(event.time)));
+            }
+            (Heard::Busy(..), What::Unknown) => {
+                return Ok(self.finish(Heard::Unknown, Until::Cut(event.time)));
+            }
+            (Heard::Busy(..), What::Known(_)) => {}
+            (Heard::Free, What::Start) => self.heard = Heard::Busy(event.time, Vec::new(alloc)),
+            (Heard::Free, What::Known(false) | What::Unknown) => self.heard = Heard::Unknown,
+            (Heard::Unknown, What::Known(true) | What::Stop) => self.heard = Heard::Free,
+            _ => {}
+        }
+        Ok(None)
+    }
+
+    // The transaction that goes on, if any, ends so, and this is then known of the bus.
+    fn finish(&mut self, then: Heard, until: Until) -> Option<Transaction>
+        ensures transaction { recorded_option result ≡ ended (bus_of self.old) until }
+        ensures bus { bus_of self.new ≡ bus_in then }
+    {
+        match mem::replace(&mut self.heard, then) {
+            Heard::Busy(from, marks) => Some(Transaction { from, until, marks }),
+            _ => None,
+        }
+    }
+
+    /// The transaction that goes on, if any.
+    pub fn end(self) -> Option<Transaction>
+        ensures { recorded_option result ≡ ended (bus_of self) Unfinished }
+    {
+        match self.heard {
+            Heard::Busy(from, marks) => Some(Transaction {
+                from,
+                until: Until::Unfinished,
+                marks,
+            }),
+            _ => None,
+        }
+    }
+}
+
+/// The transactions of these events, in the order of their beginnings, where nothing is known of the bus before.
+pub fn transactions(alloc: Global, events: &[Event]) -> Result<Vec<Transaction>, AllocError>
+    ensures { IfOk result (λ found. map recorded found.items ≡ transactions_of events.now) }
+{
+    let mut listener = Listener::new();
+    let mut found = Vec::new(alloc);
+    for event in events {
+        if let Some(transaction) = listener.next(alloc, event)? {
+            found.push(transaction)?;
+        }
+    }
+    if let Some(transaction) = listener.end() {
+        found.push(transaction)?;
+    }
+    Ok(found)
+}

@@ -1,4 +1,0 @@
-use Rattle.pair_walk.proofs.compare.+behind_read.Given as goal
-
-abbrev pub decreases-behind_read : goal.decreases-behind_read
-decreases-behind_read l = l.more

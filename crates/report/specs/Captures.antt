@@ -1,0 +1,79 @@
+-- What a run says of a plan text and a dump.
+use Rattle.std.specs.Prelude.{◌≡◌, ◌≢◌, ℕ, ◌≤◌, List, Ok, Err}
+use Rattle.plan_core.specs.Contents.{Contents}
+use Rattle.plan_text.specs.Grammar.{Spells}
+use Rattle.vcd_read.specs.declared.errors.Refusal.{Refusal}
+use Rattle.vcd_read.specs.declared.samples.Sample.{Sample}
+use Rattle.vcd_read.specs.Dumps.{samples_of, said_so_far}
+use Rattle.vcd_read.specs.Refusals.{error_of}
+use Rattle.capture_check.specs.Following.{transactions_in}
+use Rattle.report.specs.CaptureLines.{Tally, Tells, capture_report}
+use Rattle.report.specs.Checks.{RefusesPlan, SpellsPlan}
+use Rattle.report.specs.Devices.{Reader, HasGiven}
+use Rattle.report.specs.Reading.{ReadingStops}
+use Rattle.report.specs.Runs.{ReadsText, HaltsAtText, most_reads}
+use Rattle.report.specs.declared.runs.Status.{Status}
+use Rattle.report.specs.declared.runs.Status.TheVariants.{Good, Bad, Refused}
+use Rattle.report.specs.declared.errors.RunError.{RunError}
+use Rattle.report.specs.declared.errors.RunError.TheVariants as error
+
+-- Good where all that were stopped are explained, and Bad where one is not
+abbrev pub Explained : Status → Tally → Type 0
+Explained Good tally = tally.unexplained ≡ 0
+Explained Bad tally = tally.unexplained ≢ 0
+Explained Refused tally = ⊥
+
+-- the dump has samples, the report tells of the transactions in them, and the status of what is unexplained
+pub record CaptureOf (scl sda : List ℕ) (plan : Contents) (dump report : List ℕ) (status : Status) : Type 0 where
+  pub samples : List Sample
+  pub read : samples_of scl sda dump ≡ Ok samples
+  pub tally : Tally
+  pub told : Tells plan (transactions_in samples) tally
+  pub lines : report ≡ capture_report tally
+  pub judged : Explained status tally
+
+-- the first text spells a plan, and the report is that of the dump under it
+pub record Captured (scl sda : List ℕ) (texts : List ℕ × List ℕ) (report : List ℕ) (status : Status) : Type 0 where
+  pub plan : Contents
+  pub spelled : Spells texts.0 plan
+  pub capture : CaptureOf scl sda plan texts.1 report status
+
+-- A dump that begins so is refused whatever follows, by the first refusal in what was read; or memory was refused.
+abbrev pub RefusesBeginning : List ℕ → List ℕ → List ℕ → RunError → Type 0
+RefusesBeginning scl sda text (error.Vcd e) = (r : Refusal) × (said_so_far scl sda text ≡ Err r) × (e ≡ error_of r)
+RefusesBeginning scl sda text error.NoMemory = Unit {0}
+RefusesBeginning scl sda text _ = ⊥
+
+-- the whole dump is refused; or memory was refused
+abbrev pub RefusesDump : List ℕ → List ℕ → List ℕ → RunError → Type 0
+RefusesDump scl sda text (error.Vcd e) = (r : Refusal) × (samples_of scl sda text ≡ Err r) × (e ≡ error_of r)
+RefusesDump scl sda text error.NoMemory = Unit {0}
+RefusesDump scl sda text _ = ⊥
+
+module _ {E : Type 0} (second : Reader E) where
+  -- why the reading of a dump goes no further: the reader stopped, or what it gave so far is refused, or the whole dump is
+  pub data HaltsAtDump (scl sda : List ℕ) (before : E) : RunError → E → Type 0 where
+    unread : {error : RunError} {now : E} →
+        ReadingStops second most_reads before error now →
+        HaltsAtDump scl sda before error now
+    refused_within : {error : RunError} {now : E} {reads : ℕ} {text : List ℕ} →
+        reads ≤ most_reads →
+        HasGiven second before reads text now →
+        RefusesBeginning scl sda text error →
+        HaltsAtDump scl sda before error now
+    refused_at_end : {error : RunError} {now : E} {text : List ℕ} →
+        ReadsText second before text now →
+        RefusesDump scl sda text error →
+        HaltsAtDump scl sda before error now
+
+module _ {D E : Type 0} (first : Reader D) (second : Reader E) where
+  -- the run halted at the plan, and the second reader is as it was; or the plan passed, and it halted at the dump
+  pub data HaltsAtCapture (scl sda : List ℕ) (before : D × E) : RunError → D × E → Type 0 where
+    at_plan : {error : RunError} {now : D} →
+        HaltsAtText first RefusesPlan before.0 error now →
+        HaltsAtCapture scl sda before error (now, before.1)
+    at_dump : {error : RunError} {text : List ℕ} {now : D × E} →
+        ReadsText first before.0 text now.0 →
+        SpellsPlan text →
+        HaltsAtDump second scl sda before.1 error now.1 →
+        HaltsAtCapture scl sda before error now

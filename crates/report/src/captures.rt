@@ -1,0 +1,95 @@
+// The run that explains a capture.
+
+ghost use Rattle.std.specs.Prelude.{◌≡◌, ◌<◌, ℕ, List, [], length, string_bytes, IfOk, IfErr};
+ghost use Rattle.plan_core.specs.PlanContents.{plan_contents};
+ghost use Rattle.report.specs.Captures.{CaptureOf, Captured, HaltsAtCapture, HaltsAtDump};
+ghost use Rattle.report.specs.CaptureViews.{Follows};
+ghost use Rattle.report.specs.Runs.{ReadsText, ReadsBoth, Reports, Stops};
+
+use crate::devices::reading::{BLOCK, READS, read_within};
+use crate::devices::traits::{Input, Output};
+use crate::errors::RunError;
+use crate::following::Capture;
+use crate::runs::{Status, write_lines};
+use plan_core::Plan;
+use plan_text::read_plan;
+use std::alloc::Global;
+use std::thread::Threads;
+
+/// Explains the capture that the second reader gives, a value change dump, by the plan that the first reader gives: a line
+/// for each transaction, and one that counts those that a STOP ended and those of them that nobody explains. `scl` and
+/// `sda` are the names of the two lines in the dump. The dump is read block by block, and no more of it is kept than what
+/// is open. The status is `Good` where all is explained, and else `Bad`.
+///
+/// # Errors
+///
+/// `Read` where a reader failed or gave no end, `Plan` with the first refusal of the plan text, before the second reader is
+/// called, `Vcd` with the first refusal of the dump, and `Write` where the writer failed or took no bytes. `NoMemory`
+/// where memory is refused. Only after `Write` has a part of the report been written: its first bytes. After every other
+/// error the writer was not called.
+pub fn run_capture<I: Input, J: Input, O: Output>(
+    rt: &(impl Threads + Sync),
+    alloc: Global,
+    plan: &mut I,
+    vcd: &mut J,
+    out: &mut O,
+    scl: &str,
+    sda: &str,
+) -> Result<Status, RunError>
+    ensures report { IfOk result (λ status.
+        Reports (ReadsBoth I.reader J.reader) (Captured scl.now sda.now) O.writer
+        (plan.old, vcd.old) out.old status (plan.new, vcd.new) out.new) }
+    ensures stops { IfErr result (λ error.
+        Stops (ReadsBoth I.reader J.reader) (Captured scl.now sda.now) O.writer
+        (HaltsAtCapture I.reader J.reader scl.now sda.now)
+        (plan.old, vcd.old) out.old error (plan.new, vcd.new) out.new) }
+{
+    let text = read_within(alloc, plan, READS)?;
+    let plan = read_plan(alloc, text.as_slice())?;
+    let (report, status) = read_capture(rt, alloc, &plan, vcd, scl, sda)?;
+    write_lines(out, report.as_bytes(), status)
+}
+
+// The report of the dump that a reader gives, and the status of a run with that report.
+fn read_capture<J: Input>(
+    rt: &(impl Threads + Sync),
+    alloc: Global,
+    plan: &Plan,
+    vcd: &mut J,
+    scl: &str,
+    sda: &str,
+) -> Result<(String, Status), RunError>
+    ensures all { IfOk result (λ it. (dump : List ℕ) × ReadsText J.reader vcd.old dump vcd.new
+        × CaptureOf scl.now sda.now (plan_contents plan.now) dump (string_bytes it.0) it.1) }
+    ensures stops { IfErr result (λ error. HaltsAtDump J.reader scl.now sda.now vcd.old error vcd.new) }
+{
+    let mut block = vec![in alloc; 0u8; BLOCK]?;
+    let capture = Capture::new(alloc, scl, sda)?;
+    read_blocks(rt, alloc, plan, vcd, block.as_mut_slice(), capture)
+}
+
+// The same, with a block of memory for what one call gives.
+fn read_blocks<J: Input>(
+    rt: &(impl Threads + Sync),
+    alloc: Global,
+    plan: &Plan,
+    vcd: &mut J,
+    block: &mut [u8],
+    mut capture: Capture,
+) -> Result<(String, Status), RunError>
+    requires { 0 < length block.old }
+    ensures all { (scl sda : List ℕ) → Follows scl sda (plan_contents plan.now) [] capture →
+        IfOk result (λ it. (dump : List ℕ) × ReadsText J.reader vcd.old dump vcd.new
+        × CaptureOf scl sda (plan_contents plan.now) dump (string_bytes it.0) it.1) }
+    ensures stops { (scl sda : List ℕ) → Follows scl sda (plan_contents plan.now) [] capture →
+        IfErr result (λ error. HaltsAtDump J.reader scl sda vcd.old error vcd.new) }
+{
+    for _ in 0..READS {
+        match vcd.read(block) {
+            Ok(0) => return capture.end(rt, alloc, plan),
+            Ok(count) => capture.feed(rt, alloc, plan, &block[..count])?,
+            Err(_) => return Err(RunError::Read),
+        }
+    }
+    Err(RunError::Read)
+}

@@ -1,0 +1,88 @@
+// A dump that comes in pieces, from its bytes to the lines of a report.
+
+use crate::errors::RunError;
+use crate::runs::Status;
+use crate::telling::Telling;
+use capture_check::Follower;
+use plan_core::Plan;
+use std::alloc::{AllocError, Global};
+use std::thread::Threads;
+use vcd_read::Reader;
+
+/// What is read of a dump, what is known of the bus, and the lines so far.
+#[derive(Debug, Drop)]
+pub(crate) struct Capture {
+    pub(crate) reader: Reader,
+    pub(crate) follower: Follower,
+    pub(crate) telling: Telling,
+}
+
+impl Capture {
+    ghost use Rattle.std.specs.Prelude.{◌≡◌, ◌≢◌, ℕ, List, [], ◌++◌, IfOk, IfErr, OnOk, map, string_bytes};
+    ghost use Rattle.plan_core.specs.Contents.{Contents};
+    ghost use Rattle.plan_core.specs.PlanContents.{plan_contents};
+    ghost use Rattle.vcd_read.specs.declared.samples.Sample.{Sample};
+    ghost use Rattle.capture_check.specs.Views.{recorded};
+    ghost use Rattle.report.specs.Captures.{CaptureOf, RefusesBeginning, RefusesDump};
+    ghost use Rattle.report.specs.CaptureViews.{Follows};
+
+    /// Nothing of the dump has been read.
+    pub(crate) fn new(alloc: Global, scl: &str, sda: &str) -> Result<Capture, AllocError>
+        ensures { IfOk result (λ capture. (plan : Contents) → Follows scl.now sda.now plan [] capture) }
+    {
+        Ok(Capture {
+            reader: Reader::new(alloc, scl, sda)?,
+            follower: Follower::new(),
+            telling: Telling::new(alloc),
+        })
+    }
+
+    /// The next piece of the dump.
+    pub(crate) fn feed(
+        &mut self,
+        rt: &(impl Threads + Sync),
+        alloc: Global,
+        plan: &Plan,
+        piece: &[u8],
+    ) -> Result<(), RunError>
+        ensures fed { OnOk result ((scl sda text : List ℕ) →
+            Follows scl sda (plan_contents plan.now) text self.old →
+            Follows scl sda (plan_contents plan.now) (text ++ piece.now) self.new) }
+        ensures refused { IfErr result (λ error. (scl sda text : List ℕ) →
+            Follows scl sda (plan_contents plan.now) text self.old →
+            RefusesBeginning scl sda (text ++ piece.now) error) }
+    {
+        self.reader.feed(piece)?;
+        let found = self.follower.follow(alloc, self.reader.samples())?;
+        self.telling.push_all(rt, alloc, plan, found.as_slice())?;
+        self.reader.clear_samples();
+        Ok(())
+    }
+
+    /// The end of the dump: the whole report, and the status of a run with that report.
+    pub(crate) fn end(
+        self,
+        rt: &(impl Threads + Sync),
+        alloc: Global,
+        plan: &Plan,
+    ) -> Result<(String, Status), RunError>
+        ensures read { IfOk result (λ it. (scl sda text : List ℕ) →
+            Follows scl sda (plan_contents plan.now) text self →
+            CaptureOf scl sda (plan_contents plan.now) text (string_bytes it.0) it.1) }
+        ensures refused { IfErr result (λ error. (scl sda text : List ℕ) →
+            Follows scl sda (plan_contents plan.now) text self →
+            RefusesDump scl sda text error) }
+    {
+        let Capture {
+            reader,
+            follower,
+            mut telling,
+        } = self;
+        let samples = reader.end()?;
+        let found = follower.follow_to_end(alloc, samples.as_slice())?;
+        telling.push_all(rt, alloc, plan, found.as_slice())?;
+        let status = telling.status();
+        let report = telling.finish()?;
+        Ok((report, status))
+    }
+}

@@ -1,0 +1,178 @@
+// The lines of a report on a capture.
+
+ghost use Rattle.std.specs.Prelude.{◌≡◌, ℕ, ◌<◌, ◌++◌, Contains, map, string_bytes, OnOk, IfOk, ◌+◌};
+ghost use Rattle.plan_core.specs.Participants.{participant_count};
+ghost use Rattle.plan_core.specs.PlanContents.{plan_contents};
+ghost use Rattle.report.specs.CaptureLines.{capture_line, ending_text, labels, who};
+
+use crate::runs::Status;
+use capture_check::{Transaction, Until, explain_all};
+use plan_core::Plan;
+use std::alloc::{AllocError, Global};
+use std::thread::Threads;
+
+/// The lines of the transactions so far, how many of them a STOP ended, and how many of these nobody explains.
+#[derive(Debug, Drop)]
+pub(crate) struct Telling {
+    pub(crate) lines: String,
+    pub(crate) stopped: u64,
+    pub(crate) unexplained: u64,
+}
+
+impl Telling {
+    ghost use Rattle.std.specs.Prelude.{◌≡◌, List, [], ◌++◌, map, OnOk, string_bytes, IfOk};
+    ghost use Rattle.plan_core.specs.PlanContents.{plan_contents};
+    ghost use Rattle.plan_core.specs.Contents.{Contents};
+    ghost use Rattle.capture_check.specs.Explained.{AreExplainers};
+    ghost use Rattle.capture_check.specs.Transactions.{Recorded};
+    ghost use Rattle.capture_check.specs.Views.{recorded};
+    ghost use Rattle.report.specs.CaptureLines.{Tells, with_line, capture_report};
+    ghost use Rattle.report.specs.CaptureViews.{tally_of};
+    ghost use Rattle.report.specs.Captures.{Explained};
+
+    /// No transaction yet.
+    pub(crate) fn new(alloc: Global) -> Telling
+        ensures { (plan : Contents) → Tells plan [] (tally_of result) }
+    {
+        Telling {
+            lines: String::new(alloc),
+            stopped: 0,
+            unexplained: 0,
+        }
+    }
+
+    /// The lines of these transactions too, which several threads explain.
+    pub(crate) fn push_all(
+        &mut self,
+        rt: &(impl Threads + Sync),
+        alloc: Global,
+        plan: &Plan,
+        transactions: &[Transaction],
+    ) -> Result<(), AllocError>
+        ensures { OnOk result ((ts : List Recorded) → Tells (plan_contents plan.now) ts (tally_of self.old) →
+            Tells (plan_contents plan.now) (ts ++ map recorded transactions.now) (tally_of self.new)) }
+    {
+        let explainers = explain_all(rt, alloc, plan, transactions)?;
+        for k in 0..transactions.len() {
+            self.push(alloc, plan, &transactions[k], explainers[k].as_slice())?;
+        }
+        Ok(())
+    }
+
+    /// The line of one more transaction, which these participants explain.
+    fn push(
+        &mut self,
+        alloc: Global,
+        plan: &Plan,
+        transaction: &Transaction,
+        participants: &[u32],
+    ) -> Result<(), AllocError>
+        requires { AreExplainers (plan_contents plan.now) (recorded transaction.now) participants.now }
+        ensures { OnOk result (tally_of self.new ≡
+            with_line (plan_contents plan.now) (tally_of self.old) (recorded transaction.now) participants.now) }
+    {
+        push_line(alloc, &mut self.lines, plan, transaction, participants)?;
+        if let Until::Stopped(_) = transaction.until {
+            self.stopped = more(self.stopped)?;
+            if participants.is_empty() {
+                self.unexplained = more(self.unexplained)?;
+            }
+        }
+        Ok(())
+    }
+
+    /// The status of a run that tells of these transactions and no others.
+    pub(crate) fn status(&self) -> Status
+        ensures { Explained result (tally_of self.now) }
+    {
+        if self.unexplained == 0 {
+            Status::Good
+        } else {
+            Status::Bad
+        }
+    }
+
+    /// The whole report.
+    pub(crate) fn finish(self) -> Result<String, AllocError>
+        ensures { IfOk result (λ report. string_bytes report ≡ capture_report (tally_of self)) }
+    {
+        let Telling {
+            mut lines,
+            stopped,
+            unexplained,
+        } = self;
+        writeln!(lines, "{stopped} transactions, {unexplained} unexplained")?;
+        Ok(lines)
+    }
+}
+
+// One more. Each that is counted has a line, so more of them than the number holds would not fit into memory.
+fn more(count: u64) -> Result<u64, AllocError>
+    ensures { IfOk result (λ more. more ≡ count + 1) }
+{
+    match count.checked_add(1) {
+        Some(more) => Ok(more),
+        None => Err(AllocError),
+    }
+}
+
+// The line of a transaction that these participants explain.
+fn push_line(
+    alloc: Global,
+    lines: &mut String,
+    plan: &Plan,
+    transaction: &Transaction,
+    participants: &[u32],
+) -> Result<(), AllocError>
+    requires { (p : ℕ) → Contains participants.now p → p < participant_count (plan_contents plan.now) }
+    ensures { OnOk result (string_bytes lines.new ≡ string_bytes lines.old ++
+        capture_line (plan_contents plan.now) transaction.now.from transaction.now.until participants.now) }
+{
+    let from = transaction.from;
+    write!(lines, "{from}-")?;
+    match transaction.until {
+        Until::Stopped(time) => {
+            write!(lines, "{time}")?;
+            push_who(alloc, lines, plan, participants)?;
+        }
+        Until::Cut(time) => write!(lines, "{time} cut")?,
+        Until::Unfinished => lines.push_str(" unfinished")?,
+    }
+    lines.push_str("\n")
+}
+
+// Who explains a transaction.
+fn push_who(
+    alloc: Global,
+    lines: &mut String,
+    plan: &Plan,
+    participants: &[u32],
+) -> Result<(), AllocError>
+    requires { (p : ℕ) → Contains participants.now p → p < participant_count (plan_contents plan.now) }
+    ensures { OnOk result (string_bytes lines.new ≡ string_bytes lines.old ++
+        who (plan_contents plan.now) participants.now) }
+{
+    if participants.is_empty() {
+        return lines.push_str(" unexplained");
+    }
+    push_labels(alloc, lines, plan, participants)
+}
+
+// The labels of participants, each after a space.
+fn push_labels(
+    alloc: Global,
+    lines: &mut String,
+    plan: &Plan,
+    participants: &[u32],
+) -> Result<(), AllocError>
+    requires { (p : ℕ) → Contains participants.now p → p < participant_count (plan_contents plan.now) }
+    ensures { OnOk result (string_bytes lines.new ≡ string_bytes lines.old ++
+        labels (plan_contents plan.now) participants.now) }
+{
+    for p in participants {
+        let label = plan.label(alloc, *p)?;
+        let label = label.as_str();
+        write!(lines, " {label}")?;
+    }
+    Ok(())
+}

@@ -1,0 +1,19 @@
+use Rattle.vcd_read.specs.Pieces.{kept_of}
+use Rattle.vcd_read.specs.Readers.{reading_of}
+use Rattle.std.proofs.lemmas.Result.{err_from_is_err_and}
+use Rattle.vcd_read.proofs.FedLemmas.{scan_of_going, scan_of_refused, samples_going, samples_refused_at_end, samples_refused, is_refusal}
+use Rattle.vcd_read.proofs.reader.Reader.end.Goals as goal
+
+pub returns-in-Some : goal.returns-in-Some
+returns-in-Some c = λ scl sda text cleared fed.
+    is_refusal _ c.in-Some.refusal _ (samples_refused scl sda text c.in-Some.refusal (scan_of_refused scl sda text cleared (reading_of c.args.self) c.in-Some.refusal c.in-Some.is fed)) c.from.ensures
+
+pub returns-in_err-samples : goal.returns-in_err-samples
+returns-in_err-samples c = λ scl sda text cleared fed.
+    let p = err_from_is_err_and c.from_residual.result c.from_residual.ensures.1 in
+    rw p.1 (is_refusal _ c.in_err-samples.field-0.0 _
+    (samples_refused_at_end scl sda text cleared (kept_of c.args.self.scanner) c.in_err-samples.field-0.0 (scan_of_going scl sda text cleared (reading_of c.args.self) c.in_default.is fed) c.in_err-samples.ensures) p.2)
+
+pub returns : goal.returns
+returns c = λ scl sda text cleared fed.
+    samples_going scl sda text cleared (kept_of c.args.self.scanner) c.in_ok-samples.samples.items (scan_of_going scl sda text cleared (reading_of c.args.self) c.in_default.is fed) c.in_ok-samples.ensures

@@ -1,0 +1,6 @@
+use Rattle.vcd_read.specs.Readers.{reading_of}
+use Rattle.vcd_read.proofs.FedLemmas.{samples_so_far}
+use Rattle.vcd_read.proofs.reader.Reader.samples.Goals as goal
+
+pub returns-clause-so_far : goal.returns-clause-so_far
+returns-clause-so_far c = λ scl sda text cleared fed. rw c.as_slice.ensures.value (samples_so_far scl sda text cleared (reading_of c.args.self.now) fed)

@@ -1,0 +1,12 @@
+pub mod Tokens
+pub mod Words
+pub mod States
+pub mod Definitions
+pub mod Changes
+pub mod Dumps
+pub mod Refusals
+pub mod Views
+pub mod Pieces
+pub mod Readers
+pub mod Grammar
+pub mod Runs

@@ -1,0 +1,40 @@
+-- What the tokens of a dump have said so far.
+use Rattle.std.specs.Prelude.{ℕ, Bool, false, List, [], Option, None}
+use Rattle.vcd_read.specs.declared.dumps.Context.{Context}
+use Rattle.vcd_read.specs.declared.dumps.Context.TheVariants as inside
+use Rattle.vcd_read.specs.declared.samples.Level.{Level}
+use Rattle.vcd_read.specs.declared.samples.Level.TheVariants.{Unknown}
+
+-- A line of the bus: the name that its `$var` has, the code that this `$var` gives it (none yet: empty), and its levels
+-- before the time stamp and now.
+pub record Line : Type 0 where
+  pub name : List ℕ
+  pub code : List ℕ
+  pub before : Level
+  pub level : Level
+
+-- context: what the next token belongs to; block: where a `$dumpvars` or its like began that has not ended; code: the
+-- third token of the latest `$var`; defined: whether the definitions have ended
+pub record State : Type 0 where
+  pub scl : Line
+  pub sda : Line
+  pub context : Context
+  pub block : Option ℕ
+  pub code : List ℕ
+  pub defined : Bool
+  pub time : ℕ
+
+abbrev pub line_at_first : List ℕ → Line
+line_at_first name = record { name = name; code = []; before = Unknown; level = Unknown }
+
+-- before the first token
+abbrev pub state_at_first : List ℕ → List ℕ → State
+state_at_first scl sda = record {
+  scl = line_at_first scl;
+  sda = line_at_first sda;
+  context = inside.Nothing;
+  block = None;
+  code = [];
+  defined = false;
+  time = 0;
+}

@@ -1,0 +1,147 @@
+// What the tokens of a dump have said so far.
+
+ghost use Rattle.std.specs.Prelude.{◌≡◌, ℕ, ◌≤◌, length, vec_len, vec_capacity, IfOk, OnOk};
+
+use crate::errors::Refusal;
+use crate::samples::{Level, Sample};
+use crate::wires::Wire;
+use crate::words::is_end;
+use std::alloc::{AllocError, Global};
+
+/// The tokens of a `$var` that have come.
+#[derive(Clone, Copy, Debug, PartialEq, Eq)]
+pub(crate) enum Seen {
+    Nothing,
+    Type,
+    Size { one_bit: bool },
+    Code { one_bit: bool },
+    /// The reference, and perhaps more.
+    Reference,
+}
+
+/// What the next token belongs to, with the line where that began.
+#[derive(Clone, Copy, Debug, PartialEq, Eq)]
+pub(crate) enum Context {
+    Nothing,
+    /// A command that is skipped up to `$end`.
+    Skipped(u64),
+    Var(u64, Seen),
+    EndDefinitions(u64),
+    /// A change whose code comes next: the level of a vector, or none of a real or string change.
+    Change(u64, Option<Level>),
+}
+
+/// What the tokens of a dump have said so far.
+#[derive(Debug, Drop)]
+pub(crate) struct Dump {
+    pub(crate) scl: Wire,
+    pub(crate) sda: Wire,
+    pub(crate) context: Context,
+    // where a block of value changes began that has not ended
+    pub(crate) block: Option<u64>,
+    // the third token of the latest `$var`
+    pub(crate) code: Vec<u8>,
+    // whether the definitions have ended
+    pub(crate) defined: bool,
+    pub(crate) time: u64,
+    ghost scl_code_fits: { vec_len code ≤ vec_capacity scl.code },
+    ghost sda_code_fits: { vec_len code ≤ vec_capacity sda.code },
+}
+
+impl Dump {
+    ghost use Rattle.vcd_read.specs.Dumps.{step, at_end, open_line};
+    ghost use Rattle.vcd_read.specs.Views.{state_of, HasRoom, Steps};
+    ghost use Rattle.vcd_read.specs.States.{state_at_first};
+
+    /// Before the first token.
+    pub(crate) fn new(alloc: Global, scl: &str, sda: &str) -> Result<Dump, AllocError>
+        ensures { IfOk result (λ d. state_of d ≡ state_at_first scl.now sda.now) }
+    {
+        Ok(Dump {
+            scl: Wire::new(alloc, scl)?,
+            sda: Wire::new(alloc, sda)?,
+            context: Context::Nothing,
+            block: None,
+            code: Vec::new(alloc),
+            defined: false,
+            time: 0,
+        })
+    }
+
+    /// Makes room for codes of so many bytes. A failure changes nothing.
+    pub(crate) fn reserve(&mut self, bytes: usize) -> Result<(), AllocError>
+        ensures state { state_of self.new ≡ state_of self.old }
+        ensures room { OnOk result (HasRoom bytes self.new) }
+        ensures keeps_room { (n : ℕ) → HasRoom n self.old → HasRoom n self.new }
+    {
+        self.code.reserve(bytes)?;
+        self.scl.code.reserve(bytes)?;
+        self.sda.code.reserve(bytes)
+    }
+
+    /// Reads the next token, which stands on this line. The sample is that of the time stamp which it closes.
+    #[tactic(auto, unfolding(crate::specs::Dumps::step))]
+    #[inline(always)]
+    pub(crate) fn read(&mut self, token: &[u8], line: u64) -> Result<Option<Sample>, Refusal>
+        requires { HasRoom (length token.now) self.old }
+        ensures step { Steps result (step (state_of self.old) token.now line) (state_of self.new) }
+        ensures room { (n : ℕ) → HasRoom n self.old → HasRoom n self.new }
+    {
+        match self.context {
+            Context::Nothing => {
+                if self.defined {
+                    return self.change(token, line);
+                }
+                self.define(token, line)?;
+            }
+            Context::Skipped(_) => {
+                if is_end(token) {
+                    self.context = Context::Nothing;
+                }
+            }
+            Context::Var(began, seen) => self.inside_var(began, seen, token, line)?,
+            Context::EndDefinitions(_) => {
+                if is_end(token) {
+                    self.end_definitions()?;
+                }
+            }
+            Context::Change(_, level) => {
+                self.context = Context::Nothing;
+                self.change_of_code(level, token, line)?;
+            }
+        }
+        Ok(None)
+    }
+
+    /// The end of the text closes the last time stamp.
+    pub(crate) fn end(&self) -> Result<Option<Sample>, Refusal>
+        ensures { result ≡ at_end (state_of self.now) }
+    {
+        if let Some(line) = self.open_line() {
+            return Err(Refusal::Unended(line));
+        }
+        if self.defined {
+            return Ok(self.stamp_sample());
+        }
+        match self.missing() {
+            Some(signal) => Err(Refusal::NoSignal(signal)),
+            None => Ok(None),
+        }
+    }
+
+    // Where the first of the things that are open began.
+    fn open_line(&self) -> Option<u64>
+        ensures { result ≡ open_line (state_of self.now) }
+    {
+        if self.block.is_some() {
+            return self.block;
+        }
+        match self.context {
+            Context::Nothing => None,
+            Context::Skipped(line)
+            | Context::Var(line, _)
+            | Context::EndDefinitions(line)
+            | Context::Change(line, _) => Some(line),
+        }
+    }
+}

@@ -1,0 +1,24 @@
+//! Value change dumps (IEEE 1364-2005, clause 18): the levels of the two lines of a bus, as a simulator or a logic
+//! analyser recorded them.
+//!
+//! `Reader` takes a dump in pieces of any size, cut anywhere, and answers its samples. `scanner` cuts the pieces into
+//! tokens, with `bytes`, which tells white space and counts lines. `words` says what a single token is. `dumps` has
+//! what the tokens so far have said, with `definitions` and `changes` for the two parts of a dump and `wires` for the
+//! two lines. `laws` says of the dumps that the standard's grammar spells which samples they have.
+#![tactic(auto)]
+
+mod bytes;
+mod changes;
+mod definitions;
+mod dumps;
+pub mod errors;
+pub mod laws;
+pub mod reader;
+pub mod samples;
+mod scanner;
+mod wires;
+mod words;
+
+pub use errors::{Refusal, VcdError};
+pub use reader::Reader;
+pub use samples::{Level, Sample, Signal};

@@ -1,0 +1,114 @@
+// A reader of dumps that come in pieces.
+
+ghost use Rattle.vcd_read.specs.Pieces.{RoomForToken, RoomForSamples};
+
+use crate::errors::{Refusal, VcdError};
+use crate::samples::Sample;
+use crate::scanner::Scanner;
+use std::alloc::{AllocError, Global};
+
+/// A reader of a dump that comes in pieces of any size, cut anywhere.
+///
+/// It keeps the token that has not ended, the command that is open, the codes and levels of the two signals, and the
+/// samples that were not cleared. A token counts as read once the white space after it has been fed, the last one at
+/// the end.
+#[derive(Debug, Drop)]
+pub struct Reader {
+    scanner: Scanner,
+    refused: Option<Refusal>,
+    ghost held_fits: { RoomForToken 0 scanner },
+    ghost last_samples_fit: { RoomForSamples 2 scanner },
+}
+
+impl Reader {
+    ghost use Rattle.std.specs.Prelude.{◌≡◌, ℕ, List, [], ◌++◌, IfOk, Err, MatchResult};
+    ghost use Rattle.vcd_read.specs.declared.errors.VcdError.TheVariants.{NoMemory};
+    ghost use Rattle.vcd_read.specs.declared.samples.Sample.{Sample};
+    ghost use Rattle.vcd_read.specs.Dumps.{samples_of, said_so_far};
+    ghost use Rattle.vcd_read.specs.Readers.{Fed, UnlessMemory, Answers, IsRefusal, reading_of, samples_in};
+    ghost use Rattle.vcd_read.specs.Refusals.{error_of};
+
+    /// A reader of the lines that a dump calls by these names.
+    ///
+    /// # Errors
+    ///
+    /// V5 where memory is refused.
+    pub fn new(alloc: Global, scl: &str, sda: &str) -> Result<Reader, AllocError>
+        ensures { IfOk result (λ r. Fed scl.now sda.now [] [] (reading_of r)) }
+    {
+        Ok(Reader {
+            scanner: Scanner::new(alloc, scl, sda)?,
+            refused: None,
+        })
+    }
+
+    /// Takes the next piece of the dump.
+    ///
+    /// # Errors
+    ///
+    /// V1 to V4 in the call in which their token is read, and then in every later call. V5 where memory is refused: the
+    /// reader is then as before the call, and may be fed the same piece again.
+    pub fn feed(&mut self, piece: &[u8]) -> Result<(), VcdError>
+        // The text that it was fed grows by the piece, unless memory is refused.
+        ensures fed { (scl sda text : List ℕ) (cleared : List Sample) →
+            Fed scl sda text cleared (reading_of self.old) →
+            UnlessMemory result (Fed scl sda (text ++ piece.now) cleared (reading_of self.new)) }
+
+        // A refusal comes in the call in which its token is read, and then in every later call.
+        ensures told { (scl sda text : List ℕ) (cleared : List Sample) →
+            Fed scl sda text cleared (reading_of self.old) → Answers result (said_so_far scl sda (text ++ piece.now)) }
+        ensures again { (scl sda text : List ℕ) (cleared : List Sample) →
+            Fed scl sda text cleared (reading_of self.old) →
+            MatchResult (said_so_far scl sda text) (λ _. Unit {0}) (λ refusal. result ≡ Err (error_of refusal)) }
+        ensures memory { result ≡ Err NoMemory → reading_of self.new ≡ reading_of self.old }
+    {
+        if let Some(refusal) = self.refused {
+            return Err(VcdError::from(refusal));
+        }
+        self.scanner.reserve(piece.len())?;
+        match self.scanner.read(piece) {
+            Ok(()) => Ok(()),
+            Err(refusal) => {
+                self.refused = Some(refusal);
+                Err(VcdError::from(refusal))
+            }
+        }
+    }
+
+    /// The samples so far, without those that were cleared.
+    pub fn samples(&self) -> &[Sample]
+        ensures samples { result.now ≡ samples_in (reading_of self.now) }
+        ensures so_far { (scl sda text : List ℕ) (cleared : List Sample) →
+            Fed scl sda text cleared (reading_of self.now) →
+            IfOk (said_so_far scl sda text) (λ said. said.1 ≡ cleared ++ result.now) }
+    {
+        self.scanner.samples.as_slice()
+    }
+
+    /// Forgets the samples so far, which the caller has used.
+    pub fn clear_samples(&mut self)
+        ensures { (scl sda text : List ℕ) (cleared : List Sample) →
+            Fed scl sda text cleared (reading_of self.old) →
+            Fed scl sda text (cleared ++ samples_in (reading_of self.old)) (reading_of self.new) }
+    {
+        self.scanner.samples.clear();
+    }
+
+    /// The end of the dump: its samples, without those that were cleared. This takes no memory.
+    ///
+    /// # Errors
+    ///
+    /// V1 to V4.
+    pub fn end(self) -> Result<Vec<Sample>, VcdError>
+        ensures { (scl sda text : List ℕ) (cleared : List Sample) →
+            Fed scl sda text cleared (reading_of self) →
+            MatchResult result (λ samples. samples_of scl sda text ≡ Ok (cleared ++ samples.items))
+            (λ e. IsRefusal (samples_of scl sda text) e) }
+    {
+        if let Some(refusal) = self.refused {
+            return Err(VcdError::from(refusal));
+        }
+        let samples = self.scanner.end()?;
+        Ok(samples)
+    }
+}

@@ -1,0 +1,144 @@
+// The bytes of a dump, cut into tokens.
+
+ghost use Rattle.std.specs.Prelude.{◌≡◌, ℕ, ◌+◌, ◌<◌, ◌≤◌, ◌++◌, [], length, vec_len, vec_capacity, option_to_list};
+ghost use Rattle.std.specs.Prelude.{IfOk, OnOk, MatchResult, Ok, Err};
+ghost use Rattle.vcd_read.specs.Pieces.{kept_at_first, kept_of, with_held, bytes_read, token_ended};
+ghost use Rattle.vcd_read.specs.Pieces.{samples_at_end, Scans, RoomForToken, RoomForSamples};
+
+use crate::bytes::{is_white, line_after};
+use crate::dumps::Dump;
+use crate::errors::Refusal;
+use crate::samples::Sample;
+use std::alloc::{AllocError, Global};
+
+/// What a reader keeps of the bytes that it was fed.
+#[derive(Debug, Drop)]
+pub(crate) struct Scanner {
+    dump: Dump,
+    // the line of the next byte
+    line: u64,
+    // the token that has not ended
+    held: Vec<u8>,
+    pub(crate) samples: Vec<Sample>,
+}
+
+impl Scanner {
+    /// Before the first byte.
+    pub(crate) fn new(alloc: Global, scl: &str, sda: &str) -> Result<Scanner, AllocError>
+        ensures kept { IfOk result (λ s. kept_of s ≡ kept_at_first scl.now sda.now) }
+        ensures token_room { IfOk result (λ s. RoomForToken 0 s) }
+        ensures samples_room { IfOk result (λ s. RoomForSamples 2 s) }
+    {
+        let mut samples = Vec::new(alloc);
+        samples.reserve(2)?;
+        Ok(Scanner {
+            dump: Dump::new(alloc, scl, sda)?,
+            line: 1,
+            held: Vec::new(alloc),
+            samples,
+        })
+    }
+
+    /// Makes room for all that a piece of so many bytes can leave, and for two samples more. A failure changes nothing.
+    pub(crate) fn reserve(&mut self, bytes: usize) -> Result<(), AllocError>
+        requires token_room { RoomForToken 0 self.old }
+        requires samples_room { RoomForSamples 2 self.old }
+        ensures kept { kept_of self.new ≡ kept_of self.old }
+        ensures token_room { OnOk result (RoomForToken bytes self.new) }
+        ensures samples_room { OnOk result (RoomForSamples (bytes + 2) self.new) }
+        ensures least_token_room { RoomForToken 0 self.new }
+        ensures least_samples_room { RoomForSamples 2 self.new }
+    {
+        self.held.reserve(bytes)?;
+        let samples = bytes.checked_add(2).ok_or(AllocError)?;
+        self.samples.reserve(samples)?;
+        self.dump.reserve(self.held.capacity())
+    }
+
+    /// Reads a piece for which there is room.
+    pub(crate) fn read(&mut self, piece: &[u8]) -> Result<(), Refusal>
+        requires token_room { RoomForToken (length piece.now) self.old }
+        requires samples_room { RoomForSamples (length piece.now + 2) self.old }
+        ensures kept { Scans result (bytes_read (kept_of self.old) piece.now) (kept_of self.new) }
+        ensures token_room { RoomForToken 0 self.new }
+        ensures samples_room { RoomForSamples 2 self.new }
+    {
+        let mut start = 0;
+        for (at, byte) in piece.iter().enumerate() {
+            if is_white(*byte) {
+                self.end_token(&piece[start..at])?;
+                self.line = line_after(self.line, *byte);
+                start = at + 1;
+            }
+        }
+        let _ = self.held.extend_from_slice(&piece[start..]);
+        Ok(())
+    }
+
+    // What is held, with this behind it, has come to its end.
+    #[inline(always)]
+    fn end_token(&mut self, rest: &[u8]) -> Result<(), Refusal>
+        requires token_room { RoomForToken (length rest.now) self.old }
+        requires samples_room { RoomForSamples 1 self.old }
+        ensures kept { Scans result (token_ended (with_held rest.now (kept_of self.old))) (kept_of self.new) }
+        ensures nothing_held { OnOk result (self.new.held.items ≡ []) }
+        ensures token_room { (n : ℕ) → RoomForToken (n + length rest.now) self.old → RoomForToken n self.new }
+        ensures samples_room { (n : ℕ) → RoomForSamples (n + 1) self.old → RoomForSamples n self.new }
+    {
+        if !self.held.is_empty() {
+            return self.end_held(rest);
+        }
+        if rest.is_empty() {
+            return Ok(());
+        }
+        let sample = self.dump.read(rest, self.line)?;
+        keep(&mut self.samples, sample);
+        Ok(())
+    }
+
+    // The same where something is held.
+    #[inline(never)]
+    fn end_held(&mut self, rest: &[u8]) -> Result<(), Refusal>
+        requires token_room { RoomForToken (length rest.now) self.old }
+        requires samples_room { RoomForSamples 1 self.old }
+        requires some_held { 0 < vec_len self.old.held }
+        ensures kept { Scans result (token_ended (with_held rest.now (kept_of self.old))) (kept_of self.new) }
+        ensures nothing_held { OnOk result (self.new.held.items ≡ []) }
+        ensures token_room { (n : ℕ) → RoomForToken (n + length rest.now) self.old → RoomForToken n self.new }
+        ensures samples_room { (n : ℕ) → RoomForSamples (n + 1) self.old → RoomForSamples n self.new }
+    {
+        let _ = self.held.extend_from_slice(rest);
+        let sample = self.dump.read(self.held.as_slice(), self.line)?;
+        self.held.clear();
+        keep(&mut self.samples, sample);
+        Ok(())
+    }
+
+    /// The end of the dump: its samples.
+    pub(crate) fn end(mut self) -> Result<Vec<Sample>, Refusal>
+        requires token_room { RoomForToken 0 self }
+        requires samples_room { RoomForSamples 2 self }
+        ensures { MatchResult result (λ samples. samples_at_end (kept_of self) ≡ Ok samples.items)
+            (λ refusal. samples_at_end (kept_of self) ≡ Err refusal) }
+    {
+        self.end_token(&[])?;
+        if let Some(sample) = self.dump.end()? {
+            self.samples.push_reserved(sample);
+        }
+        let Scanner { samples, .. } = self;
+        Ok(samples)
+    }
+}
+
+// Keeps the sample, if there is one.
+#[inline(always)]
+fn keep(samples: &mut Vec<Sample>, sample: Option<Sample>)
+    requires { vec_len samples.old + 1 ≤ vec_capacity samples.old }
+    ensures items { samples.new.items ≡ samples.old.items ++ option_to_list sample }
+    ensures len { vec_len samples.new ≤ vec_len samples.old + 1 }
+    ensures capacity { vec_capacity samples.new ≡ vec_capacity samples.old }
+{
+    if let Some(sample) = sample {
+        samples.push_reserved(sample);
+    }
+}

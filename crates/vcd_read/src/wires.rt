@@ -1,0 +1,89 @@
+// One of the two lines of the bus, as a dump tells of it.
+
+ghost use Rattle.std.specs.Prelude.{◌≡◌, ◌≤◌, length, vec_capacity, IfOk};
+
+use crate::samples::Level;
+use std::alloc::{AllocError, Global};
+
+/// A line: the name that its `$var` has, the code that this `$var` gives it, and its levels.
+#[derive(Debug, Drop)]
+pub(crate) struct Wire {
+    name: String,
+    // empty until the `$var` has come
+    pub(crate) code: Vec<u8>,
+    // before the time stamp, and now
+    before: Level,
+    level: Level,
+}
+
+impl Wire {
+    ghost use Rattle.vcd_read.specs.Definitions.{named_by};
+    ghost use Rattle.vcd_read.specs.Changes.{changed, settled, stays_level};
+    ghost use Rattle.vcd_read.specs.Views.{line_of};
+    ghost use Rattle.vcd_read.specs.States.{line_at_first};
+    ghost use Rattle.vcd_read.specs.Words.{is_empty};
+
+    /// The line of this name, before the first token.
+    pub(crate) fn new(alloc: Global, name: &str) -> Result<Wire, AllocError>
+        ensures { IfOk result (λ w. line_of w ≡ line_at_first name.now) }
+    {
+        Ok(Wire {
+            name: String::from_str(alloc, name)?,
+            code: Vec::new(alloc),
+            before: Level::Unknown,
+            level: Level::Unknown,
+        })
+    }
+
+    /// Whether no `$var` of one bit has named it yet.
+    pub(crate) fn is_missing(&self) -> bool
+        ensures { result ≡ is_empty (line_of self.now).code }
+    {
+        self.code.is_empty()
+    }
+
+    /// A `$var` of one bit has this reference and this code.
+    pub(crate) fn name_by(&mut self, reference: &[u8], code: &[u8])
+        requires { length code.now ≤ vec_capacity self.old.code }
+        ensures line { line_of self.new ≡ named_by reference.now code.now (line_of self.old) }
+        ensures room { vec_capacity self.old.code ≤ vec_capacity self.new.code }
+    {
+        if self.is_missing() && reference == self.name.as_bytes() {
+            self.code.clear();
+            let _ = self.code.extend_from_slice(code);
+        }
+    }
+
+    /// A change of this code sets the level.
+    #[inline(always)]
+    pub(crate) fn change(&mut self, code: &[u8], level: Level)
+        ensures line { line_of self.new ≡ changed code.now level (line_of self.old) }
+        ensures code { self.new.code ≡ self.old.code }
+    {
+        if code == self.code.as_slice() {
+            self.level = level;
+        }
+    }
+
+    /// The level now.
+    pub(crate) fn level(&self) -> Level
+        ensures { result ≡ (line_of self.now).level }
+    {
+        self.level
+    }
+
+    /// Whether the level now is that before the time stamp.
+    pub(crate) fn is_unchanged(&self) -> bool
+        ensures { result ≡ stays_level (line_of self.now) }
+    {
+        self.before == self.level
+    }
+
+    /// A later time stamp begins.
+    pub(crate) fn settle(&mut self)
+        ensures line { line_of self.new ≡ settled (line_of self.old) }
+        ensures code { self.new.code ≡ self.old.code }
+    {
+        self.before = self.level;
+    }
+}

@@ -1,0 +1,115 @@
+// What a single token says.
+
+ghost use Rattle.std.specs.Prelude.{◌≡◌};
+ghost use Rattle.vcd_read.specs.Words.{command_of, named_command, is_end, level_of, vector_level};
+ghost use Rattle.vcd_read.specs.Words.{is_code, is_code_byte, time_of};
+
+use crate::samples::Level;
+
+/// What a token that begins with `$` is.
+#[derive(Clone, Copy, Debug, PartialEq, Eq)]
+pub(crate) enum Command {
+    Var,
+    EndDefinitions,
+    /// `$dumpvars`, `$dumpall`, `$dumpoff` or `$dumpon`: value changes follow.
+    Changes,
+    End,
+    /// A comment or any other command: what follows is skipped.
+    Other,
+}
+
+/// The command that a token is.
+pub(crate) fn command_of(token: &[u8]) -> Option<Command>
+    ensures { result ≡ command_of token.now }
+{
+    let (first, _) = token.split_first()?;
+    if *first == b'$' {
+        Some(named_command(token))
+    } else {
+        None
+    }
+}
+
+fn named_command(token: &[u8]) -> Command
+    ensures { result ≡ named_command token.now }
+{
+    if is_end(token) {
+        Command::End
+    } else if token == b"$var".as_slice() {
+        Command::Var
+    } else if token == b"$enddefinitions".as_slice() {
+        Command::EndDefinitions
+    } else if token == b"$dumpvars".as_slice()
+        || token == b"$dumpall".as_slice()
+        || token == b"$dumpoff".as_slice()
+        || token == b"$dumpon".as_slice()
+    {
+        Command::Changes
+    } else {
+        Command::Other
+    }
+}
+
+/// Whether a token is `$end`.
+pub(crate) fn is_end(token: &[u8]) -> bool
+    ensures { result ≡ is_end token.now }
+{
+    token == b"$end".as_slice()
+}
+
+/// The level that a value stands for.
+#[inline(always)]
+pub(crate) fn level_of(value: u8) -> Option<Level>
+    ensures { result ≡ level_of value }
+{
+    match value {
+        b'0' => Some(Level::Low),
+        b'1' | b'z' | b'Z' => Some(Level::High),
+        b'x' | b'X' => Some(Level::Unknown),
+        _ => None,
+    }
+}
+
+/// The level of the rightmost digit of a vector.
+pub(crate) fn vector_level(digits: &[u8]) -> Option<Level>
+    ensures { result ≡ vector_level digits.now }
+{
+    let mut rightmost = None;
+    for digit in digits {
+        rightmost = Some(level_of(*digit)?);
+    }
+    rightmost
+}
+
+/// Whether these bytes are an identifier code.
+#[inline(always)]
+pub(crate) fn is_code(bytes: &[u8]) -> bool
+    ensures { result ≡ is_code bytes.now }
+{
+    !bytes.is_empty() && bytes.iter().all(|byte| is_code_byte(*byte))
+}
+
+#[inline(always)]
+fn is_code_byte(byte: u8) -> bool
+    ensures { result ≡ is_code_byte byte }
+{
+    b'!' <= byte && byte <= b'~'
+}
+
+/// The time that the digits write.
+#[inline(always)]
+pub(crate) fn time_of(digits: &[u8]) -> Option<u64>
+    ensures { result ≡ time_of digits.now }
+{
+    if digits.is_empty() {
+        return None;
+    }
+    let mut time = 0u64;
+    for digit in digits {
+        if *digit < b'0' || b'9' < *digit {
+            return None;
+        }
+        time = time.checked_mul(10)?.checked_add(u64::from(*digit - b'0'))?;
+    }
+    Some(time)
+}

@@ -1,0 +1,27 @@
+// The pairs of a plan that are not safe, found on one thread.
+
+ghost use Rattle.std.specs.Prelude.{IfOk};
+ghost use Rattle.plan_core.specs.PlanContents.{plan_contents};
+ghost use Rattle.verdicts.specs.Faults.{AreFaults, fault_list};
+
+use crate::known::known_pairs;
+use crate::listed::{Faults, list_if_unsafe};
+use crate::senders::place_of;
+use plan_core::Plan;
+use std::alloc::{AllocError, Global};
+
+/// The pairs of the plan that are not safe, each with its first fault, in the order of the pairs.
+///
+/// No proof is made. Two senders, of which each is a message or an interrupt, are compared once however many pairs
+/// they make. Memory is taken for what is known of two senders, 82,944 times at most, and for the number of each unsafe
+/// pair.
+pub fn faults(alloc: Global, plan: &Plan) -> Result<Faults, AllocError>
+    ensures { IfOk result (λ faults. AreFaults (plan_contents plan.now) (fault_list faults)) }
+{
+    let known = known_pairs(alloc, plan)?;
+    let mut listed = Vec::new(alloc);
+    for i in 0..plan.pair_count() {
+        list_if_unsafe(&mut listed, &known, i, place_of(plan, i))?;
+    }
+    Ok(Faults { known, listed })
+}
