@@ -3,6 +3,7 @@ pub mod Entries
 pub mod Faults
 pub mod Known
 pub mod Lines
+pub mod Parts
 pub mod Senders
 pub mod Tables
 pub mod Verdicts

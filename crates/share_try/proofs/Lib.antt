@@ -1,3 +1,0 @@
-pub mod Few
-pub mod Gathered
-pub mod Ranges
