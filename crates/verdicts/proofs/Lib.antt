@@ -5,4 +5,5 @@ pub mod Gathered
 pub mod KnownLemmas
 pub mod ProofLines
 pub mod Ranges
+pub mod SampleLemmas
 pub mod TableLemmas

@@ -4,6 +4,7 @@ pub mod Faults
 pub mod Known
 pub mod Lines
 pub mod Parts
+pub mod Samples
 pub mod Senders
 pub mod Tables
 pub mod Verdicts

@@ -1,7 +1,8 @@
 // Work on the numbers below n, shared among threads: each number is worked on once, and what was found is told in the
 // order of the numbers, whatever the schedule, the gate and the threads that could be made.
 
-ghost use Rattle.std.specs.Prelude.{◌≡◌, ◌<◌, ◌≤◌, ◌+◌, ◌++◌, ◌∷◌, ℕ, [], true, Ok, All, IfOk, OnOk, length, vec_len, flat_map, map, slice_index_or};
+ghost use Rattle.std.specs.Prelude.{◌≡◌, ◌<◌, ◌≤◌, ◌++◌, ◌∷◌, ℕ, [], true, Ok, All, IfOk, OnOk};
+ghost use Rattle.std.specs.Prelude.{vec_len, flat_map, map, slice_index_or};
 ghost use Rattle.std.specs.Thread.{IsSync};
 ghost use Rattle.pair_queue.specs.Seats.{Queue, fresh};
 ghost use Rattle.pair_queue.specs.Dispatch.{first_numbers};
@@ -29,14 +30,16 @@ fn steal_in_threads<
     requires fresh { All (λ j. j.thief.taken ≡ []) jobs.items }
     requires calls { All (λ j. (i : ℕ) → i < j.thief.queue.numbers → F.pre f.now i) jobs.items }
     ensures len { IfOk result (λ v. vec_len v ≡ vec_len jobs) }
-    ensures parts { (q : Queue) → All (λ j. j.thief.queue ≡ q) jobs.items → IfOk result (λ v. All (IsPart (λ i x. F.post f.now i (Ok x)) q) v.items) }
+    ensures parts { (q : Queue) → All (λ j. j.thief.queue ≡ q) jobs.items →
+        IfOk result (λ v. All (IsPart (λ i x. F.post f.now i (Ok x)) q) v.items) }
 {
     thread::map_vec(
         rt,
         jobs,
         &|job: Job| -> Part<X>
             requires { (job.thief.taken ≡ []) × ((i : ℕ) → i < job.thief.queue.numbers → F.pre f.now i) }
-            ensures { (result.thief.queue ≡ job.thief.queue) × IfOk result.found (λ v. IsFoundOf (λ i x. F.post f.entry.now i (Ok x)) result.thief.taken v.items) }
+            ensures { (result.thief.queue ≡ job.thief.queue) × IfOk result.found (λ v.
+                IsFoundOf (λ i x. F.post f.entry.now i (Ok x)) result.thief.taken v.items) }
         { steal(alloc, job, gate, f) },
     )
 }
@@ -89,12 +92,18 @@ fn work_together<
     thread::join(
         rt,
         move || -> Result<Vec<Part<X>>, AllocError>
-            requires { All (λ j. j.thief.taken ≡ []) jobs.items × All (λ j. (i : ℕ) → i < j.thief.queue.numbers → F.pre f.now i) jobs.items × IsSync R.row × IsSync G.row × IsSync F.row }
-            ensures { IfOk result (λ v. vec_len v ≡ vec_len jobs) × ((q : Queue) → All (λ j. j.thief.queue ≡ q) jobs.items → IfOk result (λ v. All (IsPart (λ i x. F.post f.entry.now i (Ok x)) q) v.items)) }
+            requires { All (λ j. j.thief.taken ≡ []) jobs.items
+                × All (λ j. (i : ℕ) → i < j.thief.queue.numbers → F.pre f.now i) jobs.items
+                × IsSync R.row × IsSync G.row × IsSync F.row }
+            ensures { IfOk result (λ v. vec_len v ≡ vec_len jobs)
+                × ((q : Queue) → All (λ j. j.thief.queue ≡ q) jobs.items →
+                IfOk result (λ v. All (IsPart (λ i x. F.post f.entry.now i (Ok x)) q) v.items)) }
         { steal_in_threads(rt, alloc, jobs, gate, f) },
         move || -> (Owner, Result<Vec<Found<X>>, AllocError>)
             requires { (owner.taken ≡ []) × ((i : ℕ) → i < owner.queue.numbers → F.pre f.now i) }
-            ensures { (result.0.queue ≡ owner.queue) × IfOk result.1 (λ v. IsFoundOf (λ i x. F.post f.entry.now i (Ok x)) result.0.taken v.items) × OnOk result.1 (result.0.ended ≡ true) }
+            ensures { (result.0.queue ≡ owner.queue)
+                × IfOk result.1 (λ v. IsFoundOf (λ i x. F.post f.entry.now i (Ok x)) result.0.taken v.items)
+                × OnOk result.1 (result.0.ended ≡ true) }
         { own_all(alloc, owner, gate, f) },
     )
 }

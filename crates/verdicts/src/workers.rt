@@ -1,6 +1,7 @@
 // One worker, and what it finds.
 
-ghost use Rattle.std.specs.Prelude.{◌≡◌, ◌<◌, ◌≤◌, length, ◌++◌, ◌∷◌, ℕ, [], true, Ok, IfOk, OnOk, MatchOption};
+ghost use Rattle.std.specs.Prelude.{◌≡◌, ◌<◌, ◌≤◌, ◌++◌, ◌∷◌, ℕ, [], true, Ok};
+ghost use Rattle.std.specs.Prelude.{length, IfOk, OnOk, MatchOption};
 ghost use Rattle.verdicts.specs.Parts.{IsFoundOf};
 
 use crate::gates::Gate;
@@ -31,8 +32,8 @@ pub(crate) fn own<X: Drop, G: Gate, F: Fn(u32) -> Result<X, AllocError>>(
     Ok(found)
 }
 
-/// A thief takes until it is told that there is no number left, or is told too often that the queue is busy, and works on
-/// each number.
+/// A thief takes until it is told that there is no number left, or is told too often in a row that the queue is busy,
+/// and works on each number.
 pub(crate) fn steal<X: Drop, G: Gate, F: Fn(u32) -> Result<X, AllocError>>(
     alloc: Global,
     job: Job,
@@ -68,9 +69,12 @@ fn steal_all<X: Drop, G: Gate, F: Fn(u32) -> Result<X, AllocError>>(
     Ok(found)
 }
 
+// The next number, or none where there is none left or the queue was busy too often in a row.
 fn ask(thief: &mut Thief) -> Option<u32>
     ensures queue { thief.new.queue ≡ thief.old.queue }
-    ensures number { MatchOption result (thief.new.taken ≡ thief.old.taken) (λ i. (thief.new.taken ≡ thief.old.taken ++ i ∷ []) × (i < thief.old.queue.numbers) × (length thief.new.taken ≤ thief.new.queue.numbers)) }
+    ensures number { MatchOption result (thief.new.taken ≡ thief.old.taken) (λ i.
+        (thief.new.taken ≡ thief.old.taken ++ i ∷ []) × (i < thief.old.queue.numbers)
+        × (length thief.new.taken ≤ thief.new.queue.numbers)) }
 {
     for _ in 0..MOST_ASKS {
         match thief.take() {
@@ -91,7 +95,8 @@ fn work<X: Drop, G: Gate, F: Fn(u32) -> Result<X, AllocError>>(
     f: &F,
 ) -> Result<(), AllocError>
     requires { F.pre f.now number }
-    ensures { OnOk result ((x : X) × (found.new.items ≡ found.old.items ++ record { number = number; value = x } ∷ []) × F.post f.now number (Ok x)) }
+    ensures { OnOk result ((x : X) × (found.new.items ≡ found.old.items ++ record { number = number; value = x } ∷ [])
+        × F.post f.now number (Ok x)) }
 {
     gate.before(worker, number);
     let value = f(number)?;
