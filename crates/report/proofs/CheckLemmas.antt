@@ -1,5 +1,5 @@
 -- What a check knows of a plan text that is refused, and of one that is not.
-use Rattle.std.proofs.Common.{◌≡◌, ◌⊎◌, List, ℕ, inl, inr, subst}
+use Rattle.std.proofs.Common.{◌≡◌, ◌<◌, ◌≤◌, ◌⊎◌, List, ℕ, Result, Ok, Err, IsErrAnd, inl, inr, refl, subst, arith}
 use Rattle.plan_core.specs.Contents.{Contents}
 use Rattle.pair_walk.specs.declared.walk_pair.Verdict.{Verdict}
 use Rattle.plan_text.specs.Grammar.{Spells}
@@ -10,7 +10,12 @@ use Rattle.verdicts.specs.Verdicts.{AreVerdicts}
 use Rattle.report.specs.Checks.{Judges, Checked, RefusesPlan}
 use Rattle.report.specs.Lines.{check_lines}
 use Rattle.report.specs.declared.runs.Status.{Status}
-use Rattle.report.specs.RunErrors.{run_error}
+use Rattle.report.specs.declared.errors.RunError.{RunError}
+use Rattle.report.specs.declared.errors.RunError.TheVariants as error
+use Rattle.report.specs.RunErrors.{run_error, table_error}
+use Rattle.verdicts.specs.declared.errors.TableError.{TableError}
+use Rattle.verdicts.specs.declared.errors.TableError.TheVariants as table
+use Rattle.verdicts.specs.declared.sharing.TheConstants.{MOST_WORKERS}
 
 pub refuses_plan : (text : List ℕ) (e : PlanError) → (e ≡ plan.NoMemory) ⊎ First text e → RefusesPlan text (run_error e)
 refuses_plan text plan.NoMemory h = tt
@@ -27,3 +32,17 @@ checks text slice report plan verdicts status same spelled right lines judged = 
   lines = lines;
   judged = judged;
 }
+
+-- what workers answer with enough of them refuses no text, but for want of memory
+pub refuses_none : (text : List ℕ) (e : TableError) → (e ≡ table.Workers → ⊥) → RefusesPlan text (table_error e)
+refuses_none text table.Workers h = absurd (h refl)
+refuses_none text table.NoMemory h = tt
+
+pub enough_workers : (workers : ℕ) → 1 ≤ workers → workers ≤ MOST_WORKERS → (workers < 1) ⊎ (MOST_WORKERS < workers) → ⊥
+enough_workers workers least most (inl few) = absurd (omega (arith, least, few))
+enough_workers workers least most (inr many) = absurd (omega (arith, most, many))
+
+pub workers_not_told : {T : Type 0} (r : Result T RunError) (e : TableError) → IsErrAnd r (λ told. told ≡ table_error e) → (e ≡ table.Workers → ⊥) → r ≡ Err error.Workers → ⊥
+workers_not_told (Ok v) e h other same = cc
+workers_not_told (Err told) table.Workers h other same = other refl
+workers_not_told (Err told) table.NoMemory h other same = cc

@@ -1,12 +1,14 @@
--- A refusal of a plan text, and of an acceptance, as that of a run.
+-- A refusal of a plan text, of an acceptance, and of workers, as that of a run.
 use Rattle.cert_check.specs.declared.answers.AcceptError.{AcceptError}
 use Rattle.cert_check.specs.declared.answers.AcceptError.TheVariants as accept
 use Rattle.plan_text.specs.declared.errors.PlanError.{PlanError}
 use Rattle.plan_text.specs.declared.errors.PlanError.TheVariants as plan
 use Rattle.report.specs.declared.errors.RunError.{RunError}
-use Rattle.report.specs.declared.errors.RunError.TheVariants.{Plan, Vcd, NoMemory}
+use Rattle.report.specs.declared.errors.RunError.TheVariants.{Plan, Vcd, Workers, NoMemory}
 use Rattle.vcd_read.specs.declared.errors.VcdError.{VcdError}
 use Rattle.vcd_read.specs.declared.errors.VcdError.TheVariants as vcd
+use Rattle.verdicts.specs.declared.errors.TableError.{TableError}
+use Rattle.verdicts.specs.declared.errors.TableError.TheVariants as table
 
 -- the same refusal; want of memory has no place in the text
 abbrev pub run_error : PlanError → RunError
@@ -21,3 +23,8 @@ accept_error accept.NoMemory = NoMemory
 abbrev pub vcd_error : VcdError → RunError
 vcd_error vcd.NoMemory = NoMemory
 vcd_error e = Vcd e
+
+-- where workers give no answer
+abbrev pub table_error : TableError → RunError
+table_error table.Workers = Workers
+table_error table.NoMemory = NoMemory

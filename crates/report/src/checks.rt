@@ -1,6 +1,6 @@
 // The run of a check.
 
-ghost use Rattle.std.specs.Prelude.{◌≡◌, ◌≢◌, ◌↔◌, IsTrue, IfOk, IfErr};
+ghost use Rattle.std.specs.Prelude.{◌≡◌, ◌<◌, ◌≤◌, ◌⊎◌, ◌↔◌, IsTrue, IfOk, IfErr};
 ghost use Rattle.plan_core.specs.Contents.{Contents};
 ghost use Rattle.plan_core.specs.Faults.{IsSafe};
 ghost use Rattle.report.specs.Checks.{Judges, Checked, RefusesPlan};
@@ -13,21 +13,23 @@ use crate::lines::check_report;
 use crate::runs::{Status, write_lines};
 use plan_text::read_plan;
 use std::alloc::Global;
-use verdicts::faults;
+use std::thread::Threads;
+use verdicts::{MOST_WORKERS, NoGate, faults_with};
 
 /// Checks the plan that the reader gives, and writes the verdicts of its unsafe pairs and their number.
 ///
-/// The number of workers is looked at before the first read. The report is complete before its first byte is written.
+/// The work is shared among so many workers, each in a thread of its own where one can be made; the report is the same
+/// for each number of them. This number is looked at before the first read. The report is complete before its first byte is written.
 /// The status is `Good` or `Bad`.
 ///
 /// # Errors
 ///
-/// `Workers` for every number but 1. Then `Read` where the reader failed or gave no end, `Plan` with the first refusal
+/// `Workers` for 0 and for more than 8 workers. Then `Read` where the reader failed or gave no end, `Plan` with the first refusal
 /// of the plan text, and `Write` where the writer failed or took no bytes. `NoMemory` where memory is refused. Only
 /// after `Write` has a part of the report been written: its first bytes. After every other error the writer was not
 /// called.
-pub fn run_check<R, I: Input, O: Output>(
-    _rt: &R,
+pub fn run_check<R: Threads + Sync, I: Input, O: Output>(
+    rt: &R,
     alloc: Global,
     plan: &mut I,
     out: &mut O,
@@ -35,18 +37,18 @@ pub fn run_check<R, I: Input, O: Output>(
 ) -> Result<Status, RunError>
     ensures report { IfOk result (λ status.
         Reports (ReadsText I.reader) Checked O.writer plan.old out.old status plan.new out.new) }
-    ensures stops { workers ≡ 1 → IfErr result (λ error.
+    ensures stops { (1 ≤ workers) × (workers ≤ MOST_WORKERS) → IfErr result (λ error.
         Stops (ReadsText I.reader) Checked O.writer (HaltsAtText I.reader RefusesPlan)
         plan.old out.old error plan.new out.new) }
-    ensures workers { result ≡ Err RunError.Workers ↔ (workers ≢ 1) }
-    ensures unread { workers ≢ 1 → (plan.new ≡ plan.old) × (out.new ≡ out.old) }
+    ensures workers { result ≡ Err RunError.Workers ↔ ((workers < 1) ⊎ (MOST_WORKERS < workers)) }
+    ensures unread { (workers < 1) ⊎ (MOST_WORKERS < workers) → (plan.new ≡ plan.old) × (out.new ≡ out.old) }
 {
-    if workers != 1 {
+    if workers < 1 || MOST_WORKERS < workers {
         return Err(RunError::Workers);
     }
     let text = read_within(alloc, plan, READS)?;
     let plan = read_plan(alloc, text.as_slice())?;
-    let faults = faults(alloc, &plan)?;
+    let faults = faults_with(rt, alloc, &plan, workers, &NoGate)?;
     let report = check_report(alloc, &plan, &faults)?;
     write_lines(out, report.as_bytes(), status_of(faults.is_safe()))
 }

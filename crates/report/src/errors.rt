@@ -2,13 +2,14 @@
 
 ghost use Rattle.std.specs.Prelude.{◌≡◌};
 ghost use Rattle.report.specs.declared.errors.RunError.TheVariants.{NoMemory};
-ghost use Rattle.report.specs.RunErrors.{run_error, vcd_error, accept_error};
+ghost use Rattle.report.specs.RunErrors.{run_error, vcd_error, accept_error, table_error};
 
 use cert_check::AcceptError;
 use plan_text::PlanError;
 use std::alloc::{AllocError, AllocFailed};
 use thiserror::Error;
 use vcd_read::VcdError;
+use verdicts::TableError;
 
 /// Why a run ends without its report. Only after `Write` has a part of the report been written: its first bytes.
 #[derive(Clone, Copy, Debug, PartialEq, Eq, Error)]
@@ -19,7 +20,7 @@ pub enum RunError {
     /// The dump is refused. For want of memory the refusal is `NoMemory`.
     #[error("{0}")]
     Vcd(VcdError),
-    /// The number of workers is not one that the run takes.
+    /// The number of workers is 0, or above 8.
     #[error("workers")]
     Workers,
     /// A reader failed, or gave no end within its limit of calls.
@@ -62,6 +63,17 @@ impl From<AcceptError> for RunError {
         match error {
             AcceptError::Plan(refusal) => RunError::Plan(refusal),
             AcceptError::NoMemory => RunError::NoMemory,
+        }
+    }
+}
+
+impl From<TableError> for RunError {
+    ghost from_gives = { λ refusal e. e ≡ table_error refusal };
+
+    fn from(error: TableError) -> RunError {
+        match error {
+            TableError::Workers => RunError::Workers,
+            TableError::NoMemory => RunError::NoMemory,
         }
     }
 }

@@ -105,7 +105,7 @@ module _ (plan : Contents) (within : IsWithinLimits plan) where
       (a.0, b.0, sender_by_number plan within x v x_in v_in (sym parts.0), sender_by_number plan within y w a.1 b.1 (sym parts.1))
 
   -- so what is known of one is known of the other
-  known_at_place : (i j x y v w : ℕ) → slice_get (pairs_of plan) i ≡ Some (x, y) → slice_get (pairs_of plan) j ≡ Some (v, w) → place plan v w ≡ place plan x y → (found : Option Fault) → IsFirstFaultIfAny plan x y found → IsFirstFaultIfAny plan v w found
+  pub known_at_place : (i j x y v w : ℕ) → slice_get (pairs_of plan) i ≡ Some (x, y) → slice_get (pairs_of plan) j ≡ Some (v, w) → place plan v w ≡ place plan x y → (found : Option Fault) → IsFirstFaultIfAny plan x y found → IsFirstFaultIfAny plan v w found
   known_at_place i j x y v w e f same found h =
       let s = senders_at_place i j x y v w e f same in
       same_senders plan x y v w s.0 s.1 s.2 s.3 found h

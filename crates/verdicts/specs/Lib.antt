@@ -3,6 +3,8 @@ pub mod Entries
 pub mod Faults
 pub mod Known
 pub mod Lines
+pub mod Parts
+pub mod Samples
 pub mod Senders
 pub mod Tables
 pub mod Verdicts

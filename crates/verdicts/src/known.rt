@@ -51,7 +51,7 @@ fn learn(alloc: Global, plan: &Plan, known: &mut Vec<Known>, i: u32) -> Result<(
     Ok(())
 }
 
-fn known_by(fault: Option<Fault>) -> Known
+pub(crate) fn known_by(fault: Option<Fault>) -> Known
     ensures { result ≡ known_as fault }
 {
     match fault {

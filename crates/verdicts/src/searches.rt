@@ -1,10 +1,12 @@
 // The pairs of a plan that are not safe, found on one thread.
 
-ghost use Rattle.std.specs.Prelude.{IfOk};
+ghost use Rattle.std.specs.Prelude.{length, IfOk};
 ghost use Rattle.plan_core.specs.PlanContents.{plan_contents};
+ghost use Rattle.plan_core.specs.Pairs.{pairs_of};
+ghost use Rattle.verdicts.specs.Known.{KnowsPairs};
 ghost use Rattle.verdicts.specs.Faults.{AreFaults, fault_list};
 
-use crate::known::known_pairs;
+use crate::known::{Known, known_pairs};
 use crate::listed::{Faults, list_if_unsafe};
 use crate::senders::place_of;
 use plan_core::Plan;
@@ -18,7 +20,14 @@ use std::alloc::{AllocError, Global};
 pub fn faults(alloc: Global, plan: &Plan) -> Result<Faults, AllocError>
     ensures { IfOk result (λ faults. AreFaults (plan_contents plan.now) (fault_list faults)) }
 {
-    let known = known_pairs(alloc, plan)?;
+    faults_known(alloc, plan, known_pairs(alloc, plan)?)
+}
+
+/// The pairs that are not safe, where it is known what all pairs come to.
+pub(crate) fn faults_known(alloc: Global, plan: &Plan, known: Vec<Known>) -> Result<Faults, AllocError>
+    requires { KnowsPairs (plan_contents plan.now) known.items (length (pairs_of (plan_contents plan.now))) }
+    ensures { IfOk result (λ faults. AreFaults (plan_contents plan.now) (fault_list faults)) }
+{
     let mut listed = Vec::new(alloc);
     for i in 0..plan.pair_count() {
         list_if_unsafe(&mut listed, &known, i, place_of(plan, i))?;

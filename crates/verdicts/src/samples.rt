@@ -1,0 +1,82 @@
+// What the pairs of a plan come to, found by several workers: what they share out are the places of two senders, and at
+// each place one pair is compared.
+
+ghost use Rattle.std.specs.Prelude.{◌≡◌, ◌<◌, ◌≤◌, ℕ, length, replicate, slice_get, Some, None, IfOk};
+ghost use Rattle.plan_core.specs.PlanContents.{plan_contents};
+ghost use Rattle.plan_core.specs.Pairs.{pairs_of};
+ghost use Rattle.verdicts.specs.Known.{KnowsPairs};
+ghost use Rattle.verdicts.specs.Samples.{AreSamples, IsKnownAt};
+
+use crate::gates::Gate;
+use crate::known::{Known, known_by};
+use crate::senders::{place_of, places_of};
+use crate::sharing::{MOST_WORKERS, share};
+use pair_walk::first_fault;
+use plan_core::Plan;
+use std::alloc::{AllocError, Global};
+use std::thread::Threads;
+
+/// What all pairs of the plan come to, each at the place of its two senders, by so many workers.
+pub(crate) fn known_together<R: Threads + Sync, G: Gate + Sync>(
+    rt: &R,
+    alloc: Global,
+    plan: &Plan,
+    workers: u32,
+    gate: &G,
+) -> Result<Vec<Known>, AllocError>
+    requires { (0 < workers) × (workers ≤ MOST_WORKERS) }
+    ensures { IfOk result (λ known.
+        KnowsPairs (plan_contents plan.now) known.items (length (pairs_of (plan_contents plan.now)))) }
+{
+    let places = places_of(plan) as u32;
+    let samples = samples(alloc, plan)?;
+    let samples = samples.as_slice();
+    let known = share(
+        rt,
+        alloc,
+        places,
+        workers,
+        gate,
+        &|k: u32| -> Result<Known, AllocError>
+            requires { (k < length samples.now) × AreSamples (plan_contents plan.now) samples.now
+                (length (pairs_of (plan_contents plan.now))) }
+            ensures { IfOk result (IsKnownAt (plan_contents plan.entry.now) samples.entry.now k) }
+        { known_at(alloc, plan, samples, k) },
+    )?;
+    Ok(known)
+}
+
+// What the pair at place `k` comes to, if there is one.
+fn known_at(alloc: Global, plan: &Plan, samples: &[Option<u32>], k: u32) -> Result<Known, AllocError>
+    requires place { k < length samples.now }
+    requires samples { AreSamples (plan_contents plan.now) samples.now (length (pairs_of (plan_contents plan.now))) }
+    ensures { IfOk result (IsKnownAt (plan_contents plan.now) samples.now k) }
+{
+    match samples[k as usize] {
+        None => Ok(Known::NotYet),
+        Some(i) => Ok(known_by(first_fault(alloc, plan, i)?)),
+    }
+}
+
+// For each place of two senders that are a pair, one such pair.
+fn samples(alloc: Global, plan: &Plan) -> Result<Vec<Option<u32>>, AllocError>
+    ensures { IfOk result (λ samples.
+        AreSamples (plan_contents plan.now) samples.items (length (pairs_of (plan_contents plan.now)))) }
+{
+    let mut samples = no_samples(alloc, places_of(plan))?;
+    for i in 0..plan.pair_count() {
+        let place = place_of(plan, i);
+        samples[place] = Some(i);
+    }
+    Ok(samples)
+}
+
+fn no_samples(alloc: Global, n: usize) -> Result<Vec<Option<u32>>, AllocError>
+    ensures { IfOk result (λ samples. samples.items ≡ replicate n None) }
+{
+    let mut samples = Vec::with_capacity(alloc, n)?;
+    for _ in 0..n {
+        samples.push(None)?;
+    }
+    Ok(samples)
+}
