@@ -117,12 +117,25 @@ run "closed standard input before a number of workers" check /dev/stdin --worker
 want 2 "" "refused workers"
 run "no worker" check safe.plan --workers 0
 run "nine workers" check safe.plan --workers 9
-run "seven workers, with leading zeros" check safe.plan --workers 007
-run "three workers, with a sign" check safe.plan --workers +3
 run "no worker with a refused plan" check empty.plan --workers 0
 run "no worker with a directory" check directory --workers 0
 run "no worker with standard input" check /dev/stdin --workers 0 <safe.plan
 run "no worker with a pipe" check /dev/stdin --workers 0 < <(cat safe.plan)
+
+want 0 "safe: 1 pairs" ""
+run "seven workers, with leading zeros" check safe.plan --workers 007
+run "three workers, with a sign" check safe.plan --workers +3
+
+# Any number of workers writes what one writes.
+"$tests/../tools/widest_plan" 3 >wide.plan
+for plan in unsafe.plan wide.plan "$tests"/../examples/*.plan; do
+    "$twire" check "$plan" --workers 1 >one 2>&1
+    status=$?
+    for workers in 2 3 4 5 6 7 8; do
+        want "$status" "$(cat one)" ""
+        run "$(basename "$plan") by $workers workers" check "$plan" --workers "$workers"
+    done
+done
 
 # Certificates.
 
