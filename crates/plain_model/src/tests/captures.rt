@@ -4,7 +4,7 @@
 use super::generated::{Dice, plan_words};
 use super::plans::plan;
 use crate::{Word, events_of, explainers_of, samples_of, texts_of, transactions_of};
-use capture_check::{Transaction, Until, events, explain, transactions};
+use capture_check::{Event, Transaction, Until, events, explain, transactions};
 use message_tree::Item;
 use plan_core::Plan;
 use std::alloc::{AllocError, Global};
@@ -155,8 +155,8 @@ fn level_text(level: Level, way: u32) -> &'static str {
 // The samples of a dump that comes in pieces.
 fn read_samples(alloc: Global, text: &str, dice: &mut Dice) -> Result<Vec<Sample>, Fail> {
     let mut reader = Reader::new(alloc, "scl", "sda")?;
-    let size = dice.throw(90).wrapping_add(1) as usize;
-    for piece in text.as_bytes().chunks(size) {
+    let size = dice.throw(90) as usize;
+    for piece in text.as_bytes().chunks(size.max(1)) {
         reader.feed(piece)?;
     }
     Ok(reader.end()?)
@@ -182,40 +182,70 @@ fn assert_explained<R: Abort>(
     Ok(!explainers.is_empty())
 }
 
+// The dump of these words, and what happens in it.
+fn events_read<R: Abort>(
+    rt: &R,
+    alloc: Global,
+    words: &[Word],
+    dice: &mut Dice,
+) -> Result<Vec<Event>, Fail> {
+    let text = dump_text(alloc, words, dice)?;
+    let samples = read_samples(alloc, text.as_str(), dice)?;
+    assert_eq!(rt; samples, samples_of(alloc, words)?);
+    let found = events(alloc, &samples)?;
+    assert_eq!(rt; found, events_of(alloc, &samples)?);
+    Ok(found)
+}
+
+// The transactions of these events. Says of each whether somebody explains it.
+fn push_answers<R: Abort>(
+    rt: &R,
+    alloc: Global,
+    answers: &mut Vec<bool>,
+    plan: &Plan,
+    events: &[Event],
+) -> Result<(), Fail> {
+    let found = transactions(alloc, events)?;
+    let plain = transactions_of(alloc, events)?;
+    assert_eq!(rt; found.len(), plain.len());
+    for (one, other) in found.iter().zip(&plain) {
+        answers.push(assert_explained(rt, alloc, plan, one, other)?)?;
+    }
+    Ok(())
+}
+
+fn push_answers_of_one<R: Abort>(
+    rt: &R,
+    alloc: Global,
+    answers: &mut Vec<bool>,
+    dice: &mut Dice,
+) -> Result<(), Fail> {
+    let plan = plan(alloc, plan_words(alloc, dice)?.as_str())?;
+    let words = wire_words(alloc, &plan, dice)?;
+    let events = events_read(rt, alloc, &words, dice)?;
+    push_answers(rt, alloc, answers, &plan, &events)
+}
+
 #[test]
 fn generated_captures_are_read_and_explained_alike(rt: HostRuntime) -> Result<(), Fail> {
     let alloc = rt.alloc();
     let mut dice = Dice { state: 20_261_123 };
     let mut answers = Vec::new(alloc);
     for _ in 0..12 {
-        let plan = plan(alloc, plan_words(alloc, &mut dice)?.as_str())?;
-        let words = wire_words(alloc, &plan, &mut dice)?;
-        let text = dump_text(alloc, &words, &mut dice)?;
-        let samples = read_samples(alloc, text.as_str(), &mut dice)?;
-        assert_eq!(rt; samples, samples_of(alloc, &words)?);
-        let happened = events(alloc, &samples)?;
-        assert_eq!(rt; happened, events_of(alloc, &samples)?);
-        let found = transactions(alloc, &happened)?;
-        let plain = transactions_of(alloc, &happened)?;
-        assert_eq!(rt; found.len(), plain.len());
-        for (one, other) in found.iter().zip(&plain) {
-            answers.push(assert_explained(&rt, alloc, &plan, one, other)?)?;
-        }
+        push_answers_of_one(&rt, alloc, &mut answers, &mut dice)?;
     }
     // Both answers are common.
-    assert!(rt;
-        answers
-            .iter()
-            .filter(|explained: &&bool| **explained)
-            .count()
-            > 20
-    );
-    assert!(rt;
-        answers
-            .iter()
-            .filter(|explained: &&bool| !**explained)
-            .count()
-            > 10
-    );
+    assert!(rt; count_of(&answers, true) > 20);
+    assert!(rt; count_of(&answers, false) > 10);
     Ok(())
+}
+
+fn count_of(answers: &[bool], explained: bool) -> u32 {
+    let mut count: u32 = 0;
+    for answer in answers {
+        if *answer == explained {
+            count = count.wrapping_add(1);
+        }
+    }
+    count
 }
