@@ -17,3 +17,5 @@ mod refusals;
 mod runs;
 #[cfg(test)]
 mod spelling;
+#[cfg(test)]
+mod workers;
