@@ -67,11 +67,15 @@ want 0 "safe: 1 pairs" ""
 run "safe plan" check safe.plan
 run "safe plan with one worker" check --workers 1 safe.plan
 run "safe plan with leading zeros in the number of workers" check safe.plan --workers 001
+run "safe plan with seven workers, with leading zeros" check safe.plan --workers 007
+run "safe plan with three workers, with a sign" check safe.plan --workers +3
+run "safe plan with eight workers" check safe.plan --workers 8
 run "safe plan from standard input" check /dev/stdin <safe.plan
 run "safe plan after --" check -- safe.plan
 
 want 1 "$unsafe_report" ""
 run "unsafe plan" check unsafe.plan
+run "unsafe plan with eight workers" check unsafe.plan --workers 8
 run "unsafe plan from a pipe" check /dev/stdin < <(cat unsafe.plan)
 mkfifo plan.fifo
 cat unsafe.plan >plan.fifo &
@@ -304,6 +308,9 @@ for plan in "$tests"/../examples/*.plan; do
     report=$(sed -n '/^# twire check /,/^\(#\)\{0,1\}$/s/^#   //p' "$plan")
     want "$status" "$report" ""
     run "example $(basename "$plan")" check "$plan"
+    for workers in 1 2 3 4 5 6 7 8; do
+        run "example $(basename "$plan") by $workers workers" check "$plan" --workers "$workers"
+    done
 done
 
 # The certificate of an example belongs to the plan of its name.

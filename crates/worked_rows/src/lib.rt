@@ -19,3 +19,5 @@ mod refusals;
 mod runs;
 #[cfg(test)]
 mod spelling;
+#[cfg(test)]
+mod workers;

@@ -6,6 +6,7 @@ use plan_text::read_plan;
 use report::{Watched, run_check};
 use std::alloc::{AllocError, Global};
 use std::test::Fail;
+use std::thread::Threads;
 use verdicts::table;
 
 /// A reader over bytes.
@@ -34,14 +35,14 @@ pub fn two(alloc: Global, version: u8, first: &str, second: &str) -> Result<Stri
 }
 
 /// What a check of the plan writes.
-pub fn check<R>(rt: &R, alloc: Global, plan: &str) -> Result<String, Fail> {
+pub fn check<R: Threads + Sync>(rt: &R, alloc: Global, plan: &str) -> Result<String, Fail> {
     let mut page = page(alloc);
     run_check(rt, alloc, &mut source(plan.as_bytes()), &mut page, 1)?;
     written(page)
 }
 
 /// What a check writes of two messages, the first sent by controller `a` and the second by `b`.
-pub fn check_two<R>(
+pub fn check_two<R: Threads + Sync>(
     rt: &R,
     alloc: Global,
     version: u8,

@@ -113,8 +113,8 @@ controller c o ;
     Ok(())
 }
 
-// Eight controllers that each send the same five messages.
-fn forty_sendings(alloc: Global) -> Result<String, AllocError> {
+/// Eight controllers that each send the same five messages.
+pub fn forty_sendings(alloc: Global) -> Result<String, AllocError> {
     let mut plan = String::from_str(alloc, "plan 1\n")?;
     let bytes = ["00000000", "00000001", "0000001x", "00000100", "1xxxxxxx"];
     for (k, byte) in bytes.iter().enumerate() {

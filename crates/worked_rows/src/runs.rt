@@ -7,9 +7,15 @@ use report::{
 };
 use std::alloc::Global;
 use std::test::Fail;
+use std::thread::Threads;
 
 // What a run answers, and whether it wrote nothing.
-fn run<R>(rt: &R, alloc: Global, plan: &str, workers: u32) -> (Result<Status, RunError>, bool) {
+fn run<R: Threads + Sync>(
+    rt: &R,
+    alloc: Global,
+    plan: &str,
+    workers: u32,
+) -> (Result<Status, RunError>, bool) {
     let mut page = page(alloc);
     let answer = run_check(rt, alloc, &mut source(plan.as_bytes()), &mut page, workers);
     (answer, page.into_inner().is_empty())
