@@ -132,7 +132,7 @@ run "three workers, with a sign" check safe.plan --workers +3
 
 # Any number of workers writes what one writes.
 "$tests/../tools/widest_plan" 3 >wide.plan
-for plan in unsafe.plan wide.plan "$tests"/../examples/*.plan; do
+for plan in unsafe.plan wide.plan; do
     "$twire" check "$plan" --workers 1 >one 2>&1
     status=$?
     for workers in 2 3 4 5 6 7 8; do

@@ -19,14 +19,14 @@ use verdicts::{MOST_WORKERS, NoGate, faults_with};
 /// Checks the plan that the reader gives, and writes the verdicts of its unsafe pairs and their number.
 ///
 /// The work is shared among so many workers, each in a thread of its own where one can be made; the report is the same
-/// for each number of them. This number is looked at before the first read. The report is complete before its first byte is written.
-/// The status is `Good` or `Bad`.
+/// for each number of them. This number is looked at before the first read. The report is complete before its first byte
+/// is written. The status is `Good` or `Bad`.
 ///
 /// # Errors
 ///
-/// `Workers` for 0 and for more than 8 workers. Then `Read` where the reader failed or gave no end, `Plan` with the first refusal
-/// of the plan text, and `Write` where the writer failed or took no bytes. `NoMemory` where memory is refused. Only
-/// after `Write` has a part of the report been written: its first bytes. After every other error the writer was not
+/// `Workers` for 0 and for more than 8 workers. Then `Read` where the reader failed or gave no end, `Plan` with the first
+/// refusal of the plan text, and `Write` where the writer failed or took no bytes. `NoMemory` where memory is refused.
+/// Only after `Write` has a part of the report been written: its first bytes. After every other error the writer was not
 /// called.
 pub fn run_check<R: Threads + Sync, I: Input, O: Output>(
     rt: &R,
