@@ -47,7 +47,12 @@ pub(crate) fn known_together<R: Threads + Sync, G: Gate + Sync>(
 }
 
 // What the pair at place `k` comes to, if there is one.
-fn known_at(alloc: Global, plan: &Plan, samples: &[Option<u32>], k: u32) -> Result<Known, AllocError>
+fn known_at(
+    alloc: Global,
+    plan: &Plan,
+    samples: &[Option<u32>],
+    k: u32,
+) -> Result<Known, AllocError>
     requires place { k < length samples.now }
     requires samples { AreSamples (plan_contents plan.now) samples.now (length (pairs_of (plan_contents plan.now))) }
     ensures { IfOk result (IsKnownAt (plan_contents plan.now) samples.now k) }

@@ -24,7 +24,11 @@ pub fn faults(alloc: Global, plan: &Plan) -> Result<Faults, AllocError>
 }
 
 /// The pairs that are not safe, where it is known what all pairs come to.
-pub(crate) fn faults_known(alloc: Global, plan: &Plan, known: Vec<Known>) -> Result<Faults, AllocError>
+pub(crate) fn faults_known(
+    alloc: Global,
+    plan: &Plan,
+    known: Vec<Known>,
+) -> Result<Faults, AllocError>
     requires { KnowsPairs (plan_contents plan.now) known.items (length (pairs_of (plan_contents plan.now))) }
     ensures { IfOk result (λ faults. AreFaults (plan_contents plan.now) (fault_list faults)) }
 {
