@@ -4,7 +4,7 @@
 ghost use Rattle.std.specs.Prelude.{◌≡◌, ◌<◌, ◌≤◌, ◌++◌, ◌∷◌, ℕ, [], true, Ok, All, IfOk, OnOk};
 ghost use Rattle.std.specs.Prelude.{vec_len, flat_map, map, slice_index_or};
 ghost use Rattle.std.specs.Thread.{IsSync};
-ghost use Rattle.pair_queue.specs.Seats.{Queue, fresh};
+ghost use Rattle.pair_queue.specs.Seats.{Queue};
 ghost use Rattle.pair_queue.specs.Dispatch.{first_numbers};
 ghost use Rattle.std.specs.List.Sorted.{IsPermutation};
 ghost use Rattle.verdicts.specs.Parts.{IsFoundOf, IsPart, IsJob, HasNumbers, numbers_of, items_of};
@@ -44,6 +44,7 @@ fn steal_in_threads<
     )
 }
 
+// What the owner finds, with the owner.
 fn own_all<X: Drop, G: Gate, F: Fn(u32) -> Result<X, AllocError>>(
     alloc: Global,
     mut owner: Owner,
@@ -133,6 +134,7 @@ fn gathered<X: Drop>(
     }
 }
 
+// Puts what was found of each number below n into the order of the numbers.
 fn in_order<X>(found: &mut Vec<Found<X>>, n: u32)
     requires { IsPermutation (first_numbers n) (numbers_of found.old.items) }
     ensures same { IsPermutation found.old.items found.new.items }
@@ -141,6 +143,7 @@ fn in_order<X>(found: &mut Vec<Found<X>>, n: u32)
     found.sort_unstable_by_key(|f| f.number);
 }
 
+// Adds what one thief found, and the thief.
 fn add<X: Drop>(
     all: &mut Vec<Found<X>>,
     thieves: &mut Vec<Thief>,
@@ -158,7 +161,7 @@ fn add<X: Drop>(
     Ok(())
 }
 
-/// What `f` gives for each number below n, in order, by so many workers.
+/// What `f` gives for each number below n, in order, by so many workers. Each calls the gate before and after.
 pub(crate) fn share<
     R: Threads + Sync,
     X: Send + Drop,
@@ -176,6 +179,7 @@ pub(crate) fn share<
     Ok(values)
 }
 
+// What was found of each number below n, in their order.
 fn found_together<
     R: Threads + Sync,
     X: Send + Drop,
@@ -195,6 +199,7 @@ fn found_together<
     Ok(all)
 }
 
+// What was found, without the numbers.
 fn values<X: Drop>(alloc: Global, found: Vec<Found<X>>) -> Result<Vec<X>, AllocError>
     ensures { IfOk result (λ v. v.items ≡ map (λ f. f.value) found.items) }
 {
@@ -205,6 +210,7 @@ fn values<X: Drop>(alloc: Global, found: Vec<Found<X>>) -> Result<Vec<X>, AllocE
     Ok(values)
 }
 
+// Numbers the thieves from 1 on: worker 0 is the owner.
 fn jobs(alloc: Global, thieves: Vec<Thief>) -> Result<Vec<Job>, AllocError>
     requires { vec_len thieves ≤ MOST_THIEVES }
     ensures { IfOk result (λ v. map (λ j. j.thief) v.items ≡ thieves.items) }
