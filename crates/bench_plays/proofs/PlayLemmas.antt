@@ -4,7 +4,7 @@ use Rattle.std.proofs.lemmas.Bool.{cases_lt}
 use Rattle.std.proofs.lemmas.Bool.Decides.{nat_tests}
 use Rattle.std.proofs.lemmas.List.{take-append-le}
 use Rattle.std.proofs.Math.ListN.{get_or-append}
-use Rattle.std.proofs.Math.Seq.{get_or-append_seam, take-append_seam}
+use Rattle.std.proofs.Math.Seq.{get_or-append_seam, take-length}
 use Rattle.std.specs.List.{list_any}
 use Rattle.message_tree.specs.declared.items.Item.{Item}
 use Rattle.message_tree.specs.declared.items.Item.TheVariants as item
@@ -13,7 +13,7 @@ use Rattle.plan_core.specs.Participants.{participant_count, Text}
 use Rattle.plan_core.specs.Lawful.{Set, In, IsLawful}
 use Rattle.plan_core.specs.Rounds.{Offers, IsRound, NoClash, IsWire, IsSlot, survivors}
 use Rattle.plan_core.specs.Runs.{Reaches, start, slot as reach, IsReached, HasEnded, Whole}
-use Rattle.plan_core.proofs.Model.{survived, survives, still_in, followed_on, somebody}
+use Rattle.plan_core.proofs.Model.{survived, survives, followed_on}
 use Rattle.plan_core.proofs.Safety.{not_ended, round_never_clashes, has_one_wire}
 use Rattle.plan_core.proofs.Texts.{bounded_text, end_bound}
 use Rattle.bench_plays.specs.declared.puts.Put.{Put}
@@ -161,3 +161,218 @@ module _ (game : Game) (puts : Puts) (p : ℕ) (x : Put) where
       let there : HavePut after on (length w) = λ q i. let old : length w < length (puts q) = h q i in omega (arith, grows q) in
       subst (λ (f : ℕ → Item). Goes game after v among (w ++ y ∷ []) (survivors on f y)) e
       (slot y (carried v among g (omega arith)) there (subst (λ (f : ℕ → Item). IsSlot game.plan w on f y) (sym e) o))
+
+-- ---- the starters, by their list
+
+both_true : (a b : Bool) → a && b ≡ true → (a ≡ true) × (b ≡ true)
+both_true true true h = (refl, refl)
+both_true _ _ h = cc
+
+or_false : (a b : Bool) → a || b ≡ false → (a ≡ false) × (b ≡ false)
+or_false true b h = cc
+or_false false b h = (refl, h)
+
+or_true : (a b : Bool) → a || b ≡ true → (a ≡ true) ⊎ (b ≡ true)
+or_true true b h = inl refl
+or_true false b h = inr h
+
+pub any_found : (f : ℕ → Bool) (xs : List ℕ) → list_any f xs ≡ true → (q : ℕ) × (f q ≡ true)
+any_found f [] h = cc
+any_found f (y ∷ ys) h = elim (or_true (f y) (list_any f ys) h) [ inl e ↦ (y, e) | inr e ↦ any_found f ys e ]
+
+pub any_none : (f : ℕ → Bool) (xs : List ℕ) (q : ℕ) → list_any f xs ≡ false → In q (those xs) → f q ≡ false
+any_none f [] q n i = cc
+any_none f (y ∷ ys) q n i =
+    let no = or_false (f y) (list_any f ys) n in
+    elim (or_true (y == q) (those ys q) i) [
+      | inl same ↦ let e : y ≡ q = grind (arith, nat_tests) in subst (λ (r : ℕ). f r ≡ false) e no.0
+      | inr later ↦ any_none f ys q no.1 later
+    ]
+
+-- ---- a put in a play
+
+-- what holds of the starters' puts where they have led to u: it is not asked whether the next slot is complete
+record PutsAt (game : Game) (puts : Puts) (u : List Item) (live : Set) : Type 0 where
+  led : Leads game puts u live
+  offered : (q k : ℕ) → In q (those game.starters) → k < length (puts q) → Offers game.plan q (take k u) (put_in game puts k q)
+  lost : (q : ℕ) → In q (those game.starters) → live q ≡ false → HasLost game puts u q
+  keeps_up : (q : ℕ) → In q live → KeepsUp puts u q
+  others : (q : ℕ) → those game.starters q ≡ false → puts q ≡ []
+
+-- nobody has put behind the slot that follows
+few_puts : (game : Game) (puts : Puts) (u : List Item) (live : Set) → PutsAt game puts u live → (q : ℕ) → In q (those game.starters) → length (puts q) ≤ length u + 1
+few_puts game puts u live m q i = elim (either (live q)) [
+  | inl there ↦ elim (m.keeps_up q there) [ inl e ↦ omega arith | inr e ↦ let k : length (puts q) ≡ length u + 1 = e.0 in omega arith ]
+  | inr gone ↦
+      let h = m.lost q i gone in
+      omega (arith, h.puts_made, ap length h.wire, length-append h.before (h.shown ∷ h.rest))
+]
+
+heard_is_the_answer : (answers : List Bool) (k : ℕ) (x : Put) (b : Bool) → item_of answers k x ≡ item.Heard b → answer_at answers k ≡ b
+heard_is_the_answer answers k Listen b e = cc
+heard_is_the_answer answers k (Drive c) b e = cc
+heard_is_the_answer answers k Again b e = cc
+heard_is_the_answer answers k Stop b e = cc
+heard_is_the_answer answers k Claim b e = cc
+
+-- where all who are live have put in the next slot, it is complete, and the play goes on to it
+record Next (game : Game) (puts : Puts) (u : List Item) (live : Set) : Type 0 where
+  shown : Item
+  have_put : HavePut puts live (length u)
+  is_slot : IsSlot game.plan u live (put_in game puts (length u)) shown
+  play : IsPlay game puts (u ++ shown ∷ []) (survivors live (put_in game puts (length u)) shown)
+
+module _ (game : Game) (puts : Puts) (u : List Item) (live : Set) (is : IsGame game) (m : PutsAt game puts u live) (p : ℕ) (p_live : In p live) where
+  in_starters : (q : ℕ) → In q live → In q (those game.starters)
+  in_starters q i = was_in game puts [] u (those game.starters) live q m.led i
+
+  put : ℕ → Item
+  put = put_in game puts (length u)
+
+  module _ (all : (q : ℕ) → In q live → length (puts q) ≡ length u + 1) where
+    the_round : IsRound game.plan u live put
+    unfolding put
+    the_round =
+        record {
+          offered = λ q i. subst (λ (w : List Item). Offers game.plan q w (put q)) (take-length u) (m.offered q (length u) (in_starters q i) (omega (arith, all q i)));
+          heard = λ q r b c i j e f. sym (heard_is_the_answer game.answers (length u) (get_or (puts q) (length u) Listen) b e) ∙ heard_is_the_answer game.answers (length u) (get_or (puts r) (length u) Listen) c f;
+        }
+
+    the_slot : (w : Item) × IsSlot game.plan u live put w
+    unfolding put
+    the_slot =
+        let reached : IsReached game.plan (those game.starters) u live = (is.lawful, is_reached game puts u live m.led) in
+        let n = round_never_clashes game.plan (those game.starters) u live is.safe reached put the_round in
+        let one = has_one_wire (participant_count game.plan) live (λ q i. is.lawful.participants q (in_starters q i)) put p p_live the_round.heard n in
+        (one.0, record { is_round = the_round; no_clash = n; is_wire = one.1 })
+
+    completed : Next game puts u live
+    unfolding put
+    completed =
+        let w = the_slot.0 in
+        let slot_here = the_slot.1 in
+        let have_put : HavePut puts live (length u) = λ q i. omega (arith, all q i) in
+        let one_more : length (u ++ w ∷ []) ≡ length u + 1 = omega (arith, length-append u (w ∷ [])) in
+        let someone = slot_here.is_wire.some in
+        let prefix : (q k : ℕ) → In q (those game.starters) → k < length (puts q) → take k (u ++ w ∷ []) ≡ take k u = λ q k i lt. take-append-le k u (w ∷ []) (omega (arith, few_puts game puts u live m q i)) in
+        record {
+          shown = w;
+          have_put = have_put;
+          is_slot = slot_here;
+          play = record {
+            led = slot w m.led have_put slot_here;
+            last = (someone.0, survives live put w someone.0 someone.1 someone.2, all someone.0 someone.1 ∙ sym one_more);
+            offered = λ q k i lt. subst (λ (v : List Item). Offers game.plan q v (put_in game puts k q)) (sym (prefix q k i lt)) (m.offered q k i lt);
+            lost = λ q i gone. elim (either (live q)) [
+              | inl there ↦ record {
+                  before = u; live = live; shown = w; rest = []; wire = refl; led = m.led; was_live = there;
+                  other = λ e. let stays : In q (survivors live put w) = survives live put w q there e in cc;
+                  puts_made = all q there;
+                }
+              | inr before ↦
+                  let h = m.lost q i before in
+                  record {
+                    before = h.before; live = h.live; shown = h.shown; rest = h.rest ++ w ∷ [];
+                    wire = ap (λ (v : List Item). v ++ w ∷ []) h.wire ∙ append_assoc h.before (h.shown ∷ h.rest) (w ∷ []);
+                    led = h.led; was_live = h.was_live; other = h.other; puts_made = h.puts_made;
+                  }
+            ];
+            keeps_up = λ q i. inl (all q (survived live put w q i).0 ∙ sym one_more);
+            others = m.others;
+          };
+        }
+
+-- what a put does to a play: it is a play again, and states that were passed are passed still
+pub record PutOn (game : Game) (puts after : Puts) (u : List Item) (live : Set) : Type 0 where
+  pub wire : List Item
+  pub on : Set
+  pub play : IsPlay game after wire on
+  pub passes : (v : List Item) (among : Set) → Leads game puts v among → Goes game puts v among u live → Leads game after v among × Goes game after v among wire on
+
+-- one more of the starters puts what it offers
+with_one_more : (game : Game) (puts : Puts) (u : List Item) (live : Set) (p : ℕ) (x : Put) → IsPlay game puts u live → In p live → length (puts p) ≡ length u →
+    Offers game.plan p u (item_of game.answers (length u) x) → PutsAt game (with_put puts p x) u live
+unfolding after
+with_one_more game puts u live p x play p_live level o =
+    let next : Puts = with_put puts p x in
+    let started : (q : ℕ) → In q live → In q (those game.starters) = λ q i. was_in game puts [] u (those game.starters) live q play.led i in
+    let here_put : put_in game next (length u) p ≡ item_of game.answers (length u) x = subst (λ (n : ℕ). put_in game next n p ≡ item_of game.answers n x) level (put_in_here game puts p x) in
+    let offered_here : (k : ℕ) → k < length (next p) → Offers game.plan p (take k u) (put_in game next k p) = λ k lt. elim (cases_lt k (length u)) [
+      | inl below ↦ subst (Offers game.plan p (take k u)) (sym (put_in_before game puts p x k p (omega arith))) (play.offered p k (started p p_live) (omega arith))
+      | inr above ↦
+          let now : k ≡ length u = omega (arith, length_here game puts p x) in
+          subst (λ (n : ℕ). Offers game.plan p (take n u) (put_in game next n p)) (sym now)
+          (subst (λ (w : List Item). Offers game.plan p w (put_in game next (length u) p)) (sym (take-length u))
+          (subst (Offers game.plan p u) (sym here_put) o))
+    ] in
+    record {
+      led = carried game puts p x [] (those game.starters) play.led (omega arith);
+      offered = λ q k i lt. elim (same_or_other q p) [
+        | inl e ↦ subst (λ (r : ℕ). Offers game.plan r (take k u) (put_in game next k r)) (sym e) (offered_here k (subst (λ (r : ℕ). k < length (next r)) e lt))
+        | inr n ↦ subst (Offers game.plan q (take k u)) (sym (put_in_there game puts p x k q n)) (play.offered q k i (omega (arith, length_there game puts p x q n)))
+      ];
+      lost = λ q i gone.
+        let n : q ≢ p = λ e. let both : live q ≡ live p = ap live e in cc in
+        let h = play.lost q i gone in
+        record {
+          before = h.before; live = h.live; shown = h.shown; rest = h.rest; wire = h.wire; was_live = h.was_live;
+          led = carried game puts p x [] (those game.starters) h.led (omega (arith, ap length h.wire, length-append h.before (h.shown ∷ h.rest)));
+          other = λ e. h.other (sym (put_in_there game puts p x (length h.before) q n) ∙ e);
+          puts_made = length_there game puts p x q n ∙ h.puts_made;
+        };
+      keeps_up = λ q i. elim (same_or_other q p) [
+        | inl e ↦ inr (subst (λ (r : ℕ). length (next r) ≡ length u + 1) (sym e) (omega (arith, length_here game puts p x)), not_ended game.plan p u (item_of game.answers (length u) x) o)
+        | inr n ↦ elim (play.keeps_up q i) [ inl e ↦ inl (length_there game puts p x q n ∙ e) | inr e ↦ inr (length_there game puts p x q n ∙ e.0, e.1) ]
+      ];
+      others = λ q out.
+        let n : q ≢ p = λ e. let both : those game.starters q ≡ those game.starters p = ap (those game.starters) e in let inside : those game.starters p ≡ true = started p p_live in cc in
+        put_there puts p q x n ∙ play.others q out;
+    }
+
+-- who is live, and has not put in the next slot
+waits : Puts → List Item → Set → ℕ → Bool
+waits puts u live q = live q && (length (puts q) == length u)
+
+waiting : (puts : Puts) (u : List Item) (live : Set) (q : ℕ) → waits puts u live q ≡ true → In q live × (length (puts q) ≡ length u)
+unfolding waits
+waiting puts u live q h =
+    let b = both_true (live q) (length (puts q) == length u) h in
+    let e : length (puts q) ≡ length u = let t = b.1 in grind (arith, nat_tests) in
+    (b.0, e)
+
+not_waiting : (puts : Puts) (u : List Item) (live : Set) (q : ℕ) → waits puts u live q ≡ false → In q live → length (puts q) ≢ length u
+unfolding waits
+not_waiting puts u live q h i e = grind (arith, nat_tests)
+
+pub put_is_play : (game : Game) (puts : Puts) (u : List Item) (live : Set) (p : ℕ) (x : Put) →
+    IsGame game → IsPlay game puts u live → In p live → length (puts p) ≡ length u →
+    Offers game.plan p u (item_of game.answers (length u) x) → PutOn game puts (with_put puts p x) u live
+unfolding after
+put_is_play game puts u live p x is play p_live level o =
+    let next : Puts = with_put puts p x in
+    let m = with_one_more game puts u live p x play p_live level o in
+    let started : (q : ℕ) → In q live → In q (those game.starters) = λ q i. was_in game puts [] u (those game.starters) live q play.led i in
+    let still : (v : List Item) (among : Set) → Leads game puts v among → Goes game puts v among u live → Leads game next v among × Goes game next v among u live = λ v among l g.
+      let r = is_prefix game puts v u among live g in
+      (carried game puts p x [] (those game.starters) l (omega (arith, ap length r.1, length-append v r.0)), carried game puts p x v among g (omega arith)) in
+    elim (either (list_any (waits next u live) game.starters)) [
+      | inl somebody_waits ↦
+          let q = any_found (waits next u live) game.starters somebody_waits in
+          let w = waiting next u live q.0 q.1 in
+          record {
+            wire = u; on = live; passes = still;
+            play = record { led = m.led; last = (q.0, w.0, w.1); offered = m.offered; lost = m.lost; keeps_up = m.keeps_up; others = m.others };
+          }
+      | inr nobody_waits ↦
+          let all : (q : ℕ) → In q live → length (next q) ≡ length u + 1 = λ q i. elim (m.keeps_up q i) [
+            | inl e ↦ absurd (not_waiting next u live q (any_none (waits next u live) game.starters q nobody_waits (started q i)) i e)
+            | inr e ↦ e.0
+          ] in
+          let c = completed game next u live is m p p_live all in
+          record {
+            wire = u ++ c.shown ∷ [];
+            on = survivors live (put_in game next (length u)) c.shown;
+            play = c.play;
+            passes = λ v among l g. let s = still v among l g in (s.0, slot c.shown s.1 c.have_put c.is_slot);
+          }
+    ]
