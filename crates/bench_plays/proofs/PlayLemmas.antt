@@ -95,7 +95,7 @@ start_is_play game is =
 
 -- ---- one put more
 
-either : (b : Bool) → (b ≡ true) ⊎ (b ≡ false)
+pub either : (b : Bool) → (b ≡ true) ⊎ (b ≡ false)
 either true = inl refl
 either false = inr refl
 
@@ -105,7 +105,7 @@ put_here puts p x = grind (arith, nat_tests)
 pub put_there : (puts : Puts) (p q : ℕ) (x : Put) → q ≢ p → with_put puts p x q ≡ puts q
 put_there puts p q x n = grind (arith, nat_tests)
 
-same_or_other : (q p : ℕ) → (q ≡ p) ⊎ (q ≢ p)
+pub same_or_other : (q p : ℕ) → (q ≡ p) ⊎ (q ≢ p)
 same_or_other q p = elim (either (q == p)) [
   | inl same ↦ let e : q ≡ p = grind (arith, nat_tests) in inl e
   | inr other ↦ let e : q ≢ p = grind (arith, nat_tests) in inr e
@@ -172,9 +172,13 @@ or_false : (a b : Bool) → a || b ≡ false → (a ≡ false) × (b ≡ false)
 or_false true b h = cc
 or_false false b h = (refl, h)
 
-or_true : (a b : Bool) → a || b ≡ true → (a ≡ true) ⊎ (b ≡ true)
+pub or_true : (a b : Bool) → a || b ≡ true → (a ≡ true) ⊎ (b ≡ true)
 or_true true b h = inl refl
 or_true false b h = inr h
+
+pub or_right : (a b : Bool) → b ≡ true → a || b ≡ true
+or_right true b h = refl
+or_right false b h = h
 
 pub any_found : (f : ℕ → Bool) (xs : List ℕ) → list_any f xs ≡ true → (q : ℕ) × (f q ≡ true)
 any_found f [] h = cc
