@@ -1,2 +1,3 @@
 pub mod PlayLemmas
 pub mod WordLemmas
+pub mod FieldLemmas

@@ -56,10 +56,10 @@ get_elsewhere [] x (suc k) n = refl
 get_elsewhere (y ∷ l) x zero n = refl
 get_elsewhere (y ∷ l) x (suc k) n = get_elsewhere l x k (λ e. n (omega arith))
 
-first_in : (y : ℕ) (ys : List ℕ) → In y (those (y ∷ ys))
+pub first_in : (y : ℕ) (ys : List ℕ) → In y (those (y ∷ ys))
 first_in y ys = grind (arith, nat_tests)
 
-later_in : (y : ℕ) (ys : List ℕ) (q : ℕ) → In q (those ys) → In q (those (y ∷ ys))
+pub later_in : (y : ℕ) (ys : List ℕ) (q : ℕ) → In q (those ys) → In q (those (y ∷ ys))
 later_in y ys q i = or_right (y == q) (those ys q) i
 
 -- where two play alike in this slot, their words are one

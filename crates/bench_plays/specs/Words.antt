@@ -1,11 +1,11 @@
 -- The word of one slot: it counts who has put there, and what.
 use Rattle.std.specs.Prelude.{ℕ, ◌+◌, ◌*◌, ◌/◌, ◌%◌, Bool, true, false, if◌then◌else◌, ◌==◌, List, Option, Some, None, slice_get}
-use Rattle.std.specs.List.{sum_by}
+use Rattle.std.specs.List.{sum_by, count_by}
 use Rattle.message_tree.specs.declared.items.Item.{Item}
 use Rattle.message_tree.specs.declared.items.Item.TheVariants as item
+use Rattle.plan_core.specs.Lawful.{Set}
 use Rattle.bench_plays.specs.declared.puts.Put.{Put}
 use Rattle.bench_plays.specs.declared.puts.Put.TheVariants.{Drive, Listen, Again, Stop, Claim}
-use Rattle.bench_plays.specs.Games.{Game}
 use Rattle.bench_plays.specs.Plays.{Puts}
 
 -- Fields of ten bits, from the low end on: who has put, and of them those who put a 0, a repeated START, a STOP, who
@@ -26,6 +26,10 @@ contribution_of (Some x) = contribution x
 -- the word of slot k
 abbrev pub word_of : List ℕ → Puts → ℕ → ℕ
 word_of starters puts k = sum_by (λ p. contribution_of (slice_get (puts p) k)) starters
+
+-- how many of a list are in a set
+abbrev pub count_in : List ℕ → Set → ℕ
+count_in xs s = count_by s xs
 
 -- how many have put
 abbrev pub arrivals_in : ℕ → ℕ
