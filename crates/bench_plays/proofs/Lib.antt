@@ -1,0 +1,3 @@
+pub mod PlayLemmas
+pub mod WordLemmas
+pub mod FieldLemmas

@@ -1,0 +1,3 @@
+pub mod Games
+pub mod Plays
+pub mod Words

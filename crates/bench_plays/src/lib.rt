@@ -1,0 +1,9 @@
+//! Plays of a bench: what the participants who start together put, slot by slot, and the wire that comes of it.
+//!
+//! `puts` has what one participant may put in one slot, `tally` the word that counts the puts of one slot. A play is a
+//! definition of this crate's specs, and `laws` says what holds of it.
+#![tactic(auto)]
+
+pub mod puts;
+
+pub use puts::Put;
