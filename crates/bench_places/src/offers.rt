@@ -1,0 +1,21 @@
+// What may come next in what a participant sends.
+
+use message_tree::Bit;
+
+/// What may come next in what a participant sends.
+#[derive(Clone, Copy, PartialEq, Eq, Debug)]
+pub enum Offered {
+    /// The participant drives a bit: this one, or either where it is open (UM10204, 3.1.5). Its own acknowledge of a byte
+    /// that it reads is such a bit, and is open where the byte may be the last or not (3.1.6).
+    Bit(Bit),
+    /// A target drives a bit, and the participant hears 0 or 1 (UM10204, 3.1.6).
+    Listen,
+    /// A repeated START (UM10204, 3.1.10).
+    Again,
+    /// A STOP (UM10204, 3.1.4).
+    Stop,
+    /// An interrupt waits for the answer to its header (our profile).
+    Claim,
+    /// Nothing: all has been sent.
+    Nothing,
+}
