@@ -155,8 +155,10 @@ impl<'a> Part<'a> {
     {
         match self {
             Part::Byte(sending) => Offered::Bit(sending.bit()),
-            Part::Then(Then::Answer { .. }) => Offered::Listen,
-            Part::Then(Then::Claim) => Offered::Claim,
+            Part::Then(then) => match then {
+                Then::Answer { .. } => Offered::Listen,
+                Then::Claim => Offered::Claim,
+            },
             Part::Read(reading) => reading.offered(),
             Part::Tail(tail) => match tail {
                 Tail::Stop => Offered::Stop,
