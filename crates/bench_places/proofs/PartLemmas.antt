@@ -115,7 +115,7 @@ sending_after s x u h =
 pub no_bit_left : (b : Byte) (k : ℕ) → 8 ≤ k → drop k (bits_of b) ≡ []
 no_bit_left b k h = drop_all k (bits_of b) (omega (arith, bit_count b))
 
--- ---- answers of targets, and the ends
+-- ---- answers of targets, and a repeated START
 
 pub begins_answer : (a : Acked) (t : TailTree) (x : Item) → Begins (AnswerThen (AckedText a) (TailText t)) x ↔ MayPut offer.Listen x
 begins_answer a t (Heard false) = (λ h. tt, λ _. some_acked a)
@@ -126,28 +126,12 @@ pub begins_again : (f : FrameTree) (x : Item) → Begins (AgainThen (FrameText f
 begins_again f Again = (λ h. tt, λ _. (lawful_frame f).some)
 begins_again f _ = (λ h. h.1, λ m. absurd m)
 
-pub begins_stop : (x : Item) → Begins (Only Stop) x ↔ MayPut offer.Stop x
-begins_stop Stop = (λ h. tt, λ _. ([], refl))
-begins_stop _ = (λ h. cc (h.1), λ m. absurd m)
-
-pub begins_claim : (x : Item) → Begins (Only Claim) x ↔ MayPut offer.Claim x
-begins_claim Claim = (λ h. tt, λ _. ([], refl))
-begins_claim _ = (λ h. cc (h.1), λ m. absurd m)
-
-pub begins_nothing : (x : Item) → Begins (λ u. u ≡ []) x ↔ MayPut offer.Nothing x
-begins_nothing x = (λ h. cc (h.1), λ m. absurd m)
-
 -- ---- bytes that are read
 
 begins_heard : (n : ℕ) (P : Language) (x : Item) → 0 < n → HasText P → Begins (HeardThen n P) x ↔ MayPut offer.Listen x
 begins_heard zero P x lt t = absurd (omega arith)
 begins_heard (suc n) P (Heard s) lt t = (λ h. tt, λ m. some_heard n P t)
 begins_heard (suc n) P _ lt t = (λ h. h.1, λ m. absurd m)
-
-heard_after : (n : ℕ) (P : Language) (x : Item) (u : List Item) → 0 < n → Begins (HeardThen n P) x → HeardThen (n - 1) P u ↔ HeardThen n P (x ∷ u)
-heard_after zero P x u lt h = absurd (omega arith)
-heard_after (suc n) P (Heard s) u lt h = let same : suc n - 1 ≡ n = omega arith in rw same (λ t. t, λ t. t)
-heard_after (suc n) P _ u lt h = absurd h.1
 
 -- what is left of a read behind the bits of a byte, where so many bytes come after this one
 AckText : ℕ → Language → Language
@@ -228,17 +212,6 @@ reading_acknowledges r b x e more end =
     subst (λ (n : ℕ). Begins (HeardThen n (AcknowledgeThen r.count r.done P)) x ↔ MayPut (offer.Bit b) x) (sym e)
     (begins_acknowledge r.count r.done P b x r.wanted (some_reading r) more end)
 
-pub reading_goes_on : (r : Reading) → ReadingText r [] → ⊥
-reading_goes_on r h = no_end r.left (AcknowledgeThen r.count r.done (TailText (tail_tree r.after.now))) (λ n. n) h
-  where
-    no_end : (n : ℕ) (P : Language) → (P [] → ⊥) → HeardThen n P [] → ⊥
-    no_end zero P none h = none h
-    no_end (suc n) P none h = h
-
-pub reading_after_bit : (r : Reading) (x : Item) (u : List Item) → 0 < r.left → Begins (ReadingText r) x →
-    HeardThen (r.left - 1) (AcknowledgeThen r.count r.done (TailText (tail_tree r.after.now))) u ↔ ReadingText r (x ∷ u)
-reading_after_bit r x u lt h = heard_after r.left (AcknowledgeThen r.count r.done (TailText (tail_tree r.after.now))) x u lt h
-
 -- behind an acknowledge that asks for a further byte
 pub reading_after_zero : (r : Reading) (u : List Item) → r.left ≡ 0 →
     HeardThen 8 (AcknowledgeThen r.count (r.done + 1) (TailText (tail_tree r.after.now))) u ↔ ReadingText r (Sent false ∷ u)
@@ -246,20 +219,6 @@ reading_after_zero r u e =
     let P = TailText (tail_tree r.after.now) in
     subst (λ (n : ℕ). HeardThen 8 (AcknowledgeThen r.count (r.done + 1) P) u ↔ HeardThen n (AcknowledgeThen r.count r.done P) (Sent false ∷ u)) (sym e)
     (next_byte r.count (r.done + 1) P u)
-
--- and behind one that ends the read
-pub reading_after_one : (r : Reading) (x : Item) (u : List Item) → r.left ≡ 0 → (x ≡ Sent false → ⊥) → Begins (ReadingText r) x →
-    TailText (tail_tree r.after.now) u ↔ ReadingText r (x ∷ u)
-reading_after_one r x u e not h =
-    let P = TailText (tail_tree r.after.now) in
-    subst (λ (n : ℕ). TailText (tail_tree r.after.now) u ↔ HeardThen n (AcknowledgeThen r.count r.done P) (x ∷ u)) (sym e)
-    (ended x not (subst (λ (n : ℕ). Begins (HeardThen n (AcknowledgeThen r.count r.done P)) x) e h))
-  where
-    ended : (y : Item) → (y ≡ Sent false → ⊥) → Begins (AcknowledgeThen r.count r.done (TailText (tail_tree r.after.now))) y →
-        TailText (tail_tree r.after.now) u ↔ AcknowledgeThen r.count r.done (TailText (tail_tree r.after.now)) (y ∷ u)
-    ended (Sent false) n b = absurd (n refl)
-    ended (Sent true) n b = (λ t. (b.1.0, t), λ t. t.1)
-    ended _ n b = absurd b.1
 
 -- one equivalence after another
 pub along : {A B C : Type 0} → A ↔ B → B ↔ C → A ↔ C

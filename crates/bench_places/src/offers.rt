@@ -1,6 +1,6 @@
 // What may come next in what a participant sends.
 
-use message_tree::Bit;
+use message_tree::{Bit, Item};
 
 /// What may come next in what a participant sends.
 #[derive(Clone, Copy, PartialEq, Eq, Debug)]
@@ -18,4 +18,25 @@ pub enum Offered {
     Claim,
     /// Nothing: all has been sent.
     Nothing,
+}
+
+impl Offered {
+    ghost use Rattle.std.specs.Prelude.{◌↔◌, IsTrue};
+    ghost use Rattle.bench_places.specs.Offers.{MayPut};
+
+    /// Whether this item may come next.
+    pub fn allows(&self, item: Item) -> bool
+        ensures { IsTrue result ↔ MayPut self.now item }
+    {
+        match (*self, item) {
+            (Offered::Bit(Bit::Zero), Item::Sent(bit)) => !bit,
+            (Offered::Bit(Bit::One), Item::Sent(bit)) => bit,
+            (Offered::Bit(Bit::Either), Item::Sent(_)) => true,
+            (Offered::Listen, Item::Heard(_)) => true,
+            (Offered::Again, Item::Again) => true,
+            (Offered::Stop, Item::Stop) => true,
+            (Offered::Claim, Item::Claim) => true,
+            _ => false,
+        }
+    }
 }

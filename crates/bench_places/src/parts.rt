@@ -252,7 +252,7 @@ impl<'a> Reading<'a> {
     // What may come next.
     fn offered(&self) -> Offered
         ensures items { (x : Item) → Begins (ReadingText self.now) x ↔ MayPut result x }
-        ensures goes_on { ReadingText self.now [] ↔ (result ≡ Offered.Nothing) }
+        ensures end { ReadingText self.now [] ↔ (result ≡ Offered.Nothing) }
     {
         if self.left == 0 {
             Offered::Bit(self.acknowledge())
