@@ -1,0 +1,3 @@
+pub mod Offers
+pub mod Parts
+pub mod Places
