@@ -10,7 +10,7 @@ use Rattle.bench_plays.specs.declared.puts.Put.{Put}
 use Rattle.bench_plays.specs.Games.{those}
 use Rattle.bench_plays.specs.Plays.{Puts}
 use Rattle.bus_bench.specs.declared.hands.Told.{Told}
-use Rattle.bus_bench.specs.Rule.{count_in}
+use Rattle.bench_plays.specs.Words.{count_in}
 use Rattle.bus_bench.specs.Steps.{puts_back}
 
 pub one_or_other : (b : Bool) → (b ≡ true) ⊎ (b ≡ false)

@@ -1,3 +1,5 @@
 pub mod Hands
 pub mod Rule
 pub mod Steps
+pub mod Seats
+pub mod Tickets

@@ -8,7 +8,7 @@ use Rattle.message_tree.specs.declared.items.Item.{Item}
 use Rattle.plan_core.specs.Lawful.{Set}
 use Rattle.bench_plays.specs.Games.{Game, IsGame}
 use Rattle.bench_plays.specs.Plays.{Puts, Goes, Leads, IsPlay}
-use Rattle.bench_plays.specs.Words.{word_of}
+use Rattle.bench_plays.specs.Words.{word_of, count_in}
 use Rattle.bus_bench.specs.declared.hands.Hand.{Hand}
 use Rattle.bus_bench.specs.declared.hands.Setup.{Setup}
 use Rattle.bus_bench.specs.declared.hands.Told.{Told}
@@ -19,10 +19,6 @@ use Rattle.bus_bench.specs.Hands.{setup_game, hand_game, starter}
 -- a slot for each item of the longest text
 abbrev pub SLOTS : ℕ
 SLOTS = 2560
-
--- how many of these are in the set
-abbrev pub count_in : List ℕ → Set → ℕ
-count_in xs s = count_by s xs
 
 -- What p has put is told, and what it has seen is a state that the play has passed: who was live there is told.
 pub record Knows (game : Game) (puts : Puts) (wire : List Item) (live : Set) (p : ℕ) (t : Told) : Type 0 where

@@ -1,7 +1,13 @@
 //! A bench: the participants of a safe plan that start together, on one shared wire of atomic words.
 //!
-//! `hands` says what the host and each seat know of the bench, `steps` the rule that each step on a word keeps and what it tells.
+//! `hands` says what the host and each seat know of the bench, `steps` the rule that each step on a word keeps and what
+//! it tells.
 #![tactic(auto)]
 
+pub mod errors;
 mod hands;
+pub mod seats;
 mod steps;
+
+pub use errors::{FinishFault, OpenError, PutError, Sight};
+pub use seats::{Bench, Host, Seat, Standing};

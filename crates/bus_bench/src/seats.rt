@@ -1,0 +1,84 @@
+// The bench, its host, and the seats of those who play.
+
+use crate::hands::{Hand, Setup};
+use crate::steps::Wired;
+use atomic_table::Table;
+use bench_places::Place;
+use bench_plays::Put;
+use std::alloc::Global;
+use std::marker::Model;
+
+pub(crate) type Wire<'a> = Table<(), Hand, Setup<'a>, Wired, Global>;
+
+pub(crate) type Ticket = atomic_table::Seat<(), Hand>;
+
+/// A shared wire: one atomic word for each slot. Contracts see it by its name.
+#[derive(Drop)]
+pub struct Bench<'a> {
+    pub(crate) wire: Wire<'a>,
+    pub(crate) setup: Setup<'a>,
+}
+
+impl<'a> Model for Bench<'a> {
+    ghost use Rattle.bus_bench.specs.Seats.{BenchName};
+    ghost use Rattle.bus_bench.specs.Tickets.{bench_name, IsBench};
+
+    ghost Value = { BenchName };
+
+    ghost view = { λ b. bench_name b.wire.shared.table_id b.setup };
+
+    ghost invariant = { λ b. IsBench b.wire.shared.table_id b.wire.shared.key b.setup };
+}
+
+/// The right to finish a bench. Contracts see it by the name of its bench.
+#[derive(Drop)]
+pub struct Host {
+    pub(crate) ticket: Ticket,
+}
+
+impl Model for Host {
+    ghost use Rattle.bus_bench.specs.Seats.{BenchName};
+    ghost use Rattle.bus_bench.specs.Tickets.{ticket_bench, IsHost};
+
+    ghost Value = { BenchName };
+
+    ghost view = { λ h. ticket_bench h.ticket.table_id h.ticket.me };
+
+    ghost invariant = { λ h. IsHost h.ticket.me };
+}
+
+/// How a seat stands.
+#[derive(Clone, Copy, Debug, Drop, PartialEq, Eq)]
+pub enum Standing {
+    /// It is live, and the run goes on.
+    Playing,
+    /// It has lost arbitration.
+    Lost,
+    /// It was live when the run ended.
+    Ended,
+}
+
+/// The seat of one starter. It borrows the plan and stands at a place of what it plays. Contracts see it as its `Player`.
+#[derive(Drop)]
+pub struct Seat<'a> {
+    pub(crate) ticket: Ticket,
+    /// Where it stands in what it plays, while it is playing.
+    pub(crate) place: Place<'a>,
+    /// What it has put in its slot, until it has seen the slot complete.
+    pub(crate) own: Option<Put>,
+    pub(crate) slot: u32,
+    /// How many are live.
+    pub(crate) live: u32,
+    pub(crate) standing: Standing,
+}
+
+impl<'a> Model for Seat<'a> {
+    ghost use Rattle.bus_bench.specs.Seats.{Player};
+    ghost use Rattle.bus_bench.specs.Tickets.{player_of, IsSeat};
+
+    ghost Value = { Player };
+
+    ghost view = { λ s. player_of s.ticket.table_id s.ticket.me s.standing };
+
+    ghost invariant = { λ s. IsSeat s.ticket.me s.place s.own s.slot s.live s.standing };
+}
