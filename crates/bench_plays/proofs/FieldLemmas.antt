@@ -78,36 +78,36 @@ count_less f g (y ∷ ys) q h i a b = elim (or_true (y == q) (those ys q) i) [
 
 -- ---- tests on puts
 
-pub any_put : Put → Bool
+unfoldable pub any_put : Put → Bool
 any_put x = true
 
-pub zero_put : Put → Bool
+unfoldable pub zero_put : Put → Bool
 zero_put (Drive false) = true
 zero_put _ = false
 
-pub again_put : Put → Bool
+unfoldable pub again_put : Put → Bool
 again_put Again = true
 again_put _ = false
 
-pub stop_put : Put → Bool
+unfoldable pub stop_put : Put → Bool
 stop_put Stop = true
 stop_put _ = false
 
-pub listen_put : Put → Bool
+unfoldable pub listen_put : Put → Bool
 listen_put Listen = true
 listen_put _ = false
 
-pub claim_put : Put → Bool
+unfoldable pub claim_put : Put → Bool
 claim_put Claim = true
 claim_put _ = false
 
 -- a test of what is put, if anything
-pub passes : (Put → Bool) → Option Put → Bool
+unfoldable pub passes : (Put → Bool) → Option Put → Bool
 passes t None = false
 passes t (Some x) = t x
 
 -- how many of a list put in slot k what passes
-pub counted : (Put → Bool) → List ℕ → Puts → ℕ → ℕ
+unfoldable pub counted : (Put → Bool) → List ℕ → Puts → ℕ → ℕ
 counted t xs puts k = count_by (λ p. passes t (slice_get (puts p) k)) xs
 
 parts : (o : Option Put) → contribution_of o ≡ tally (passes any_put o) + 1024 * tally (passes zero_put o) + 1048576 * tally (passes again_put o) + 1073741824 * tally (passes stop_put o) + 1099511627776 * tally (passes listen_put o) + 1125899906842624 * tally (passes claim_put o)

@@ -1,3 +1,4 @@
 pub mod PlayLemmas
 pub mod WordLemmas
 pub mod FieldLemmas
+pub mod SlotLemmas

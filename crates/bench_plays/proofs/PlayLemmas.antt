@@ -212,7 +212,7 @@ few_puts game puts u live m q i = elim (either (live q)) [
       omega (arith, h.puts_made, ap length h.wire, length-append h.before (h.shown ∷ h.rest))
 ]
 
-heard_is_the_answer : (answers : List Bool) (k : ℕ) (x : Put) (b : Bool) → item_of answers k x ≡ item.Heard b → answer_at answers k ≡ b
+pub heard_is_the_answer : (answers : List Bool) (k : ℕ) (x : Put) (b : Bool) → item_of answers k x ≡ item.Heard b → answer_at answers k ≡ b
 heard_is_the_answer answers k Listen b e = cc
 heard_is_the_answer answers k (Drive c) b e = cc
 heard_is_the_answer answers k Again b e = cc
