@@ -1,3 +1,2 @@
-pub mod Assumed
 pub mod ViewLemmas
 pub mod StepLemmas

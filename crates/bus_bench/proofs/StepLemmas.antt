@@ -28,7 +28,7 @@ use Rattle.bus_bench.specs.Rule.{SLOTS, Knows, Holder, FitsPlayer, FitsHost, Fit
 use Rattle.bus_bench.specs.Steps.{IsPlayed, IsJust, HandPlayed, put_on, HasPut, own_item, item_shown, seen_on, HasSeen, puts_back, HasRead, handing_out, handed_out, taken_back, nobody}
 use Rattle.bench_plays.proofs.PlayLemmas.{start_is_play, PutOn, put_is_play, not_further, is_prefix}
 use Rattle.bench_plays.proofs.WordLemmas.{word_small, contribution_small, word_none, word_put_here, word_put_elsewhere}
-use Rattle.bus_bench.proofs.Assumed.{Open, Complete, slot_tells}
+use Rattle.bench_plays.proofs.SlotLemmas.{Open, Complete, slot_tells}
 use Rattle.bus_bench.proofs.ViewLemmas.{at_those, one_place, all_count, all_back}
 
 -- ---- what fits by its role

@@ -6,8 +6,12 @@
 
 pub mod errors;
 mod hands;
+mod putting;
 pub mod seats;
+mod seeing;
 mod steps;
 
+pub use bench_places::Offered;
+pub use bench_plays::Put;
 pub use errors::{FinishFault, OpenError, PutError, Sight};
 pub use seats::{Bench, Host, Seat, Standing};

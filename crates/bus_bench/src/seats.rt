@@ -23,7 +23,12 @@ impl<'a> Model for Bench<'a> {
     ghost use Rattle.bus_bench.specs.Seats.{BenchName};
     ghost use Rattle.bus_bench.specs.Tickets.{bench_name, IsBench};
 
+    ghost use Rattle.std.specs.Coded.{codes};
+    ghost use Rattle.plan_core.specs.contracts.plans.Plan as plan;
+
     ghost Value = { BenchName };
+
+    ghost coded = { Prim.hlevel (codes, plan.the_row.coded) };
 
     ghost view = { λ b. bench_name b.wire.shared.table_id b.setup };
 
@@ -40,7 +45,12 @@ impl Model for Host {
     ghost use Rattle.bus_bench.specs.Seats.{BenchName};
     ghost use Rattle.bus_bench.specs.Tickets.{ticket_bench, IsHost};
 
+    ghost use Rattle.std.specs.Coded.{codes};
+    ghost use Rattle.plan_core.specs.contracts.plans.Plan as plan;
+
     ghost Value = { BenchName };
+
+    ghost coded = { Prim.hlevel (codes, plan.the_row.coded) };
 
     ghost view = { λ h. ticket_bench h.ticket.table_id h.ticket.me };
 
@@ -76,7 +86,12 @@ impl<'a> Model for Seat<'a> {
     ghost use Rattle.bus_bench.specs.Seats.{Player};
     ghost use Rattle.bus_bench.specs.Tickets.{player_of, IsSeat};
 
+    ghost use Rattle.std.specs.Coded.{codes};
+    ghost use Rattle.plan_core.specs.contracts.plans.Plan as plan;
+
     ghost Value = { Player };
+
+    ghost coded = { Prim.hlevel (codes, plan.the_row.coded) };
 
     ghost view = { λ s. player_of s.ticket.table_id s.ticket.me s.standing };
 
