@@ -129,9 +129,16 @@ unfolding counted
 word_is_counts [] puts k = refl
 word_is_counts (y ∷ ys) puts k =
     omega (
-      arith, parts (slice_get (puts y) k), word_is_counts ys puts k, sum_by-cons (λ (p : ℕ). contribution_of (slice_get (puts p) k)) y ys,
-      counted_cons any_put y ys puts k, counted_cons zero_put y ys puts k, counted_cons again_put y ys puts k,
-      counted_cons stop_put y ys puts k, counted_cons listen_put y ys puts k, counted_cons claim_put y ys puts k,
+      arith,
+      parts (slice_get (puts y) k),
+      word_is_counts ys puts k,
+      sum_by-cons (λ (p : ℕ). contribution_of (slice_get (puts p) k)) y ys,
+      counted_cons any_put y ys puts k,
+      counted_cons zero_put y ys puts k,
+      counted_cons again_put y ys puts k,
+      counted_cons stop_put y ys puts k,
+      counted_cons listen_put y ys puts k,
+      counted_cons claim_put y ys puts k,
     )
 
 -- ---- each field reads back
