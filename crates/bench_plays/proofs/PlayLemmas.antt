@@ -1,5 +1,5 @@
 -- Plays go on: what holds of each, and what a put does to one.
-use Rattle.std.proofs.Common.{◌≡◌, ◌≢◌, ℕ, zero, suc, ◌+◌, ◌<◌, ◌≤◌, ◌⊎◌, inl, inr, Bool, true, false, ◌&&◌, ◌||◌, ◌==◌, if◌then◌else◌, List, [], ◌∷◌, ◌++◌, length, length-append, take, refl, ap, sym, ◌∙◌, subst, append_assoc, append-nil, get_or, arith}
+use Rattle.std.proofs.Common.{◌≡◌, ◌≢◌, ℕ, ◌+◌, ◌<◌, ◌≤◌, ◌⊎◌, inl, inr, Bool, true, false, ◌&&◌, ◌||◌, ◌==◌, List, [], ◌∷◌, ◌++◌, length, length-append, take, refl, ap, sym, ◌∙◌, subst, append_assoc, append-nil, get_or, arith}
 use Rattle.std.proofs.lemmas.Bool.{cases_lt}
 use Rattle.std.proofs.lemmas.Bool.Decides.{nat_tests}
 use Rattle.std.proofs.lemmas.List.{take-append-le}
@@ -8,10 +8,9 @@ use Rattle.std.proofs.Math.Seq.{get_or-append_seam, take-length}
 use Rattle.std.specs.List.{list_any}
 use Rattle.message_tree.specs.declared.items.Item.{Item}
 use Rattle.message_tree.specs.declared.items.Item.TheVariants as item
-use Rattle.plan_core.specs.Contents.{Contents}
-use Rattle.plan_core.specs.Participants.{participant_count, Text}
-use Rattle.plan_core.specs.Lawful.{Set, In, IsLawful}
-use Rattle.plan_core.specs.Rounds.{Offers, IsRound, NoClash, IsWire, IsSlot, survivors}
+use Rattle.plan_core.specs.Participants.{participant_count}
+use Rattle.plan_core.specs.Lawful.{Set, In}
+use Rattle.plan_core.specs.Rounds.{Offers, IsRound, IsSlot, survivors}
 use Rattle.plan_core.specs.Runs.{Reaches, start, slot as reach, IsReached, HasEnded, Whole}
 use Rattle.plan_core.proofs.Model.{survived, survives, followed_on}
 use Rattle.plan_core.proofs.Safety.{not_ended, round_never_clashes, has_one_wire}

@@ -1,11 +1,11 @@
 -- A play leads to one state, and goes on until its run has ended.
-use Rattle.std.proofs.Common.{◌≡◌, ℕ, ◌+◌, ◌<◌, ◌⊎◌, inl, inr, Bool, true, false, List, [], ◌∷◌, ◌++◌, length, refl, ap, sym, ◌∙◌, subst, arith}
+use Rattle.std.proofs.Common.{◌≡◌, ℕ, ◌<◌, ◌⊎◌, inl, inr, true, false, List, [], ◌∷◌, ◌++◌, length, ap, sym, ◌∙◌, subst, arith}
 use Rattle.message_tree.specs.declared.items.Item.{Item}
 use Rattle.message_tree.specs.declared.items.Item.TheVariants as item
 use Rattle.plan_core.specs.Lawful.{Set, In}
-use Rattle.plan_core.specs.Rounds.{Follows, Offers, IsWire, IsSlot, survivors}
+use Rattle.plan_core.specs.Rounds.{Follows, Offers, IsWire, survivors}
 use Rattle.plan_core.specs.Runs.{IsReached, HasEnded}
-use Rattle.plan_core.proofs.Model.{followed, still_in}
+use Rattle.plan_core.proofs.Model.{followed}
 use Rattle.plan_core.proofs.Safety.{goes_on}
 use Rattle.plan_core.proofs.Texts.{fair_text, some_text}
 use Rattle.bench_plays.specs.declared.puts.Put.{Put}
@@ -14,7 +14,7 @@ use Rattle.bench_plays.specs.Games.{Game, IsGame, those, answer_at}
 use Rattle.bench_plays.specs.Plays.{item_of, Puts, HavePut, put_in, Goes, here, slot, Leads, IsPlay}
 use Rattle.bench_plays.specs.Laws.{MayPut, Passes}
 use Rattle.bench_plays.proofs.PlayLemmas.{is_reached, not_further, was_in}
-use Rattle.bench_plays.proofs.SlotLemmas.{First, first_slot, Complete, slot_tells}
+use Rattle.bench_plays.proofs.SlotLemmas.{first_slot, Complete, slot_tells}
 
 -- ---- one state
 

@@ -1,11 +1,10 @@
 -- What the word of a slot tells a state that the play has passed.
-use Rattle.std.proofs.Common.{◌≡◌, ◌≢◌, ℕ, zero, suc, ◌+◌, ◌*◌, ◌/◌, ◌%◌, ◌<◌, ◌≤◌, ◌⊎◌, inl, inr, Bool, true, false, if◌then◌else◌, ◌&&◌, ◌==◌, Option, Some, None, List, [], ◌∷◌, ◌++◌, length, length-append, slice_get, get_or, refl, ap, sym, ◌∙◌, subst, append_assoc, append-nil, arith}
+use Rattle.std.proofs.Common.{◌≡◌, ◌≢◌, ℕ, ◌+◌, ◌/◌, ◌%◌, ◌<◌, ◌≤◌, ◌⊎◌, inl, inr, Bool, true, false, if◌then◌else◌, ◌&&◌, ◌==◌, Option, Some, None, List, [], ◌∷◌, ◌++◌, length, length-append, slice_get, get_or, refl, ap, sym, ◌∙◌, subst, arith}
 use Rattle.std.proofs.lemmas.Bool.{cases_lt}
 use Rattle.std.proofs.lemmas.Bool.Decides.{nat_tests}
 use Rattle.std.proofs.lemmas.Option.{slice_get-get_or, slice_get_past}
 use Rattle.std.proofs.Math.ListN.{get_or-append}
 use Rattle.std.proofs.Math.Seq.{get_or-append_seam}
-use Rattle.std.specs.List.{count_by}
 use Rattle.message_tree.specs.declared.items.Item.{Item}
 use Rattle.message_tree.specs.declared.items.Item.TheVariants as item
 use Rattle.plan_core.specs.Lawful.{Set, In}
@@ -14,7 +13,7 @@ use Rattle.plan_core.proofs.Model.{survived, survives}
 use Rattle.bench_plays.specs.declared.puts.Put.{Put}
 use Rattle.bench_plays.specs.declared.puts.Put.TheVariants.{Drive, Listen, Again, Stop, Claim}
 use Rattle.bench_plays.specs.Games.{Game, those, answer_at, IsGame}
-use Rattle.bench_plays.specs.Plays.{item_of, Puts, HavePut, put_in, Goes, here, slot, Leads, HasLost, IsPlay}
+use Rattle.bench_plays.specs.Plays.{item_of, Puts, HavePut, put_in, Goes, here, slot, Leads, IsPlay}
 pub use Rattle.bench_plays.specs.Words.{count_in}
 use Rattle.bench_plays.specs.Words.{word_of, arrivals_in, zeros_in, shown_in, left_in}
 use Rattle.bench_plays.proofs.PlayLemmas.{either, was_in, is_prefix, heard_is_the_answer}

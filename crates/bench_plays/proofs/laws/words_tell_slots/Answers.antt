@@ -1,9 +1,7 @@
-use Rattle.std.proofs.Common.{◌≡◌, ◌<◌, ◌≤◌, length, ap, sym, subst, arith, inl, inr}
+use Rattle.std.proofs.Common.{◌≡◌, length, sym, subst, arith, inl, inr}
 use Rattle.plan_core.specs.Rounds.{IsWire, survivors}
-use Rattle.bench_plays.specs.Games.{answer_at}
 use Rattle.bench_plays.specs.Plays.{put_in}
-use Rattle.bench_plays.specs.Words.{word_of, count_in, arrivals_in, shown_in, left_in}
-use Rattle.bench_plays.proofs.PlayLemmas.{was_in}
+use Rattle.bench_plays.specs.Words.{word_of, count_in, left_in}
 use Rattle.bench_plays.proofs.RunLemmas.{one_wire, all_put_is_complete}
 use Rattle.bench_plays.proofs.SlotLemmas.{slot_tells}
 use Rattle.bench_plays.proofs.laws.words_tell_slots.Goals as goal
