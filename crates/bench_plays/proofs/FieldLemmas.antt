@@ -1,15 +1,15 @@
 -- The fields of a word: each counts the puts that it is for.
-use Rattle.std.proofs.Common.{◌≡◌, ℕ, zero, suc, ◌+◌, ◌*◌, ◌/◌, ◌%◌, ◌<◌, ◌≤◌, ◌⊎◌, inl, inr, Bool, true, false, if◌then◌else◌, ◌==◌, Option, Some, None, List, [], ◌∷◌, length, slice_get, refl, ap, sym, ◌∙◌, subst, arith}
+use Rattle.std.proofs.Common.{◌≡◌, ℕ, ◌+◌, ◌*◌, ◌/◌, ◌%◌, ◌<◌, ◌≤◌, inl, inr, Bool, true, false, if◌then◌else◌, ◌==◌, Option, Some, None, List, [], ◌∷◌, length, slice_get, refl, ap, ◌∙◌, arith}
 use Rattle.std.proofs.lemmas.Bool.Decides.{nat_tests}
 use Rattle.std.proofs.lemmas.List.Sums.{sum_by-cons, count_by-le-length}
-use Rattle.std.specs.List.{sum_by, count_by}
+use Rattle.std.specs.List.{count_by}
 use Rattle.plan_core.specs.Lawful.{In}
 use Rattle.bench_plays.specs.declared.puts.Put.{Put}
 use Rattle.bench_plays.specs.declared.puts.Put.TheVariants.{Drive, Listen, Again, Stop, Claim}
 use Rattle.bench_plays.specs.Games.{those}
 use Rattle.bench_plays.specs.Plays.{Puts}
 use Rattle.bench_plays.specs.Words.{contribution_of, word_of, arrivals_in, zeros_in}
-use Rattle.bench_plays.proofs.PlayLemmas.{either, or_true}
+use Rattle.bench_plays.proofs.PlayLemmas.{or_true}
 use Rattle.bench_plays.proofs.WordLemmas.{first_in, later_in}
 
 -- ---- counts of those in a list
@@ -129,9 +129,16 @@ unfolding counted
 word_is_counts [] puts k = refl
 word_is_counts (y ∷ ys) puts k =
     omega (
-      arith, parts (slice_get (puts y) k), word_is_counts ys puts k, sum_by-cons (λ (p : ℕ). contribution_of (slice_get (puts p) k)) y ys,
-      counted_cons any_put y ys puts k, counted_cons zero_put y ys puts k, counted_cons again_put y ys puts k,
-      counted_cons stop_put y ys puts k, counted_cons listen_put y ys puts k, counted_cons claim_put y ys puts k,
+      arith,
+      parts (slice_get (puts y) k),
+      word_is_counts ys puts k,
+      sum_by-cons (λ (p : ℕ). contribution_of (slice_get (puts p) k)) y ys,
+      counted_cons any_put y ys puts k,
+      counted_cons zero_put y ys puts k,
+      counted_cons again_put y ys puts k,
+      counted_cons stop_put y ys puts k,
+      counted_cons listen_put y ys puts k,
+      counted_cons claim_put y ys puts k,
     )
 
 -- ---- each field reads back

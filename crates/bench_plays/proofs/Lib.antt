@@ -2,3 +2,4 @@ pub mod PlayLemmas
 pub mod WordLemmas
 pub mod FieldLemmas
 pub mod SlotLemmas
+pub mod RunLemmas

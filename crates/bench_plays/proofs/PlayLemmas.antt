@@ -1,5 +1,5 @@
 -- Plays go on: what holds of each, and what a put does to one.
-use Rattle.std.proofs.Common.{◌≡◌, ◌≢◌, ℕ, zero, suc, ◌+◌, ◌<◌, ◌≤◌, ◌⊎◌, inl, inr, Bool, true, false, ◌&&◌, ◌||◌, ◌==◌, if◌then◌else◌, List, [], ◌∷◌, ◌++◌, length, length-append, take, refl, ap, sym, ◌∙◌, subst, append_assoc, append-nil, get_or, arith}
+use Rattle.std.proofs.Common.{◌≡◌, ◌≢◌, ℕ, ◌+◌, ◌<◌, ◌≤◌, ◌⊎◌, inl, inr, Bool, true, false, ◌&&◌, ◌||◌, ◌==◌, List, [], ◌∷◌, ◌++◌, length, length-append, take, refl, ap, sym, ◌∙◌, subst, append_assoc, append-nil, get_or, arith}
 use Rattle.std.proofs.lemmas.Bool.{cases_lt}
 use Rattle.std.proofs.lemmas.Bool.Decides.{nat_tests}
 use Rattle.std.proofs.lemmas.List.{take-append-le}
@@ -8,10 +8,9 @@ use Rattle.std.proofs.Math.Seq.{get_or-append_seam, take-length}
 use Rattle.std.specs.List.{list_any}
 use Rattle.message_tree.specs.declared.items.Item.{Item}
 use Rattle.message_tree.specs.declared.items.Item.TheVariants as item
-use Rattle.plan_core.specs.Contents.{Contents}
-use Rattle.plan_core.specs.Participants.{participant_count, Text}
-use Rattle.plan_core.specs.Lawful.{Set, In, IsLawful}
-use Rattle.plan_core.specs.Rounds.{Offers, IsRound, NoClash, IsWire, IsSlot, survivors}
+use Rattle.plan_core.specs.Participants.{participant_count}
+use Rattle.plan_core.specs.Lawful.{Set, In}
+use Rattle.plan_core.specs.Rounds.{Offers, IsRound, IsSlot, survivors}
 use Rattle.plan_core.specs.Runs.{Reaches, start, slot as reach, IsReached, HasEnded, Whole}
 use Rattle.plan_core.proofs.Model.{survived, survives, followed_on}
 use Rattle.plan_core.proofs.Safety.{not_ended, round_never_clashes, has_one_wire}
@@ -143,8 +142,8 @@ module _ (game : Game) (puts : Puts) (p : ℕ) (x : Put) where
   unfolding after
   put_in_before k q lt = elim (same_or_other q p) [
     | inl e ↦ subst (λ (r : ℕ). put_in game after k r ≡ put_in game puts k r) (sym e) (
-      ap (λ (l : List Put). item_of game.answers k (get_or l k Listen)) (put_here puts p x)
-      ∙ ap (item_of game.answers k) (get_or-append (puts p) (x ∷ []) Listen k lt))
+        ap (λ (l : List Put). item_of game.answers k (get_or l k Listen)) (put_here puts p x)
+        ∙ ap (item_of game.answers k) (get_or-append (puts p) (x ∷ []) Listen k lt))
     | inr n ↦ put_in_there k q n
   ]
 
@@ -269,16 +268,28 @@ module _ (game : Game) (puts : Puts) (u : List Item) (live : Set) (is : IsGame g
             offered = λ q k i lt. subst (λ (v : List Item). Offers game.plan q v (put_in game puts k q)) (sym (prefix q k i lt)) (m.offered q k i lt);
             lost = λ q i gone. elim (either (live q)) [
               | inl there ↦ record {
-                  before = u; live = live; shown = w; rest = []; wire = refl; led = m.led; was_live = there;
-                  other = λ e. let stays : In q (survivors live put w) = survives live put w q there e in cc;
-                  puts_made = all q there;
-                }
+                before = u;
+                live = live;
+                shown = w;
+                rest = [];
+                wire = refl;
+                led = m.led;
+                was_live = there;
+                other = λ e. let stays : In q (survivors live put w) = survives live put w q there e in cc;
+                puts_made = all q there;
+              }
               | inr before ↦
                   let h = m.lost q i before in
                   record {
-                    before = h.before; live = h.live; shown = h.shown; rest = h.rest ++ w ∷ [];
+                    before = h.before;
+                    live = h.live;
+                    shown = h.shown;
+                    rest = h.rest ++ w ∷ [];
                     wire = ap (λ (v : List Item). v ++ w ∷ []) h.wire ∙ append_assoc h.before (h.shown ∷ h.rest) (w ∷ []);
-                    led = h.led; was_live = h.was_live; other = h.other; puts_made = h.puts_made;
+                    led = h.led;
+                    was_live = h.was_live;
+                    other = h.other;
+                    puts_made = h.puts_made;
                   }
             ];
             keeps_up = λ q i. inl (all q (survived live put w q i).0 ∙ sym one_more);
@@ -316,21 +327,26 @@ with_one_more game puts u live p x play p_live level o =
         | inr n ↦ subst (Offers game.plan q (take k u)) (sym (put_in_there game puts p x k q n)) (play.offered q k i (omega (arith, length_there game puts p x q n)))
       ];
       lost = λ q i gone.
-        let n : q ≢ p = λ e. let both : live q ≡ live p = ap live e in cc in
-        let h = play.lost q i gone in
-        record {
-          before = h.before; live = h.live; shown = h.shown; rest = h.rest; wire = h.wire; was_live = h.was_live;
-          led = carried game puts p x [] (those game.starters) h.led (omega (arith, ap length h.wire, length-append h.before (h.shown ∷ h.rest)));
-          other = λ e. h.other (sym (put_in_there game puts p x (length h.before) q n) ∙ e);
-          puts_made = length_there game puts p x q n ∙ h.puts_made;
-        };
+          let n : q ≢ p = λ e. let both : live q ≡ live p = ap live e in cc in
+          let h = play.lost q i gone in
+          record {
+            before = h.before;
+            live = h.live;
+            shown = h.shown;
+            rest = h.rest;
+            wire = h.wire;
+            was_live = h.was_live;
+            led = carried game puts p x [] (those game.starters) h.led (omega (arith, ap length h.wire, length-append h.before (h.shown ∷ h.rest)));
+            other = λ e. h.other (sym (put_in_there game puts p x (length h.before) q n) ∙ e);
+            puts_made = length_there game puts p x q n ∙ h.puts_made;
+          };
       keeps_up = λ q i. elim (same_or_other q p) [
         | inl e ↦ inr (subst (λ (r : ℕ). length (next r) ≡ length u + 1) (sym e) (omega (arith, length_here game puts p x)), not_ended game.plan p u (item_of game.answers (length u) x) o)
         | inr n ↦ elim (play.keeps_up q i) [ inl e ↦ inl (length_there game puts p x q n ∙ e) | inr e ↦ inr (length_there game puts p x q n ∙ e.0, e.1) ]
       ];
       others = λ q out.
-        let n : q ≢ p = λ e. let both : those game.starters q ≡ those game.starters p = ap (those game.starters) e in let inside : those game.starters p ≡ true = started p p_live in cc in
-        put_there puts p q x n ∙ play.others q out;
+          let n : q ≢ p = λ e. let both : those game.starters q ≡ those game.starters p = ap (those game.starters) e in let inside : those game.starters p ≡ true = started p p_live in cc in
+          put_there puts p q x n ∙ play.others q out;
     }
 
 -- who is live, and has not put in the next slot
@@ -357,14 +373,16 @@ put_is_play game puts u live p x is play p_live level o =
     let m = with_one_more game puts u live p x play p_live level o in
     let started : (q : ℕ) → In q live → In q (those game.starters) = λ q i. was_in game puts [] u (those game.starters) live q play.led i in
     let still : (v : List Item) (among : Set) → Leads game puts v among → Goes game puts v among u live → Leads game next v among × Goes game next v among u live = λ v among l g.
-      let r = is_prefix game puts v u among live g in
-      (carried game puts p x [] (those game.starters) l (omega (arith, ap length r.1, length-append v r.0)), carried game puts p x v among g (omega arith)) in
+    let r = is_prefix game puts v u among live g in
+    (carried game puts p x [] (those game.starters) l (omega (arith, ap length r.1, length-append v r.0)), carried game puts p x v among g (omega arith)) in
     elim (either (list_any (waits next u live) game.starters)) [
       | inl somebody_waits ↦
           let q = any_found (waits next u live) game.starters somebody_waits in
           let w = waiting next u live q.0 q.1 in
           record {
-            wire = u; on = live; passes = still;
+            wire = u;
+            on = live;
+            passes = still;
             play = record { led = m.led; last = (q.0, w.0, w.1); offered = m.offered; lost = m.lost; keeps_up = m.keeps_up; others = m.others };
           }
       | inr nobody_waits ↦

@@ -1,11 +1,10 @@
 -- What the word of a slot tells a state that the play has passed.
-use Rattle.std.proofs.Common.{◌≡◌, ◌≢◌, ℕ, zero, suc, ◌+◌, ◌*◌, ◌/◌, ◌%◌, ◌<◌, ◌≤◌, ◌⊎◌, inl, inr, Bool, true, false, if◌then◌else◌, ◌&&◌, ◌==◌, Option, Some, None, List, [], ◌∷◌, ◌++◌, length, length-append, slice_get, get_or, refl, ap, sym, ◌∙◌, subst, append_assoc, append-nil, arith}
+use Rattle.std.proofs.Common.{◌≡◌, ◌≢◌, ℕ, ◌+◌, ◌/◌, ◌%◌, ◌<◌, ◌≤◌, ◌⊎◌, inl, inr, Bool, true, false, if◌then◌else◌, ◌&&◌, ◌==◌, Option, Some, None, List, [], ◌∷◌, ◌++◌, length, length-append, slice_get, get_or, refl, ap, sym, ◌∙◌, subst, arith}
 use Rattle.std.proofs.lemmas.Bool.{cases_lt}
 use Rattle.std.proofs.lemmas.Bool.Decides.{nat_tests}
 use Rattle.std.proofs.lemmas.Option.{slice_get-get_or, slice_get_past}
 use Rattle.std.proofs.Math.ListN.{get_or-append}
 use Rattle.std.proofs.Math.Seq.{get_or-append_seam}
-use Rattle.std.specs.List.{count_by}
 use Rattle.message_tree.specs.declared.items.Item.{Item}
 use Rattle.message_tree.specs.declared.items.Item.TheVariants as item
 use Rattle.plan_core.specs.Lawful.{Set, In}
@@ -14,7 +13,7 @@ use Rattle.plan_core.proofs.Model.{survived, survives}
 use Rattle.bench_plays.specs.declared.puts.Put.{Put}
 use Rattle.bench_plays.specs.declared.puts.Put.TheVariants.{Drive, Listen, Again, Stop, Claim}
 use Rattle.bench_plays.specs.Games.{Game, those, answer_at, IsGame}
-use Rattle.bench_plays.specs.Plays.{item_of, Puts, HavePut, put_in, Goes, here, slot, Leads, HasLost, IsPlay}
+use Rattle.bench_plays.specs.Plays.{item_of, Puts, HavePut, put_in, Goes, here, slot, Leads, IsPlay}
 pub use Rattle.bench_plays.specs.Words.{count_in}
 use Rattle.bench_plays.specs.Words.{word_of, arrivals_in, zeros_in, shown_in, left_in}
 use Rattle.bench_plays.proofs.PlayLemmas.{either, was_in, is_prefix, heard_is_the_answer}
@@ -22,11 +21,11 @@ use Rattle.bench_plays.proofs.FieldLemmas.{count_same, count_none, count_some, c
 
 -- ---- the first slot behind a state
 
-record First (game : Game) (puts : Puts) (v : List Item) (among : Set) (u : List Item) (live : Set) : Type 0 where
-  shown : Item
-  have_put : HavePut puts among (length v)
-  is_slot : IsSlot game.plan v among (put_in game puts (length v)) shown
-  goes : Goes game puts (v ++ shown ∷ []) (survivors among (put_in game puts (length v)) shown) u live
+pub record First (game : Game) (puts : Puts) (v : List Item) (among : Set) (u : List Item) (live : Set) : Type 0 where
+  pub shown : Item
+  pub have_put : HavePut puts among (length v)
+  pub is_slot : IsSlot game.plan v among (put_in game puts (length v)) shown
+  pub goes : Goes game puts (v ++ shown ∷ []) (survivors among (put_in game puts (length v)) shown) u live
 
 module _ (game : Game) (puts : Puts) (v : List Item) (among : Set) where
   -- the state (x, on) is (v, among) itself
@@ -37,7 +36,7 @@ module _ (game : Game) (puts : Puts) (v : List Item) (among : Set) where
       (subst (λ (s : Set). HavePut puts s (length v) → IsSlot game.plan v s (put_in game puts (length v)) w → First game puts v among (v ++ w ∷ []) (survivors s (put_in game puts (length v)) w)) d
       (λ h o. record { shown = w; have_put = h; is_slot = o; goes = here }))
 
-  first_slot : {u : List Item} {live : Set} → Goes game puts v among u live → ((v ≡ u) × (among ≡ live)) ⊎ First game puts v among u live
+  pub first_slot : {u : List Item} {live : Set} → Goes game puts v among u live → ((v ≡ u) × (among ≡ live)) ⊎ First game puts v among u live
   first_slot here = inl (refl, refl)
   first_slot (slot {v = x} {on} w g h o) = elim (first_slot g) [
     | inl same ↦ inr (from_here w x on same.0 same.1 h o)
@@ -69,10 +68,10 @@ module _ (game : Game) (puts : Puts) where
   only_shrinks : (u before v rest more : List Item) (late early : Set) (p : ℕ) → u ≡ before ++ rest → u ≡ v ++ more → length v ≤ length before → Leads game puts before late → Leads game puts v early → In p late → In p early
   only_shrinks u before v rest more late early p e d le g f i =
       still_live f p (was_in game puts [] before (those game.starters) late p g i) (λ k lt.
-        on_wire g p k i (omega arith)
-        ∙ sym (get_or-append before rest item.Stop k (omega arith))
-        ∙ ap (λ (w : List Item). get_or w k item.Stop) (sym e ∙ d)
-        ∙ get_or-append v more item.Stop k lt)
+      on_wire g p k i (omega arith)
+      ∙ sym (get_or-append before rest item.Stop k (omega arith))
+      ∙ ap (λ (w : List Item). get_or w k item.Stop) (sym e ∙ d)
+      ∙ get_or-append v more item.Stop k lt)
 
 -- ---- who has put in the slot behind a state
 
@@ -453,7 +452,7 @@ slot_tells game puts v u among live is play led goes = elim (first_slot game put
       inl (record {
         wire = sym same.0;
         some_missing = subst (λ (y : List Item). arrivals_in (word_of game.starters puts (length y)) < count_in game.starters among) (sym same.0)
-          (subst (λ (s : Set). arrivals_in (word_of game.starters puts k) < count_in game.starters s) (sym same.1) open_here);
+            (subst (λ (s : Set). arrivals_in (word_of game.starters puts k) < count_in game.starters s) (sym same.1) open_here);
       })
   | inr f ↦ inr (complete_slot game puts v u among live is play led goes f)
 ]

@@ -1,5 +1,5 @@
 -- Who plays on a bench, and what the targets answer.
-use Rattle.std.specs.Prelude.{◌≡◌, ◌≢◌, ℕ, ◌≤◌, Bool, true, ◌==◌, List, length, AllPairs}
+use Rattle.std.specs.Prelude.{◌≢◌, ℕ, ◌≤◌, Bool, true, ◌==◌, List, length, AllPairs}
 use Rattle.std.specs.List.{list_any, slice_index_or}
 use Rattle.plan_core.specs.Contents.{Contents}
 use Rattle.plan_core.specs.Faults.{IsSafe}

@@ -1,3 +1,5 @@
 pub mod Games
 pub mod Plays
 pub mod Words
+pub mod Tallies
+pub mod Laws

@@ -10,13 +10,17 @@ use Rattle.bench_plays.specs.declared.puts.Put.{Put}
 use Rattle.bench_plays.specs.declared.puts.Put.TheVariants.{Drive, Listen, Again, Stop, Claim}
 use Rattle.bench_plays.specs.Games.{Game, those, answer_at}
 
+-- the item that a put stands for where the bit of the targets is b
+abbrev pub item_with : Bool → Put → Item
+item_with b (Drive c) = item.Sent c
+item_with b Listen = item.Heard b
+item_with b Again = item.Again
+item_with b Stop = item.Stop
+item_with b Claim = item.Claim
+
 -- the item that a put stands for in slot k
 abbrev pub item_of : List Bool → ℕ → Put → Item
-item_of answers k (Drive b) = item.Sent b
-item_of answers k Listen = item.Heard (answer_at answers k)
-item_of answers k Again = item.Again
-item_of answers k Stop = item.Stop
-item_of answers k Claim = item.Claim
+item_of answers k x = item_with (answer_at answers k) x
 
 -- what each participant has put, in order
 abbrev pub Puts : Type 0

@@ -1,5 +1,5 @@
 -- The word of one slot: it counts who has put there, and what.
-use Rattle.std.specs.Prelude.{ℕ, ◌+◌, ◌*◌, ◌/◌, ◌%◌, Bool, true, false, if◌then◌else◌, ◌==◌, List, Option, Some, None, slice_get}
+use Rattle.std.specs.Prelude.{ℕ, ◌+◌, ◌/◌, ◌%◌, Bool, true, false, if◌then◌else◌, ◌==◌, List, Option, Some, None, slice_get}
 use Rattle.std.specs.List.{sum_by, count_by}
 use Rattle.message_tree.specs.declared.items.Item.{Item}
 use Rattle.message_tree.specs.declared.items.Item.TheVariants as item
@@ -42,13 +42,13 @@ zeros_in n = n / 1024 % 1024
 abbrev pub shown_in : ℕ → Bool → Item
 shown_in n b =
     if zeros_in n == 0 then
-      if n / 1048576 % 1024 == 0 then
-        if n / 1073741824 % 1024 == 0 then
-          if n / 1099511627776 % 1024 == 0 then
-            if n / 1125899906842624 % 1024 == 0 then item.Sent true else item.Claim
-          else item.Heard b
-        else item.Stop
-      else item.Again
+    if n / 1048576 % 1024 == 0 then
+    if n / 1073741824 % 1024 == 0 then
+    if n / 1099511627776 % 1024 == 0 then
+    if n / 1125899906842624 % 1024 == 0 then item.Sent true else item.Claim
+    else item.Heard b
+    else item.Stop
+    else item.Again
     else item.Sent false
 
 -- how many stay live behind such a slot, of so many before it: where somebody put a 0, those who did

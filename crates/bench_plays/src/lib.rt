@@ -4,6 +4,9 @@
 //! definition of this crate's specs, and `laws` says what holds of it.
 #![tactic(auto)]
 
+pub mod laws;
 pub mod puts;
+pub mod tally;
 
 pub use puts::Put;
+pub use tally::Tally;
