@@ -17,9 +17,11 @@ use Rattle.bench_places.specs.Offers.{Begins}
 use Rattle.bench_plays.specs.declared.puts.Put.{Put}
 use Rattle.bench_plays.specs.declared.puts.Put.TheVariants.{Listen}
 use Rattle.bench_plays.specs.Games.{IsGame, those, answer_at}
-use Rattle.bench_plays.specs.Plays.{IsPlay, item_of, put_in}
+use Rattle.bench_plays.specs.Plays.{IsPlay, item_of, item_with, put_in}
 use Rattle.bench_plays.specs.Words.{contribution, arrivals_in, shown_in, left_in}
-use Rattle.bench_plays.proofs.PlayLemmas.{has_room}
+use Rattle.bench_plays.proofs.PlayLemmas.{has_room, was_in}
+use Rattle.std.proofs.lemmas.Bool.Decides.{nat_tests}
+use Rattle.plan_core.specs.Lawful.{In}
 use Rattle.bus_bench.specs.declared.hands.Hand.{Hand}
 use Rattle.bus_bench.specs.declared.hands.Setup.{Setup}
 use Rattle.bus_bench.specs.declared.hands.Told.{Told}
@@ -30,8 +32,9 @@ use Rattle.bus_bench.specs.Hands.{hand_game, setup_game, starter}
 use Rattle.bus_bench.specs.Rule.{SLOTS, holds_at}
 use Rattle.bus_bench.specs.Steps.{IsPlayed, IsJust, HandPlayed, put_on, HasPut, own_item, item_shown, seen_on, HasSeen}
 use Rattle.bus_bench.specs.Seats as seats
+use Rattle.bus_bench.specs.declared.errors.Sight.TheVariants as sight
 use Rattle.bus_bench.specs.Tickets.{bench_name, IsBench, ticket_bench, player_of, is_lost, HasOwn, IsPlaying, StandsSo, IsSeat}
-use Rattle.bus_bench.proofs.ViewLemmas.{at_those}
+use Rattle.bus_bench.proofs.ViewLemmas.{at_those, one_or_other}
 use Rattle.bus_bench.proofs.StepLemmas.{MayPutNow, puts, sees}
 
 -- ---- what may be put
@@ -145,3 +148,222 @@ own_offered v x number played own =
     let wire : take k played.wire ≡ v.told.seen = ap (take k) played.begins ∙ take_front v.told.seen played.rest in
     let put : put_in (hand_game v) played.all k p ≡ own_item v = ap (λ (xs : List Put). item_of v.answers k (slice_index_or xs k Listen)) played.own in
     subst (λ (y : List Item × Item). Offers (hand_game v).plan p y.0 y.1) (λ i. (wire i, put i)) offered
+
+-- ---- behind a slot
+
+differ : (x y : Item) → x ≢ y → is_item x y ≡ false
+differ x y n = elim (one_or_other (is_item x y)) [ inl e ↦ absurd (n (same_item x y e)) | inr e ↦ e ]
+
+longer : {X : Type 0} (xs : List X) (x : X) → length (xs ++ x ∷ []) ≡ length xs + 1
+longer xs x = length-append xs (x ∷ [])
+
+stands_behind : (w : Item) (v : Hand) (before : List Item) (place : Place) (slot live : ℕ) → v.told.seen ≡ before ++ w ∷ [] → IsPlaying v place None slot live → StandsSo (seats.standing_behind w) v place None slot live
+stands_behind item.Stop v before place slot live e s = (before, inl e)
+stands_behind item.Claim v before place slot live e s = (before, inr e)
+stands_behind (item.Sent b) v before place slot live e s = s
+stands_behind (item.Heard b) v before place slot live e s = s
+stands_behind item.Again v before place slot live e s = s
+
+not_lost : (w : Item) → is_lost (seats.standing_behind w) ≡ false
+not_lost item.Stop = refl
+not_lost item.Claim = refl
+not_lost (item.Sent b) = refl
+not_lost (item.Heard b) = refl
+not_lost item.Again = refl
+
+no_id : TableId
+no_id = record { words = 0; slots = 0; views_name = 0; atom = 0; block = 0; offset = 0; slot_names = [] }
+
+module _ (id : TableId) (me : Me Unit Hand) (place : Place) (x : Put) (slot live n : ℕ) (s : IsSeat me place (Some x) slot live Playing) (told : HandPlayed (record me.0 { told = seen_on n me.0 })) where
+  own_there : own_item me.0 ≡ item_of me.0.answers slot x
+  own_there = let st = s.stands in own_put_is me.0 x st.own_put ∙ ap (λ (k : ℕ). item_of me.0.answers k x) (sym st.in_slot)
+
+  shown_there : (bit : Bool) → bit ≡ answer_at me.0.answers slot → shown_in n bit ≡ item_shown n me.0
+  shown_there bit e = let st = s.stands in ap (shown_in n) (e ∙ ap (answer_at me.0.answers) st.in_slot)
+
+  pub after_lost : (place' : Place) (own : Option Put) (slot' live' : ℕ) → item_of me.0.answers slot x ≢ item_shown n me.0 → IsSeat (record me.0 { told = seen_on n me.0 }, []) place' own slot' live' Lost
+  after_lost place' own slot' live' n' = record {
+    slots = refl;
+    plays = s.plays;
+    valid = s.valid;
+    number = s.number;
+    played = told;
+    out = ap not (differ (own_item me.0) (item_shown n me.0) (λ e. n' (sym own_there ∙ e)));
+    stands = tt;
+  }
+
+  -- the wire's item was offered
+  pub begins_shown : item_of me.0.answers slot x ≡ item_shown n me.0 → Begins (rest_of place) (item_shown n me.0)
+  begins_shown e =
+      let st = s.stands in
+      (may_offer me.0 place (Some x) slot live (item_shown n me.0) st).1 (subst (Offers (hand_game me.0).plan (starter (hand_game me.0) me.0.seat) me.0.told.seen) (own_there ∙ e) (own_offered me.0 x s.number s.played st.own_put))
+
+  pub after_on : (place' : Place) (live' : ℕ) → item_of me.0.answers slot x ≡ item_shown n me.0 → live' ≡ left_in n live → ((u : List Item) → rest_of place' u ↔ rest_of place (item_shown n me.0 ∷ u))
+      → IsSeat (record me.0 { told = seen_on n me.0 }, []) place' None (slot + 1) live' (seats.standing_behind (item_shown n me.0))
+  after_on place' live' e left_is place_is =
+      let v : Hand = me.0 in
+      let w : Item = item_shown n me.0 in
+      let st : IsPlaying v place (Some x) slot live = s.stands in
+      let own = st.own_put in
+      let after : Hand = record v { told = seen_on n v } in
+      let seen_more : length (v.told.seen ++ w ∷ []) ≡ length v.told.seen + 1 = longer v.told.seen w in
+      let puts_more : length v.told.puts ≡ length own.0 + 1 = ap length own.1 ∙ longer own.0 x in
+      let before : length own.0 ≡ length v.told.seen = own.2 in
+      let here : slot ≡ length v.told.seen = st.in_slot in
+      let room : length v.told.seen < SLOTS = own.3 in
+      let same : own_item v ≡ w = own_there ∙ e in
+      let playing : IsPlaying after place' None (slot + 1) live' = record {
+        in_slot = omega arith;
+        few = omega arith;
+        alive = left_is ∙ ap (left_in n) st.alive;
+        own_put = omega arith;
+        left = λ u.
+            let step = place_is u in
+            let old = st.left (w ∷ u) in
+            let along : v.told.seen ++ w ∷ u ≡ (v.told.seen ++ w ∷ []) ++ u = sym (append_assoc v.told.seen (w ∷ []) u) in
+            (
+              (λ r. subst (Text (hand_game v).plan (starter (hand_game v) v.seat)) along (old.0 (step.0 r))),
+              (λ t. step.1 (old.1 (subst (Text (hand_game v).plan (starter (hand_game v) v.seat)) (sym along) t))),
+            );
+      } in
+      record {
+        slots = refl;
+        plays = s.plays;
+        valid = s.valid;
+        number = s.number;
+        played = told;
+        out = ap not (ap (λ (y : Item). is_item y w) same ∙ item_is_itself w) ∙ sym (not_lost w);
+        stands = stands_behind w after v.told.seen place' (slot + 1) live' refl playing;
+      }
+
+  -- what callers see of it
+  has_put_here : seats.HasPutHere (player_of id me Playing)
+  has_put_here =
+      let st : IsPlaying me.0 place (Some x) slot live = s.stands in
+      let own = st.own_put in
+      let puts_more : length me.0.told.puts ≡ length own.0 + 1 = ap length own.1 ∙ longer own.0 x in
+      let before : length own.0 ≡ length me.0.told.seen = own.2 in
+      omega arith
+
+-- the wait of a seat
+pub saw_waiting : (id : TableId) (me : Me Unit Hand) (place : Place) (x : Put) (slot live : ℕ) (s : IsSeat me place (Some x) slot live Playing) → IsJust (hand_game me.0) (starter (hand_game me.0) me.0.seat) me.0.told.puts me.0.told.seen → seats.Saw sight.Waiting (player_of id me Playing) (player_of id me Playing)
+saw_waiting id me place x slot live s just = (refl, put_here_now id me place x slot live s, refl, just)
+  where
+    put_here_now : (id : TableId) (me : Me Unit Hand) (place : Place) (x : Put) (slot live : ℕ) (s : IsSeat me place (Some x) slot live Playing) → seats.HasPutHere (player_of id me Playing)
+    put_here_now id me place x slot live s =
+        let st : IsPlaying me.0 place (Some x) slot live = s.stands in
+        let own = st.own_put in
+        let puts_more : length me.0.told.puts ≡ length own.0 + 1 = ap length own.1 ∙ longer own.0 x in
+        let before : length own.0 ≡ length me.0.told.seen = own.2 in
+        omega arith
+
+single : (xs : List ℕ) (q j : ℕ) → length xs ≡ 1 → In q (those xs) → j < length xs → slice_index_or xs j 0 ≡ q
+single [] q j one i lt = absurd (omega arith)
+single (x ∷ []) q zero one i lt = grind (arith, nat_tests)
+single (x ∷ []) q (suc j) one i lt = absurd (omega arith)
+single (x ∷ y ∷ xs) q j one i lt = absurd (omega arith)
+
+-- a single starter never waits: somebody who is live has not put
+pub never_alone : (id : TableId) (me : Me Unit Hand) (place : Place) (x : Put) (slot live : ℕ) (s : IsSeat me place (Some x) slot live Playing) → IsJust (hand_game me.0) (starter (hand_game me.0) me.0.seat) me.0.told.puts me.0.told.seen → length me.0.starters ≡ 1 → ⊥
+never_alone id me place x slot live s just one =
+    let st : IsPlaying me.0 place (Some x) slot live = s.stands in
+    let own = st.own_put in
+    let last = just.play.last in
+    let started = was_in (hand_game me.0) just.all [] me.0.told.seen (those me.0.starters) just.live last.0 just.play.led last.1 in
+    let same : starter (hand_game me.0) me.0.seat ≡ last.0 = single me.0.starters last.0 me.0.seat one started s.number in
+    let puts_more : length me.0.told.puts ≡ length own.0 + 1 = ap length own.1 ∙ longer own.0 x in
+    let before : length own.0 ≡ length me.0.told.seen = own.2 in
+    let put : length (just.all last.0) ≡ length me.0.told.puts = ap (λ (q : ℕ). length (just.all q)) (sym same) ∙ ap length just.own in
+    let none : length (just.all last.0) ≡ length me.0.told.seen = last.2 in
+    omega arith
+
+-- ---- the answers of a look
+
+pub still_waits : (id id' : TableId) (me me' : Me Unit Hand) (place : Place) (x : Put) (slot live : ℕ) (standing : Standing) (arrived n : ℕ) (old : seats.Player) → standing ≡ Playing → IsSeat me place (Some x) slot live Playing
+    → id' ≡ id → HasSeen n me.0 me'.0 × (me'.1 ≡ me.1) → arrived ≡ arrivals_in n → arrived < live → player_of id me standing ≡ old
+    → seats.Saw sight.Waiting old (player_of id' me' standing)
+still_waits id id' me me' place x slot live standing arrived n old plays s same told count lt view =
+    let st : IsPlaying me.0 place (Some x) slot live = s.stands in
+    let w = waited me me' n live st.alive (omega arith) told in
+    let new_is : player_of id me Playing ≡ player_of id' me' standing = λ i. player_of (sym same i) (sym w.0 i) (sym plays i) in
+    let old_is : player_of id me Playing ≡ old = (λ i. player_of id me (sym plays i)) ∙ view in
+    subst (λ (y : seats.Player × seats.Player). seats.Saw sight.Waiting y.0 y.1) (λ i. (old_is i, new_is i)) (saw_waiting id me place x slot live s w.1)
+
+pub never_waits_alone : (id : TableId) (me me' : Me Unit Hand) (place : Place) (x : Put) (slot live : ℕ) (standing : Standing) (arrived n : ℕ) (old : seats.Player) → IsSeat me place (Some x) slot live Playing
+    → HasSeen n me.0 me'.0 × (me'.1 ≡ me.1) → arrived ≡ arrivals_in n → arrived < live → player_of id me standing ≡ old → length old.bench.starters ≡ 1 → ⊥
+never_waits_alone id me me' place x slot live standing arrived n old s told count lt view one =
+    let st : IsPlaying me.0 place (Some x) slot live = s.stands in
+    let w = waited me me' n live st.alive (omega arith) told in
+    never_alone id me place x slot live s w.1 (ap (λ (p : seats.Player). length p.bench.starters) view ∙ one)
+
+-- the item shown and the own item, as the code has them
+shown_as : (me : Me Unit Hand) (place : Place) (x : Put) (slot live n : ℕ) (bench : seats.BenchName) (id : TableId) (word : ℕ) (bit : Bool) (shown : Item) → IsSeat me place (Some x) slot live Playing → bench ≡ ticket_bench id me → bit ≡ answer_at bench.answers slot → word ≡ n → shown ≡ shown_in word bit → shown ≡ item_shown n me.0
+shown_as me place x slot live n bench id word bit shown s named b same is =
+    let st : IsPlaying me.0 place (Some x) slot live = s.stands in
+    is ∙ (λ i. shown_in (same i) (b i)) ∙ ap (shown_in n) (ap (λ (y : seats.BenchName). answer_at y.answers slot) named ∙ ap (answer_at me.0.answers) st.in_slot)
+
+own_as : (me : Me Unit Hand) (slot : ℕ) (x : Put) (bench : seats.BenchName) (id : TableId) (bit : Bool) (own : Item) → bench ≡ ticket_bench id me → bit ≡ answer_at bench.answers slot → own ≡ item_with bit x → own ≡ item_of me.0.answers slot x
+own_as me slot x bench id bit own named b is = is ∙ ap (λ (c : Bool). item_with c x) (b ∙ ap (λ (y : seats.BenchName). answer_at y.answers slot) named)
+
+-- what a complete slot leaves
+pub record Slot (me me' : Me Unit Hand) (place : Place) (x : Put) (slot live n : ℕ) (shown own : Item) : Type 0 where
+  pub seat : IsSeat me place (Some x) slot live Playing
+  pub after : me' ≡ (record me.0 { told = seen_on n me.0 }, [])
+  pub played : HandPlayed (record me.0 { told = seen_on n me.0 })
+  pub shown_is : shown ≡ item_shown n me.0
+  pub own_is : own ≡ item_of me.0.answers slot x
+
+pub complete_slot : (id : TableId) (me me' : Me Unit Hand) (place : Place) (x : Put) (slot live n word arrived : ℕ) (bench : seats.BenchName) (bit : Bool) (shown own : Item)
+    → IsSeat me place (Some x) slot live Playing → HasSeen n me.0 me'.0 × (me'.1 ≡ me.1) → arrived ≡ arrivals_in n → live ≤ arrived
+    → bench ≡ ticket_bench id me → bit ≡ answer_at bench.answers slot → word ≡ n → shown ≡ shown_in word bit → own ≡ item_with bit x
+    → Slot me me' place x slot live n shown own
+complete_slot id me me' place x slot live n word arrived bench bit shown own s told count le named b same is own_is =
+    let st : IsPlaying me.0 place (Some x) slot live = s.stands in
+    let done = completed me me' n live st.alive (λ lt. omega arith) told in
+    record {
+      seat = s;
+      after = λ i. (done.0 i, (done.1 ∙ s.slots) i);
+      played = done.2;
+      shown_is = shown_as me place x slot live n bench id word bit shown s named b same is;
+      own_is = own_as me slot x bench id bit own named b own_is;
+    }
+
+pub lost_now : (me me' : Me Unit Hand) (place place' : Place) (x : Put) (slot live n slot' live' : ℕ) (own' : Option Put) (shown own : Item) → Slot me me' place x slot live n shown own → own ≢ shown → IsSeat me' place' own' slot' live' Lost
+lost_now me me' place place' x slot live n slot' live' own' shown own c differ' =
+    subst (λ (m : Me Unit Hand). IsSeat m place' own' slot' live' Lost) (sym c.after)
+        (after_lost no_id me place x slot live n c.seat c.played place' own' slot' live' (λ e. differ' (c.own_is ∙ e ∙ sym c.shown_is)))
+
+pub begins_on : (me me' : Me Unit Hand) (place : Place) (x : Put) (slot live n : ℕ) (shown own : Item) → Slot me me' place x slot live n shown own → own ≡ shown → Begins (rest_of place) shown
+begins_on me me' place x slot live n shown own c e = subst (Begins (rest_of place)) (sym c.shown_is) (begins_shown no_id me place x slot live n c.seat c.played (sym c.own_is ∙ e ∙ c.shown_is))
+
+pub on_now : (me me' : Me Unit Hand) (place place' : Place) (x : Put) (slot live n word live' : ℕ) (shown own : Item) (standing : Standing) → Slot me me' place x slot live n shown own → own ≡ shown → word ≡ n → live' ≡ left_in word live
+    → ((u : List Item) → rest_of place' u ↔ rest_of place (shown ∷ u)) → standing ≡ seats.standing_behind shown → IsSeat me' place' None (slot + 1) live' standing
+on_now me me' place place' x slot live n word live' shown own standing c e same left_is place_is stands_is =
+    subst (λ (y : Me Unit Hand × Standing). IsSeat y.0 place' None (slot + 1) live' y.1) (λ i. (sym c.after i, sym (stands_is ∙ ap seats.standing_behind c.shown_is) i))
+        (after_on no_id me place x slot live n c.seat c.played place' live' (sym c.own_is ∙ e ∙ c.shown_is) (left_is ∙ ap (λ (k : ℕ). left_in k live) same)
+            (λ u. subst (λ (w : Item). rest_of place' u ↔ rest_of place (w ∷ u)) c.shown_is (place_is u)))
+
+own_seen : (id : TableId) (me me' : Me Unit Hand) (place : Place) (x : Put) (slot live n : ℕ) (shown own : Item) → Slot me me' place x slot live n shown own → seats.own_item (player_of id me Playing) ≡ own
+own_seen id me me' place x slot live n shown own c = own_there id me place x slot live n c.seat c.played ∙ sym c.own_is
+
+pub saw_lost : (id id' : TableId) (me me' : Me Unit Hand) (place : Place) (x : Put) (slot live n : ℕ) (standing : Standing) (shown own : Item) (old : seats.Player) → standing ≡ Playing → id' ≡ id → Slot me me' place x slot live n shown own → own ≢ shown → player_of id me standing ≡ old
+    → seats.Saw (sight.Lost shown) old (player_of id' me' Lost)
+saw_lost id id' me me' place x slot live n standing shown own old plays same c other view =
+    let old_is : player_of id me Playing ≡ old = (λ i. player_of id me (sym plays i)) ∙ view in
+    let new_is : player_of id' me' Lost ≡ seats.after_slot shown Lost (player_of id me Playing) = (λ i. player_of (same i) (c.after i) Lost) ∙ (λ i. seats.after_slot (sym c.shown_is i) Lost (player_of id me Playing)) in
+    subst (λ (o : seats.Player). seats.Saw (sight.Lost shown) o (player_of id' me' Lost)) old_is
+        (refl, has_put_here id me place x slot live n c.seat c.played, (λ e. other (sym (own_seen id me me' place x slot live n shown own c) ∙ e)), new_is)
+
+pub saw_on : (id id' : TableId) (me me' : Me Unit Hand) (place : Place) (x : Put) (slot live n : ℕ) (standing standing' : Standing) (shown own : Item) (old : seats.Player) → standing ≡ Playing → id' ≡ id → Slot me me' place x slot live n shown own → own ≡ shown → standing' ≡ seats.standing_behind shown → player_of id me standing ≡ old
+    → seats.Saw (sight.On shown) old (player_of id' me' standing')
+saw_on id id' me me' place x slot live n standing standing' shown own old plays same c e stands view =
+    let old_is : player_of id me Playing ≡ old = (λ i. player_of id me (sym plays i)) ∙ view in
+    let new_is : player_of id' me' standing' ≡ seats.after_slot shown (seats.standing_behind shown) (player_of id me Playing) = (λ i. player_of (same i) (c.after i) (stands i)) ∙ (λ i. seats.after_slot (sym c.shown_is i) (seats.standing_behind shown) (player_of id me Playing)) in
+    subst (λ (o : seats.Player). seats.Saw (sight.On shown) o (player_of id' me' standing')) old_is
+        (refl, has_put_here id me place x slot live n c.seat c.played, own_seen id me me' place x slot live n shown own c ∙ e, new_is)
+
+pub not_one : (x y : Item) (b : Bool) → b ≡ is_item x y → b ≡ false → x ≢ y
+not_one x y b is off e = let same : is_item x y ≡ true = ap (λ (w : Item). is_item w y) e ∙ item_is_itself y in cc
+
+pub is_one : (x y : Item) (b : Bool) → b ≡ is_item x y → b ≡ true → x ≡ y
+is_one x y b is on = same_item x y (sym is ∙ on)

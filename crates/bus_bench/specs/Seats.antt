@@ -90,15 +90,15 @@ abbrev pub after_slot : Item → Standing → Player → Player
 after_slot w standing seat = record seat { seen = seat.seen ++ w ∷ []; standing = standing }
 
 -- how a live seat stands behind this item: a STOP and a claim end the run
-abbrev pub standing_on : Item → Standing
-standing_on item.Stop = Ended
-standing_on item.Claim = Ended
-standing_on _ = Playing
+abbrev pub standing_behind : Item → Standing
+standing_behind item.Stop = Ended
+standing_behind item.Claim = Ended
+standing_behind _ = Playing
 
 -- what a look tells, by the seat before and after
 abbrev pub Saw : Sight → Player → Player → Type 0
 Saw sight.Ended old new = (old.standing ≢ Playing) × (new ≡ old)
 Saw sight.NotPut old new = (old.standing ≡ Playing) × HasNotPut old × (new ≡ old)
 Saw sight.Waiting old new = (old.standing ≡ Playing) × HasPutHere old × (new ≡ old) × HasPlayHere old
-Saw (sight.On w) old new = (old.standing ≡ Playing) × HasPutHere old × (own_item old ≡ w) × (new ≡ after_slot w (standing_on w) old)
+Saw (sight.On w) old new = (old.standing ≡ Playing) × HasPutHere old × (own_item old ≡ w) × (new ≡ after_slot w (standing_behind w) old)
 Saw (sight.Lost w) old new = (old.standing ≡ Playing) × HasPutHere old × (own_item old ≢ w) × (new ≡ after_slot w Lost old)

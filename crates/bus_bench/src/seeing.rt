@@ -1,5 +1,9 @@
 // Looking at a slot.
 
+ghost use Rattle.std.specs.Prelude.{◌≡◌};
+ghost use Rattle.plan_core.specs.Rounds.{is_item};
+ghost use Rattle.bus_bench.specs.Seats.{standing_behind};
+
 use crate::errors::Sight;
 use crate::seats::{Bench, Seat, Standing};
 use crate::steps::Sees;
@@ -39,14 +43,29 @@ impl<'a> Seat<'a> {
         self.live = tally.left(self.live);
         self.slot += 1;
         self.own = None;
-        if own.item(answer) != shown {
+        if !are_one(own.item(answer), shown) {
             self.standing = Standing::Lost;
             return Sight::Lost(shown);
         }
         self.place = self.place.after(shown);
-        if matches!(shown, Item::Stop | Item::Claim) {
-            self.standing = Standing::Ended;
-        }
+        self.standing = standing_on(shown);
         Sight::On(shown)
+    }
+}
+
+// Whether the two are one item.
+fn are_one(own: Item, shown: Item) -> bool
+    ensures { result ≡ is_item own shown }
+{
+    own == shown
+}
+
+// How a live seat stands behind this item of the wire: a STOP and a claim end the run.
+fn standing_on(item: Item) -> Standing
+    ensures { result ≡ standing_behind item }
+{
+    match item {
+        Item::Stop | Item::Claim => Standing::Ended,
+        _ => Standing::Playing,
     }
 }
