@@ -64,7 +64,8 @@ KeepsUp puts u p = (length (puts p) ≡ length u) ⊎ ((length (puts p) ≡ leng
 
 -- The starters' puts are a play, which has led to the wire u with these live: each put is one that its participant
 -- offers there, whoever lost has put nothing since, and whoever is live keeps up. The play has led no further, since
--- somebody who is live has not put in the next slot; where the run has ended, nobody has.
+-- somebody who is live has not put in the next slot: nothing else ends a play of a safe plan, in which no round clashes.
+-- Where the run has ended, nobody has.
 pub record IsPlay (game : Game) (puts : Puts) (u : List Item) (live : Set) : Type 0 where
   pub led : Leads game puts u live
   pub last : (p : ℕ) × In p live × (length (puts p) ≡ length u)
