@@ -49,10 +49,10 @@ same_bench id bid setup me e = λ i. (sym e i).wire
 same_game : (id bid : TableId) (setup : Setup) (me : Me Unit Hand) → bench_name bid setup ≡ ticket_bench id me → setup.answers.items ≡ me.0.answers
 same_game id bid setup me e = λ i. (e i).answers
 
-pub put_allowed : (id bid : TableId) (key setup : Setup) (sid : ℕ) (me : Me Unit Hand) (place : Place) (slot live k : ℕ) (x : Put)
-    → bench_name bid setup ≡ ticket_bench id me → IsBench bid key setup → IsSeat me place None slot live Playing → Begins (rest_of place) (item_of me.0.answers slot x) → k ≡ contribution x
+pub put_allowed : (id bid : TableId) (key setup : Setup) (sid : ℕ) (me : Me Unit Hand) (number : ℕ) (place : Place) (slot live k : ℕ) (x : Put)
+    → bench_name bid setup ≡ ticket_bench id me → IsBench bid key setup → IsSeat me number place None slot live Playing → Begins (rest_of place) (item_of me.0.answers slot x) → k ≡ contribution x
     → (id ≡ bid) × (slot < bid.words) × Allows (holds_at key) bid.slots sid me slot (λ n. (n + k) % 2 ^ 64) (λ n m. HasPut k me.0 m.0 × (m.1 ≡ me.1))
-put_allowed id bid key setup sid me place slot live k x named b s begins k_is =
+put_allowed id bid key setup sid me number place slot live k x named b s begins k_is =
     let v : Hand = me.0 in
     let st : IsPlaying v place None slot live = s.stands in
     let begins_here : Begins (rest_of place) (item_of v.answers (length v.told.seen) x) = subst (λ (n : ℕ). Begins (rest_of place) (item_of v.answers n x)) st.in_slot begins in
@@ -66,39 +66,40 @@ put_allowed id bid key setup sid me place slot live k x named b s begins k_is =
       subst (λ (y : List (ℕ × Unit) × ℕ × ℕ). Allows (holds_at key) bid.slots sid (v, y.0) y.1 (λ n. (n + y.2) % 2 ^ 64) (λ n m. HasPut y.2 v m.0 × (m.1 ≡ y.0))) (λ i. (sym s.slots i, sym st.in_slot i, sym k_is i)) base,
     )
 
-pub put_room : (me : Me Unit Hand) (place : Place) (slot live : ℕ) (x : Put) → IsSeat me place None slot live Playing → Begins (rest_of place) (item_of me.0.answers slot x) → length me.0.told.seen < SLOTS
-put_room me place slot live x s begins =
+pub put_room : (me : Me Unit Hand) (number : ℕ) (place : Place) (slot live : ℕ) (x : Put) → IsSeat me number place None slot live Playing → Begins (rest_of place) (item_of me.0.answers slot x) → length me.0.told.seen < SLOTS
+put_room me number place slot live x s begins =
     let v : Hand = me.0 in
     let st : IsPlaying v place None slot live = s.stands in
     let o = (may_offer v place None slot live (item_of v.answers slot x) st).0 begins in
     has_room (hand_game v) (starter (hand_game v) v.seat) v.told.seen (item_of v.answers slot x) s.valid o
 
 -- the same seat with another hand, where the hand says what the seat needs
-pub put_done : (me me' : Me Unit Hand) (place : Place) (slot live k : ℕ) (x : Put) → IsSeat me place None slot live Playing → Begins (rest_of place) (item_of me.0.answers slot x) → k ≡ contribution x → HasPut k me.0 me'.0 × (me'.1 ≡ me.1)
-    → (me' ≡ (record me.0 { told = put_on x me.0.told }, [])) × IsSeat me' place (Some x) slot live Playing
-put_done me me' place slot live k x s begins k_is told =
+pub put_done : (me me' : Me Unit Hand) (number : ℕ) (place : Place) (slot live k : ℕ) (x : Put) → IsSeat me number place None slot live Playing → Begins (rest_of place) (item_of me.0.answers slot x) → k ≡ contribution x → HasPut k me.0 me'.0 × (me'.1 ≡ me.1)
+    → (me' ≡ (record me.0 { told = put_on x me.0.told }, [])) × IsSeat me' number place (Some x) slot live Playing
+put_done me me' number place slot live k x s begins k_is told =
     let v : Hand = me.0 in
     let st : IsPlaying v place None slot live = s.stands in
     let is : me'.0 ≡ record v { told = put_on x v.told } = told.0.1 x (sym k_is) in
     let whole : me' ≡ (record v { told = put_on x v.told }, []) = λ i. (is i, (told.1 ∙ s.slots) i) in
     let played : HandPlayed (record v { told = put_on x v.told }) = subst HandPlayed is told.0.0 in
-    let after : IsSeat (record v { told = put_on x v.told }, []) place (Some x) slot live Playing = record {
+    let after : IsSeat (record v { told = put_on x v.told }, []) number place (Some x) slot live Playing = record {
       slots = refl;
       plays = s.plays;
       valid = s.valid;
-      number = s.number;
+      in_place = s.in_place;
+      number_within = s.number_within;
       played = played;
       out = s.out;
-      stands = record { in_slot = st.in_slot; few = st.few; alive = st.alive; own_put = (v.told.puts, refl, st.own_put, put_room me place slot live x s begins); left = st.left };
+      stands = record { in_slot = st.in_slot; few = st.few; alive = st.alive; own_put = (v.told.puts, refl, st.own_put, put_room me number place slot live x s begins); left = st.left };
     } in
-    (whole, subst (λ (m : Me Unit Hand). IsSeat m place (Some x) slot live Playing) (sym whole) after)
+    (whole, subst (λ (m : Me Unit Hand). IsSeat m number place (Some x) slot live Playing) (sym whole) after)
 
 -- ---- what is seen
 
-pub see_allowed : (id bid : TableId) (key setup : Setup) (sid : ℕ) (me : Me Unit Hand) (place : Place) (slot live : ℕ) (x : Put)
-    → bench_name bid setup ≡ ticket_bench id me → IsBench bid key setup → IsSeat me place (Some x) slot live Playing
+pub see_allowed : (id bid : TableId) (key setup : Setup) (sid : ℕ) (me : Me Unit Hand) (number : ℕ) (place : Place) (slot live : ℕ) (x : Put)
+    → bench_name bid setup ≡ ticket_bench id me → IsBench bid key setup → IsSeat me number place (Some x) slot live Playing
     → (id ≡ bid) × (slot < bid.words) × Allows (holds_at key) bid.slots sid me slot (λ n. n) (λ n m. HasSeen n me.0 m.0 × (m.1 ≡ me.1))
-see_allowed id bid key setup sid me place slot live x named b s =
+see_allowed id bid key setup sid me number place slot live x named b s =
     let v : Hand = me.0 in
     let st : IsPlaying v place (Some x) slot live = s.stands in
     let own = st.own_put in
@@ -158,8 +159,8 @@ longer : {X : Type 0} (xs : List X) (x : X) → length (xs ++ x ∷ []) ≡ leng
 longer xs x = length-append xs (x ∷ [])
 
 stands_behind : (w : Item) (v : Hand) (before : List Item) (place : Place) (slot live : ℕ) → v.told.seen ≡ before ++ w ∷ [] → IsPlaying v place None slot live → StandsSo (seats.standing_behind w) v place None slot live
-stands_behind item.Stop v before place slot live e s = (before, inl e)
-stands_behind item.Claim v before place slot live e s = (before, inr e)
+stands_behind item.Stop v before place slot live e s = ((before, inl e), s.in_slot)
+stands_behind item.Claim v before place slot live e s = ((before, inr e), s.in_slot)
 stands_behind (item.Sent b) v before place slot live e s = s
 stands_behind (item.Heard b) v before place slot live e s = s
 stands_behind item.Again v before place slot live e s = s
@@ -174,19 +175,20 @@ not_lost item.Again = refl
 no_id : TableId
 no_id = record { words = 0; slots = 0; views_name = 0; atom = 0; block = 0; offset = 0; slot_names = [] }
 
-module _ (id : TableId) (me : Me Unit Hand) (place : Place) (x : Put) (slot live n : ℕ) (s : IsSeat me place (Some x) slot live Playing) (told : HandPlayed (record me.0 { told = seen_on n me.0 })) where
+module _ (id : TableId) (me : Me Unit Hand) (number : ℕ) (place : Place) (x : Put) (slot live n : ℕ) (s : IsSeat me number place (Some x) slot live Playing) (told : HandPlayed (record me.0 { told = seen_on n me.0 })) where
   own_there : own_item me.0 ≡ item_of me.0.answers slot x
   own_there = let st = s.stands in own_put_is me.0 x st.own_put ∙ ap (λ (k : ℕ). item_of me.0.answers k x) (sym st.in_slot)
 
   shown_there : (bit : Bool) → bit ≡ answer_at me.0.answers slot → shown_in n bit ≡ item_shown n me.0
   shown_there bit e = let st = s.stands in ap (shown_in n) (e ∙ ap (answer_at me.0.answers) st.in_slot)
 
-  pub after_lost : (place' : Place) (own : Option Put) (slot' live' : ℕ) → item_of me.0.answers slot x ≢ item_shown n me.0 → IsSeat (record me.0 { told = seen_on n me.0 }, []) place' own slot' live' Lost
+  pub after_lost : (place' : Place) (own : Option Put) (slot' live' : ℕ) → item_of me.0.answers slot x ≢ item_shown n me.0 → IsSeat (record me.0 { told = seen_on n me.0 }, []) number place' own slot' live' Lost
   after_lost place' own slot' live' n' = record {
     slots = refl;
     plays = s.plays;
     valid = s.valid;
-    number = s.number;
+    in_place = s.in_place;
+      number_within = s.number_within;
     played = told;
     out = ap not (differ (own_item me.0) (item_shown n me.0) (λ e. n' (sym own_there ∙ e)));
     stands = tt;
@@ -196,10 +198,10 @@ module _ (id : TableId) (me : Me Unit Hand) (place : Place) (x : Put) (slot live
   pub begins_shown : item_of me.0.answers slot x ≡ item_shown n me.0 → Begins (rest_of place) (item_shown n me.0)
   begins_shown e =
       let st = s.stands in
-      (may_offer me.0 place (Some x) slot live (item_shown n me.0) st).1 (subst (Offers (hand_game me.0).plan (starter (hand_game me.0) me.0.seat) me.0.told.seen) (own_there ∙ e) (own_offered me.0 x s.number s.played st.own_put))
+      (may_offer me.0 place (Some x) slot live (item_shown n me.0) st).1 (subst (Offers (hand_game me.0).plan (starter (hand_game me.0) me.0.seat) me.0.told.seen) (own_there ∙ e) (own_offered me.0 x s.number_within s.played st.own_put))
 
   pub after_on : (place' : Place) (live' : ℕ) → item_of me.0.answers slot x ≡ item_shown n me.0 → live' ≡ left_in n live → ((u : List Item) → rest_of place' u ↔ rest_of place (item_shown n me.0 ∷ u))
-      → IsSeat (record me.0 { told = seen_on n me.0 }, []) place' None (slot + 1) live' (seats.standing_behind (item_shown n me.0))
+      → IsSeat (record me.0 { told = seen_on n me.0 }, []) number place' None (slot + 1) live' (seats.standing_behind (item_shown n me.0))
   after_on place' live' e left_is place_is =
       let v : Hand = me.0 in
       let w : Item = item_shown n me.0 in
@@ -230,7 +232,8 @@ module _ (id : TableId) (me : Me Unit Hand) (place : Place) (x : Put) (slot live
         slots = refl;
         plays = s.plays;
         valid = s.valid;
-        number = s.number;
+        in_place = s.in_place;
+      number_within = s.number_within;
         played = told;
         out = ap not (ap (λ (y : Item). is_item y w) same ∙ item_is_itself w) ∙ sym (not_lost w);
         stands = stands_behind w after v.told.seen place' (slot + 1) live' refl playing;
@@ -246,11 +249,11 @@ module _ (id : TableId) (me : Me Unit Hand) (place : Place) (x : Put) (slot live
       omega arith
 
 -- the wait of a seat
-pub saw_waiting : (id : TableId) (me : Me Unit Hand) (place : Place) (x : Put) (slot live : ℕ) (s : IsSeat me place (Some x) slot live Playing) → IsJust (hand_game me.0) (starter (hand_game me.0) me.0.seat) me.0.told.puts me.0.told.seen → seats.Saw sight.Waiting (player_of id me Playing) (player_of id me Playing)
-saw_waiting id me place x slot live s just = (refl, put_here_now id me place x slot live s, refl, just)
+pub saw_waiting : (id : TableId) (me : Me Unit Hand) (number : ℕ) (place : Place) (x : Put) (slot live : ℕ) (s : IsSeat me number place (Some x) slot live Playing) → IsJust (hand_game me.0) (starter (hand_game me.0) me.0.seat) me.0.told.puts me.0.told.seen → seats.Saw sight.Waiting (player_of id me Playing) (player_of id me Playing)
+saw_waiting id me number place x slot live s just = (refl, put_here_now id me number place x slot live s, refl, just)
   where
-    put_here_now : (id : TableId) (me : Me Unit Hand) (place : Place) (x : Put) (slot live : ℕ) (s : IsSeat me place (Some x) slot live Playing) → seats.HasPutHere (player_of id me Playing)
-    put_here_now id me place x slot live s =
+    put_here_now : (id : TableId) (me : Me Unit Hand) (number : ℕ) (place : Place) (x : Put) (slot live : ℕ) (s : IsSeat me number place (Some x) slot live Playing) → seats.HasPutHere (player_of id me Playing)
+    put_here_now id me number place x slot live s =
         let st : IsPlaying me.0 place (Some x) slot live = s.stands in
         let own = st.own_put in
         let puts_more : length me.0.told.puts ≡ length own.0 + 1 = ap length own.1 ∙ longer own.0 x in
@@ -264,13 +267,13 @@ single (x ∷ []) q (suc j) one i lt = absurd (omega arith)
 single (x ∷ y ∷ xs) q j one i lt = absurd (omega arith)
 
 -- a single starter never waits: somebody who is live has not put
-pub never_alone : (id : TableId) (me : Me Unit Hand) (place : Place) (x : Put) (slot live : ℕ) (s : IsSeat me place (Some x) slot live Playing) → IsJust (hand_game me.0) (starter (hand_game me.0) me.0.seat) me.0.told.puts me.0.told.seen → length me.0.starters ≡ 1 → ⊥
-never_alone id me place x slot live s just one =
+pub never_alone : (id : TableId) (me : Me Unit Hand) (number : ℕ) (place : Place) (x : Put) (slot live : ℕ) (s : IsSeat me number place (Some x) slot live Playing) → IsJust (hand_game me.0) (starter (hand_game me.0) me.0.seat) me.0.told.puts me.0.told.seen → length me.0.starters ≡ 1 → ⊥
+never_alone id me number place x slot live s just one =
     let st : IsPlaying me.0 place (Some x) slot live = s.stands in
     let own = st.own_put in
     let last = just.play.last in
     let started = was_in (hand_game me.0) just.all [] me.0.told.seen (those me.0.starters) just.live last.0 just.play.led last.1 in
-    let same : starter (hand_game me.0) me.0.seat ≡ last.0 = single me.0.starters last.0 me.0.seat one started s.number in
+    let same : starter (hand_game me.0) me.0.seat ≡ last.0 = single me.0.starters last.0 me.0.seat one started s.number_within in
     let puts_more : length me.0.told.puts ≡ length own.0 + 1 = ap length own.1 ∙ longer own.0 x in
     let before : length own.0 ≡ length me.0.told.seen = own.2 in
     let put : length (just.all last.0) ≡ length me.0.told.puts = ap (λ (q : ℕ). length (just.all q)) (sym same) ∙ ap length just.own in
@@ -279,26 +282,26 @@ never_alone id me place x slot live s just one =
 
 -- ---- the answers of a look
 
-pub still_waits : (id id' : TableId) (me me' : Me Unit Hand) (place : Place) (x : Put) (slot live : ℕ) (standing : Standing) (arrived n : ℕ) (old : seats.Player) → standing ≡ Playing → IsSeat me place (Some x) slot live Playing
+pub still_waits : (id id' : TableId) (me me' : Me Unit Hand) (number : ℕ) (place : Place) (x : Put) (slot live : ℕ) (standing : Standing) (arrived n : ℕ) (old : seats.Player) → standing ≡ Playing → IsSeat me number place (Some x) slot live Playing
     → id' ≡ id → HasSeen n me.0 me'.0 × (me'.1 ≡ me.1) → arrived ≡ arrivals_in n → arrived < live → player_of id me standing ≡ old
     → seats.Saw sight.Waiting old (player_of id' me' standing)
-still_waits id id' me me' place x slot live standing arrived n old plays s same told count lt view =
+still_waits id id' me me' number place x slot live standing arrived n old plays s same told count lt view =
     let st : IsPlaying me.0 place (Some x) slot live = s.stands in
     let w = waited me me' n live st.alive (omega arith) told in
     let new_is : player_of id me Playing ≡ player_of id' me' standing = λ i. player_of (sym same i) (sym w.0 i) (sym plays i) in
     let old_is : player_of id me Playing ≡ old = (λ i. player_of id me (sym plays i)) ∙ view in
-    subst (λ (y : seats.Player × seats.Player). seats.Saw sight.Waiting y.0 y.1) (λ i. (old_is i, new_is i)) (saw_waiting id me place x slot live s w.1)
+    subst (λ (y : seats.Player × seats.Player). seats.Saw sight.Waiting y.0 y.1) (λ i. (old_is i, new_is i)) (saw_waiting id me number place x slot live s w.1)
 
-pub never_waits_alone : (id : TableId) (me me' : Me Unit Hand) (place : Place) (x : Put) (slot live : ℕ) (standing : Standing) (arrived n : ℕ) (old : seats.Player) → IsSeat me place (Some x) slot live Playing
+pub never_waits_alone : (id : TableId) (me me' : Me Unit Hand) (number : ℕ) (place : Place) (x : Put) (slot live : ℕ) (standing : Standing) (arrived n : ℕ) (old : seats.Player) → IsSeat me number place (Some x) slot live Playing
     → HasSeen n me.0 me'.0 × (me'.1 ≡ me.1) → arrived ≡ arrivals_in n → arrived < live → player_of id me standing ≡ old → length old.bench.starters ≡ 1 → ⊥
-never_waits_alone id me me' place x slot live standing arrived n old s told count lt view one =
+never_waits_alone id me me' number place x slot live standing arrived n old s told count lt view one =
     let st : IsPlaying me.0 place (Some x) slot live = s.stands in
     let w = waited me me' n live st.alive (omega arith) told in
-    never_alone id me place x slot live s w.1 (ap (λ (p : seats.Player). length p.bench.starters) view ∙ one)
+    never_alone id me number place x slot live s w.1 (ap (λ (p : seats.Player). length p.bench.starters) view ∙ one)
 
 -- the item shown and the own item, as the code has them
-shown_as : (me : Me Unit Hand) (place : Place) (x : Put) (slot live n : ℕ) (bench : seats.BenchName) (id : TableId) (word : ℕ) (bit : Bool) (shown : Item) → IsSeat me place (Some x) slot live Playing → bench ≡ ticket_bench id me → bit ≡ answer_at bench.answers slot → word ≡ n → shown ≡ shown_in word bit → shown ≡ item_shown n me.0
-shown_as me place x slot live n bench id word bit shown s named b same is =
+shown_as : (me : Me Unit Hand) (number : ℕ) (place : Place) (x : Put) (slot live n : ℕ) (bench : seats.BenchName) (id : TableId) (word : ℕ) (bit : Bool) (shown : Item) → IsSeat me number place (Some x) slot live Playing → bench ≡ ticket_bench id me → bit ≡ answer_at bench.answers slot → word ≡ n → shown ≡ shown_in word bit → shown ≡ item_shown n me.0
+shown_as me number place x slot live n bench id word bit shown s named b same is =
     let st : IsPlaying me.0 place (Some x) slot live = s.stands in
     is ∙ (λ i. shown_in (same i) (b i)) ∙ ap (shown_in n) (ap (λ (y : seats.BenchName). answer_at y.answers slot) named ∙ ap (answer_at me.0.answers) st.in_slot)
 
@@ -306,61 +309,61 @@ own_as : (me : Me Unit Hand) (slot : ℕ) (x : Put) (bench : seats.BenchName) (i
 own_as me slot x bench id bit own named b is = is ∙ ap (λ (c : Bool). item_with c x) (b ∙ ap (λ (y : seats.BenchName). answer_at y.answers slot) named)
 
 -- what a complete slot leaves
-pub record Slot (me me' : Me Unit Hand) (place : Place) (x : Put) (slot live n : ℕ) (shown own : Item) : Type 0 where
-  pub seat : IsSeat me place (Some x) slot live Playing
+pub record Slot (me me' : Me Unit Hand) (number : ℕ) (place : Place) (x : Put) (slot live n : ℕ) (shown own : Item) : Type 0 where
+  pub seat : IsSeat me number place (Some x) slot live Playing
   pub after : me' ≡ (record me.0 { told = seen_on n me.0 }, [])
   pub played : HandPlayed (record me.0 { told = seen_on n me.0 })
   pub shown_is : shown ≡ item_shown n me.0
   pub own_is : own ≡ item_of me.0.answers slot x
 
-pub complete_slot : (id : TableId) (me me' : Me Unit Hand) (place : Place) (x : Put) (slot live n word arrived : ℕ) (bench : seats.BenchName) (bit : Bool) (shown own : Item)
-    → IsSeat me place (Some x) slot live Playing → HasSeen n me.0 me'.0 × (me'.1 ≡ me.1) → arrived ≡ arrivals_in n → live ≤ arrived
+pub complete_slot : (id : TableId) (me me' : Me Unit Hand) (number : ℕ) (place : Place) (x : Put) (slot live n word arrived : ℕ) (bench : seats.BenchName) (bit : Bool) (shown own : Item)
+    → IsSeat me number place (Some x) slot live Playing → HasSeen n me.0 me'.0 × (me'.1 ≡ me.1) → arrived ≡ arrivals_in n → live ≤ arrived
     → bench ≡ ticket_bench id me → bit ≡ answer_at bench.answers slot → word ≡ n → shown ≡ shown_in word bit → own ≡ item_with bit x
-    → Slot me me' place x slot live n shown own
-complete_slot id me me' place x slot live n word arrived bench bit shown own s told count le named b same is own_is =
+    → Slot me me' number place x slot live n shown own
+complete_slot id me me' number place x slot live n word arrived bench bit shown own s told count le named b same is own_is =
     let st : IsPlaying me.0 place (Some x) slot live = s.stands in
     let done = completed me me' n live st.alive (λ lt. omega arith) told in
     record {
       seat = s;
       after = λ i. (done.0 i, (done.1 ∙ s.slots) i);
       played = done.2;
-      shown_is = shown_as me place x slot live n bench id word bit shown s named b same is;
+      shown_is = shown_as me number place x slot live n bench id word bit shown s named b same is;
       own_is = own_as me slot x bench id bit own named b own_is;
     }
 
-pub lost_now : (me me' : Me Unit Hand) (place place' : Place) (x : Put) (slot live n slot' live' : ℕ) (own' : Option Put) (shown own : Item) → Slot me me' place x slot live n shown own → own ≢ shown → IsSeat me' place' own' slot' live' Lost
-lost_now me me' place place' x slot live n slot' live' own' shown own c differ' =
-    subst (λ (m : Me Unit Hand). IsSeat m place' own' slot' live' Lost) (sym c.after)
-        (after_lost no_id me place x slot live n c.seat c.played place' own' slot' live' (λ e. differ' (c.own_is ∙ e ∙ sym c.shown_is)))
+pub lost_now : (me me' : Me Unit Hand) (number : ℕ) (place place' : Place) (x : Put) (slot live n slot' live' : ℕ) (own' : Option Put) (shown own : Item) → Slot me me' number place x slot live n shown own → own ≢ shown → IsSeat me' number place' own' slot' live' Lost
+lost_now me me' number place place' x slot live n slot' live' own' shown own c differ' =
+    subst (λ (m : Me Unit Hand). IsSeat m number place' own' slot' live' Lost) (sym c.after)
+        (after_lost no_id me number place x slot live n c.seat c.played place' own' slot' live' (λ e. differ' (c.own_is ∙ e ∙ sym c.shown_is)))
 
-pub begins_on : (me me' : Me Unit Hand) (place : Place) (x : Put) (slot live n : ℕ) (shown own : Item) → Slot me me' place x slot live n shown own → own ≡ shown → Begins (rest_of place) shown
-begins_on me me' place x slot live n shown own c e = subst (Begins (rest_of place)) (sym c.shown_is) (begins_shown no_id me place x slot live n c.seat c.played (sym c.own_is ∙ e ∙ c.shown_is))
+pub begins_on : (me me' : Me Unit Hand) (number : ℕ) (place : Place) (x : Put) (slot live n : ℕ) (shown own : Item) → Slot me me' number place x slot live n shown own → own ≡ shown → Begins (rest_of place) shown
+begins_on me me' number place x slot live n shown own c e = subst (Begins (rest_of place)) (sym c.shown_is) (begins_shown no_id me number place x slot live n c.seat c.played (sym c.own_is ∙ e ∙ c.shown_is))
 
-pub on_now : (me me' : Me Unit Hand) (place place' : Place) (x : Put) (slot live n word live' : ℕ) (shown own : Item) (standing : Standing) → Slot me me' place x slot live n shown own → own ≡ shown → word ≡ n → live' ≡ left_in word live
-    → ((u : List Item) → rest_of place' u ↔ rest_of place (shown ∷ u)) → standing ≡ seats.standing_behind shown → IsSeat me' place' None (slot + 1) live' standing
-on_now me me' place place' x slot live n word live' shown own standing c e same left_is place_is stands_is =
-    subst (λ (y : Me Unit Hand × Standing). IsSeat y.0 place' None (slot + 1) live' y.1) (λ i. (sym c.after i, sym (stands_is ∙ ap seats.standing_behind c.shown_is) i))
-        (after_on no_id me place x slot live n c.seat c.played place' live' (sym c.own_is ∙ e ∙ c.shown_is) (left_is ∙ ap (λ (k : ℕ). left_in k live) same)
+pub on_now : (me me' : Me Unit Hand) (number : ℕ) (place place' : Place) (x : Put) (slot live n word live' : ℕ) (shown own : Item) (standing : Standing) → Slot me me' number place x slot live n shown own → own ≡ shown → word ≡ n → live' ≡ left_in word live
+    → ((u : List Item) → rest_of place' u ↔ rest_of place (shown ∷ u)) → standing ≡ seats.standing_behind shown → IsSeat me' number place' None (slot + 1) live' standing
+on_now me me' number place place' x slot live n word live' shown own standing c e same left_is place_is stands_is =
+    subst (λ (y : Me Unit Hand × Standing). IsSeat y.0 number place' None (slot + 1) live' y.1) (λ i. (sym c.after i, sym (stands_is ∙ ap seats.standing_behind c.shown_is) i))
+        (after_on no_id me number place x slot live n c.seat c.played place' live' (sym c.own_is ∙ e ∙ c.shown_is) (left_is ∙ ap (λ (k : ℕ). left_in k live) same)
             (λ u. subst (λ (w : Item). rest_of place' u ↔ rest_of place (w ∷ u)) c.shown_is (place_is u)))
 
-own_seen : (id : TableId) (me me' : Me Unit Hand) (place : Place) (x : Put) (slot live n : ℕ) (shown own : Item) → Slot me me' place x slot live n shown own → seats.own_item (player_of id me Playing) ≡ own
-own_seen id me me' place x slot live n shown own c = own_there id me place x slot live n c.seat c.played ∙ sym c.own_is
+own_seen : (id : TableId) (me me' : Me Unit Hand) (number : ℕ) (place : Place) (x : Put) (slot live n : ℕ) (shown own : Item) → Slot me me' number place x slot live n shown own → seats.own_item (player_of id me Playing) ≡ own
+own_seen id me me' number place x slot live n shown own c = own_there id me number place x slot live n c.seat c.played ∙ sym c.own_is
 
-pub saw_lost : (id id' : TableId) (me me' : Me Unit Hand) (place : Place) (x : Put) (slot live n : ℕ) (standing : Standing) (shown own : Item) (old : seats.Player) → standing ≡ Playing → id' ≡ id → Slot me me' place x slot live n shown own → own ≢ shown → player_of id me standing ≡ old
+pub saw_lost : (id id' : TableId) (me me' : Me Unit Hand) (number : ℕ) (place : Place) (x : Put) (slot live n : ℕ) (standing : Standing) (shown own : Item) (old : seats.Player) → standing ≡ Playing → id' ≡ id → Slot me me' number place x slot live n shown own → own ≢ shown → player_of id me standing ≡ old
     → seats.Saw (sight.Lost shown) old (player_of id' me' Lost)
-saw_lost id id' me me' place x slot live n standing shown own old plays same c other view =
+saw_lost id id' me me' number place x slot live n standing shown own old plays same c other view =
     let old_is : player_of id me Playing ≡ old = (λ i. player_of id me (sym plays i)) ∙ view in
     let new_is : player_of id' me' Lost ≡ seats.after_slot shown Lost (player_of id me Playing) = (λ i. player_of (same i) (c.after i) Lost) ∙ (λ i. seats.after_slot (sym c.shown_is i) Lost (player_of id me Playing)) in
     subst (λ (o : seats.Player). seats.Saw (sight.Lost shown) o (player_of id' me' Lost)) old_is
-        (refl, has_put_here id me place x slot live n c.seat c.played, (λ e. other (sym (own_seen id me me' place x slot live n shown own c) ∙ e)), new_is)
+        (refl, has_put_here id me number place x slot live n c.seat c.played, (λ e. other (sym (own_seen id me me' number place x slot live n shown own c) ∙ e)), new_is)
 
-pub saw_on : (id id' : TableId) (me me' : Me Unit Hand) (place : Place) (x : Put) (slot live n : ℕ) (standing standing' : Standing) (shown own : Item) (old : seats.Player) → standing ≡ Playing → id' ≡ id → Slot me me' place x slot live n shown own → own ≡ shown → standing' ≡ seats.standing_behind shown → player_of id me standing ≡ old
+pub saw_on : (id id' : TableId) (me me' : Me Unit Hand) (number : ℕ) (place : Place) (x : Put) (slot live n : ℕ) (standing standing' : Standing) (shown own : Item) (old : seats.Player) → standing ≡ Playing → id' ≡ id → Slot me me' number place x slot live n shown own → own ≡ shown → standing' ≡ seats.standing_behind shown → player_of id me standing ≡ old
     → seats.Saw (sight.On shown) old (player_of id' me' standing')
-saw_on id id' me me' place x slot live n standing standing' shown own old plays same c e stands view =
+saw_on id id' me me' number place x slot live n standing standing' shown own old plays same c e stands view =
     let old_is : player_of id me Playing ≡ old = (λ i. player_of id me (sym plays i)) ∙ view in
     let new_is : player_of id' me' standing' ≡ seats.after_slot shown (seats.standing_behind shown) (player_of id me Playing) = (λ i. player_of (same i) (c.after i) (stands i)) ∙ (λ i. seats.after_slot (sym c.shown_is i) (seats.standing_behind shown) (player_of id me Playing)) in
     subst (λ (o : seats.Player). seats.Saw (sight.On shown) o (player_of id' me' standing')) old_is
-        (refl, has_put_here id me place x slot live n c.seat c.played, own_seen id me me' place x slot live n shown own c ∙ e, new_is)
+        (refl, has_put_here id me number place x slot live n c.seat c.played, own_seen id me me' number place x slot live n shown own c ∙ e, new_is)
 
 pub not_one : (x y : Item) (b : Bool) → b ≡ is_item x y → b ≡ false → x ≢ y
 not_one x y b is off e = let same : is_item x y ≡ true = ap (λ (w : Item). is_item w y) e ∙ item_is_itself y in cc

@@ -29,7 +29,7 @@ use Rattle.bus_bench.specs.Steps.{IsPlayed, IsJust, HandPlayed, put_on, HasPut, 
 use Rattle.bench_plays.proofs.PlayLemmas.{start_is_play, PutOn, put_is_play, not_further, is_prefix}
 use Rattle.bench_plays.proofs.WordLemmas.{word_small, contribution_small, word_none, word_put_here, word_put_elsewhere}
 use Rattle.bench_plays.proofs.SlotLemmas.{Open, Complete, slot_tells}
-use Rattle.bus_bench.proofs.ViewLemmas.{at_those, one_place, all_count, all_back}
+use Rattle.bus_bench.proofs.ViewLemmas.{at_those, one_place, all_count, all_back, one_or_other, place_of, every_place}
 
 -- ---- what fits by its role
 
@@ -80,7 +80,7 @@ opens setup valid = record {
 }
   where
     host : FitsHost (setup_game setup) (λ p. []) [] (those setup.starters.items) (λ k. 0) 0 (opening setup)
-    host = record { one_game = refl; first = refl; made = omega arith; unmade = λ k a b. (refl, refl); few = omega arith; returned = λ k t at. absurd cc }
+    host = record { one_game = refl; first = refl; made = omega arith; unmade = λ k a b. (refl, refl); returned = λ k e at. absurd cc; once = λ i k d e at_i at_k same. absurd cc }
     host_alone : (id : ℕ) (v : Hand) → get_elem? (opening setup ∷ []) id ≡ some v → Fits (setup_game setup) (λ p. []) [] (those setup.starters.items) (λ k. 0) id v
     host_alone zero v e = subst (Fits (setup_game setup) (λ p. []) [] (those setup.starters.items) (λ k. 0) 0) (some-injective _ _ e) host
     host_alone (suc id) v e = absurd (some-ne-none v (sym e))
@@ -179,11 +179,11 @@ module _ (words : List ℕ) (views : List Hand) (id : ℕ) (v : Hand) (x : Put) 
         first = f.first;
         made = f.made;
         unmade = λ k le lt. let u' = f.unmade k le lt in (u'.0, others_kept h.puts p (starter (hand_game v) k) x (other_seat k lt (taken k u'.0)) ∙ u'.1);
-        few = f.few;
-        returned = λ k t e.
-            let r = f.returned k t e in
-            let below : k < length v.starters = let a : k < length u.back = slice_get_within u.back k t e in let b = f.few in let c : u.seat ≤ length v.starters = f.made in omega arith in
-            (r.0, knows_still (hand_game v) h.puts h.wire h.live p (starter (hand_game v) k) x put_made t (other_seat k below (taken k r.0)) r.1);
+        returned = λ k e at'.
+            let r = f.returned k e at' in
+            let below : e.0 < length v.starters = let a : e.0 < u.seat = r.0 in let c : u.seat ≤ length v.starters = f.made in omega arith in
+            (r.0, r.1, knows_still (hand_game v) h.puts h.wire h.live p (starter (hand_game v) e.0) x put_made e.1 (other_seat e.0 below (taken e.0 r.1)) r.2);
+        once = f.once;
       }
 
   kept_player : (j : ℕ) (u : Hand) → j ≢ id → FitsPlayer (hand_game v) h.puts h.wire h.live h.holder j u → FitsPlayer (hand_game v) (with_put h.puts (starter (hand_game v) v.seat) x) put_made.wire put_made.on h.holder j u
@@ -357,7 +357,7 @@ at_end [] a b (suc j) e = absurd (some-ne-none b (sym e))
 at_end (x ∷ xs) a b zero e = inl e
 at_end (x ∷ xs) a b (suc j) e = elim (at_end xs a b j e) [ inl h ↦ inl h | inr h ↦ inr (ap suc h.0, h.1) ]
 
-told_end : (l : List Told) (a b : Told) (j : ℕ) → slice_get (l ++ a ∷ []) j ≡ Some b → (slice_get l j ≡ Some b) ⊎ ((j ≡ length l) × (a ≡ b))
+told_end : (l : List (ℕ × Told)) (a b : ℕ × Told) (j : ℕ) → slice_get (l ++ a ∷ []) j ≡ Some b → (slice_get l j ≡ Some b) ⊎ ((j ≡ length l) × (a ≡ b))
 told_end [] a b zero e = inr (refl, cc)
 told_end [] a b (suc j) e = absurd cc
 told_end (x ∷ xs) a b zero e = inl e
@@ -375,18 +375,20 @@ held_else : (holder : Holder) (seat n k : ℕ) → k ≢ seat → held_by holder
 unfolding held_by
 held_else holder seat n k ne = let e : (k == seat) ≡ false = grind (arith, nat_tests) in ap (λ (b : Bool). if b then n else holder k) e
 
--- what the host knows of one that came back, and of those that have not been made, under another holder
+-- what the host knows of those that came back, and of those that have not been made, under another holder
 host_under : (game : Game) (puts : Puts) (wire : List Item) (live : Set) (holder holder' : Holder) (id : ℕ) (v w : Hand) → hand_game w ≡ game → v.seat ≤ w.seat → w.seat ≤ length game.starters → w.back ≡ v.back
-    → ((k : ℕ) → w.seat ≤ k → holder' k ≡ holder k) → ((k : ℕ) → k < length v.back → holder' k ≡ holder k)
+    → ((k : ℕ) → w.seat ≤ k → holder' k ≡ holder k) → ((k : ℕ) → k < v.seat → holder' k ≡ holder k)
     → FitsHost game puts wire live holder id v → FitsHost game puts wire live holder' id w
-host_under game puts wire live holder holder' id v w one less made back later earlier f = record {
-  one_game = one;
-  first = f.first;
-  made = made;
-  unmade = λ k le lt. let u = f.unmade k (omega arith) lt in (later k le ∙ u.0, u.1);
-  few = let a = f.few in let b : length w.back ≡ length v.back = ap length back in omega arith;
-  returned = λ k t e. let old : slice_get v.back k ≡ Some t = ap (λ (ts : List Told). slice_get ts k) (sym back) ∙ e in let r = f.returned k t old in (earlier k (slice_get_within v.back k t old) ∙ r.0, r.1);
-}
+host_under game puts wire live holder holder' id v w one less made back later earlier f =
+    let old : (k : ℕ) (e : ℕ × Told) → slice_get w.back k ≡ Some e → slice_get v.back k ≡ Some e = λ k e at. ap (λ (es : List (ℕ × Told)). slice_get es k) (sym back) ∙ at in
+    record {
+      one_game = one;
+      first = f.first;
+      made = made;
+      unmade = λ k le lt. let u = f.unmade k (omega arith) lt in (later k le ∙ u.0, u.1);
+      returned = λ k e at. let r = f.returned k e (old k e at) in let lt : e.0 < v.seat = r.0 in (omega arith, earlier e.0 lt ∙ r.1, r.2);
+      once = λ i k d e at_i at_k same. f.once i k d e (old i d at_i) (old k e at_k) same;
+    }
 
 player_under : (game : Game) (puts : Puts) (wire : List Item) (live : Set) (holder holder' : Holder) (id : ℕ) (v : Hand) → holder' v.seat ≡ holder v.seat → FitsPlayer game puts wire live holder id v → FitsPlayer game puts wire live holder' id v
 player_under game puts wire live holder holder' id v e f = record { one_game = f.one_game; place = f.place; holds = e ∙ f.holds; knows = f.knows }
@@ -418,7 +420,6 @@ module _ (words : List ℕ) (views : List Hand) (id : ℕ) (v : Hand) (hosts : v
     new_host : FitsHost (hand_game v) h.puts h.wire h.live new_holder id (handing_out v)
     unfolding new_holder
     new_host =
-        let few = host_here.few in
         host_under (hand_game v) h.puts h.wire h.live h.holder (held_by h.holder v.seat (suc (length views))) id v (handing_out v) refl (omega arith) (omega arith) refl
             (λ k le. held_else h.holder v.seat (suc (length views)) k (λ e. omega arith))
             (λ k lt. held_else h.holder v.seat (suc (length views)) k (λ e. omega arith))
@@ -452,7 +453,7 @@ module _ (words : List ℕ) (views : List Hand) (id : ℕ) (v : Hand) (hosts : v
       ];
     }
 
-  module _ (other : ℕ) (w : Hand) (plays : w.role ≡ Player) (next : w.seat ≡ length v.back) (apart : other ≢ id) (there : get_elem? views other ≡ some w) where
+  module _ (other : ℕ) (w : Hand) (plays : w.role ≡ Player) (apart : other ≢ id) (there : get_elem? views other ≡ some w) where
     guest : FitsPlayer (hand_game v) h.puts h.wire h.live h.holder other w
     guest = player_fits (hand_game v) h.puts h.wire h.live h.holder other w plays (h.fits other w there)
 
@@ -473,14 +474,27 @@ module _ (words : List ℕ) (views : List Hand) (id : ℕ) (v : Hand) (hosts : v
       first = host_here.first;
       made = host_here.made;
       unmade = λ k le lt. let u = host_here.unmade k le lt in let made = was_made in (held_else h.holder w.seat 0 k (λ e. omega arith) ∙ u.0, u.1);
-      few = let long : length (v.back ++ w.told ∷ []) ≡ length v.back + 1 = length-append v.back (w.told ∷ []) in let made = was_made in omega arith;
-      returned = λ k t e. elim (told_end v.back w.told t k e) [
-        | inl old ↦ let r = host_here.returned k t old in let lt = slice_get_within v.back k t old in (held_else h.holder w.seat 0 k (λ d. omega arith) ∙ r.0, r.1)
+      returned = λ k e at'. elim (told_end v.back (w.seat, w.told) e k at') [
+        | inl old ↦ let r = host_here.returned k e old in (r.0, held_else h.holder w.seat 0 e.0 (λ d. let a : h.holder w.seat ≡ suc other = guest.holds in let b : h.holder e.0 ≡ 0 = r.1 in let c : h.holder e.0 ≡ h.holder w.seat = ap h.holder d in omega arith) ∙ r.1, r.2)
         | inr last ↦
-            let place : w.seat ≡ k = next ∙ sym last.0 in
-            (ap (held_by h.holder w.seat 0) (sym place) ∙ held_here h.holder w.seat 0, subst (λ (y : ℕ × Told). Knows (hand_game v) h.puts h.wire h.live (starter (hand_game v) y.0) y.1) (λ i. (place i, last.1 i)) guest.knows)
+            let place : w.seat ≡ e.0 = λ i. (last.1 i).0 in
+            let made = was_made in
+            (omega arith, ap (held_by h.holder w.seat 0) (sym place) ∙ held_here h.holder w.seat 0, subst (λ (y : ℕ × Told). Knows (hand_game v) h.puts h.wire h.live (starter (hand_game v) y.0) y.1) last.1 guest.knows)
+      ];
+      once = λ i k d e at_i at_k same. elim (told_end v.back (w.seat, w.told) d i at_i) [
+        | inl old_i ↦ elim (told_end v.back (w.seat, w.told) e k at_k) [
+          | inl old_k ↦ host_here.once i k d e old_i old_k same
+          | inr last_k ↦ absurd (not_twice i d old_i (same ∙ sym (λ i. (last_k.1 i).0)))
+        ]
+        | inr last_i ↦ elim (told_end v.back (w.seat, w.told) e k at_k) [
+          | inl old_k ↦ absurd (not_twice k e old_k (sym same ∙ sym (λ i. (last_i.1 i).0)))
+          | inr last_k ↦ last_i.0 ∙ sym last_k.0
+        ]
       ];
     }
+      where
+        not_twice : (k : ℕ) (e : ℕ × Told) → slice_get v.back k ≡ Some e → e.0 ≡ w.seat → ⊥
+        not_twice k e old same = let r = host_here.returned k e old in let a : h.holder w.seat ≡ suc other = guest.holds in let b : h.holder e.0 ≡ 0 = r.1 in let c : h.holder e.0 ≡ h.holder w.seat = ap h.holder same in omega arith
 
     stays_beside : (j : ℕ) (u : Hand) → j ≢ id → j ≢ other → Fits (hand_game v) h.puts h.wire h.live h.holder j u → Fits (hand_game v) h.puts h.wire h.live left_holder j u
     unfolding left_holder
@@ -511,16 +525,25 @@ module _ (words : List ℕ) (views : List Hand) (id : ℕ) (v : Hand) (hosts : v
     }
 
   module _ (all : length v.back ≡ length v.starters) (k : ℕ) (within : k < SLOTS) where
-    puts_are : h.puts ≡ puts_back v.starters v.back
-    puts_are = λ i p. all_back v.starters v.back h.puts p all (λ j t e. (host_here.returned j t e).1.made) (h.play.others p) i
+    covers : (j : ℕ) → j < length v.starters → (k : ℕ) × (e : ℕ × Told) × (slice_get v.back k ≡ Some e) × (e.0 ≡ j)
+    covers j lt = every_place v.back (length v.starters) all (λ i e at'. let r = host_here.returned i e at' in let a : e.0 < v.seat = r.0 in let b : v.seat ≤ length v.starters = host_here.made in omega arith) host_here.once j lt
+
+    puts_are : h.puts ≡ puts_back (hand_game v) v.back
+    puts_are = λ i p. all_back (hand_game v) v.back h.puts p (λ j e at'. (host_here.returned j e at').2.made) (placed p) i
+      where
+        placed : (p : ℕ) → ((k : ℕ) × (e : ℕ × Told) × (slice_get v.back k ≡ Some e) × (starter (hand_game v) e.0 ≡ p)) ⊎ (h.puts p ≡ [])
+        placed p = elim (one_or_other (those v.starters p)) [
+          | inl started ↦ let at_p = place_of v.starters p started in let c = covers at_p.0 at_p.1 in inl (c.0, c.1, c.2, ap (starter (hand_game v)) c.3 ∙ at_p.2)
+          | inr not_started ↦ inr (h.play.others p not_started)
+        ]
 
     has_read : HasRead k (slice_index words k) v
     has_read = record {
-      valid = h.valid;
       wire = h.wire;
       live = h.live;
       play = subst (λ (ps : Puts). IsPlay (hand_game v) ps h.wire h.live) puts_are h.play;
-      each = λ j t e. subst (λ (ps : Puts). Knows (hand_game v) ps h.wire h.live (starter (hand_game v) j) t) puts_are (host_here.returned j t e).1;
+      each = λ j e at'. subst (λ (ps : Puts). Knows (hand_game v) ps h.wire h.live (starter (hand_game v) e.0) e.1) puts_are (host_here.returned j e at').2;
+      all = covers;
       word = h.counted k within ∙ ap (λ (ps : Puts). word_of v.starters ps k) puts_are;
     }
 
@@ -533,12 +556,12 @@ hands_out setup id v hosts room s h at =
     let same = host_game game s.words s.views id v h at hosts in
     back_game game s.words (set s.views id (handing_out v) ++ handed_out v ∷ []) v same (split_keeps s.words s.views id v hosts (own_game game s.words s.views v same h) at room)
 
-pub comes_back : (setup : Setup) (id : ℕ) (v : Hand) (other : ℕ) (w : Hand) → v.role ≡ Host → w.role ≡ Player → w.seat ≡ length v.back → Joins (holds_at setup) id v other w (taken_back v w) nobody
-comes_back setup id v other w hosts plays next s h at apart there =
+pub comes_back : (setup : Setup) (id : ℕ) (v : Hand) (other : ℕ) (w : Hand) → v.role ≡ Host → w.role ≡ Player → Joins (holds_at setup) id v other w (taken_back v w) nobody
+comes_back setup id v other w hosts plays s h at apart there =
     let game : Game = setup_game setup in
     let same = host_game game s.words s.views id v h at hosts in
     let found_there : get_elem? s.views other ≡ some w = elim (at_set s.views id other (taken_back v w) w there) [ inl e ↦ absurd (apart e.0) | inr e ↦ e.1 ] in
-    back_game game s.words (set (set s.views id (taken_back v w)) other nobody) v same (join_keeps s.words s.views id v hosts (own_game game s.words s.views v same h) at other w plays next apart found_there)
+    back_game game s.words (set (set s.views id (taken_back v w)) other nobody) v same (join_keeps s.words s.views id v hosts (own_game game s.words s.views v same h) at other w plays apart found_there)
 
 pub reads : (setup : Setup) (slots id : ℕ) (v : Hand) (k : ℕ) → v.role ≡ Host → length v.back ≡ length v.starters → k < SLOTS → Allows (holds_at setup) slots id (v, []) k (λ n. n) (λ n me. HasRead k n v × (me ≡ (v, [])))
 reads setup slots id v k hosts all within s h few at small =

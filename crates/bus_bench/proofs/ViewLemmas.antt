@@ -7,7 +7,8 @@ use Rattle.std.proofs.lemmas.List.Sums.{sum_by-cons}
 use Rattle.std.proofs.lemmas.Bool.Decides.{nat_tests}
 use Rattle.plan_core.specs.Lawful.{Set, In}
 use Rattle.bench_plays.specs.declared.puts.Put.{Put}
-use Rattle.bench_plays.specs.Games.{those}
+use Rattle.bench_plays.specs.Games.{Game, those}
+use Rattle.bus_bench.specs.Hands.{starter}
 use Rattle.bench_plays.specs.Plays.{Puts}
 use Rattle.bus_bench.specs.declared.hands.Told.{Told}
 use Rattle.bench_plays.specs.Words.{count_in}
@@ -53,19 +54,34 @@ counted (x ∷ xs) s all =
 pub all_count : (xs : List ℕ) → count_in xs (those xs) ≡ length xs
 all_count xs = counted xs (those xs) (at_those xs)
 
--- the puts of the starters are those that came back, where all came back
-pub all_back : (xs : List ℕ) (ts : List Told) (puts : Puts) (p : ℕ) → length ts ≡ length xs → ((j : ℕ) (t : Told) → slice_get ts j ≡ Some t → puts (slice_index_or xs j 0) ≡ t.puts) → (those xs p ≡ false → puts p ≡ []) → puts p ≡ puts_back xs ts p
-all_back [] [] puts p long told others = others refl
-all_back [] (t ∷ ts) puts p long told others = absurd (omega arith)
-all_back (x ∷ xs) [] puts p long told others = absurd (omega arith)
-all_back (x ∷ xs) (t ∷ ts) puts p long told others =
-    elim (one_or_other (p == x)) [
+-- the puts of one who came back are those that it has told, and of another there are none
+pub all_back : (game : Game) (es : List (ℕ × Told)) (puts : Puts) (p : ℕ) → ((j : ℕ) (e : ℕ × Told) → slice_get es j ≡ Some e → puts (starter game e.0) ≡ e.1.puts)
+    → ((k : ℕ) × (e : ℕ × Told) × (slice_get es k ≡ Some e) × (starter game e.0 ≡ p)) ⊎ (puts p ≡ []) → puts p ≡ puts_back game es p
+all_back game [] puts p told (inl h) = absurd cc
+all_back game [] puts p told (inr none) = none
+all_back game (e ∷ es) puts p told where_p =
+    elim (one_or_other (p == starter game e.0)) [
       | inl same ↦
-          let e : p ≡ x = grind (arith, nat_tests) in
-          let first : puts x ≡ t.puts = told 0 t refl in
-          let mine : puts p ≡ puts x = ap puts e in
-          mine ∙ first ∙ sym (ap (λ (b : Bool). if b then t.puts else puts_back xs ts p) same)
+          let here : p ≡ starter game e.0 = grind (arith, nat_tests) in
+          ap puts here ∙ told 0 e refl ∙ sym (ap (λ (b : Bool). if b then e.1.puts else puts_back game es p) same)
       | inr other ↦
-          let rest = all_back xs ts puts p (omega arith) (λ j u at. told (suc j) u at) (λ none. others (grind (arith, nat_tests))) in
-          rest ∙ sym (ap (λ (b : Bool). if b then t.puts else puts_back xs ts p) other)
+          let rest = all_back game es puts p (λ j d at. told (suc j) d at) (later where_p other) in
+          rest ∙ sym (ap (λ (b : Bool). if b then e.1.puts else puts_back game es p) other)
     ]
+  where
+    later : ((k : ℕ) × (d : ℕ × Told) × (slice_get (e ∷ es) k ≡ Some d) × (starter game d.0 ≡ p)) ⊎ (puts p ≡ []) → (p == starter game e.0) ≡ false → ((k : ℕ) × (d : ℕ × Told) × (slice_get es k ≡ Some d) × (starter game d.0 ≡ p)) ⊎ (puts p ≡ [])
+    later (inr none) other = inr none
+    later (inl (zero, d, at, is)) other = let first : e ≡ d = cc in let starts : starter game e.0 ≡ p = ap (λ (x : ℕ × Told). starter game x.0) first ∙ is in let same : (p == starter game e.0) ≡ true = grind (arith, nat_tests) in absurd cc
+    later (inl (suc k, d, at, is)) other = inl (k, d, at, is)
+
+-- who is in a list stands at a place of it
+pub place_of : (xs : List ℕ) (p : ℕ) → In p (those xs) → (k : ℕ) × (k < length xs) × (slice_index_or xs k 0 ≡ p)
+place_of [] p i = absurd cc
+place_of (x ∷ xs) p i = elim (one_or_other (x == p)) [
+  | inl same ↦ (0, omega arith, grind (arith, nat_tests))
+  | inr other ↦ let rest = place_of xs p (grind (arith, nat_tests)) in (suc rest.0, let lt = rest.1 in omega arith, rest.2)
+]
+
+-- n entries with different places below n: each place has one
+pub every_place : (es : List (ℕ × Told)) (n : ℕ) → length es ≡ n → ((i : ℕ) (e : ℕ × Told) → slice_get es i ≡ Some e → e.0 < n) → ((i k : ℕ) (d e : ℕ × Told) → slice_get es i ≡ Some d → slice_get es k ≡ Some e → d.0 ≡ e.0 → i ≡ k) → (j : ℕ) → j < n → (k : ℕ) × (e : ℕ × Told) × (slice_get es k ≡ Some e) × (e.0 ≡ j)
+every_place es n many below once j lt = ?

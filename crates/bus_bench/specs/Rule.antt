@@ -45,9 +45,9 @@ pub record FitsHost (game : Game) (puts : Puts) (wire : List Item) (live : Set) 
   -- the seats that are not handed out yet have put nothing
   pub made : v.seat ≤ length game.starters
   pub unmade : (k : ℕ) → v.seat ≤ k → k < length game.starters → (holder k ≡ 0) × (puts (starter game k) ≡ [])
-  -- those that came back
-  pub few : length v.back ≤ v.seat
-  pub returned : (k : ℕ) (t : Told) → slice_get v.back k ≡ Some t → (holder k ≡ 0) × Knows game puts wire live (starter game k) t
+  -- those that came back, each once
+  pub returned : (k : ℕ) (e : ℕ × Told) → slice_get v.back k ≡ Some e → (e.0 < v.seat) × (holder e.0 ≡ 0) × Knows game puts wire live (starter game e.0) e.1
+  pub once : (i k : ℕ) (d e : ℕ × Told) → slice_get v.back i ≡ Some d → slice_get v.back k ≡ Some e → d.0 ≡ e.0 → i ≡ k
 
 abbrev pub FitsRole : Role → Type 0 → Type 0 → Type 0
 FitsRole Host H P = H

@@ -67,19 +67,18 @@ HasSeen n v w =
     ⊎ ((arrivals_in n < v.told.live) × (w ≡ v) × IsJust (hand_game v) (starter (hand_game v) v.seat) v.told.puts v.told.seen)
 
 -- the puts that the seats which came back have made
-abbrev pub puts_back : List ℕ → List Told → Puts
-puts_back [] ts p = []
-puts_back (x ∷ xs) [] p = []
-puts_back (x ∷ xs) (t ∷ ts) p = if p == x then t.puts else puts_back xs ts p
+abbrev pub puts_back : Game → List (ℕ × Told) → Puts
+puts_back game [] p = []
+puts_back game (e ∷ es) p = if p == starter game e.0 then e.1.puts else puts_back game es p
 
 -- All seats have come back: their puts are a play, each of them has seen what it has passed, and this word counts them.
 pub record HasRead (k found : ℕ) (v : Hand) : Type 0 where
-  pub valid : IsGame (hand_game v)
   pub wire : List Item
   pub live : Set
-  pub play : IsPlay (hand_game v) (puts_back v.starters v.back) wire live
-  pub each : (j : ℕ) (t : Told) → slice_get v.back j ≡ Some t → Knows (hand_game v) (puts_back v.starters v.back) wire live (starter (hand_game v) j) t
-  pub word : found ≡ word_of v.starters (puts_back v.starters v.back) k
+  pub play : IsPlay (hand_game v) (puts_back (hand_game v) v.back) wire live
+  pub each : (j : ℕ) (e : ℕ × Told) → slice_get v.back j ≡ Some e → Knows (hand_game v) (puts_back (hand_game v) v.back) wire live (starter (hand_game v) e.0) e.1
+  pub all : (j : ℕ) → j < length v.starters → (k : ℕ) × (e : ℕ × Told) × (slice_get v.back k ≡ Some e) × (e.0 ≡ j)
+  pub word : found ≡ word_of v.starters (puts_back (hand_game v) v.back) k
 
 abbrev pub handing_out : Hand → Hand
 handing_out v = record v { seat = v.seat + 1 }
@@ -89,7 +88,7 @@ abbrev pub handed_out : Hand → Hand
 handed_out v = record v { role = Player; told = record none_told { live = length v.starters }; back = [] }
 
 abbrev pub taken_back : Hand → Hand → Hand
-taken_back v w = record v { back = v.back ++ w.told ∷ [] }
+taken_back v w = record v { back = v.back ++ (w.seat, w.told) ∷ [] }
 
 abbrev pub nobody : Hand
 nobody = record { plan = None; starters = []; answers = []; role = Nobody; seat = 0; told = none_told; back = [] }

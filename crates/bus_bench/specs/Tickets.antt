@@ -68,13 +68,14 @@ pub record IsPlaying (v : Hand) (place : Place) (own : Option Put) (slot live : 
 abbrev pub StandsSo : Standing → Hand → Place → Option Put → ℕ → ℕ → Type 0
 StandsSo Playing v place own slot live = IsPlaying v place own slot live
 StandsSo Lost v place own slot live = ⊤
-StandsSo Ended v place own slot live = HasEnded v.told.seen
+StandsSo Ended v place own slot live = HasEnded v.told.seen × (slot ≡ length v.told.seen)
 
-pub record IsSeat (me : Me Unit Hand) (place : Place) (own : Option Put) (slot live : ℕ) (standing : Standing) : Type 0 where
+pub record IsSeat (me : Me Unit Hand) (number : ℕ) (place : Place) (own : Option Put) (slot live : ℕ) (standing : Standing) : Type 0 where
   pub slots : me.1 ≡ []
   pub plays : me.0.role ≡ Player
   pub valid : IsGame (hand_game me.0)
-  pub number : me.0.seat < length me.0.starters
+  pub in_place : number ≡ me.0.seat
+  pub number_within : me.0.seat < length me.0.starters
   pub played : HandPlayed me.0
   pub out : me.0.told.out ≡ is_lost standing
   pub stands : StandsSo standing me.0 place own slot live

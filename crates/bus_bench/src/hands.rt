@@ -48,6 +48,6 @@ pub struct Hand {
     pub seat: u64,
     /// A player's.
     pub told: Told,
-    /// The host's: what the seats that came back had done, in order.
-    pub back: LinkedList<Told>,
+    /// The host's: the places of the seats that came back, and what they had done.
+    pub back: LinkedList<(u64, Told)>,
 }

@@ -72,6 +72,8 @@ pub enum Standing {
 #[derive(Drop)]
 pub struct Seat<'a> {
     pub(crate) ticket: Ticket,
+    /// Its place among the starters.
+    pub(crate) number: u32,
     /// Where it stands in what it plays, while it is playing.
     pub(crate) place: Place<'a>,
     /// What it has put in its slot, until it has seen the slot complete.
@@ -95,5 +97,5 @@ impl<'a> Model for Seat<'a> {
 
     ghost view = { λ s. player_of s.ticket.table_id s.ticket.me s.standing };
 
-    ghost invariant = { λ s. IsSeat s.ticket.me s.place s.own s.slot s.live s.standing };
+    ghost invariant = { λ s. IsSeat s.ticket.me s.number s.place s.own s.slot s.live s.standing };
 }
