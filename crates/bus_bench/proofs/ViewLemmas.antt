@@ -1,9 +1,17 @@
 -- Lists of starters, and of what came back.
-use Rattle.std.proofs.Common.{◌≡◌, ◌≢◌, ◌⊎◌, ℕ, zero, suc, ◌+◌, ◌<◌, ◌≤◌, ◌==◌, Bool, true, false, List, [], ◌∷◌, ◌++◌, length, Some, refl, sym, ap, ◌∙◌, subst, arith, inl, inr}
-use Rattle.std.specs.Prelude.{AllPairs, slice_get, count_by, cond, if◌then◌else◌}
+use Rattle.std.proofs.Common.{◌≡◌, ◌≢◌, ◌⊎◌, ℕ, zero, suc, ◌+◌, ◌<◌, ◌≤◌, ◌==◌, Bool, true, false, List, [], ◌∷◌, ◌++◌, length, Some, refl, sym, ap, ◌∙◌, subst, arith, inl, inr, map, get_or, eqb}
+use Rattle.std.specs.Prelude.{AllPairs, All, slice_get, count_by, cond, if◌then◌else◌}
 use Rattle.std.specs.List.{slice_index_or, list_any}
 use Rattle.std.proofs.lemmas.Bool.{cases_lt}
+use Rattle.std.proofs.lemmas.Bool.{eqb-true}
+use Rattle.std.proofs.lemmas.Bool.Decides.{Decides-eqb}
+use Rattle.std.proofs.lemmas.List.{length-map}
+use Rattle.std.proofs.lemmas.List.Elements.{All-cons}
+use Rattle.std.proofs.lemmas.List.Folds.{Any-from_list_any}
+use Rattle.std.proofs.lemmas.List.Kept.{AllPairs-cons}
 use Rattle.std.proofs.lemmas.List.Sums.{sum_by-cons}
+use Rattle.std.proofs.lemmas.Map.Made.{IsDistinct-from_AllPairs}
+use Rattle.std.proofs.lemmas.Map.Steps.{length-le_from_distinct_below}
 use Rattle.std.proofs.lemmas.Bool.Decides.{nat_tests}
 use Rattle.plan_core.specs.Lawful.{Set, In}
 use Rattle.bench_plays.specs.declared.puts.Put.{Put}
@@ -84,4 +92,30 @@ place_of (x ∷ xs) p i = elim (one_or_other (x == p)) [
 
 -- n entries with different places below n: each place has one
 pub every_place : (es : List (ℕ × Told)) (n : ℕ) → length es ≡ n → ((i : ℕ) (e : ℕ × Told) → slice_get es i ≡ Some e → e.0 < n) → ((i k : ℕ) (d e : ℕ × Told) → slice_get es i ≡ Some d → slice_get es k ≡ Some e → d.0 ≡ e.0 → i ≡ k) → (j : ℕ) → j < n → (k : ℕ) × (e : ℕ × Told) × (slice_get es k ≡ Some e) × (e.0 ≡ j)
-every_place es n many below once j lt = ?
+every_place es n many below once j lt =
+    let places : List ℕ = map (λ (e : ℕ × Told). e.0) es in
+    let long : length places ≡ length es = length-map es (λ (e : ℕ × Told). e.0) in
+    let at : (k : ℕ) → k < length es → (e : ℕ × Told) × (slice_get es k ≡ Some e) × ((d : ℕ) → get_or places k d ≡ e.0) = λ k within. entry es k within in
+    elim (one_or_other (those places j)) [
+      | inl among ↦
+          let p = place_of places j among in
+          let e = at p.0 (let a = p.1 in omega arith) in
+          (p.0, e.0, e.1, sym (e.2 0) ∙ p.2)
+      | inr missing ↦
+          let below_n : All (λ x. x < n) (j ∷ places) = All-cons (λ x. x < n) j places lt (λ k d within. let e = at k (omega arith) in let b = below k e.0 e.1 in let v : get_or places k d ≡ e.0.0 = e.2 d in omega arith) in
+          let distinct : AllPairs ◌≢◌ places = λ a b d before within same. let e = at a (omega arith) in let f = at b (omega arith) in let i : a ≡ b = once a b e.0 f.0 e.1 f.1 (sym (e.2 d) ∙ same ∙ f.2 d) in omega arith in
+          let apart : All (λ x. j ≢ x) places = λ k d within same. absurd (let h : In j (those places) = subst (λ (x : ℕ). In x (those places)) (sym (same ∙ default_free places k d within)) (at_those places k within) in cc) in
+          let few = length-le_from_distinct_below (j ∷ places) n (IsDistinct-from_AllPairs Decides-eqb (j ∷ places) (AllPairs-cons ◌≢◌ j places apart distinct)) (λ q h. below_any (j ∷ places) n q below_n h) in
+          absurd (omega arith)
+    ]
+  where
+    entry : (es : List (ℕ × Told)) (k : ℕ) → k < length es → (e : ℕ × Told) × (slice_get es k ≡ Some e) × ((d : ℕ) → get_or (map (λ (e : ℕ × Told). e.0) es) k d ≡ e.0)
+    entry [] k within = absurd (omega arith)
+    entry (e ∷ es) zero within = (e, refl, λ d. refl)
+    entry (e ∷ es) (suc k) within = entry es k (omega arith)
+    default_free : (xs : List ℕ) (k d : ℕ) → k < length xs → get_or xs k d ≡ slice_index_or xs k 0
+    default_free [] k d within = absurd (omega arith)
+    default_free (x ∷ xs) zero d within = refl
+    default_free (x ∷ xs) (suc k) d within = default_free xs k d (omega arith)
+    below_any : (xs : List ℕ) (n q : ℕ) → All (λ x. x < n) xs → list_any (eqb q) xs ≡ true → q < n
+    below_any xs n q all any = let a = Any-from_list_any (eqb q) xs any in omega (arith, all a.0 a.1 a.2, a.3, eqb-true q a.1 a.4)
