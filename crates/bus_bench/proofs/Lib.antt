@@ -2,3 +2,4 @@ pub mod ViewLemmas
 pub mod StepLemmas
 pub mod SeatLemmas
 pub mod StarterLemmas
+pub mod OpeningLemmas

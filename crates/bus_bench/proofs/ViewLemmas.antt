@@ -119,3 +119,8 @@ every_place es n many below once j lt =
     default_free (x ∷ xs) (suc k) d within = default_free xs k d (omega arith)
     below_any : (xs : List ℕ) (n q : ℕ) → All (λ x. x < n) xs → list_any (eqb q) xs ≡ true → q < n
     below_any xs n q all any = let a = Any-from_list_any (eqb q) xs any in omega (arith, all a.0 a.1 a.2, a.3, eqb-true q a.1 a.4)
+
+pub any_default : (xs : List ℕ) (k d e : ℕ) → k < length xs → get_or xs k d ≡ get_or xs k e
+any_default [] k d e within = absurd (omega arith)
+any_default (x ∷ xs) zero d e within = refl
+any_default (x ∷ xs) (suc k) d e within = any_default xs k d e (omega arith)

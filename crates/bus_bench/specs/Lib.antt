@@ -4,3 +4,4 @@ pub mod Steps
 pub mod Seats
 pub mod Tickets
 pub mod Starters
+pub mod Opening

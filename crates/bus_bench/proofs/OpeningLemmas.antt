@@ -1,0 +1,67 @@
+-- What is handed out when a bench is opened.
+use Rattle.std.proofs.Common.{◌≡◌, ◌≢◌, ◌↔◌, ℕ, zero, suc, ◌+◌, ◌<◌, ◌≤◌, List, [], ◌∷◌, ◌++◌, length, Option, Some, None, refl, sym, ap, ◌∙◌, subst, arith, replicate}
+use Rattle.std.specs.List.{slice_index_or}
+use Rattle.atomic_table.specs.Seated.{TableId}
+use Rattle.atomic_table.specs.Table.{Me, Splits}
+use Rattle.message_tree.specs.declared.items.Item.{Item}
+use Rattle.message_tree.specs.Texts.{Sender, SenderText}
+use Rattle.plan_core.specs.Participants.{Text, TextOf, sender_at, participant_count}
+use Rattle.plan_core.specs.PlanContents.{plan_contents}
+use Rattle.bench_places.specs.declared.places.Place.{Place}
+use Rattle.bench_places.specs.Places.{rest_of}
+use Rattle.bench_plays.specs.Games.{Game, IsGame, those}
+use Rattle.bench_plays.proofs.PlayLemmas.{start_is_play}
+use Rattle.bus_bench.specs.declared.hands.Hand.{Hand}
+use Rattle.bus_bench.specs.declared.hands.Setup.{Setup}
+use Rattle.bus_bench.specs.declared.seats.Standing.TheVariants.{Playing}
+use Rattle.bus_bench.specs.Hands.{hand_game, setup_game, starter}
+use Rattle.bus_bench.specs.Opening.{IsHanding}
+use Rattle.bus_bench.specs.Rule.{SLOTS, holds_at}
+use Rattle.bus_bench.specs.Seats.{BenchName, game_of}
+use Rattle.bus_bench.specs.Steps.{HandPlayed, handing_out, handed_out}
+use Rattle.bus_bench.specs.Tickets.{bench_name, IsBench, ticket_bench, IsSeat}
+use Rattle.bus_bench.proofs.ViewLemmas.{at_those}
+use Rattle.bus_bench.proofs.StepLemmas.{hands_out}
+
+pub hand_out_allowed : (id bid : TableId) (key setup : Setup) (sid : ℕ) (me : Me Unit Hand) (number : ℕ) → bench_name bid setup ≡ ticket_bench id me → IsBench bid key setup → IsHanding (bench_name bid setup) number id me → number < length setup.starters.items
+    → (id ≡ bid) × (0 < bid.words) × Splits (holds_at key) sid me.0 (handing_out me.0) (handed_out me.0)
+hand_out_allowed id bid key setup sid me number named b h lt =
+    let many : length setup.starters.items ≡ length me.0.starters = λ i. length (named i).starters in
+    let out : me.0.seat ≡ number = h.out in
+    let words : bid.words ≡ SLOTS = b.words in
+    ((λ i. (sym named i).wire), omega arith, hands_out key sid me.0 h.hosts (omega arith))
+
+pub starter_known : (bid : TableId) (key setup : Setup) (number starts : ℕ) → IsBench bid key setup → number < length setup.starters.items → starts ≡ slice_index_or setup.starters.items number 0 → starts < participant_count (plan_contents setup.plan.now)
+starter_known bid key setup number starts b lt is = subst (λ (p : ℕ). p < participant_count (plan_contents setup.plan.now)) (sym is) (b.valid.lawful.participants (slice_index_or setup.starters.items number 0) (at_those setup.starters.items number lt))
+
+pub handed_seat : (id bid : TableId) (key setup : Setup) (me part : Me Unit Hand) (number starts len : ℕ) (place : Place) (sent : Sender) → bench_name bid setup ≡ ticket_bench id me → IsBench bid key setup → me.0.seat ≡ number → number < length setup.starters.items
+    → part ≡ (handed_out me.0, []) → len ≡ length setup.starters.items → starts ≡ slice_index_or setup.starters.items number 0 → sender_at (plan_contents setup.plan.now) starts ≡ Some sent → ((u : List Item) → rest_of place u ↔ SenderText sent u)
+    → IsSeat part number place None 0 len Playing
+handed_seat id bid key setup me part number starts len place sent named b out lt is len_is starts_is sends left =
+    let game_is : setup_game setup ≡ hand_game me.0 = λ i. game_of (named i) in
+    let many : length setup.starters.items ≡ length me.0.starters = λ i. length (named i).starters in
+    let valid : IsGame (hand_game me.0) = subst IsGame game_is b.valid in
+    let here_is : slice_index_or setup.starters.items number 0 ≡ starter (hand_game me.0) me.0.seat = λ i. slice_index_or (named i).starters (sym out i) 0 in
+    let sender_is : sender_at (hand_game me.0).plan (starter (hand_game me.0) me.0.seat) ≡ Some sent =
+        subst (λ (y : Game × ℕ). sender_at y.0.plan y.1 ≡ Some sent) (λ i. (game_is i, (starts_is ∙ here_is) i)) sends in
+    subst (λ (m : Me Unit Hand). IsSeat m number place None 0 len Playing) (sym is) (record {
+      slots = refl;
+      plays = refl;
+      valid = valid;
+      in_place = sym out;
+      number_within = omega arith;
+      played = record { all = λ p. []; wire = []; live = those me.0.starters; play = start_is_play (hand_game me.0) valid; own = refl; rest = []; begins = refl };
+      out = refl;
+      stands = record {
+        in_slot = refl;
+        few = omega arith;
+        alive = len_is ∙ many;
+        own_put = refl;
+        left = λ u. subst (λ (s : Option Sender). rest_of place u ↔ TextOf s u) (sym sender_is) (left u);
+      };
+    })
+
+pub handing_on : (bench : BenchName) (id id' : TableId) (me me' : Me Unit Hand) (number : ℕ) → IsHanding bench number id me → id' ≡ id → me' ≡ (handing_out me.0, me.1) → IsHanding bench (number + 1) id' me'
+handing_on bench id id' me me' number h same is =
+    subst (λ (y : TableId × Me Unit Hand). IsHanding bench (number + 1) y.0 y.1) (λ i. (sym same i, sym is i))
+        (record { named = h.named; slots = h.slots; hosts = h.hosts; out = ap (λ (n : ℕ). n + 1) h.out; none_back = h.none_back })
