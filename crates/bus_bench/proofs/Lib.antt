@@ -1,3 +1,4 @@
 pub mod ViewLemmas
 pub mod StepLemmas
 pub mod SeatLemmas
+pub mod StarterLemmas

@@ -9,6 +9,7 @@ mod hands;
 mod putting;
 pub mod seats;
 mod seeing;
+mod starters;
 mod steps;
 
 pub use bench_places::Offered;
