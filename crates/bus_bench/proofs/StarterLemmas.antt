@@ -23,15 +23,15 @@ use Rattle.plan_core.proofs.ContentsLemmas.{participant_count-is, length-sending
 use Rattle.plan_core.proofs.PairLaws.{apart-either, AllPairs-map}
 use Rattle.bench_plays.specs.Games.{IsGame, those}
 use Rattle.bus_bench.specs.declared.errors.OpenError.{OpenError}
-use Rattle.bus_bench.specs.declared.errors.OpenError.TheVariants.{NoStarter, Unknown, SameController, Never}
-use Rattle.bus_bench.specs.Starters.{is_one_sender, refusal_behind, first_refusal, starters_refusal}
+use Rattle.bus_bench.specs.declared.errors.OpenError.TheVariants.{Unknown, SameController, Never}
+use Rattle.bus_bench.specs.Starters.{shares_controller, refusal_behind, first_refusal, starters_refusal}
 
 -- ---- one starter behind others
 
 -- nothing refuses x behind these
 record IsFree (plan : Contents) (before : List ℕ) (x : ℕ) : Type 0 where
   known : x < participant_count plan
-  alone : list_any (λ y. is_one_sender plan y x) before ≡ false
+  alone : list_any (λ y. shares_controller plan y x) before ≡ false
   allowed : list_any (λ y. forbidden plan y x) before ≡ false
 
 none_of_three : (a b c : Bool) → ◌≡◌ {A = Option OpenError} (if not a then Some Unknown else if b then Some SameController else if c then Some Never else None) None → (a ≡ true) × (b ≡ false) × (c ≡ false)
@@ -42,7 +42,7 @@ none_of_three true false false none = (refl, refl, refl)
 
 free_from : (plan : Contents) (before : List ℕ) (x : ℕ) → refusal_behind plan before x ≡ None → IsFree plan before x
 free_from plan before x none =
-    let r = none_of_three (nat_lt x (participant_count plan)) (list_any (λ y. is_one_sender plan y x) before) (list_any (λ y. forbidden plan y x) before) none in
+    let r = none_of_three (nat_lt x (participant_count plan)) (list_any (λ y. shares_controller plan y x) before) (list_any (λ y. forbidden plan y x) before) none in
     record { known = ltb-true x (participant_count plan) r.0; alone = r.1; allowed = r.2 }
 
 -- ---- all of them
@@ -50,7 +50,7 @@ free_from plan before x none =
 -- the plan has them all, and any two may start together
 record Together (plan : Contents) (xs : List ℕ) : Type 0 where
   known : All (λ x. x < participant_count plan) xs
-  alone : AllPairs (λ y x. is_one_sender plan y x ≡ false) xs
+  alone : AllPairs (λ y x. shares_controller plan y x ≡ false) xs
   allowed : AllPairs (λ y x. forbidden plan y x ≡ false) xs
 
 none_at : (p : ℕ → Bool) (xs : List ℕ) → list_any p xs ≡ false → (k d : ℕ) → k < length xs → p (get_or xs k d) ≡ false
@@ -65,7 +65,7 @@ together_push plan before x are none =
     let free = free_from plan before x none in
     record {
       known = All-push (λ y. y < participant_count plan) before x are.known free.known;
-      alone = all_pairs_push (λ y z. is_one_sender plan y z ≡ false) before x are.alone (none_at (λ y. is_one_sender plan y x) before free.alone);
+      alone = all_pairs_push (λ y z. shares_controller plan y z ≡ false) before x are.alone (none_at (λ y. shares_controller plan y x) before free.alone);
       allowed = all_pairs_push (λ y z. forbidden plan y z ≡ false) before x are.allowed (none_at (λ y. forbidden plan y x) before free.allowed);
     }
 
@@ -90,10 +90,10 @@ neither_is : (a b : Bool) → (a || b) ≡ false → (a ≡ false) × (b ≡ fal
 neither_is true b none = absurd (true≢false none)
 neither_is false b none = (refl, none)
 
-differ : (plan : Contents) (x y : ℕ) → is_one_sender plan x y ≡ false → x ≢ y
+differ : (plan : Contents) (x y : ℕ) → shares_controller plan x y ≡ false → x ≢ y
 differ plan x y alone same = true≢false (sym (eq-eqb x y same) ∙ (neither_is (x == y) (same_controller plan x y) alone).0)
 
-not_same : (plan : Contents) (x y : ℕ) → is_one_sender plan x y ≡ false → same_controller plan x y ≡ false
+not_same : (plan : Contents) (x y : ℕ) → shares_controller plan x y ≡ false → same_controller plan x y ≡ false
 not_same plan x y alone = (neither_is (x == y) (same_controller plan x y) alone).1
 
 -- ---- a lawful set
@@ -209,7 +209,7 @@ number_below : (plan : Contents) (p : ℕ) → IsSending plan p ⊎ IsInterrupt 
 number_below plan p (inl s) = omega (arith, s.below)
 number_below plan p (inr s) = s.below
 
-numbers_differ : (plan : Contents) (x y : ℕ) → IsSending plan x ⊎ IsInterrupt plan x → IsSending plan y ⊎ IsInterrupt plan y → is_one_sender plan x y ≡ false → sender_number plan x ≢ sender_number plan y
+numbers_differ : (plan : Contents) (x y : ℕ) → IsSending plan x ⊎ IsInterrupt plan x → IsSending plan y ⊎ IsInterrupt plan y → shares_controller plan x y ≡ false → sender_number plan x ≢ sender_number plan y
 unfolding same_controller
 numbers_differ plan x y (inl s) (inl t) alone same =
     true≢false (sym ((λ i. one_controller (s.at i) (t.at i)) ∙ eq-eqb (sender_number plan x) (sender_number plan y) same) ∙ not_same plan x y alone)

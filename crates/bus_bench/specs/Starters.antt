@@ -1,4 +1,4 @@
--- Which starters a bench is opened for.
+-- Which starters a bench is opened for: those that may start together, each of them once.
 use Rattle.std.specs.Prelude.{ℕ, Bool, ◌==◌, ◌||◌, not, if◌then◌else◌, nat_lt, List, [], ◌∷◌, ◌++◌, Option, Some, None}
 use Rattle.std.specs.List.{list_any}
 use Rattle.std.specs.Option.{option_or}
@@ -8,14 +8,14 @@ use Rattle.bus_bench.specs.declared.errors.OpenError.{OpenError}
 use Rattle.bus_bench.specs.declared.errors.OpenError.TheVariants.{NoStarter, Unknown, SameController, Never}
 
 -- the same participant, or both are sendings of one controller
-abbrev pub is_one_sender : Contents → ℕ → ℕ → Bool
-is_one_sender plan x y = x == y || same_controller plan x y
+abbrev pub shares_controller : Contents → ℕ → ℕ → Bool
+shares_controller plan x y = x == y || same_controller plan x y
 
 -- why x doesn't start together with those before it
 abbrev pub refusal_behind : Contents → List ℕ → ℕ → Option OpenError
 refusal_behind plan before x =
     if not (nat_lt x (participant_count plan)) then Some Unknown
-    else if list_any (λ y. is_one_sender plan y x) before then Some SameController
+    else if list_any (λ y. shares_controller plan y x) before then Some SameController
     else if list_any (λ y. forbidden plan y x) before then Some Never
     else None
 

@@ -1,22 +1,18 @@
 // Which starters a bench is opened for.
 
-ghost use Rattle.std.specs.Prelude.{◌≡◌, ◌<◌, Some, None, All, MatchResult, length};
+ghost use Rattle.std.specs.Prelude.{◌≡◌, ◌<◌, Some, None, All, IfOk, IfErr};
 ghost use Rattle.std.specs.List.{list_any};
-ghost use Rattle.std.specs.Prelude.{List, Bool};
-ghost use Rattle.plan_core.specs.Faults.{IsSafe};
-ghost use Rattle.bench_plays.specs.Games.{IsGame};
-ghost use Rattle.plan_core.specs.Participants.{participant_count, same_controller, forbidden, one_controller};
+ghost use Rattle.plan_core.specs.Participants.{participant_count, same_controller, forbidden};
 ghost use Rattle.plan_core.specs.PlanContents.{plan_contents};
-ghost use Rattle.bus_bench.specs.Starters.{is_one_sender, refusal_behind, starters_refusal};
+ghost use Rattle.bus_bench.specs.Starters.{shares_controller, refusal_behind, starters_refusal};
 
 use crate::errors::OpenError;
 use plan_core::{Participant, Plan};
 
 // The first refusal, starter by starter. It takes no memory.
 pub(crate) fn check_starters(plan: &Plan, starters: &[u32]) -> Result<(), OpenError>
-    ensures { MatchResult result
-        (λ _. starters_refusal (plan_contents plan.now) starters.now ≡ None)
-        (λ e. starters_refusal (plan_contents plan.now) starters.now ≡ Some e) }
+    ensures allowed { IfOk result (λ _. starters_refusal (plan_contents plan.now) starters.now ≡ None) }
+    ensures refused { IfErr result (λ e. starters_refusal (plan_contents plan.now) starters.now ≡ Some e) }
 {
     if starters.is_empty() {
         return Err(OpenError::NoStarter);
@@ -30,9 +26,8 @@ pub(crate) fn check_starters(plan: &Plan, starters: &[u32]) -> Result<(), OpenEr
 // Whether this starter may start together with those before it, which the plan has.
 fn check_starter(plan: &Plan, before: &[u32], starter: u32) -> Result<(), OpenError>
     requires { All (λ y. y < participant_count (plan_contents plan.now)) before.now }
-    ensures { MatchResult result
-        (λ _. refusal_behind (plan_contents plan.now) before.now starter ≡ None)
-        (λ e. refusal_behind (plan_contents plan.now) before.now starter ≡ Some e) }
+    ensures allowed { IfOk result (λ _. refusal_behind (plan_contents plan.now) before.now starter ≡ None) }
+    ensures refused { IfErr result (λ e. refusal_behind (plan_contents plan.now) before.now starter ≡ Some e) }
 {
     if starter >= plan.participants() {
         return Err(OpenError::Unknown);
@@ -50,7 +45,7 @@ fn check_starter(plan: &Plan, before: &[u32], starter: u32) -> Result<(), OpenEr
 fn sends_already(plan: &Plan, before: &[u32], starter: u32) -> bool
     requires known { All (λ y. y < participant_count (plan_contents plan.now)) before.now }
     requires within { starter < participant_count (plan_contents plan.now) }
-    ensures { result ≡ list_any (λ y. is_one_sender (plan_contents plan.now) y starter) before.now }
+    ensures { result ≡ list_any (λ y. shares_controller (plan_contents plan.now) y starter) before.now }
 {
     for other in before {
         if *other == starter || is_same_controller(plan, *other, starter) {
@@ -90,12 +85,4 @@ fn is_same_controller(plan: &Plan, x: u32, y: u32) -> bool
         ) => controller == other,
         _ => false,
     }
-}
-
-// Trial: what the lemmas give.
-pub fn trial(plan: &Plan, starters: &[u32])
-    requires safe { IsSafe (plan_contents plan.now) }
-    requires none { starters_refusal (plan_contents plan.now) starters.now ≡ None }
-    ensures { (answers : List Bool) → IsGame (record { plan = plan_contents plan.now; starters = starters.now; answers = answers }) }
-{
 }
