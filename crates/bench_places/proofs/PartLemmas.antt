@@ -1,17 +1,17 @@
 -- What comes next in a part of what a participant sends, and what is left behind it.
-use Rattle.std.proofs.Common.{◌≡◌, ℕ, zero, suc, ◌+◌, ◌-◌, ◌<◌, ◌≤◌, Bool, true, false, Some, List, [], ◌∷◌, length, drop, slice_get, refl, ap, sym, ◌∙◌, subst, arith, inl, inr, ◌↔◌}
+use Rattle.std.proofs.Common.{◌≡◌, ℕ, zero, suc, ◌+◌, ◌-◌, ◌<◌, ◌≤◌, true, false, Some, List, [], ◌∷◌, length, drop, slice_get, refl, ap, sym, ◌∙◌, subst, arith, inl, inr, ◌↔◌}
 use Rattle.std.proofs.lemmas.Bool.{cases_lt}
 use Rattle.std.proofs.lemmas.List.{drop_more, drop_all}
-use Rattle.std.proofs.lemmas.Option.{slice_get_within, get_or_from_slice_get, slice_get-get_or}
+use Rattle.std.proofs.lemmas.Option.{slice_get_within, get_or_from_slice_get}
 use Rattle.message_tree.specs.declared.bits.Bit.{Bit}
 use Rattle.message_tree.specs.declared.bits.Bit.TheVariants.{Zero, One}
 use Rattle.message_tree.specs.declared.counts.Count.{Count}
 use Rattle.message_tree.specs.declared.items.Item.{Item}
-use Rattle.message_tree.specs.declared.items.Item.TheVariants.{Sent, Heard, Again, Stop, Claim}
+use Rattle.message_tree.specs.declared.items.Item.TheVariants.{Sent, Heard, Again, Claim}
 use Rattle.message_tree.specs.Counts.{InRange, least_of, greatest_of}
 use Rattle.message_tree.specs.Laws.{HasText}
 use Rattle.message_tree.specs.Patterns.{pattern_bits, address_bits}
-use Rattle.message_tree.specs.Texts.{Language, Allows, SentThen, HeardThen, AnswerThen, AgainThen, Only, ByteThen, BytesThen, ReadThen, FrameText, TailText}
+use Rattle.message_tree.specs.Texts.{Language, Allows, SentThen, HeardThen, AnswerThen, AgainThen, ByteThen, BytesThen, ReadThen, FrameText, TailText}
 use Rattle.message_tree.specs.Trees.{FrameTree, payload_tree, TailTree, tail_tree}
 use Rattle.message_tree.proofs.TextLaws.{allowed, lawful_frame, lawful_payload, lawful_tail}
 use Rattle.bench_places.specs.declared.bytes.Byte.{Byte}
@@ -57,8 +57,8 @@ some_read count done P lt p =
 some_acknowledge : (count : Count) (done : ℕ) (P : Language) → done < greatest_of count → HasText P → HasText (AcknowledgeThen count done P)
 some_acknowledge count done P lt p =
     elim (cases_lt (done + 1) (greatest_of count)) [
-      inl below ↦ (let rest = some_read count (done + 1) P below p in (Sent false ∷ rest.0, rest.1))
-    | inr above ↦ (Sent true ∷ p.0, ((omega (arith, count.ordered), omega arith), p.1))
+      | inl below ↦ (let rest = some_read count (done + 1) P below p in (Sent false ∷ rest.0, rest.1))
+      | inr above ↦ (Sent true ∷ p.0, ((omega (arith, count.ordered), omega arith), p.1))
     ]
 
 some_acked : (a : Acked) → HasText (AckedText a)
