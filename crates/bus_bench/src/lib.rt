@@ -5,6 +5,7 @@
 #![tactic(auto)]
 
 pub mod errors;
+pub mod finishing;
 mod hands;
 pub mod opening;
 mod putting;
@@ -16,5 +17,6 @@ mod steps;
 pub use bench_places::Offered;
 pub use bench_plays::Put;
 pub use errors::{FinishFault, OpenError, PutError, Sight};
+pub use finishing::{Played, Unfinished, finish};
 pub use opening::{MOST_SLOTS, open_bench};
 pub use seats::{Bench, Host, Seat, Standing};
