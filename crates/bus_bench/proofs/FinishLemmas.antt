@@ -1,5 +1,5 @@
 -- What comes back to the host, and what it then reads.
-use Rattle.std.proofs.Common.{◌≡◌, ◌≢◌, ◌⊎◌, ℕ, zero, suc, ◌+◌, ◌<◌, ◌≤◌, Bool, true, false, List, [], ◌∷◌, ◌++◌, length, Option, Some, None, refl, sym, ap, ◌∙◌, subst, arith, inl, inr, append-nil, true≢false, ◌&&◌, ◌||◌, ◌==◌}
+use Rattle.std.proofs.Common.{◌≡◌, ◌≢◌, ◌⊎◌, ℕ, zero, suc, ◌+◌, ◌<◌, ◌≤◌, Bool, true, false, List, [], ◌∷◌, ◌++◌, length, Option, Some, None, refl, sym, ap, ◌∙◌, subst, arith, inl, inr, append_assoc, append-nil, true≢false, take, drop, ◌&&◌, ◌||◌, ◌==◌}
 use Rattle.std.specs.Prelude.{slice_get, not, filter, ⊤, if◌then◌else◌, cond}
 use Rattle.std.proofs.lemmas.Bool.Decides.{nat_tests}
 use Rattle.std.specs.List.{slice_index_or, list_any, list_all}
@@ -351,3 +351,44 @@ module _ (bench : seats.BenchName) (ss : List seats.Player) (id : TableId) (me :
             ap (has_won ss) zero_plus ∙ won_is_live i (omega arith) ∙ (λ j. r.live (slice_index_or (sym back.named j).starters i 0)));
         whole = λ p live. subst (λ (g : Game). Whole g.plan p wire) game_is (is_whole (hand_game v) puts wire r.live p r.play.led r.ended live);
       }
+
+-- one starter more was looked at
+pub next_winner : (ss : List seats.Player) (xs won new : List ℕ) (n x : ℕ) → n < length xs → x ≡ slice_index_or xs n 0 → new ≡ won ++ (if has_won ss n then x ∷ [] else []) → won ++ winners ss n (drop n xs) ≡ winners ss 0 xs → new ++ winners ss (n + 1) (drop (n + 1) xs) ≡ winners ss 0 xs
+next_winner ss xs won new n x lt x_is new_is h =
+    ap (λ (ys : List ℕ). ys ++ winners ss (n + 1) (drop (n + 1) xs)) new_is
+    ∙ append_assoc won (if has_won ss n then x ∷ [] else []) (winners ss (n + 1) (drop (n + 1) xs))
+    ∙ ap (λ (ys : List ℕ). won ++ ys) (front (has_won ss n) x (winners ss (n + 1) (drop (n + 1) xs)) ∙ sym (ap (winners ss n) (drop_here xs n lt ∙ ap (λ (y : ℕ). y ∷ drop (n + 1) xs) (sym x_is))))
+    ∙ h
+  where
+    front : (b : Bool) (x : ℕ) (ys : List ℕ) → (if b then x ∷ [] else []) ++ ys ≡ (if b then x ∷ ys else ys)
+    front true x ys = refl
+    front false x ys = refl
+    drop_here : (xs : List ℕ) (n : ℕ) → n < length xs → drop n xs ≡ slice_index_or xs n 0 ∷ drop (n + 1) xs
+    drop_here [] n lt = absurd (omega arith)
+    drop_here (x ∷ xs) zero lt = refl
+    drop_here (x ∷ xs) (suc n) lt = let s : suc n + 1 ≡ suc (n + 1) = omega arith in drop_here xs n (omega arith) ∙ ap (λ (k : ℕ). slice_index_or xs n 0 ∷ drop k (x ∷ xs)) (sym s)
+
+-- none of the first n has seen the end
+pub none_more : (ss : List seats.Player) (n : ℕ) (s : seats.Player) → slice_get ss n ≡ Some s → is_ended s.standing ≡ false → list_any (λ t. is_ended t.standing) (take n ss) ≡ false → list_any (λ t. is_ended t.standing) (take (n + 1) ss) ≡ false
+none_more [] n s at e none = absurd cc
+none_more (t ∷ ss) zero s at e none = let same : t ≡ s = cc in let f : is_ended t.standing ≡ false = ap (λ (x : seats.Player). is_ended x.standing) same ∙ e in ap (λ (b : Bool). b || false) f
+none_more (t ∷ ss) (suc n) s at e none = let step : suc n + 1 ≡ suc (n + 1) = omega arith in let rest = none_more ss n s at e (or_false (is_ended t.standing) (list_any (λ t. is_ended t.standing) (take n ss)) none).1 in let f = (or_false (is_ended t.standing) (list_any (λ t. is_ended t.standing) (take n ss)) none).0 in ap (λ (k : ℕ). list_any (λ t. is_ended t.standing) (take k (t ∷ ss))) step ∙ both_false (is_ended t.standing) (list_any (λ t. is_ended t.standing) (take (n + 1) ss)) f rest
+  where
+    or_false : (a b : Bool) → a || b ≡ false → (a ≡ false) × (b ≡ false)
+    or_false false b e = (refl, e)
+    or_false true b e = absurd cc
+    both_false : (a b : Bool) → a ≡ false → b ≡ false → a || b ≡ false
+    both_false a b e f = cc
+
+-- a seat that saw the end, at this place
+pub seen_at : (ss : List seats.Player) (k n : ℕ) (s : seats.Player) → slice_get ss k ≡ Some s → s.standing ≡ Ended → n ≡ length s.seen → n ≤ SLOTS → IsRunLength ss n
+seen_at ss k n s at ended long few = (few, λ _. (k, s, at, ended, long))
+
+-- what is known of a seat that saw the end
+pub end_slot : (other : TableId) (part : Me Unit Hand) (number : ℕ) (place : Place) (own : Option Put) (slot live : ℕ) (standing : Standing) (s : seats.Player) → IsSeat part number place own slot live standing → standing ≡ Ended → player_of other part standing ≡ s → (s.standing ≡ Ended) × (slot ≡ length s.seen) × (slot ≤ SLOTS)
+end_slot other part number place own slot live standing s h e view =
+    let st : StandsSo Ended part.0 place own slot live = subst (λ (t : Standing). StandsSo t part.0 place own slot live) e h.stands in
+    ((λ i. (sym view i).standing) ∙ e, st.1 ∙ (λ i. length (view i).seen), st.2)
+
+pub nobody_ended : (ss : List seats.Player) → list_any (λ t. is_ended t.standing) ss ≡ false → IsRunLength ss 0
+nobody_ended ss none = (omega arith, λ some. absurd cc)

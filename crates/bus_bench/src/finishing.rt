@@ -1,6 +1,6 @@
 // Finishing a bench.
 
-ghost use Rattle.std.specs.Prelude.{◌≡◌, ◌≤◌, ℕ, true, All, [], IfOk, IfErr, length, vec_capacity};
+ghost use Rattle.std.specs.Prelude.{◌≡◌, ◌≤◌, ℕ, true, All, [], ◌∷◌, ◌++◌, if◌then◌else◌, IfOk, OnOk, IfErr, length, vec_capacity};
 ghost use Rattle.std.specs.List.{list_all};
 ghost use Rattle.bus_bench.specs.Finishing.{IsFinished, IsFinishFault, AreAll, is_done, has_won, winners, IsRunLength, HasBack, IsGivenBack, RunIs, IsReadOut};
 ghost use Rattle.bus_bench.specs.Rule.{SLOTS};
@@ -80,11 +80,24 @@ fn room(alloc: Global, bench: &Bench<'_>, seats: &[Seat<'_>]) -> Result<Played, 
     let wire = Vec::with_capacity(alloc, crate::opening::MOST_SLOTS)?;
     let mut won = Vec::with_capacity(alloc, seats.len())?;
     for (number, starter) in bench.setup.starters.iter().enumerate() {
-        if is_winner(seats, number as u32) {
-            won.push(*starter)?;
-        }
+        add_winner(seats, number as u32, *starter, &mut won)?;
     }
     Ok(Played { wire, won })
+}
+
+// The starter, where its seat was live at the end.
+fn add_winner(
+    seats: &[Seat<'_>],
+    number: u32,
+    starter: u32,
+    won: &mut Vec<u32>,
+) -> Result<(), AllocError>
+    ensures { OnOk result (won.new.items ≡ won.old.items ++ (if has_won seats.now number then starter ∷ [] else [])) }
+{
+    if is_winner(seats, number) {
+        won.push(starter)?;
+    }
+    Ok(())
 }
 
 // Whether the seat of this starter was live at the end.
