@@ -1,6 +1,6 @@
 -- What comes back to the host, and what it then reads.
 use Rattle.std.proofs.Common.{◌≡◌, ◌≢◌, ◌⊎◌, ℕ, zero, suc, ◌+◌, ◌<◌, ◌≤◌, Bool, true, false, List, [], ◌∷◌, ◌++◌, length, Option, Some, None, refl, sym, ap, ◌∙◌, subst, arith, inl, inr, append_assoc, append-nil, true≢false, take, drop, ◌&&◌, ◌||◌, ◌==◌}
-use Rattle.std.specs.Prelude.{slice_get, not, filter, ⊤, if◌then◌else◌, cond}
+use Rattle.std.specs.Prelude.{All, slice_get, not, filter, ⊤, if◌then◌else◌, cond}
 use Rattle.std.proofs.lemmas.Bool.Decides.{nat_tests}
 use Rattle.std.specs.List.{slice_index_or, list_any, list_all}
 use Rattle.std.proofs.lemmas.List.{length-append}
@@ -392,3 +392,11 @@ end_slot other part number place own slot live standing s h e view =
 
 pub nobody_ended : (ss : List seats.Player) → list_any (λ t. is_ended t.standing) ss ≡ false → IsRunLength ss 0
 nobody_ended ss none = (omega arith, λ some. absurd cc)
+
+at_or : (ss : List seats.Player) (k : ℕ) (s : seats.Player) → slice_get ss k ≡ Some s → slice_index_or ss k s ≡ s
+at_or [] k s at = absurd cc
+at_or (t ∷ ss) zero s at = cc
+at_or (t ∷ ss) (suc k) s at = at_or ss k s at
+
+pub of_bench : (bench : seats.BenchName) (ss : List seats.Player) → All (λ s. s.bench ≡ bench) ss → (k : ℕ) (s : seats.Player) → slice_get ss k ≡ Some s → s.bench ≡ bench
+of_bench bench ss all k s at = ap (λ (t : seats.Player). t.bench) (sym (at_or ss k s at)) ∙ all k s (slice_get_within ss k s at)
