@@ -113,7 +113,7 @@ $(hint "no signal of one bit has the name 'sda'" "these signals have one bit, th
     plan named --scl clock_line --hints always
 expect "hints on a token" 2 "" "refused V2 line 26
 $(hint "line 26 of the capture:" "  U!" "  ^^" \
-    "this is one of VHDL's nine states, and only '0', '1', 'x' and 'z' are read: have the dump written with four states")" \
+    "this is one of VHDL's nine states, and only '0', '1', 'x' and 'z' are read: have the dump written with four states (GHDL: --vcd-4states)")" \
     "$example" nine_states --hints always
 expect "hints on a time" 2 "" "refused V3 line 8
 $(hint "line 8 of the capture:" "  #5 #4" "     ^^" "the last time was 5, and times never go back")" plan back --hints always

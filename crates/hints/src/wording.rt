@@ -29,7 +29,7 @@ fn fixed(wrong: Wrong) -> &'static str {
         Wrong::NoCode => "a code is expected directly behind the level, as in '1!'",
         Wrong::BadCode => "a code is made of characters from '!' to '~' alone",
         Wrong::NineStates => {
-            "this is one of VHDL's nine states, and only '0', '1', 'x' and 'z' are read: have the dump written with four states"
+            "this is one of VHDL's nine states, and only '0', '1', 'x' and 'z' are read: have the dump written with four states (GHDL: --vcd-4states)"
         }
         Wrong::BadVector => {
             "behind 'b' digits '0', '1', 'x' or 'z' are expected, and then a space and a code, as in 'b01 !'"

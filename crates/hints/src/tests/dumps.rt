@@ -42,7 +42,7 @@ fn a_level_of_nine_states_is_told(rt: HostRuntime) -> Result<(), Fail> {
         "hint: line 9 of the capture:
 hint:   U! 1\"
 hint:   ^^
-hint: this is one of VHDL's nine states, and only '0', '1', 'x' and 'z' are read: have the dump written with four states
+hint: this is one of VHDL's nine states, and only '0', '1', 'x' and 'z' are read: have the dump written with four states (GHDL: --vcd-4states)
 ",
     )
 }
