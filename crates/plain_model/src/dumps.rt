@@ -22,20 +22,20 @@ impl Token<'_> {
     }
 }
 
-// The codes of SCL and SDA, once they are declared.
-#[derive(Clone, Copy, Debug)]
-struct Codes<'a> {
-    scl: Option<&'a [u8]>,
-    sda: Option<&'a [u8]>,
+// The codes of SCL and SDA: empty until they are declared.
+#[derive(Debug, Drop)]
+struct Codes {
+    scl: Vec<u8>,
+    sda: Vec<u8>,
 }
 
-impl Codes<'_> {
+impl Codes {
     // Both are there.
     fn complete(&self) -> Result<(), VcdError> {
-        if self.scl.is_none() {
+        if self.scl.is_empty() {
             return Err(VcdError::NoSignal(Signal::Scl));
         }
-        if self.sda.is_none() {
+        if self.sda.is_empty() {
             return Err(VcdError::NoSignal(Signal::Sda));
         }
         Ok(())
@@ -46,11 +46,11 @@ impl Codes<'_> {
 pub fn words_of(alloc: Global, dump: &[u8], scl: &str, sda: &str) -> Result<Vec<Word>, VcdError> {
     let tokens = tokens_of(alloc, dump)?;
     let mut codes = Codes {
-        scl: None,
-        sda: None,
+        scl: Vec::new(alloc),
+        sda: Vec::new(alloc),
     };
     match read_definitions(tokens.as_slice(), &mut codes, scl, sda)? {
-        Some(changes) => read_changes(alloc, changes, codes),
+        Some(changes) => read_changes(alloc, tokens.as_slice(), changes, &codes),
         None => Ok(Vec::new(alloc)),
     }
 }
@@ -82,85 +82,106 @@ fn tokens_of<'a>(alloc: Global, text: &'a [u8]) -> Result<Vec<Token<'a>>, AllocE
     Ok(tokens)
 }
 
-// A phrase up to its `$end`: what stands before that, the line of that, and what stands behind it.
-fn up_to_end<'a, 'b>(tokens: &'b [Token<'a>]) -> Option<(&'b [Token<'a>], u64, &'b [Token<'a>])> {
-    let at = tokens.iter().position(|token| token.is("$end"))?;
-    let (inside, rest) = tokens.split_at(at.min(tokens.len()));
-    let (end, behind) = rest.split_first()?;
-    Some((inside, end.line, behind))
+// The place of the first `$end` behind a token.
+fn end_behind(tokens: &[Token<'_>], at: usize) -> Option<usize> {
+    for (k, token) in tokens.iter().enumerate() {
+        if at < k && token.is("$end") {
+            return Some(k);
+        }
+    }
+    None
 }
 
-// Reads the definitions. What stands behind them is given back, and nothing where they go on to the end of the text.
-fn read_definitions<'a, 'b>(
-    tokens: &'b [Token<'a>],
-    codes: &mut Codes<'a>,
+// Reads the definitions. The place behind them is given back, and none where they go on to the end of the text.
+fn read_definitions(
+    tokens: &[Token<'_>],
+    codes: &mut Codes,
     scl: &str,
     sda: &str,
-) -> Result<Option<&'b [Token<'a>]>, VcdError> {
-    let mut left = tokens;
+) -> Result<Option<usize>, VcdError> {
+    let mut at = 0;
     for _ in 0..tokens.len() {
-        let Some((first, rest)) = left.split_first() else {
+        let Some(first) = tokens.get(at) else {
             break;
         };
         if !first.text.starts_with(b"$") || first.is("$end") || first.begins_block() {
             return Err(VcdError::BadToken(first.line));
         }
-        let Some((inside, end_line, behind)) = up_to_end(rest) else {
+        let Some(end) = end_behind(tokens, at) else {
             return Err(VcdError::Unended(first.line));
         };
         if first.is("$enddefinitions") {
             codes.complete()?;
-            return Ok(Some(behind));
+            return Ok(Some(end.saturating_add(1)));
         }
         if first.is("$var") {
-            declare(inside, end_line, codes, scl, sda)?;
+            declare(tokens, at, end, codes, scl, sda)?;
         }
-        left = behind;
+        at = end.saturating_add(1);
     }
     codes.complete()?;
     Ok(None)
 }
 
-// Type, size, code and reference. The first signal of one bit with the name of a line is this line.
-fn declare<'a>(
-    inside: &[Token<'a>],
-    end_line: u64,
-    codes: &mut Codes<'a>,
+// The `$var` from one place to its `$end` at another has type, size, code and reference. The first signal of one bit with the
+// name of a line is this line.
+fn declare(
+    tokens: &[Token<'_>],
+    at: usize,
+    end: usize,
+    codes: &mut Codes,
     scl: &str,
     sda: &str,
 ) -> Result<(), VcdError> {
-    let [_, size, code, reference, ..] = inside else {
-        return Err(VcdError::BadToken(end_line));
-    };
-    if size.is("1") && reference.is(scl) && codes.scl.is_none() {
-        codes.scl = Some(code.text);
+    if end < at.saturating_add(5) {
+        return Err(VcdError::BadToken(line_of(tokens, end)));
     }
-    if size.is("1") && reference.is(sda) && codes.sda.is_none() {
-        codes.sda = Some(code.text);
+    let (Some(size), Some(code), Some(reference)) = (
+        tokens.get(at.saturating_add(2)),
+        tokens.get(at.saturating_add(3)),
+        tokens.get(at.saturating_add(4)),
+    ) else {
+        return Ok(());
+    };
+    if size.is("1") && reference.is(scl) && codes.scl.is_empty() {
+        codes.scl.extend_from_slice(code.text)?;
+    }
+    if size.is("1") && reference.is(sda) && codes.sda.is_empty() {
+        codes.sda.extend_from_slice(code.text)?;
     }
     Ok(())
 }
 
+fn line_of(tokens: &[Token<'_>], at: usize) -> u64 {
+    match tokens.get(at) {
+        Some(token) => token.line,
+        None => 0,
+    }
+}
+
+// Reads the changes from this place on.
 fn read_changes(
     alloc: Global,
     tokens: &[Token<'_>],
-    codes: Codes<'_>,
+    from: usize,
+    codes: &Codes,
 ) -> Result<Vec<Word>, VcdError> {
     let mut words = Vec::new(alloc);
     let mut block = None;
-    let mut left = tokens;
+    let mut at = from;
     for _ in 0..tokens.len() {
-        let Some((first, rest)) = left.split_first() else {
+        let Some(first) = tokens.get(at) else {
             break;
         };
-        left = match first.text.first() {
-            Some(b'$') => read_command(first, rest, &mut block)?,
+        let last = match first.text.first() {
+            Some(b'$') => read_command(tokens, at, *first, &mut block)?,
             Some(b'#') => {
-                push_time(&mut words, first)?;
-                rest
+                push_time(&mut words, *first)?;
+                at
             }
-            _ => push_change(&mut words, first, rest, codes, block)?,
+            _ => push_change(&mut words, tokens, at, *first, codes, block)?,
         };
+        at = last.saturating_add(1);
     }
     match block {
         Some(line) => Err(VcdError::Unended(line)),
@@ -168,27 +189,34 @@ fn read_changes(
     }
 }
 
-// A block of changes begins or ends, or a command is skipped.
-fn read_command<'a, 'b>(
-    first: &Token<'a>,
-    rest: &'b [Token<'a>],
+// A block of changes begins or ends, or a command is skipped: the place of its last token.
+fn read_command(
+    tokens: &[Token<'_>],
+    at: usize,
+    first: Token<'_>,
     block: &mut Option<u64>,
-) -> Result<&'b [Token<'a>], VcdError> {
-    let is_open = block.is_some();
-    if first.is("$end") || first.begins_block() {
-        if first.is("$end") != is_open {
+) -> Result<usize, VcdError> {
+    if first.is("$end") {
+        if block.is_none() {
             return Err(VcdError::BadToken(first.line));
         }
-        *block = if is_open { None } else { Some(first.line) };
-        return Ok(rest);
+        *block = None;
+        return Ok(at);
     }
-    match up_to_end(rest) {
-        Some((_, _, behind)) => Ok(behind),
+    if first.begins_block() {
+        if block.is_some() {
+            return Err(VcdError::BadToken(first.line));
+        }
+        *block = Some(first.line);
+        return Ok(at);
+    }
+    match end_behind(tokens, at) {
+        Some(end) => Ok(end),
         None => Err(VcdError::Unended(block.unwrap_or(first.line))),
     }
 }
 
-fn push_time(words: &mut Vec<Word>, token: &Token<'_>) -> Result<(), VcdError> {
+fn push_time(words: &mut Vec<Word>, token: Token<'_>) -> Result<(), VcdError> {
     let Some(time) = number(token.text.get(1..)) else {
         return Err(VcdError::BadToken(token.line));
     };
@@ -216,40 +244,45 @@ fn number(digits: Option<&[u8]>) -> Option<u64> {
     str::from_utf8(digits).ok()?.parse().ok()
 }
 
-// A change with its code, in the same token or in the next.
-fn push_change<'a, 'b>(
+// A change with its code, in the same token or in the next: the place of its last token.
+fn push_change(
     words: &mut Vec<Word>,
-    first: &Token<'a>,
-    rest: &'b [Token<'a>],
-    codes: Codes<'a>,
+    tokens: &[Token<'_>],
+    at: usize,
+    first: Token<'_>,
+    codes: &Codes,
     block: Option<u64>,
-) -> Result<&'b [Token<'a>], VcdError> {
+) -> Result<usize, VcdError> {
+    let bad = VcdError::BadToken(first.line);
     let Some((letter, more)) = first.text.split_first() else {
-        return Err(VcdError::BadToken(first.line));
+        return Err(bad);
     };
     let level = match *letter {
-        b'b' | b'B' if more.iter().all(|digit| level_of(*digit).is_some()) => {
-            more.last().and_then(|digit| level_of(*digit))
-        }
+        b'b' | b'B' => Some(vector_level(more).ok_or(bad)?),
+        b'r' | b'R' | b's' | b'S' if more.is_empty() => return Err(bad),
         b'r' | b'R' | b's' | b'S' => None,
-        _ => {
-            let Some(level) = level_of(*letter) else {
-                return Err(VcdError::BadToken(first.line));
-            };
+        letter => {
+            let level = level_of(letter).ok_or(bad)?;
             put(words, Some(level), more, first.line, codes)?;
-            return Ok(rest);
+            return Ok(at);
         }
     };
-    if more.is_empty() {
-        return Err(VcdError::BadToken(first.line));
-    }
-    match rest.split_first() {
-        Some((code, behind)) => {
+    let next = at.saturating_add(1);
+    match tokens.get(next) {
+        Some(code) => {
             put(words, level, code.text, code.line, codes)?;
-            Ok(behind)
+            Ok(next)
         }
         None => Err(VcdError::Unended(block.unwrap_or(first.line))),
     }
+}
+
+// The level of the last digit, where all digits are levels.
+fn vector_level(digits: &[u8]) -> Option<Level> {
+    for digit in digits {
+        level_of(*digit)?;
+    }
+    level_of(*digits.last()?)
 }
 
 fn level_of(letter: u8) -> Option<Level> {
@@ -267,17 +300,19 @@ fn put(
     level: Option<Level>,
     code: &[u8],
     line: u64,
-    codes: Codes<'_>,
+    codes: &Codes,
 ) -> Result<(), VcdError> {
     if code.is_empty() || !code.iter().all(|byte| byte.is_ascii_graphic()) {
         return Err(VcdError::BadToken(line));
     }
-    if let Some(level) = level {
-        for (signal, known) in [(Signal::Scl, codes.scl), (Signal::Sda, codes.sda)] {
-            if known == Some(code) {
-                push(words, Word::Takes(signal, level))?;
-            }
-        }
+    let Some(level) = level else {
+        return Ok(());
+    };
+    if codes.scl.as_slice() == code {
+        push(words, Word::Takes(Signal::Scl, level))?;
+    }
+    if codes.sda.as_slice() == code {
+        push(words, Word::Takes(Signal::Sda, level))?;
     }
     Ok(())
 }
