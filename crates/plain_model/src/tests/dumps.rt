@@ -10,24 +10,8 @@ use std::process::Abort;
 use std::test::Fail;
 use vcd_read::{Reader, Sample, Signal, VcdError};
 
-const DEFINITIONS: [&str; 16] = [
-    "$timescale",
-    "1ns",
-    "$end",
-    "$var",
-    "wire",
-    "1",
-    "!",
-    "scl",
-    "$end",
-    "$var",
-    "reg",
-    "1",
-    "\"",
-    "sda",
-    "[0]",
-    "$end",
-];
+const DEFINITIONS: &str =
+    "$timescale 1ns $end $var wire 1 ! scl $end $var reg 1 \" sda [0] $end $enddefinitions $end";
 
 // Some of these are wrong in each place, and some only in most places.
 const STRAYS: [&str; 32] = [
@@ -65,92 +49,81 @@ const STRAYS: [&str; 32] = [
     "\u{7f}",
 ];
 
-// The tokens of a dump of these words, with blocks and commands among them.
-fn tokens_of<'a>(
-    alloc: Global,
-    times: &'a [String],
-    words: &[Word],
-    dice: &mut Dice,
-) -> Result<Vec<&'a str>, AllocError> {
-    let mut tokens = DEFINITIONS.as_slice().to_vec(alloc)?;
-    tokens.extend_from_slice(["$enddefinitions", "$end"].as_slice())?;
-    for (word, time) in words.iter().zip(times) {
-        match word {
-            Word::At(_) => tokens.push(time.as_str())?,
-            Word::Takes(line, level) => {
-                let code = if *line == Signal::Scl { "!" } else { "\"" };
-                tokens.push(level_text(*level, 0).trim_end())?;
-                tokens.push(code)?;
-            }
-        }
-        match dice.throw(20) {
-            0 => tokens.extend_from_slice(["$dumpvars", "$end"].as_slice())?,
-            1 => tokens.extend_from_slice(["$comment", "#0", "$end"].as_slice())?,
-            2 => tokens.extend_from_slice(["r2.5", "!"].as_slice())?,
-            _ => {}
-        }
-    }
-    Ok(tokens)
-}
-
-// The time of each word as a dump writes it; of a change none.
-fn times_of(alloc: Global, words: &[Word]) -> Result<Vec<String>, AllocError> {
-    let mut times = Vec::new(alloc);
+// A dump of these words, with blocks and commands among them, and its tokens apart by one space.
+fn dump_of(alloc: Global, words: &[Word], dice: &mut Dice) -> Result<String, AllocError> {
+    let mut text = String::from_str(alloc, DEFINITIONS)?;
     for word in words {
-        times.push(match word {
-            Word::At(time) => format!(in alloc; "#{time}")?,
-            Word::Takes(..) => String::new(alloc),
-        })?;
-    }
-    Ok(times)
-}
-
-// The dump of these tokens, one to three of which are changed.
-fn mutated(alloc: Global, tokens: &[&str], dice: &mut Dice) -> Result<String, AllocError> {
-    let places = [
-        place(tokens, dice),
-        place(tokens, dice),
-        place(tokens, dice),
-    ];
-    let count = dice.throw(3) as usize;
-    let end = if dice.throw(6) == 0 {
-        place(tokens, dice)
-    } else {
-        tokens.len()
-    };
-    let mut text = String::new(alloc);
-    for (k, token) in tokens.iter().take(end).enumerate() {
-        let is_changed = places
-            .iter()
-            .take(count.saturating_add(1))
-            .any(|place| *place == k);
-        if !is_changed {
-            push_token(&mut text, token, dice)?;
-            continue;
-        }
-        let stray = STRAYS
-            .as_slice()
-            .get(dice.throw(32) as usize)
-            .copied()
-            .unwrap_or("?");
-        match dice.throw(3) {
-            0 => {}
-            1 => push_token(&mut text, stray, dice)?,
-            _ => {
-                push_token(&mut text, stray, dice)?;
-                push_token(&mut text, token, dice)?;
+        match word {
+            Word::At(time) => write!(text, " #{time}")?,
+            Word::Takes(line, level) => {
+                let code = if *line == Signal::Scl { '!' } else { '"' };
+                write!(text, " {}{code}", level_text(*level, dice.throw(3)))?;
             }
         }
+        text.push_str(match dice.throw(20) {
+            0 => " $dumpvars $end",
+            1 => " $comment #0 $end",
+            2 => " r2.5 !",
+            _ => "",
+        })?;
     }
     Ok(text)
 }
 
-// A place among tokens, as often among the definitions as anywhere.
-fn place(tokens: &[&str], dice: &mut Dice) -> usize {
-    if dice.throw(3) == 0 {
-        return dice.throw(18) as usize;
+// The dump with one to three tokens changed, and at times cut short.
+fn mutated(alloc: Global, dump: &str, dice: &mut Dice) -> Result<String, AllocError> {
+    let count = tokens_in(dump);
+    let places = [place(count, dice), place(count, dice), place(count, dice)];
+    let changes = dice.throw(3).wrapping_add(1) as usize;
+    let end = if dice.throw(6) == 0 {
+        place(count, dice)
+    } else {
+        count
+    };
+    let mut text = String::new(alloc);
+    let mut k: u32 = 0;
+    for token in dump.split(' ') {
+        if end <= k {
+            break;
+        }
+        if places.iter().take(changes).any(|place| *place == k) {
+            push_changed(&mut text, token, dice)?;
+        } else {
+            push_token(&mut text, token, dice)?;
+        }
+        k = k.wrapping_add(1);
     }
-    dice.throw(u32::try_from(tokens.len()).unwrap_or(u32::MAX)) as usize
+    Ok(text)
+}
+
+fn tokens_in(dump: &str) -> u32 {
+    let mut count: u32 = 0;
+    for _ in dump.split(' ') {
+        count = count.wrapping_add(1);
+    }
+    count
+}
+
+// A place among tokens, as often among the definitions as anywhere.
+fn place(count: u32, dice: &mut Dice) -> u32 {
+    let sides = if dice.throw(3) == 0 { 18 } else { count };
+    dice.throw(sides)
+}
+
+// The token left out, or a stray one in its place or before it.
+fn push_changed(text: &mut String, token: &str, dice: &mut Dice) -> Result<(), AllocError> {
+    let stray = match STRAYS.as_slice().get(dice.throw(32) as usize) {
+        Some(stray) => *stray,
+        None => "?",
+    };
+    match dice.throw(3) {
+        0 => Ok(()),
+        1 => push_token(text, stray, dice),
+        _ => {
+            push_token(text, stray, dice)?;
+            push_token(text, token, dice)
+        }
+    }
 }
 
 fn push_token(text: &mut String, token: &str, dice: &mut Dice) -> Result<(), AllocError> {
@@ -220,11 +193,10 @@ fn generated_dumps_with_wrong_tokens_are_refused_alike(rt: HostRuntime) -> Resul
     let plan = plan(alloc, plan_words(alloc, &mut dice)?.as_str())?;
     let words = wire_words(alloc, &plan, &mut dice)?;
     let words = words.as_slice().get(..60).unwrap_or(words.as_slice());
-    let times = times_of(alloc, words)?;
     let mut answers = Vec::new(alloc);
     for _ in 0..600 {
-        let tokens = tokens_of(alloc, times.as_slice(), words, &mut dice)?;
-        let text = mutated(alloc, tokens.as_slice(), &mut dice)?;
+        let dump = dump_of(alloc, words, &mut dice)?;
+        let text = mutated(alloc, dump.as_str(), &mut dice)?;
         answers.push(assert_read_alike(&rt, alloc, text.as_str(), &mut dice)?)?;
     }
     // Each answer is common.
