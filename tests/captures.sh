@@ -82,6 +82,85 @@ expect "a refused plan, and a directory as the dump" 2 "" "refused P3 line 1" ba
 expect "an example" 0 $'5-160 service/probe_10\n1 transactions, 0 unexplained' "" \
     "$tests/../examples/stop_meets_data.plan" "$tests/../examples/stop_meets_data.vcd"
 
+# Examples in the forms of three programs. The times are those of the START and of the STOP in the file.
+example=$tests/../examples/stop_meets_data.plan
+expect "an example in sigrok's form" 0 $'10-115 service/probe_10\n1 transactions, 0 unexplained' "" \
+    "$example" "$tests/../examples/probe_sigrok.vcd" --scl D0 --sda D1
+expect "an example in sigrok's form, without its names" 2 "" "refused V1 scl" "$example" "$tests/../examples/probe_sigrok.vcd"
+expect "an example in the form of Icarus Verilog" 0 $'10-115 service/probe_11\n1 transactions, 0 unexplained' "" \
+    "$example" "$tests/../examples/probe_icarus.vcd"
+expect "an example in GHDL's form" 0 \
+    $'15000000000-210000000000 main/write_output\n220000000000-250000000000 cut\n1 transactions, 0 unexplained' "" \
+    "$example" "$tests/../examples/write_ghdl.vcd"
+# Without its option for four states GHDL has 'U' where this has 'x' at first, on line 26.
+sed '26s/x/U/' "$tests/../examples/write_ghdl.vcd" >nine_states
+expect "nine states" 2 "" "refused V2 line 26" "$example" nine_states
+
+# Hints are further lines on standard error. The report, the line of the refusal and the status stay.
+hint() {
+    printf 'hint: %s\n' "$@"
+}
+silent=$'0 transactions, 0 unexplained'
+dump quiet '#0 1! 1" #5 0! #9 1!'
+
+expect "hints on a missing signal" 2 "" "refused V1 scl
+$(hint "no signal of one bit has the name 'scl'" "these signals have one bit, the nearest names first:" \
+    "  D0" "  D1" "give the name that the line has in the file with --scl NAME")" \
+    "$example" "$tests/../examples/probe_sigrok.vcd" --hints always
+expect "hints on the other missing signal" 2 "" "refused V1 sda
+$(hint "no signal of one bit has the name 'sda'" "these signals have one bit, the nearest names first:" \
+    "  clk" "  data_line" "  clock_line" "give the name that the line has in the file with --sda NAME")" \
+    plan named --scl clock_line --hints always
+expect "hints on a token" 2 "" "refused V2 line 26
+$(hint "line 26 of the capture:" "  U!" "  ^^" \
+    "this is one of VHDL's nine states, and only '0', '1', 'x' and 'z' are read: have the dump written with four states (GHDL: --vcd-4states)")" \
+    "$example" nine_states --hints always
+expect "hints on a time" 2 "" "refused V3 line 8
+$(hint "line 8 of the capture:" "  #5 #4" "     ^^" "the last time was 5, and times never go back")" plan back --hints always
+expect "hints on what is open" 2 "" "refused V4 line 9
+$(hint "line 9 of the capture:" '  $comment' "  ^^^^^^^^" \
+    "this command goes on to the end of the file: its '\$end' is missing")" plan open --hints always
+expect "hints on a refused plan" 2 "" "refused P3 line 1
+$(hint "line 1 of the plan:" "  plan 1 ;" "         ^" "expected here: 'message', 'controller' or 'interrupt'")" \
+    bad_plan stray --hints always
+expect "hints on a report without a transaction" 0 "$silent" \
+    "$(hint "the capture has 3 samples of the two lines, and no START on a free bus" \
+        "with the two names exchanged there would be transactions: 1" \
+        "the names of the two lines are given with --scl NAME and --sda NAME")" plan quiet --hints always
+expect "no hints on a report with a transaction" 0 $'5-160 a/m\n1 transactions, 0 unexplained' "" plan acknowledged --hints always
+expect "no hints on one that goes on" 0 $'5- unfinished\n0 transactions, 0 unexplained' "" plan cut --hints always
+expect "no hints on a missing file" 2 "" "refused read" plan missing --hints always
+
+for when in never auto; do
+    expect "hints $when: a token" 2 "" "refused V2 line 26" "$example" nine_states --hints "$when"
+    expect "hints $when: a report without a transaction" 0 "$silent" "" plan quiet --hints "$when"
+done
+expect "no hints where nothing is said" 0 "$silent" "" plan quiet
+
+# Of a pipe there are words alone, since it cannot be read once more.
+expect "hints on a pipe" 2 "" "refused V2 line 26
+$(hint "on line 26 of the capture something stands that cannot stand in its place")" \
+    "$example" /dev/stdin --hints always < <(cat nine_states)
+mkfifo nine_states.fifo
+cat nine_states >nine_states.fifo &
+expect "hints on a FIFO" 2 "" "refused V2 line 26
+$(hint "on line 26 of the capture something stands that cannot stand in its place")" \
+    "$example" nine_states.fifo --hints always
+
+# On a terminal hints are given where nothing is said, and standard output has the report alone.
+if command -v script >/dev/null; then
+    script -qec "'$twire' capture plan quiet 2>&1 >report" /dev/null </dev/null >terminal
+    if grep -q '^hint: the capture has 3 samples' terminal && [[ $(cat report) == "$silent" ]]; then
+        passed=$((passed + 1))
+    else
+        failed=$((failed + 1))
+        echo "FAILED: hints on a terminal"
+        cat terminal report
+    fi
+else
+    echo "left out: hints on a terminal (no command 'script')"
+fi
+
 # The dump through a pipe, in two pieces.
 (head -c 100 acknowledged; sleep 0.1; tail -c +101 acknowledged) | {
     found=$("$twire" capture plan /dev/stdin)

@@ -273,7 +273,7 @@ want 2 "" "error: unrecognized subcommand 'chek'
 
   tip: a similar subcommand exists: 'check'
 
-Usage: twire <COMMAND>
+Usage: twire [OPTIONS] <COMMAND>
 
 For more information, try '--help'."
 run "unknown subcommand" chek safe.plan
@@ -283,8 +283,46 @@ want 2 "" "error: invalid value '' for '--workers <N>': cannot parse integer fro
 For more information, try '--help'."
 run "empty number of workers" check safe.plan --workers ""
 
+# Hints are further lines on standard error, behind the line of a refusal. The option stands before or behind the command.
+
+write_plan again.plan "plan 1" "message m write again stop else stop ;"
+want 2 "" "refused P3 line 2
+hint: line 2 of the plan:
+hint:   message m write again stop else stop ;
+hint:                   ^^^^^
+hint: expected here: an address (seven of '0', '1' and 'x')"
+run "hints on a plan" check again.plan --hints always
+run "hints before the command" --hints always check again.plan
+run "hints by certify" certify again.plan --hints=always
+run "hints by verify" verify --hints always again.plan safe.cert
+want 2 "" "refused P3 line 2
+hint: something stands here that cannot stand in its place"
+run "hints on a plan from standard input" check /dev/stdin --hints always <again.plan
+want 2 "" "refused P3 line 2"
+run "hints never" check again.plan --hints never
+run "hints never, before the command" --hints never check again.plan
+run "hints never behind the command, and always before it" --hints always check again.plan --hints never
+run "hints where no terminal is" check again.plan --hints auto
+run "no word on hints" check again.plan
+want 0 "safe: 1 pairs" ""
+run "no hints on a safe plan" check safe.plan --hints always
+want 1 "$unsafe_report" ""
+run "no hints on an unsafe plan" check unsafe.plan --hints always
+want 2 "wrong C5 pair 0" ""
+run "no hints on a wrong certificate" verify unsafe.plan safe.cert --hints always
+want 2 "" "refused read"
+run "no hints on a missing file" check missing.plan --hints always
+want 2 "" "refused workers"
+run "no hints on a number of workers" check safe.plan --workers 9 --hints always
+
+want 2 "" "error: invalid value 'x' for '--hints <WHEN>'
+  [possible values: auto, always, never]
+
+For more information, try '--help'."
+run "a word on hints that is none" check safe.plan --hints x
+
 # Each of these ends with status 2 and a message that is not compared.
-for words in "--workers x" "--workers" "--workers=" "--workers -1" "--workers 4294967296" "--workers 1 --workers 1" "other.plan"; do
+for words in "--workers x" "--workers" "--workers=" "--workers -1" "--workers 4294967296" "--workers 1 --workers 1" "--hints" "--hints=" "--hints Always" "--hints auto --hints auto" "other.plan"; do
     want 2 "" ""
     # shellcheck disable=SC2086
     "$twire" check safe.plan $words >out 2>err

@@ -4,11 +4,13 @@
 
 pub mod bit_by_bit;
 pub mod captures;
+pub mod dumps;
 pub mod runs;
 pub mod texts;
 
 pub use bit_by_bit::first_fault;
 pub use captures::{Word, events_of, explainers_of, samples_of, transactions_of};
+pub use dumps::words_of as dump_words_of;
 pub use runs::{Meeting, first_meeting, lawful_sets, play};
 pub use texts::texts_of;
 

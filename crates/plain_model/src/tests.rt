@@ -1,5 +1,6 @@
 mod captures;
 mod depth;
+mod dumps;
 mod generated;
 mod plans;
 mod rows;

@@ -33,17 +33,46 @@ pub enum Request<'a> {
     },
 }
 
-/// The request of a command line, whose first word is the program's name. There is none where a subcommand or a file
-/// is missing, which clap refuses by itself.
-pub fn parse_request<'a>(alloc: Global, words: &'a [String]) -> Result<Option<Request<'a>>, Error> {
+/// Whether hints for people are wanted on standard error.
+#[derive(Clone, Copy, Debug, PartialEq, Eq)]
+pub enum When {
+    /// Where standard error is a terminal.
+    Auto,
+    Always,
+    Never,
+}
+
+const WHEN: [&str; 3] = ["auto", "always", "never"];
+
+/// The request of a command line, whose first word is the program's name, and whether hints are wanted. There is none
+/// where a subcommand or a file is missing, which clap refuses by itself.
+pub fn parse_request<'a>(
+    alloc: Global,
+    words: &'a [String],
+) -> Result<Option<(Request<'a>, When)>, Error> {
     let matches = command(alloc)?.try_get_matches_from(words)?;
-    Ok(match matches.subcommand() {
-        Some(("check", check)) => check_request(check),
-        Some(("certify", certify)) => certify_request(certify),
-        Some(("verify", verify)) => verify_request(verify),
-        Some(("capture", capture)) => capture_request(capture),
+    let Some((name, matches)) = matches.subcommand() else {
+        return Ok(None);
+    };
+    let request = match name {
+        "check" => check_request(matches),
+        "certify" => certify_request(matches),
+        "verify" => verify_request(matches),
+        "capture" => capture_request(matches),
         _ => None,
+    };
+    Ok(match request {
+        Some(request) => Some((request, hints_of(matches))),
+        None => None,
     })
+}
+
+fn hints_of(matches: &ArgMatches<'_>) -> When {
+    match matches.get_str("hints") {
+        Some("always") => When::Always,
+        Some("never") => When::Never,
+        _ => When::Auto,
+    }
 }
 
 fn check_request<'a>(matches: &ArgMatches<'a>) -> Option<Request<'a>> {
@@ -83,10 +112,22 @@ fn command<'a>(alloc: Global) -> Result<Command<'a>, AllocError> {
         .after_help(AFTER_HELP)
         .subcommand_required(true)
         .arg_required_else_help(true)
+        .arg(hints_option(alloc))?
         .subcommand(check_command(alloc)?)?
         .subcommand(certify_command(alloc)?)?
         .subcommand(verify_command(alloc)?)?
         .subcommand(capture_command(alloc)?)
+}
+
+// An option of all commands.
+fn hints_option<'a>(alloc: Global) -> Arg<'a> {
+    Arg::new(alloc, "hints")
+        .long("hints")
+        .value_name("WHEN")
+        .value_parser(WHEN.as_slice())
+        .default_value("auto")
+        .global(true)
+        .help("Whether to say more for people, on standard error")
 }
 
 fn check_command<'a>(alloc: Global) -> Result<Command<'a>, AllocError> {

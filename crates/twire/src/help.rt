@@ -44,7 +44,8 @@ put into one slot of the bus, and the wire before it, slot by slot:
   c    an interrupt waits for its answer
 
 A refused plan is named on standard error with a code and a line, as
-'refused P3 line 2':
+'refused P3 line 2' (and on a terminal, or with '--hints always', its place is
+shown):
 
   P1  a byte that is not ASCII         P5  a message that is too long
   P2  no 'plan 1' or 'plan 2'          P6  too many items
@@ -102,8 +103,17 @@ A refused capture is named on standard error with a code, as 'refused V1 scl' or
   V3  a time below the last one
   V4  the capture ends inside of something
 
-GHDL writes nine-state signals: use a four-state type for the two lines, or the
-option of your version that makes a dump four-state. sigrok converts a capture
-with 'sigrok-cli -i FILE -O vcd -o OUT', and its channels have the names to give.
+What makes such dumps:
+
+  GHDL    'ghdl -r TOP --vcd=FILE --vcd-4states'. Without the last option a line
+          of type std_logic has nine states, and 'U', 'W', 'L', 'H', '-' are V2
+  sigrok  two steps: record the lines, and then convert what was recorded by
+          'sigrok-cli -i FILE -O vcd -o OUT'. A line has the name of its channel
+  others  Icarus Verilog ($dumpfile and $dumpvars), Verilator (--trace), SystemC
+          (sc_trace) and Yosys (sim -vcd) write them. GTKWave has converters from
+          other formats, as fst2vcd
+
+With '--hints always', and on a terminal, further lines on standard error say what
+is wrong with a refused capture, or why a report may have no transaction.
 
 Exit status: 0 all is explained, 1 something is not, 2 refused.";

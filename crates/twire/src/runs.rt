@@ -1,78 +1,149 @@
 // What the program does, and the status that it ends with.
 
-use crate::commands::{Request, parse_request};
+use crate::advice::{Counted, Source, advise_on_capture, advise_on_plan};
+use crate::commands::{Request, When, parse_request};
 use clap::error::ErrorKind;
+use hints::Names;
 use report::{Opened, RunError, Status, Watched, run_capture, run_certify, run_check, run_verify};
 use std::rt::{Env, Files};
 use std::thread::Threads;
 use std::{env, fs, io};
 
-// What a path of the command line names: a file, or standard input.
-type Source<F, S> = Opened<Watched<F>, Watched<S>>;
-
-/// Does what the command line asks for, and answers the exit status.
-pub fn run<R: Files + Env + Input + Print + Eprint + AllocGlobal + Threads + Sync>(rt: &R) -> u8 {
-    match run_words(rt) {
+/// Does what the command line asks for, and answers the exit status. Where nothing else is said, hints for people are
+/// given if somebody sees them on a terminal.
+pub fn run<R: Files + Env + Input + Print + Eprint + AllocGlobal + Threads + Sync>(
+    rt: &R,
+    on_terminal: bool,
+) -> u8 {
+    match run_words(rt, on_terminal) {
         Ok(status) => status,
-        Err(error) => {
-            // Where standard error takes nothing the status is all that is left.
-            let _ = eprintln!(rt; "refused {error}");
-            2
-        }
+        Err(error) => refused(rt, error),
     }
+}
+
+// The line of a refusal, and its status.
+fn refused<R: Eprint>(rt: &R, error: RunError) -> u8 {
+    // Where standard error takes nothing the status is all that is left.
+    let _ = eprintln!(rt; "refused {error}");
+    2
 }
 
 fn run_words<R: Files + Env + Input + Print + Eprint + AllocGlobal + Threads + Sync>(
     rt: &R,
+    on_terminal: bool,
 ) -> Result<u8, RunError> {
     let words: Vec<String> = match env::args(rt) {
         Ok(words) => words.collect(rt.alloc())?,
         Err(error) => return no_words(rt, &error),
     };
     match parse_request(rt.alloc(), words.as_slice()) {
-        Ok(Some(request)) => Ok(status_of(do_request(rt, request)?)),
+        Ok(Some((request, hints))) => do_request(rt, request, are_wanted(hints, on_terminal)),
         Ok(None) => Ok(2),
         Err(error) => no_request(rt, &error),
     }
 }
 
-fn do_request<R: Files + Input + Print + AllocGlobal + Threads + Sync>(
+fn are_wanted(hints: When, on_terminal: bool) -> bool {
+    match hints {
+        When::Auto => on_terminal,
+        When::Always => true,
+        When::Never => false,
+    }
+}
+
+fn do_request<R: Files + Input + Print + Eprint + AllocGlobal + Threads + Sync>(
     rt: &R,
     request: Request<'_>,
-) -> Result<Status, RunError> {
-    let mut out = Watched::new(io::writer(rt));
+    hints: bool,
+) -> Result<u8, RunError> {
     match request {
-        Request::Check { plan, workers } => {
-            let mut plan = open(rt, plan)?;
-            run_check(rt, rt.alloc(), &mut plan, &mut out, workers)
-        }
-        Request::Certify { plan } => {
-            let mut plan = open(rt, plan)?;
-            run_certify(rt.alloc(), &mut plan, &mut out)
-        }
-        Request::Verify { plan, cert } => {
-            let mut plan = open(rt, plan)?;
-            let mut cert = open(rt, cert)?;
-            run_verify(rt.alloc(), &mut plan, &mut cert, &mut out)
-        }
+        Request::Check { plan, workers } => check(rt, plan, workers, hints),
+        Request::Certify { plan } => certify(rt, plan, hints),
+        Request::Verify { plan, cert } => verify(rt, plan, cert, hints),
         Request::Capture {
             plan,
             vcd,
             scl,
             sda,
-        } => {
-            let mut plan = open(rt, plan)?;
-            let mut vcd = open(rt, vcd)?;
-            run_capture(rt, rt.alloc(), &mut plan, &mut vcd, &mut out, scl, sda)
-        }
+        } => capture(rt, plan, vcd, Names { scl, sda }, hints),
     }
 }
 
-fn status_of(status: Status) -> u8 {
-    match status {
-        Status::Good => 0,
-        Status::Bad => 1,
-        Status::Refused => 2,
+fn check<R: Files + Input + Print + Eprint + AllocGlobal + Threads + Sync>(
+    rt: &R,
+    plan: &str,
+    workers: u32,
+    hints: bool,
+) -> Result<u8, RunError> {
+    let mut plan = open(rt, plan)?;
+    let mut out = Watched::new(io::writer(rt));
+    let ended = run_check(rt, rt.alloc(), &mut plan, &mut out, workers);
+    let status = status_of(rt, ended);
+    if hints {
+        advise_on_plan(rt, plan, ended);
+    }
+    Ok(status)
+}
+
+fn certify<R: Files + Input + Print + Eprint + AllocGlobal>(
+    rt: &R,
+    plan: &str,
+    hints: bool,
+) -> Result<u8, RunError> {
+    let mut plan = open(rt, plan)?;
+    let mut out = Watched::new(io::writer(rt));
+    let ended = run_certify(rt.alloc(), &mut plan, &mut out);
+    let status = status_of(rt, ended);
+    if hints {
+        advise_on_plan(rt, plan, ended);
+    }
+    Ok(status)
+}
+
+fn verify<R: Files + Input + Print + Eprint + AllocGlobal>(
+    rt: &R,
+    plan: &str,
+    cert: &str,
+    hints: bool,
+) -> Result<u8, RunError> {
+    let mut plan = open(rt, plan)?;
+    let mut cert = open(rt, cert)?;
+    let mut out = Watched::new(io::writer(rt));
+    let ended = run_verify(rt.alloc(), &mut plan, &mut cert, &mut out);
+    let status = status_of(rt, ended);
+    if hints {
+        advise_on_plan(rt, plan, ended);
+    }
+    Ok(status)
+}
+
+fn capture<R: Files + Input + Print + Eprint + AllocGlobal + Threads + Sync>(
+    rt: &R,
+    plan: &str,
+    vcd: &str,
+    names: Names<'_>,
+    hints: bool,
+) -> Result<u8, RunError> {
+    let mut plan = open(rt, plan)?;
+    let mut vcd = open(rt, vcd)?;
+    let mut out = Watched::new(Counted::new(io::writer(rt)));
+    let Names { scl, sda } = names;
+    let ended = run_capture(rt, rt.alloc(), &mut plan, &mut vcd, &mut out, scl, sda);
+    let status = status_of(rt, ended);
+    if hints {
+        let is_silent = out.into_inner().is_silent();
+        advise_on_capture(rt, plan, vcd, names, ended, is_silent);
+    }
+    Ok(status)
+}
+
+// The status of a run that has ended, with the line of a refusal.
+fn status_of<R: Eprint>(rt: &R, ended: Result<Status, RunError>) -> u8 {
+    match ended {
+        Ok(Status::Good) => 0,
+        Ok(Status::Bad) => 1,
+        Ok(Status::Refused) => 2,
+        Err(error) => refused(rt, error),
     }
 }
 

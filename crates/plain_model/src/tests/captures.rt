@@ -95,7 +95,7 @@ fn push_item(
 }
 
 // One of the texts of each of the plan's participants in turn, from START to STOP.
-fn wire_words(alloc: Global, plan: &Plan, dice: &mut Dice) -> Result<Vec<Word>, AllocError> {
+pub fn wire_words(alloc: Global, plan: &Plan, dice: &mut Dice) -> Result<Vec<Word>, AllocError> {
     let mut words = Vec::new(alloc);
     let mut time = 0;
     for p in 0..plan.participants() {
@@ -140,7 +140,7 @@ fn dump_text(alloc: Global, words: &[Word], dice: &mut Dice) -> Result<String, A
     Ok(text)
 }
 
-fn level_text(level: Level, way: u32) -> &'static str {
+pub fn level_text(level: Level, way: u32) -> &'static str {
     match (level, way) {
         (Level::Low, 0) => "b0 ",
         (Level::Low, _) => "0",

@@ -1,0 +1,31 @@
+//! What is said to people behind a refusal, or behind a report that tells of nothing: where the cause stands, and what
+//! would stand there instead.
+//!
+//! Nothing here decides anything. A refusal is the caller's, and the file is read once more, in blocks, to find its place:
+//! `plans` asks the reader of plans about beginnings of the text, `dumps` follows a dump token by token (`tokens`,
+//! `judging`), `naming` lists the signals of a dump (`likeness`), `silence` counts what was seen of the bus. `marking` shows
+//! the place in its line, and `lines` puts the word `hint:` before each line. Where the file cannot be read once more, or
+//! has changed, only the words are left.
+#![tactic(auto)]
+
+mod dumps;
+mod expecting;
+mod judging;
+mod likeness;
+mod lines;
+mod marking;
+mod naming;
+mod pieces;
+mod plans;
+mod reading;
+mod silence;
+mod tokens;
+mod wording;
+
+pub use dumps::on_dump;
+pub use naming::Names;
+pub use plans::on_plan;
+pub use silence::on_silence;
+
+#[cfg(test)]
+mod tests;

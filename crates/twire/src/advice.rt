@@ -1,0 +1,84 @@
+// Further lines for people on standard error, behind a refusal or a report.
+
+use hints::{Names, on_dump, on_plan, on_silence};
+use report::{Opened, RunError, Status, Watched};
+use std::alloc::AllocError;
+use std::io::{self, Read, Seek, Write};
+
+/// What a path of the command line names: a file, or standard input.
+pub type Source<F, S> = Opened<Watched<F>, Watched<S>>;
+
+/// Behind a run that reads a plan and perhaps a certificate. The source is the plan's.
+pub fn advise_on_plan<R: Eprint + AllocGlobal, F: Read + Seek + Drop, S: Drop>(
+    rt: &R,
+    plan: Source<F, S>,
+    ended: Result<Status, RunError>,
+) {
+    match ended {
+        Err(RunError::Plan(refusal)) => say(rt, on_plan(rt.alloc(), file(plan), refusal)),
+        // The refusals of a bench (B1, B2, B3, B8) are to get their words here.
+        _ => {}
+    }
+}
+
+/// Behind a run that explains a capture, whose report tells of no transaction where it is silent.
+pub fn advise_on_capture<R: Eprint + AllocGlobal, F: Read + Seek + Drop, S: Drop>(
+    rt: &R,
+    plan: Source<F, S>,
+    vcd: Source<F, S>,
+    names: Names<'_>,
+    ended: Result<Status, RunError>,
+    is_silent: bool,
+) {
+    match ended {
+        Err(RunError::Vcd(refusal)) => say(rt, on_dump(rt.alloc(), file(vcd), names, refusal)),
+        Ok(_) if is_silent => say(rt, on_silence(rt.alloc(), file(vcd), names)),
+        _ => advise_on_plan(rt, plan, ended),
+    }
+}
+
+// The file, which can be read once more. Standard input may be a pipe, and is not.
+fn file<F: Drop, S: Drop>(source: Source<F, S>) -> Option<F> {
+    match source {
+        Opened::File(file) => Some(file.into_inner()),
+        Opened::Standard(_) => None,
+    }
+}
+
+// Where there is no memory for hints, or standard error takes nothing, there are none.
+fn say<R: Eprint>(rt: &R, hints: Result<String, AllocError>) {
+    if let Ok(hints) = hints {
+        let _ = eprint!(rt; "{hints}");
+    }
+}
+
+/// A writer that counts what it has taken.
+#[derive(Drop)]
+pub struct Counted<W> {
+    writer: W,
+    bytes: usize,
+}
+
+impl<W> Counted<W> {
+    /// Nothing has been written yet.
+    pub fn new(writer: W) -> Self {
+        Counted { writer, bytes: 0 }
+    }
+
+    /// Whether what was written is a report on a capture without a transaction. Any other has a line more.
+    pub fn is_silent(&self) -> bool {
+        self.bytes == "0 transactions, 0 unexplained\n".len()
+    }
+}
+
+impl<W: Write> Write for Counted<W> {
+    fn write(&mut self, buf: &[u8]) -> io::Result<usize> {
+        let count = self.writer.write(buf)?;
+        self.bytes = self.bytes.saturating_add(count);
+        Ok(count)
+    }
+
+    fn flush(&mut self) -> io::Result<()> {
+        self.writer.flush()
+    }
+}
