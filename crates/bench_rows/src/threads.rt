@@ -1,0 +1,149 @@
+// Seats in threads of their own.
+
+use crate::plans::{ACKNOWLEDGED, expect_played, played, three};
+use crate::turns::{MOST_SLOTS, put_of};
+use bus_bench::{Bench, Played, PutError, Seat, Sight, open_bench};
+use cert_check::Accepted;
+use message_tree::Item;
+use std::alloc::{AllocError, Global};
+use std::test::Fail;
+use std::thread;
+use std::thread::Threads;
+
+/// How often a seat is asked in one slot before a test fails.
+const MOST_ASKS: u32 = 1_000_000;
+
+/// How often each run is played.
+const RUNS: u32 = 100;
+
+/// How a seat came to its end.
+#[derive(Clone, Copy, Debug, Drop, PartialEq)]
+pub enum End {
+    /// It was live in the last slot.
+    Ended(u32),
+    /// It lost in this slot, which had this wire.
+    Lost(u32, Item),
+    /// It was told to wait each time that it asked in this slot.
+    Stuck(u32),
+    /// Its put in this slot was refused.
+    Refused(u32, PutError),
+}
+
+/// A seat that was played to its end.
+#[derive(Drop)]
+struct Done<'a> {
+    seat: Seat<'a>,
+    end: End,
+}
+
+// What the seat answers, asked again where it has to wait.
+fn ask<'a>(bench: &Bench<'a>, seat: &mut Seat<'a>) -> Sight {
+    for _ in 0..MOST_ASKS {
+        let sight = seat.see(bench);
+        if sight != Sight::Waiting {
+            return sight;
+        }
+        thread::yield_now();
+    }
+    Sight::Waiting
+}
+
+fn play_alone<'a>(bench: &Bench<'a>, seat: &mut Seat<'a>, fill: bool) -> End {
+    for slot in 0..MOST_SLOTS {
+        let Some(put) = put_of(seat.offered(), fill) else {
+            return End::Ended(slot);
+        };
+        if let Err(error) = seat.put(bench, put) {
+            return End::Refused(slot, error);
+        }
+        match ask(bench, seat) {
+            Sight::On(Item::Stop | Item::Claim) => return End::Ended(slot),
+            Sight::On(_) => {}
+            Sight::Lost(item) => return End::Lost(slot, item),
+            Sight::Waiting | Sight::NotPut | Sight::Ended => return End::Stuck(slot),
+        }
+    }
+    End::Stuck(MOST_SLOTS)
+}
+
+fn play_seat<'a>(bench: &Bench<'a>, mut seat: Seat<'a>, fill: bool) -> Done<'a> {
+    let end = play_alone(bench, &mut seat, fill);
+    Done { seat, end }
+}
+
+// Each seat plays in a thread of its own.
+fn play_in_threads<'a, R: Threads + Sync>(
+    rt: &R,
+    bench: &Bench<'a>,
+    seats: Vec<Seat<'a>>,
+    fill: bool,
+) -> Result<Vec<Done<'a>>, AllocError> {
+    thread::map_vec(
+        rt,
+        seats,
+        &|seat: Seat<'_>| -> Done<'_> { play_seat(bench, seat, fill) },
+    )
+}
+
+/// What these starters play in threads of their own, and how each came to its end.
+pub fn run_in_threads<R: Threads + Sync>(
+    rt: &R,
+    alloc: Global,
+    accepted: &Accepted,
+    starters: &[u32],
+    answers: &[bool],
+    fill: bool,
+) -> Result<(Played, Vec<End>), Fail> {
+    let (bench, host, seats) = open_bench(alloc, accepted, starters, answers)?;
+    let mut ends = Vec::new(alloc);
+    let mut back = Vec::new(alloc);
+    for done in play_in_threads(rt, &bench, seats, fill)? {
+        ends.push(done.end)?;
+        back.push(done.seat)?;
+    }
+    Ok((played(alloc, bench, host, back)?, ends))
+}
+
+#[test]
+fn three_writers_play_in_threads_of_their_own(rt: HostRuntime) -> Result<(), Fail> {
+    let alloc = rt.alloc();
+    let accepted = three(alloc)?;
+    for (answers, fill, wire, won, wanted) in [
+        (
+            ACKNOWLEDGED.as_slice(),
+            true,
+            "10010000l11001111ls",
+            [1, 2].as_slice(),
+            [
+                End::Lost(11, Item::Sent(false)),
+                End::Ended(18),
+                End::Ended(18),
+            ],
+        ),
+        (
+            ACKNOWLEDGED.as_slice(),
+            false,
+            "10010000l11000000ls",
+            &[2],
+            [
+                End::Lost(11, Item::Sent(false)),
+                End::Lost(13, Item::Sent(false)),
+                End::Ended(18),
+            ],
+        ),
+        (
+            &[],
+            true,
+            "10010000hs",
+            &[0, 1, 2],
+            [End::Ended(9), End::Ended(9), End::Ended(9)],
+        ),
+    ] {
+        for _ in 0..RUNS {
+            let (played, ends) = run_in_threads(&rt, alloc, &accepted, &[0, 1, 2], answers, fill)?;
+            assert_eq!(rt; ends.as_slice(), wanted.as_slice());
+            expect_played(&rt, alloc, &played, wire, won)?;
+        }
+    }
+    Ok(())
+}
