@@ -1,7 +1,10 @@
+mod benches;
 mod captures;
 mod depth;
 mod generated;
 mod plans;
+mod plays;
 mod rows;
+mod safe_plans;
 mod sets;
 mod words;
