@@ -1,110 +1,84 @@
 // Seats that have lost or ended, and benches that are finished.
 
-use crate::plans::{ACKNOWLEDGED, accepted, expect_played, played, three};
-use crate::turns::{Run, expect_run, play_on, play_slot};
-use bus_bench::{FinishFault, Offered, Put, PutError, Sight, finish, open_bench};
+use crate::plans::{ACKNOWLEDGED, accepted, expect_ended, three};
+use crate::sittings::Sitting;
+use crate::turns::{PUTS, Run, expect_run, play_on, play_slot};
+use bus_bench::{FinishFault, Offered, PutError, Sight};
+use std::process::Abort;
 use std::test::Fail;
 
-const PUTS: [Put; 6] = [
-    Put::Drive(false),
-    Put::Drive(true),
-    Put::Listen,
-    Put::Again,
-    Put::Stop,
-    Put::Claim,
-];
+// The seat has lost or ended: each put is refused, and nothing is seen or offered any more.
+fn expect_over(rt: &impl Abort, sitting: &mut Sitting<'_>, k: usize) {
+    for put in PUTS {
+        assert_eq!(rt; sitting.put(k, put), Err(PutError::Over));
+        assert_eq!(rt; sitting.see(k), Sight::Ended);
+    }
+    assert_eq!(rt; sitting.offered(k), Offered::Nothing);
+}
 
 #[test]
 fn whoever_has_lost_or_ended_puts_no_more(rt: HostRuntime) -> Result<(), Fail> {
     let alloc = rt.alloc();
     let accepted = three(alloc)?;
-    let (bench, host, mut seats) = open_bench(alloc, &accepted, &[0, 1, 2], &ACKNOWLEDGED)?;
+    let mut sitting = Sitting::open(alloc, &accepted, &[0, 1, 2], &ACKNOWLEDGED)?;
     for _ in 0..12 {
-        play_slot(&rt, &bench, &mut seats, true);
+        play_slot(&rt, &mut sitting, true);
     }
-    let Some(a) = seats.first_mut() else {
-        return Err(Fail::from("no seat"));
-    };
-    for put in PUTS {
-        assert_eq!(rt; a.put(&bench, put), Err(PutError::Over));
+    expect_over(&rt, &mut sitting, 0);
+    assert_eq!(rt; play_on(&rt, &mut sitting, true), 7);
+    for k in 0..3usize {
+        expect_over(&rt, &mut sitting, k);
     }
-    assert_eq!(rt; a.see(&bench), Sight::Ended);
-    assert_eq!(rt; a.offered(), Offered::Nothing);
-    assert_eq!(rt; play_on(&rt, &bench, &mut seats, true), 7);
-    for seat in &mut seats {
-        for put in PUTS {
-            assert_eq!(rt; seat.put(&bench, put), Err(PutError::Over));
-        }
-        assert_eq!(rt; seat.see(&bench), Sight::Ended);
-        assert_eq!(rt; seat.see(&bench), Sight::Ended);
-        assert_eq!(rt; seat.offered(), Offered::Nothing);
-    }
-    let played = played(alloc, bench, host, seats)?;
-    expect_played(&rt, alloc, &played, "10010000l11001111ls", &[1, 2])
+    expect_ended(&rt, alloc, sitting, "10010000l11001111ls", &[1, 2])
 }
 
 #[test]
 fn an_unfinished_bench_is_handed_back(rt: HostRuntime) -> Result<(), Fail> {
     let alloc = rt.alloc();
     let accepted = three(alloc)?;
-    let (bench, host, mut seats) = open_bench(alloc, &accepted, &[0, 1, 2], &ACKNOWLEDGED)?;
-    let Some(c) = seats.pop() else {
-        return Err(Fail::from("no seat"));
-    };
-    let Err(back) = finish(alloc, bench, host, seats) else {
+    let sitting = Sitting::open(alloc, &accepted, &[0, 1, 2], &ACKNOWLEDGED)?;
+    // Before the first slot, and one seat is away.
+    let Some((why, sitting)) = sitting.end_without_last(alloc)? else {
         return Err(Fail::from("finished without a seat"));
     };
-    assert_eq!(rt; back.why, FinishFault::Missing);
-    assert_eq!(rt; back.seats.len(), 2);
-    let mut seats = back.seats;
-    seats.push(c)?;
-    let Err(back) = finish(alloc, back.bench, back.host, seats) else {
+    assert_eq!(rt; why, FinishFault::Missing);
+    let Err((why, mut sitting)) = sitting.end(alloc) else {
         return Err(Fail::from("finished before the first slot"));
     };
-    assert_eq!(rt; back.why, FinishFault::NotEnded);
-    assert_eq!(rt; back.seats.len(), 3);
-    let (bench, host, mut seats) = (back.bench, back.host, back.seats);
+    assert_eq!(rt; why, FinishFault::NotEnded);
+    assert_eq!(rt; sitting.len(), 3);
     for _ in 0..18 {
-        play_slot(&rt, &bench, &mut seats, true);
+        play_slot(&rt, &mut sitting, true);
     }
     // `a` has lost, and the others have not seen the STOP.
-    let Err(back) = finish(alloc, bench, host, seats) else {
+    let Err((why, mut sitting)) = sitting.end(alloc) else {
         return Err(Fail::from("finished before the last slot"));
     };
-    assert_eq!(rt; back.why, FinishFault::NotEnded);
-    let (bench, host, mut seats) = (back.bench, back.host, back.seats);
-    assert_eq!(rt; play_on(&rt, &bench, &mut seats, true), 1);
+    assert_eq!(rt; why, FinishFault::NotEnded);
+    assert_eq!(rt; play_on(&rt, &mut sitting, true), 1);
     // All have ended, and one of them is away.
-    let Some(c) = seats.pop() else {
-        return Err(Fail::from("no seat"));
-    };
-    let Err(back) = finish(alloc, bench, host, seats) else {
+    let Some((why, sitting)) = sitting.end_without_last(alloc)? else {
         return Err(Fail::from("finished without a seat"));
     };
-    assert_eq!(rt; back.why, FinishFault::Missing);
-    let mut seats = back.seats;
-    seats.push(c)?;
-    let played = played(alloc, back.bench, back.host, seats)?;
-    expect_played(&rt, alloc, &played, "10010000l11001111ls", &[1, 2])
+    assert_eq!(rt; why, FinishFault::Missing);
+    expect_ended(&rt, alloc, sitting, "10010000l11001111ls", &[1, 2])
 }
 
 #[test]
 fn seats_come_back_in_any_order(rt: HostRuntime) -> Result<(), Fail> {
     let alloc = rt.alloc();
     let accepted = three(alloc)?;
-    for shift in 0..3usize {
-        for turned in [false, true] {
-            let (bench, host, mut seats) = open_bench(alloc, &accepted, &[0, 1, 2], &ACKNOWLEDGED)?;
-            play_on(&rt, &bench, &mut seats, true);
-            if turned {
-                seats.reverse();
-            }
-            seats.rotate_left(shift);
-            let played = played(alloc, bench, host, seats)?;
-            expect_played(&rt, alloc, &played, "10010000l11001111ls", &[1, 2])?;
-        }
+    for (first, second) in [(0, 0), (0, 2), (1, 0), (2, 0), (0, 1), (1, 2)] {
+        let mut sitting = Sitting::open(alloc, &accepted, &[0, 1, 2], &ACKNOWLEDGED)?;
+        play_on(&rt, &mut sitting, true);
+        sitting.swap(0, first);
+        sitting.swap(1, second);
+        expect_ended(&rt, alloc, sitting, "10010000l11001111ls", &[1, 2])?;
     }
-    Ok(())
+    let mut sitting = Sitting::open(alloc, &accepted, &[0, 1, 2], &ACKNOWLEDGED)?;
+    sitting.swap(0, 2);
+    play_on(&rt, &mut sitting, false);
+    expect_ended(&rt, alloc, sitting, "10010000l11000000ls", &[2])
 }
 
 #[test]
@@ -129,13 +103,8 @@ fn a_claim_ends_a_run(rt: HostRuntime) -> Result<(), Fail> {
         };
         expect_run(&rt, alloc, &accepted, &run)?;
     }
-    let (bench, _, mut seats) = open_bench(alloc, &accepted, &[1], &[])?;
-    assert_eq!(rt; play_on(&rt, &bench, &mut seats, true), 9);
-    let Some(t) = seats.first_mut() else {
-        return Err(Fail::from("no seat"));
-    };
-    assert_eq!(rt; t.put(&bench, Put::Claim), Err(PutError::Over));
-    assert_eq!(rt; t.see(&bench), Sight::Ended);
-    assert_eq!(rt; t.offered(), Offered::Nothing);
+    let mut sitting = Sitting::open(alloc, &accepted, &[1], &[])?;
+    assert_eq!(rt; play_on(&rt, &mut sitting, true), 9);
+    expect_over(&rt, &mut sitting, 0);
     Ok(())
 }

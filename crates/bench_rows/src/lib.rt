@@ -3,13 +3,23 @@
 #![tactic(auto)]
 
 #[cfg(test)]
+mod agreement;
+#[cfg(test)]
+mod dice;
+#[cfg(test)]
 mod ends;
 #[cfg(test)]
 mod limits;
 #[cfg(test)]
+mod plain;
+#[cfg(test)]
 mod plans;
 #[cfg(test)]
 mod ranges;
+#[cfg(test)]
+mod safe_plans;
+#[cfg(test)]
+mod sittings;
 #[cfg(test)]
 mod starters;
 #[cfg(test)]

@@ -1,9 +1,10 @@
 // The most starters and the longest run.
 
-use crate::plans::{accepted, expect_played, played, signs};
+use crate::plans::{accepted, expect_ended};
+use crate::sittings::Sitting;
 use crate::threads::{End, run_in_threads};
 use crate::turns::{Run, expect_run, put_next};
-use bus_bench::{Bench, Seat, Sight, open_bench};
+use bus_bench::Sight;
 use cert_check::{Accepted, accept_plan};
 use certificate::Cert;
 use plan_text::read_plan;
@@ -98,21 +99,21 @@ fn sixty_four_start_on_one_bench(rt: HostRuntime) -> Result<(), Fail> {
             won,
         };
         expect_run(&rt, alloc, &accepted, &run)?;
-        let (played, ends) = run_in_threads(&rt, alloc, &accepted, &starters, answers, fill)?;
+        let (sitting, ends) = run_in_threads(&rt, alloc, &accepted, &starters, answers, fill)?;
         assert_eq!(rt; ends.len(), 64);
-        expect_played(&rt, alloc, &played, wire, won)?;
+        expect_ended(&rt, alloc, sitting, wire, won)?;
     }
     Ok(())
 }
 
 // Each seat puts 0 for open bits where its number is odd, and else 1.
-fn play_apart<'a>(rt: &impl Abort, bench: &Bench<'a>, seats: &mut [Seat<'a>]) {
+fn play_apart(rt: &impl Abort, sitting: &mut Sitting<'_>) {
     for _ in 0..19 {
-        for (number, seat) in seats.iter_mut().enumerate() {
-            put_next(rt, bench, seat, number % 2 == 0);
+        for k in 0..sitting.len() {
+            put_next(rt, sitting, k, k % 2 == 0);
         }
-        for seat in seats.iter_mut() {
-            assert!(rt; seat.see(bench) != Sight::Waiting);
+        for k in 0..sitting.len() {
+            assert!(rt; sitting.see(k) != Sight::Waiting);
         }
     }
 }
@@ -122,11 +123,10 @@ fn thirty_two_writers_part_in_an_open_bit(rt: HostRuntime) -> Result<(), Fail> {
     let alloc = rt.alloc();
     let accepted = accepted_sixty_four(alloc, "11")?;
     let starters = numbers(alloc, 0, 64)?;
-    let (bench, host, mut seats) = open_bench(alloc, &accepted, &starters, &[false; 18])?;
-    play_apart(&rt, &bench, &mut seats);
-    let played = played(alloc, bench, host, seats)?;
+    let mut sitting = Sitting::open(alloc, &accepted, &starters, &[false; 18])?;
+    play_apart(&rt, &mut sitting);
     let odd = [1, 3, 5, 7, 9, 11, 13, 15, 17, 19, 21, 23, 25, 27, 29, 31];
-    expect_played(&rt, alloc, &played, "10010000l00000000ls", &odd)
+    expect_ended(&rt, alloc, sitting, "10010000l00000000ls", &odd)
 }
 
 // `token` so many times, and `last`.
@@ -167,14 +167,12 @@ fn the_longest_run_has_2560_slots(rt: HostRuntime) -> Result<(), Fail> {
         won: &[0, 1],
     };
     expect_run(&rt, alloc, &accepted, &run)?;
-    let (played, ends) = run_in_threads(&rt, alloc, &accepted, &[0, 1], &answers, true)?;
+    let (sitting, ends) = run_in_threads(&rt, alloc, &accepted, &[0, 1], &answers, true)?;
     assert_eq!(rt;
         ends.as_slice(),
         [End::Ended(2559), End::Ended(2559)].as_slice()
     );
-    assert_eq!(rt; signs(alloc, &played.wire)?.as_str(), wire.as_str());
-    assert_eq!(rt; played.won.as_slice(), [0, 1].as_slice());
-    Ok(())
+    expect_ended(&rt, alloc, sitting, wire.as_str(), &[0, 1])
 }
 
 #[test]

@@ -1,6 +1,6 @@
 // Plans that their proofs have made safe, and wires as text.
 
-use bus_bench::{Bench, Host, Played, Seat, finish};
+use crate::sittings::Sitting;
 use cert_check::{Accepted, accept_plan};
 use certificate::{CertText, read_cert};
 use message_tree::Item;
@@ -70,32 +70,23 @@ fn sign(item: Item) -> char {
     }
 }
 
-/// What was played on this bench, whose seats have all lost or ended.
-pub fn played<'a>(
-    alloc: Global,
-    bench: Bench<'a>,
-    host: Host,
-    seats: Vec<Seat<'a>>,
-) -> Result<Played, Fail> {
-    match finish(alloc, bench, host, seats) {
-        Ok(played) => Ok(played),
-        Err(unfinished) => match unfinished.why {
-            bus_bench::FinishFault::Missing => Err(Fail::from("a seat is missing")),
-            bus_bench::FinishFault::NotEnded => Err(Fail::from("a seat has not ended")),
-            bus_bench::FinishFault::NoMemory => Err(Fail::from("no memory")),
-        },
-    }
-}
-
 /// This wire was played, and these are live at its end.
-pub fn expect_played(
+pub fn expect_ended(
     rt: &impl Abort,
     alloc: Global,
-    played: &Played,
+    sitting: Sitting<'_>,
     wire: &str,
     won: &[u32],
 ) -> Result<(), Fail> {
-    assert_eq!(rt; signs(alloc, &played.wire)?.as_str(), wire);
-    assert_eq!(rt; played.won.as_slice(), won);
-    Ok(())
+    match sitting.end(alloc) {
+        Ok(played) => {
+            assert_eq!(rt; signs(alloc, &played.wire)?.as_str(), wire);
+            assert_eq!(rt; played.won.as_slice(), won);
+            Ok(())
+        }
+        Err((why, _)) => {
+            assert!(rt; false, "{why:?}");
+            Ok(())
+        }
+    }
 }

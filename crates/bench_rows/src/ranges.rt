@@ -1,8 +1,9 @@
 // Reads that may end after any of several numbers of bytes.
 
-use crate::plans::{expect_played, played, two};
+use crate::plans::{expect_ended, two};
+use crate::sittings::Sitting;
 use crate::turns::{Run, expect_run, play_on, play_slot};
-use bus_bench::{Offered, Put, Sight, open_bench};
+use bus_bench::{Offered, Put, Sight};
 use message_tree::{Bit, Item};
 use std::test::Fail;
 
@@ -15,22 +16,18 @@ fn a_read_that_ends_early_loses_to_one_that_goes_on(rt: HostRuntime) -> Result<(
     let alloc = rt.alloc();
     let accepted = two(alloc, 2, ONE_OR_TWO, TWO, "D . .")?;
     let answers = [false; 9];
-    let (bench, host, mut seats) = open_bench(alloc, &accepted, &[0, 1], &answers)?;
+    let mut sitting = Sitting::open(alloc, &accepted, &[0, 1], &answers)?;
     for _ in 0..17 {
-        play_slot(&rt, &bench, &mut seats, true);
+        play_slot(&rt, &mut sitting, true);
     }
-    let [a, b] = seats.as_mut_slice() else {
-        return Err(Fail::from("no two seats"));
-    };
-    assert_eq!(rt; a.offered(), Offered::Bit(Bit::Either));
-    assert_eq!(rt; b.offered(), Offered::Bit(Bit::Zero));
-    assert_eq!(rt; a.put(&bench, Put::Drive(true)), Ok(()));
-    assert_eq!(rt; b.put(&bench, Put::Drive(false)), Ok(()));
-    assert_eq!(rt; a.see(&bench), Sight::Lost(Item::Sent(false)));
-    assert_eq!(rt; b.see(&bench), Sight::On(Item::Sent(false)));
-    assert_eq!(rt; play_on(&rt, &bench, &mut seats, true), 10);
-    let played = played(alloc, bench, host, seats)?;
-    expect_played(&rt, alloc, &played, "10010001lhhhhhhhh0hhhhhhhh1s", &[1])
+    assert_eq!(rt; sitting.offered(0), Offered::Bit(Bit::Either));
+    assert_eq!(rt; sitting.offered(1), Offered::Bit(Bit::Zero));
+    assert_eq!(rt; sitting.put(0, Put::Drive(true)), Ok(()));
+    assert_eq!(rt; sitting.put(1, Put::Drive(false)), Ok(()));
+    assert_eq!(rt; sitting.see(0), Sight::Lost(Item::Sent(false)));
+    assert_eq!(rt; sitting.see(1), Sight::On(Item::Sent(false)));
+    assert_eq!(rt; play_on(&rt, &mut sitting, true), 10);
+    expect_ended(&rt, alloc, sitting, "10010001lhhhhhhhh0hhhhhhhh1s", &[1])
 }
 
 #[test]

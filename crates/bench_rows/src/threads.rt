@@ -1,8 +1,10 @@
 // Seats in threads of their own.
+ghost use Rattle.std.specs.Prelude.{◌≡◌, All, IfOk};
 
-use crate::plans::{ACKNOWLEDGED, expect_played, played, three};
+use crate::plans::{ACKNOWLEDGED, expect_ended, three};
+use crate::sittings::Sitting;
 use crate::turns::{MOST_SLOTS, put_of};
-use bus_bench::{Bench, Played, PutError, Seat, Sight, open_bench};
+use bus_bench::{Bench, PutError, Seat, Sight};
 use cert_check::Accepted;
 use message_tree::Item;
 use std::alloc::{AllocError, Global};
@@ -37,7 +39,10 @@ struct Done<'a> {
 }
 
 // What the seat answers, asked again where it has to wait.
-fn ask<'a>(bench: &Bench<'a>, seat: &mut Seat<'a>) -> Sight {
+fn ask<'a>(bench: &Bench<'a>, seat: &mut Seat<'a>) -> Sight
+    requires { bench.now ≡ seat.old.bench }
+    ensures { seat.new.bench ≡ seat.old.bench }
+{
     for _ in 0..MOST_ASKS {
         let sight = seat.see(bench);
         if sight != Sight::Waiting {
@@ -48,27 +53,38 @@ fn ask<'a>(bench: &Bench<'a>, seat: &mut Seat<'a>) -> Sight {
     Sight::Waiting
 }
 
-fn play_alone<'a>(bench: &Bench<'a>, seat: &mut Seat<'a>, fill: bool) -> End {
-    for slot in 0..MOST_SLOTS {
-        let Some(put) = put_of(seat.offered(), fill) else {
-            return End::Ended(slot);
-        };
-        if let Err(error) = seat.put(bench, put) {
-            return End::Refused(slot, error);
-        }
-        match ask(bench, seat) {
-            Sight::On(Item::Stop | Item::Claim) => return End::Ended(slot),
-            Sight::On(_) => {}
-            Sight::Lost(item) => return End::Lost(slot, item),
-            Sight::Waiting | Sight::NotPut | Sight::Ended => return End::Stuck(slot),
-        }
+// Plays in this slot, and says how the seat has come to its end if it has.
+fn play_slot<'a>(bench: &Bench<'a>, seat: &mut Seat<'a>, slot: u32, fill: bool) -> Option<End>
+    requires { bench.now ≡ seat.old.bench }
+    ensures { seat.new.bench ≡ seat.old.bench }
+{
+    let Some(put) = put_of(seat.offered(), fill) else {
+        return Some(End::Stuck(slot));
+    };
+    if let Err(error) = seat.put(bench, put) {
+        return Some(End::Refused(slot, error));
     }
-    End::Stuck(MOST_SLOTS)
+    match ask(bench, seat) {
+        Sight::On(Item::Stop | Item::Claim) => Some(End::Ended(slot)),
+        Sight::On(_) => None,
+        Sight::Lost(item) => Some(End::Lost(slot, item)),
+        Sight::Waiting | Sight::NotPut | Sight::Ended => Some(End::Stuck(slot)),
+    }
 }
 
-fn play_seat<'a>(bench: &Bench<'a>, mut seat: Seat<'a>, fill: bool) -> Done<'a> {
-    let end = play_alone(bench, &mut seat, fill);
-    Done { seat, end }
+fn play_seat<'a>(bench: &Bench<'a>, mut seat: Seat<'a>, fill: bool) -> Done<'a>
+    requires { bench.now ≡ seat.entry.bench }
+    ensures { result.seat.bench ≡ seat.entry.bench }
+{
+    for slot in 0..MOST_SLOTS {
+        if let Some(end) = play_slot(bench, &mut seat, slot, fill) {
+            return Done { seat, end };
+        }
+    }
+    Done {
+        seat,
+        end: End::Stuck(MOST_SLOTS),
+    }
 }
 
 // Each seat plays in a thread of its own.
@@ -77,31 +93,38 @@ fn play_in_threads<'a, R: Threads + Sync>(
     bench: &Bench<'a>,
     seats: Vec<Seat<'a>>,
     fill: bool,
-) -> Result<Vec<Done<'a>>, AllocError> {
+) -> Result<Vec<Done<'a>>, AllocError>
+    requires { All (λ seat. seat.bench ≡ bench.now) seats.items }
+    ensures { IfOk result (λ v. All (λ done. done.seat.bench ≡ bench.now) v.items) }
+{
     thread::map_vec(
         rt,
         seats,
-        &|seat: Seat<'_>| -> Done<'_> { play_seat(bench, seat, fill) },
+        &|seat: Seat<'_>| -> Done<'_>
+            requires { bench.now ≡ seat.bench }
+            ensures { result.seat.bench ≡ seat.bench }
+        { play_seat(bench, seat, fill) },
     )
 }
 
-/// What these starters play in threads of their own, and how each came to its end.
-pub fn run_in_threads<R: Threads + Sync>(
+/// These starters have played in threads of their own, and how each came to its end.
+pub fn run_in_threads<'a, R: Threads + Sync>(
     rt: &R,
     alloc: Global,
-    accepted: &Accepted,
+    accepted: &'a Accepted,
     starters: &[u32],
     answers: &[bool],
     fill: bool,
-) -> Result<(Played, Vec<End>), Fail> {
-    let (bench, host, seats) = open_bench(alloc, accepted, starters, answers)?;
+) -> Result<(Sitting<'a>, Vec<End>), Fail> {
+    let Sitting { bench, host, seats } = Sitting::open(alloc, accepted, starters, answers)?;
+    let done = play_in_threads(rt, &bench, seats, fill)?;
     let mut ends = Vec::new(alloc);
-    let mut back = Vec::new(alloc);
-    for done in play_in_threads(rt, &bench, seats, fill)? {
-        ends.push(done.end)?;
-        back.push(done.seat)?;
+    let mut seats = Vec::new(alloc);
+    for one in done {
+        ends.push(one.end)?;
+        seats.push(one.seat)?;
     }
-    Ok((played(alloc, bench, host, back)?, ends))
+    Ok((Sitting { bench, host, seats }, ends))
 }
 
 #[test]
@@ -140,9 +163,9 @@ fn three_writers_play_in_threads_of_their_own(rt: HostRuntime) -> Result<(), Fai
         ),
     ] {
         for _ in 0..RUNS {
-            let (played, ends) = run_in_threads(&rt, alloc, &accepted, &[0, 1, 2], answers, fill)?;
+            let (sitting, ends) = run_in_threads(&rt, alloc, &accepted, &[0, 1, 2], answers, fill)?;
             assert_eq!(rt; ends.as_slice(), wanted.as_slice());
-            expect_played(&rt, alloc, &played, wire, won)?;
+            expect_ended(&rt, alloc, sitting, wire, won)?;
         }
     }
     Ok(())

@@ -1,7 +1,8 @@
 // Seats that one thread plays by turns.
 
-use crate::plans::{ACKNOWLEDGED, expect_played, played, three};
-use bus_bench::{Bench, Offered, Put, PutError, Seat, Sight, open_bench};
+use crate::plans::{ACKNOWLEDGED, expect_ended, three};
+use crate::sittings::Sitting;
+use bus_bench::{Offered, Put, PutError, Sight};
 use cert_check::Accepted;
 use message_tree::{Bit, Item};
 use std::alloc::Global;
@@ -10,6 +11,16 @@ use std::test::Fail;
 
 /// No run has more slots.
 pub const MOST_SLOTS: u32 = 2560;
+
+/// All that a seat may ever put.
+pub const PUTS: [Put; 6] = [
+    Put::Drive(false),
+    Put::Drive(true),
+    Put::Listen,
+    Put::Again,
+    Put::Stop,
+    Put::Claim,
+];
 
 /// What a seat puts that may put this and has this bit for open ones, or None where it may put nothing.
 pub fn put_of(offered: Offered, fill: bool) -> Option<Put> {
@@ -25,28 +36,23 @@ pub fn put_of(offered: Offered, fill: bool) -> Option<Put> {
     }
 }
 
-/// The seat puts what it may put. A seat that has lost or ended does nothing.
-pub fn put_next<'a>(rt: &impl Abort, bench: &Bench<'a>, seat: &mut Seat<'a>, fill: bool) -> bool {
-    let Some(put) = put_of(seat.offered(), fill) else {
+/// The seat puts what it may put. Whether it may put something.
+pub fn put_next(rt: &impl Abort, sitting: &mut Sitting<'_>, k: usize, fill: bool) -> bool {
+    let Some(put) = put_of(sitting.offered(k), fill) else {
         return false;
     };
-    assert_eq!(rt; seat.put(bench, put), Ok(()));
+    assert_eq!(rt; sitting.put(k, put), Ok(()));
     true
 }
 
 /// Each seat that is live puts, and then each looks. Whether one of them was live.
-pub fn play_slot<'a>(
-    rt: &impl Abort,
-    bench: &Bench<'a>,
-    seats: &mut [Seat<'a>],
-    fill: bool,
-) -> bool {
+pub fn play_slot(rt: &impl Abort, sitting: &mut Sitting<'_>, fill: bool) -> bool {
     let mut live = false;
-    for seat in seats.iter_mut() {
-        live |= put_next(rt, bench, seat, fill);
+    for k in 0..sitting.len() {
+        live |= put_next(rt, sitting, k, fill);
     }
-    for seat in seats.iter_mut() {
-        let sight = seat.see(bench);
+    for k in 0..sitting.len() {
+        let sight = sitting.see(k);
         assert!(rt;
             matches!(sight, Sight::On(_) | Sight::Lost(_) | Sight::Ended),
             "{sight:?}"
@@ -56,9 +62,9 @@ pub fn play_slot<'a>(
 }
 
 /// Plays until all have lost or ended, and says in how many slots.
-pub fn play_on<'a>(rt: &impl Abort, bench: &Bench<'a>, seats: &mut [Seat<'a>], fill: bool) -> u32 {
+pub fn play_on(rt: &impl Abort, sitting: &mut Sitting<'_>, fill: bool) -> u32 {
     for slot in 0..=MOST_SLOTS {
-        if !play_slot(rt, bench, seats, fill) {
+        if !play_slot(rt, sitting, fill) {
             return slot;
         }
     }
@@ -82,12 +88,11 @@ pub fn expect_run(
     accepted: &Accepted,
     run: &Run<'_>,
 ) -> Result<(), Fail> {
-    let (bench, host, mut seats) = open_bench(alloc, accepted, run.starters, run.answers)?;
-    assert_eq!(rt; seats.len(), run.starters.len());
-    let slots = play_on(rt, &bench, &mut seats, run.fill);
+    let mut sitting = Sitting::open(alloc, accepted, run.starters, run.answers)?;
+    assert_eq!(rt; sitting.len(), run.starters.len());
+    let slots = play_on(rt, &mut sitting, run.fill);
     assert_eq!(rt; slots as usize, run.wire.len());
-    let played = played(alloc, bench, host, seats)?;
-    expect_played(rt, alloc, &played, run.wire, run.won)
+    expect_ended(rt, alloc, sitting, run.wire, run.won)
 }
 
 #[test]
@@ -151,35 +156,25 @@ fn winners_stand_in_the_order_of_the_starters(rt: HostRuntime) -> Result<(), Fai
     Ok(())
 }
 
-// All that a seat may ever put.
-const PUTS: [Put; 6] = [
-    Put::Drive(false),
-    Put::Drive(true),
-    Put::Listen,
-    Put::Again,
-    Put::Stop,
-    Put::Claim,
-];
-
 // The seat may put just this: each other put is NotOffered, and each put behind it Early.
-fn put_among_refused<'a>(rt: &impl Abort, bench: &Bench<'a>, seat: &mut Seat<'a>, allowed: Put) {
+fn put_among_refused(rt: &impl Abort, sitting: &mut Sitting<'_>, k: usize, allowed: Put) {
     for other in PUTS {
         if other != allowed {
             assert_eq!(rt;
-                seat.put(bench, other),
+                sitting.put(k, other),
                 Err(PutError::NotOffered),
                 "{other:?}"
             );
         }
     }
-    assert_eq!(rt; seat.see(bench), Sight::NotPut);
-    assert_eq!(rt; seat.put(bench, allowed), Ok(()));
+    assert_eq!(rt; sitting.see(k), Sight::NotPut);
+    assert_eq!(rt; sitting.put(k, allowed), Ok(()));
     for other in PUTS {
-        assert_eq!(rt; seat.put(bench, other), Err(PutError::Early), "{other:?}");
+        assert_eq!(rt; sitting.put(k, other), Err(PutError::Early), "{other:?}");
     }
 }
 
-// The items of a message, where each byte of it is acknowledged.
+// What is put for a write to 1001000 of one byte with these bits.
 fn puts_of(bits: [bool; 8]) -> [Put; 19] {
     let [a, b, c, d, e, f, g, h] = bits;
     [
@@ -209,32 +204,25 @@ fn puts_of(bits: [bool; 8]) -> [Put; 19] {
 fn a_refused_put_changes_nothing(rt: HostRuntime) -> Result<(), Fail> {
     let alloc = rt.alloc();
     let accepted = three(alloc)?;
-    let (bench, host, seats) = open_bench(alloc, &accepted, &[0, 1], &ACKNOWLEDGED)?;
-    let mut seats = seats;
-    let (Some(mut b), Some(mut a)) = (seats.pop(), seats.pop()) else {
-        return Err(Fail::from("no two seats"));
-    };
+    let mut sitting = Sitting::open(alloc, &accepted, &[0, 1], &ACKNOWLEDGED)?;
     let first = puts_of([true, true, true, true, false, false, false, false]);
     let second = puts_of([true, true, false, false, true, true, true, true]);
     for (slot, (one, other)) in first.into_iter().zip(second).enumerate() {
         if slot <= 11 {
-            put_among_refused(&rt, &bench, &mut a, one);
+            put_among_refused(&rt, &mut sitting, 0, one);
         }
-        put_among_refused(&rt, &bench, &mut b, other);
+        put_among_refused(&rt, &mut sitting, 1, other);
         let sight = match slot {
             0..=10 => Sight::On(one.item(false)),
             11 => Sight::Lost(Item::Sent(false)),
             _ => Sight::Ended,
         };
-        assert_eq!(rt; a.see(&bench), sight, "slot {slot}");
-        assert_eq!(rt; b.see(&bench), Sight::On(other.item(false)), "slot {slot}");
+        assert_eq!(rt; sitting.see(0), sight, "slot {slot}");
+        assert_eq!(rt; sitting.see(1), Sight::On(other.item(false)), "slot {slot}");
         if slot >= 11 {
-            assert_eq!(rt; a.put(&bench, one), Err(PutError::Over));
-            assert_eq!(rt; a.offered(), Offered::Nothing);
+            assert_eq!(rt; sitting.put(0, one), Err(PutError::Over));
+            assert_eq!(rt; sitting.offered(0), Offered::Nothing);
         }
     }
-    seats.push(a)?;
-    seats.push(b)?;
-    let played = played(alloc, bench, host, seats)?;
-    expect_played(&rt, alloc, &played, "10010000l11001111ls", &[1])
+    expect_ended(&rt, alloc, sitting, "10010000l11001111ls", &[1])
 }

@@ -1,10 +1,8 @@
-mod benches;
 mod captures;
 mod depth;
 mod generated;
 mod plans;
 mod plays;
 mod rows;
-mod safe_plans;
 mod sets;
 mod words;

@@ -1,11 +1,13 @@
 // A bench whose seats are asked in a random order plays what the plain play says.
 
-use super::generated::Dice;
-use crate::{Ending, play_out};
-use bus_bench::{Bench, Offered, Put, PutError, Seat, Sight, finish, open_bench};
+use crate::dice::Dice;
+use crate::sittings::Sitting;
+use crate::turns::put_of;
+use bus_bench::{Put, PutError, Sight};
 use cert_check::{Accepted, accept_plan};
-use message_tree::{Bit, Item};
+use message_tree::Item;
 use pair_walk::{Outcome, walk};
+use plain_model::{Ending, play_out};
 use plan_core::Plan;
 use std::alloc::Global;
 use std::process::Abort;
@@ -29,32 +31,18 @@ pub fn accepted(alloc: Global, plan: Plan) -> Result<Accepted, Fail> {
     }
 }
 
-// A seat with its place among the starters, what it sends for open bits, and how far it has come.
+// What a seat sends for open bits, and how far it has come.
 #[derive(Drop)]
-struct Player<'a> {
+struct Player {
     number: usize,
-    seat: Seat<'a>,
     choices: u64,
     seen: u32,
     puts: u32,
     over: bool,
 }
 
-fn put_of(offered: Offered, choice: bool) -> Option<Put> {
-    match offered {
-        Offered::Bit(Bit::Zero) => Some(Put::Drive(false)),
-        Offered::Bit(Bit::One) => Some(Put::Drive(true)),
-        Offered::Bit(Bit::Either) => Some(Put::Drive(choice)),
-        Offered::Listen => Some(Put::Listen),
-        Offered::Again => Some(Put::Again),
-        Offered::Stop => Some(Put::Stop),
-        Offered::Claim => Some(Put::Claim),
-        Offered::Nothing => None,
-    }
-}
-
 // All who are live in this slot have put there.
-fn is_complete(players: &[Player<'_>], ending: &Ending, slot: u32) -> bool {
+fn is_complete(players: &[Player], ending: &Ending, slot: u32) -> bool {
     players.iter().all(|player| {
         player.puts > slot || lost(ending, player.number).is_some_and(|lost| lost < slot)
     })
@@ -64,10 +52,10 @@ fn lost(ending: &Ending, number: usize) -> Option<u32> {
     ending.lost.get(number).copied().flatten()
 }
 
-fn turn_to_put<'a>(rt: &impl Abort, bench: &Bench<'a>, player: &mut Player<'a>) {
+fn turn_to_put(rt: &impl Abort, sitting: &mut Sitting<'_>, player: &mut Player) {
     let choice = (player.choices >> (player.seen % 64)) % 2 == 1;
-    let put = put_of(player.seat.offered(), choice);
-    let answer = player.seat.put(bench, put.unwrap_or(Put::Stop));
+    let put = put_of(sitting.offered(player.number), choice);
+    let answer = sitting.put(player.number, put.unwrap_or(Put::Stop));
     if player.over {
         assert_eq!(rt; put, None);
         assert_eq!(rt; answer, Err(PutError::Over));
@@ -80,14 +68,14 @@ fn turn_to_put<'a>(rt: &impl Abort, bench: &Bench<'a>, player: &mut Player<'a>) 
 }
 
 // Looks, and compares with what the plain play says of the slot.
-fn turn_to_see<'a>(
+fn turn_to_see(
     rt: &impl Abort,
-    bench: &Bench<'a>,
-    player: &mut Player<'a>,
+    sitting: &mut Sitting<'_>,
+    player: &mut Player,
     ending: &Ending,
     complete: bool,
 ) {
-    let sight = player.seat.see(bench);
+    let sight = sitting.see(player.number);
     if player.over {
         assert_eq!(rt; sight, Sight::Ended);
     } else if player.puts == player.seen {
@@ -112,10 +100,10 @@ fn turn_to_see<'a>(
 }
 
 // Turns to a random seat, and puts or looks, until all have lost or ended.
-fn play_at_random<'a>(
+fn play_at_random(
     rt: &impl Abort,
-    bench: &Bench<'a>,
-    players: &mut [Player<'a>],
+    sitting: &mut Sitting<'_>,
+    players: &mut [Player],
     ending: &Ending,
     dice: &mut Dice,
 ) {
@@ -128,9 +116,9 @@ fn play_at_random<'a>(
         let complete = is_complete(players, ending, slot);
         if let Some(player) = players.get_mut(chosen) {
             if dice.throw(2) == 0 {
-                turn_to_put(rt, bench, player);
+                turn_to_put(rt, sitting, player);
             } else {
-                turn_to_see(rt, bench, player, ending, complete);
+                turn_to_see(rt, sitting, player, ending, complete);
             }
         }
     }
@@ -145,16 +133,11 @@ pub struct Case {
     pub answers: Vec<bool>,
 }
 
-fn players<'a>(
-    alloc: Global,
-    seats: Vec<Seat<'a>>,
-    choices: &[u64],
-) -> Result<Vec<Player<'a>>, Fail> {
+fn players(alloc: Global, seats: usize, choices: &[u64]) -> Result<Vec<Player>, Fail> {
     let mut players = Vec::new(alloc);
-    for (number, seat) in seats.into_iter().enumerate() {
+    for number in 0..seats {
         players.push(Player {
             number,
-            seat,
             choices: choices.get(number).copied().unwrap_or(0),
             seen: 0,
             puts: 0,
@@ -164,21 +147,12 @@ fn players<'a>(
     Ok(players)
 }
 
-// The seats, in an order that the dice choose.
-fn seats_back<'a>(
-    alloc: Global,
-    players: Vec<Player<'a>>,
-    dice: &mut Dice,
-) -> Result<Vec<Seat<'a>>, Fail> {
-    let mut seats = Vec::new(alloc);
-    for (last, player) in players.into_iter().enumerate() {
-        seats.push(player.seat)?;
-        let place = dice.throw(last as u32) as usize;
-        if place < seats.len() && last < seats.len() {
-            seats.swap(place, last);
-        }
+// Puts the seats into an order that the dice choose.
+fn shuffle(sitting: &mut Sitting<'_>, dice: &mut Dice) {
+    for k in 0..sitting.len() {
+        let other = dice.throw(sitting.len() as u32) as usize;
+        sitting.swap(k, other);
     }
-    Ok(seats)
 }
 
 /// The bench gives the wire and the winners of the plain play, whatever the order in which its seats are turned to. The
@@ -194,12 +168,12 @@ pub fn assert_played(
     let Some(ending) = play_out(alloc, plan, &case.starters, &case.choices, &case.answers)? else {
         return Err(Fail::from("a clash in a safe plan"));
     };
-    let (bench, host, seats) = open_bench(alloc, accepted, &case.starters, &case.answers)?;
-    assert_eq!(rt; seats.len(), case.starters.len());
-    let mut players = players(alloc, seats, &case.choices)?;
-    play_at_random(rt, &bench, &mut players, &ending, dice);
-    let seats = seats_back(alloc, players, dice)?;
-    let Ok(played) = finish(alloc, bench, host, seats) else {
+    let mut sitting = Sitting::open(alloc, accepted, &case.starters, &case.answers)?;
+    assert_eq!(rt; sitting.len(), case.starters.len());
+    let mut players = players(alloc, sitting.len(), &case.choices)?;
+    play_at_random(rt, &mut sitting, &mut players, &ending, dice);
+    shuffle(&mut sitting, dice);
+    let Ok(played) = sitting.end(alloc) else {
         return Err(Fail::from("a bench that is not finished"));
     };
     assert_eq!(rt; played.wire.as_slice(), ending.wire.as_slice(), "{case:?}");

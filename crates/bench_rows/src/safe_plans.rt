@@ -1,9 +1,9 @@
 // Safe plans made from a seed: messages of which many have one shape and differ in their bits.
 
-use super::generated::Dice;
-use super::plans::plan;
+use crate::dice::Dice;
 use pair_walk::first_fault;
 use plan_core::Plan;
+use plan_text::read_plan;
 use std::alloc::{AllocError, Global};
 use std::test::Fail;
 
@@ -126,7 +126,7 @@ fn plan_of(alloc: Global, items: &[String]) -> Result<Plan, Fail> {
     for item in items {
         write!(text, " {}", item.as_str())?;
     }
-    plan(alloc, text.as_str())
+    Ok(read_plan(alloc, text.as_bytes())?)
 }
 
 fn is_safe(alloc: Global, plan: &Plan) -> Result<bool, Fail> {
