@@ -1,17 +1,17 @@
 -- What comes next in a part of what a participant sends, and what is left behind it.
-use Rattle.std.proofs.Common.{◌≡◌, ℕ, zero, suc, ◌+◌, ◌-◌, ◌<◌, ◌≤◌, Bool, true, false, Some, List, [], ◌∷◌, length, drop, slice_get, refl, ap, sym, ◌∙◌, subst, arith, inl, inr, ◌↔◌}
+use Rattle.std.proofs.Common.{◌≡◌, ℕ, zero, suc, ◌+◌, ◌-◌, ◌<◌, ◌≤◌, true, false, Some, List, [], ◌∷◌, length, drop, slice_get, refl, ap, sym, ◌∙◌, subst, arith, inl, inr, ◌↔◌}
 use Rattle.std.proofs.lemmas.Bool.{cases_lt}
 use Rattle.std.proofs.lemmas.List.{drop_more, drop_all}
-use Rattle.std.proofs.lemmas.Option.{slice_get_within, get_or_from_slice_get, slice_get-get_or}
+use Rattle.std.proofs.lemmas.Option.{slice_get_within, get_or_from_slice_get}
 use Rattle.message_tree.specs.declared.bits.Bit.{Bit}
 use Rattle.message_tree.specs.declared.bits.Bit.TheVariants.{Zero, One}
 use Rattle.message_tree.specs.declared.counts.Count.{Count}
 use Rattle.message_tree.specs.declared.items.Item.{Item}
-use Rattle.message_tree.specs.declared.items.Item.TheVariants.{Sent, Heard, Again, Stop, Claim}
+use Rattle.message_tree.specs.declared.items.Item.TheVariants.{Sent, Heard, Again, Claim}
 use Rattle.message_tree.specs.Counts.{InRange, least_of, greatest_of}
 use Rattle.message_tree.specs.Laws.{HasText}
 use Rattle.message_tree.specs.Patterns.{pattern_bits, address_bits}
-use Rattle.message_tree.specs.Texts.{Language, Allows, SentThen, HeardThen, AnswerThen, AgainThen, Only, ByteThen, BytesThen, ReadThen, FrameText, TailText}
+use Rattle.message_tree.specs.Texts.{Language, Allows, SentThen, HeardThen, AnswerThen, AgainThen, ByteThen, BytesThen, ReadThen, FrameText, TailText}
 use Rattle.message_tree.specs.Trees.{FrameTree, payload_tree, TailTree, tail_tree}
 use Rattle.message_tree.proofs.TextLaws.{allowed, lawful_frame, lawful_payload, lawful_tail}
 use Rattle.bench_places.specs.declared.bytes.Byte.{Byte}
@@ -21,10 +21,10 @@ use Rattle.bench_places.specs.declared.parts.Acked.{Acked}
 use Rattle.bench_places.specs.declared.parts.Acked.TheVariants as acked
 use Rattle.bench_places.specs.declared.parts.Then.{Then}
 use Rattle.bench_places.specs.declared.parts.Then.TheVariants as then
-use Rattle.bench_places.specs.declared.parts.Reading.{Reading}
-use Rattle.bench_places.specs.declared.parts.Sending.{Sending}
+use Rattle.bench_places.specs.declared.parts.Incoming.{Incoming}
+use Rattle.bench_places.specs.declared.parts.Outgoing.{Outgoing}
 use Rattle.bench_places.specs.Offers.{Begins, MayPut}
-use Rattle.bench_places.specs.Parts.{bits_of, AckedText, ThenText, SendingText, ReadOn, AcknowledgeThen, ReadingText}
+use Rattle.bench_places.specs.Parts.{bits_of, AckedText, ThenText, OutgoingText, ReadOn, AcknowledgeThen, IncomingText}
 
 -- ---- each part has a text
 
@@ -57,8 +57,8 @@ some_read count done P lt p =
 some_acknowledge : (count : Count) (done : ℕ) (P : Language) → done < greatest_of count → HasText P → HasText (AcknowledgeThen count done P)
 some_acknowledge count done P lt p =
     elim (cases_lt (done + 1) (greatest_of count)) [
-      inl below ↦ (let rest = some_read count (done + 1) P below p in (Sent false ∷ rest.0, rest.1))
-    | inr above ↦ (Sent true ∷ p.0, ((omega (arith, count.ordered), omega arith), p.1))
+      | inl below ↦ (let rest = some_read count (done + 1) P below p in (Sent false ∷ rest.0, rest.1))
+      | inr above ↦ (Sent true ∷ p.0, ((omega (arith, count.ordered), omega arith), p.1))
     ]
 
 some_acked : (a : Acked) → HasText (AckedText a)
@@ -94,17 +94,17 @@ bits_left : (bs : List Bit) (k : ℕ) (b : Bit) → slice_get bs k ≡ Some b �
 bits_left bs k b e =
     drop_more bs k b (slice_get_within bs k b e) ∙ ap (λ (c : Bit). c ∷ drop (k + 1) bs) (get_or_from_slice_get bs k b b e)
 
-pub sending_begins : (s : Sending) (b : Bit) (x : Item) → slice_get (bits_of s.byte) s.sent ≡ Some b → Begins (SendingText s) x ↔ MayPut (offer.Bit b) x
-sending_begins s b x e =
+pub outgoing_begins : (s : Outgoing) (b : Bit) (x : Item) → slice_get (bits_of s.byte) s.sent ≡ Some b → Begins (OutgoingText s) x ↔ MayPut (offer.Bit b) x
+outgoing_begins s b x e =
     subst (λ (bs : List Bit). Begins (SentThen bs (ThenText s.then)) x ↔ MayPut (offer.Bit b) x) (sym (bits_left (bits_of s.byte) s.sent b e))
     (begins_sent b (drop (s.sent + 1) (bits_of s.byte)) (ThenText s.then) x (some_sent (drop (s.sent + 1) (bits_of s.byte)) (ThenText s.then) (some_then s.then)))
 
-pub sending_goes_on : (s : Sending) (b : Bit) → slice_get (bits_of s.byte) s.sent ≡ Some b → SendingText s [] → ⊥
-sending_goes_on s b e h =
+pub outgoing_goes_on : (s : Outgoing) (b : Bit) → slice_get (bits_of s.byte) s.sent ≡ Some b → OutgoingText s [] → ⊥
+outgoing_goes_on s b e h =
     subst (λ (bs : List Bit). SentThen bs (ThenText s.then) []) (bits_left (bits_of s.byte) s.sent b e) h
 
-pub sending_after : (s : Sending) (x : Item) (u : List Item) → Begins (SendingText s) x → SentThen (drop (s.sent + 1) (bits_of s.byte)) (ThenText s.then) u ↔ SendingText s (x ∷ u)
-sending_after s x u h =
+pub outgoing_after : (s : Outgoing) (x : Item) (u : List Item) → Begins (OutgoingText s) x → SentThen (drop (s.sent + 1) (bits_of s.byte)) (ThenText s.then) u ↔ OutgoingText s (x ∷ u)
+outgoing_after s x u h =
     let bs = bits_of s.byte in
     let within : s.sent < length bs = omega (arith, bit_count s.byte, s.unfinished) in
     let e = drop_more bs s.sent Zero within in
@@ -195,27 +195,27 @@ begins_acknowledge count done P b (Sent true) lt t more end = (
 )
 begins_acknowledge count done P b _ lt t more end = (λ h. h.1, λ m. absurd m)
 
-some_reading : (r : Reading) → HasText (TailText (tail_tree r.after.now))
-some_reading r = (lawful_tail (tail_tree r.after.now)).some
+some_incoming : (r : Incoming) → HasText (TailText (tail_tree r.after.now))
+some_incoming r = (lawful_tail (tail_tree r.after.now)).some
 
 -- while bits are left to be heard
-pub reading_hears : (r : Reading) (x : Item) → 0 < r.left → Begins (ReadingText r) x ↔ MayPut offer.Listen x
-reading_hears r x lt =
+pub incoming_hears : (r : Incoming) (x : Item) → 0 < r.left → Begins (IncomingText r) x ↔ MayPut offer.Listen x
+incoming_hears r x lt =
     begins_heard r.left (AcknowledgeThen r.count r.done (TailText (tail_tree r.after.now))) x lt
-    (some_acknowledge r.count r.done (TailText (tail_tree r.after.now)) r.wanted (some_reading r))
+    (some_acknowledge r.count r.done (TailText (tail_tree r.after.now)) r.wanted (some_incoming r))
 
-pub reading_acknowledges : (r : Reading) (b : Bit) (x : Item) → r.left ≡ 0 →
+pub incoming_acknowledges : (r : Incoming) (b : Bit) (x : Item) → r.left ≡ 0 →
     Allows b false ↔ (r.done + 1 < greatest_of r.count) → Allows b true ↔ (least_of r.count ≤ r.done + 1) →
-    Begins (ReadingText r) x ↔ MayPut (offer.Bit b) x
-reading_acknowledges r b x e more end =
+    Begins (IncomingText r) x ↔ MayPut (offer.Bit b) x
+incoming_acknowledges r b x e more end =
     let P = TailText (tail_tree r.after.now) in
     subst (λ (n : ℕ). Begins (HeardThen n (AcknowledgeThen r.count r.done P)) x ↔ MayPut (offer.Bit b) x) (sym e)
-    (begins_acknowledge r.count r.done P b x r.wanted (some_reading r) more end)
+    (begins_acknowledge r.count r.done P b x r.wanted (some_incoming r) more end)
 
 -- behind an acknowledge that asks for a further byte
-pub reading_after_zero : (r : Reading) (u : List Item) → r.left ≡ 0 →
-    HeardThen 8 (AcknowledgeThen r.count (r.done + 1) (TailText (tail_tree r.after.now))) u ↔ ReadingText r (Sent false ∷ u)
-reading_after_zero r u e =
+pub incoming_after_zero : (r : Incoming) (u : List Item) → r.left ≡ 0 →
+    HeardThen 8 (AcknowledgeThen r.count (r.done + 1) (TailText (tail_tree r.after.now))) u ↔ IncomingText r (Sent false ∷ u)
+incoming_after_zero r u e =
     let P = TailText (tail_tree r.after.now) in
     subst (λ (n : ℕ). HeardThen 8 (AcknowledgeThen r.count (r.done + 1) P) u ↔ HeardThen n (AcknowledgeThen r.count r.done P) (Sent false ∷ u)) (sym e)
     (next_byte r.count (r.done + 1) P u)

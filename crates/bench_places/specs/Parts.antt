@@ -14,8 +14,8 @@ use Rattle.bench_places.specs.declared.parts.Acked.{Acked}
 use Rattle.bench_places.specs.declared.parts.Acked.TheVariants as acked
 use Rattle.bench_places.specs.declared.parts.Then.{Then}
 use Rattle.bench_places.specs.declared.parts.Then.TheVariants as then
-use Rattle.bench_places.specs.declared.parts.Sending.{Sending}
-use Rattle.bench_places.specs.declared.parts.Reading.{Reading}
+use Rattle.bench_places.specs.declared.parts.Outgoing.{Outgoing}
+use Rattle.bench_places.specs.declared.parts.Incoming.{Incoming}
 use Rattle.bench_places.specs.declared.parts.Part.{Part}
 use Rattle.bench_places.specs.declared.parts.Part.TheVariants as part
 
@@ -36,8 +36,8 @@ ThenText (then.Answer acked refused) u = AnswerThen (AckedText acked) (TailText 
 ThenText then.Claim u = Only Claim u
 
 -- the bits that are left, and what follows them
-abbrev pub SendingText : Sending → Language
-SendingText s u = SentThen (drop s.sent (bits_of s.byte)) (ThenText s.then) u
+abbrev pub OutgoingText : Outgoing → Language
+OutgoingText s u = SentThen (drop s.sent (bits_of s.byte)) (ThenText s.then) u
 
 -- a read goes on of which so many bytes have been read, and all have been acknowledged
 abbrev pub ReadOn : Count → ℕ → Language → Language
@@ -51,12 +51,12 @@ AcknowledgeThen count done P (Sent true ∷ u) = InRange count (done + 1) × P u
 AcknowledgeThen count done P _ = ⊥
 
 -- the bits of a byte that are left to be heard, and its acknowledge
-abbrev pub ReadingText : Reading → Language
-ReadingText r u = HeardThen r.left (AcknowledgeThen r.count r.done (TailText (tail_tree r.after.now))) u
+abbrev pub IncomingText : Incoming → Language
+IncomingText r u = HeardThen r.left (AcknowledgeThen r.count r.done (TailText (tail_tree r.after.now))) u
 
 abbrev pub PartText : Part → Language
-PartText (part.Byte sending) u = SendingText sending u
+PartText (part.Byte outgoing) u = OutgoingText outgoing u
 PartText (part.Then then) u = ThenText then u
-PartText (part.Read reading) u = ReadingText reading u
+PartText (part.Read incoming) u = IncomingText incoming u
 PartText (part.Tail tail) u = TailText (tail_tree tail.now) u
 PartText part.End u = u ≡ []

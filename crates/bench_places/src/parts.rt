@@ -5,18 +5,18 @@ ghost use Rattle.message_tree.specs.Counts.{greatest_of};
 
 use crate::bytes::Byte;
 use crate::offers::Offered;
-use message_tree::{Address, Bit, Count, Frame, Item, Payload, Tail};
+use message_tree::{Bit, Count, Frame, Item, Payload, Tail};
 use plan_core::Sends;
 
 /// What comes next of what a participant sends.
 #[derive(Clone, Copy, Debug, Drop)]
 pub(crate) enum Part<'a> {
     /// Bits of a byte.
-    Byte(Sending<'a>),
+    Byte(Outgoing<'a>),
     /// What follows the bits of a byte.
     Then(Then<'a>),
     /// Bits of a byte that is read, or its acknowledge.
-    Read(Reading<'a>),
+    Read(Incoming<'a>),
     /// A repeated START or a STOP.
     Tail(&'a Tail),
     /// Nothing.
@@ -25,7 +25,7 @@ pub(crate) enum Part<'a> {
 
 /// A byte that is sent bit by bit.
 #[derive(Clone, Copy, Debug, Drop)]
-pub(crate) struct Sending<'a> {
+pub(crate) struct Outgoing<'a> {
     byte: Byte,
     /// How many of its bits have been sent.
     sent: u8,
@@ -53,7 +53,7 @@ pub(crate) enum Acked<'a> {
 
 /// A byte that is read bit by bit, and then acknowledged (UM10204, 3.1.6).
 #[derive(Clone, Copy, Debug, Drop)]
-pub(crate) struct Reading<'a> {
+pub(crate) struct Incoming<'a> {
     count: Count,
     /// How many bytes have been read before, and have all been acknowledged.
     done: u8,
@@ -65,9 +65,9 @@ pub(crate) struct Reading<'a> {
 }
 
 impl<'a> Part<'a> {
-    ghost use Rattle.std.specs.Prelude.{◌≡◌, ◌↔◌, ℕ, List, [], ◌∷◌};
+    ghost use Rattle.std.specs.Prelude.{◌≡◌, ◌↔◌, List, [], ◌∷◌};
     ghost use Rattle.message_tree.specs.declared.items.Item.{Item};
-    ghost use Rattle.message_tree.specs.Texts.{FrameText, PayloadText, SenderText, SentThen, TailText};
+    ghost use Rattle.message_tree.specs.Texts.{FrameText, PayloadText, SenderText, SentThen};
     ghost use Rattle.message_tree.specs.Trees.{frame_tree, payload_tree};
     ghost use Rattle.plan_core.specs.Senders.{what_is_sent};
     ghost use Rattle.bench_places.specs.Offers.{Begins, MayPut};
@@ -141,7 +141,7 @@ impl<'a> Part<'a> {
     fn byte(byte: Byte, then: Then<'a>) -> Part<'a>
         ensures { (u : List Item) → PartText result u ↔ SentThen (bits_of byte) (ThenText then.entry) u }
     {
-        Part::Byte(Sending {
+        Part::Byte(Outgoing {
             byte,
             sent: 0,
             then,
@@ -154,12 +154,12 @@ impl<'a> Part<'a> {
         ensures end { PartText self.now [] ↔ (result ≡ Offered.Nothing) }
     {
         match self {
-            Part::Byte(sending) => Offered::Bit(sending.bit()),
+            Part::Byte(outgoing) => Offered::Bit(outgoing.bit()),
             Part::Then(then) => match then {
                 Then::Answer { .. } => Offered::Listen,
                 Then::Claim => Offered::Claim,
             },
-            Part::Read(reading) => reading.offered(),
+            Part::Read(incoming) => incoming.offered(),
             Part::Tail(tail) => match tail {
                 Tail::Stop => Offered::Stop,
                 Tail::Again(_) => Offered::Again,
@@ -174,13 +174,13 @@ impl<'a> Part<'a> {
         ensures { (u : List Item) → PartText result u ↔ PartText self.now (item ∷ u) }
     {
         match *self {
-            Part::Byte(sending) => sending.after(),
+            Part::Byte(outgoing) => outgoing.after(),
             Part::Then(Then::Answer { acked, refused }) => match item {
                 Item::Heard(false) => acked.start(),
                 _ => Part::Tail(refused),
             },
             Part::Then(Then::Claim) => Part::End,
-            Part::Read(reading) => reading.after(item),
+            Part::Read(incoming) => incoming.after(item),
             Part::Tail(tail) => match tail {
                 Tail::Stop => Part::End,
                 Tail::Again(frame) => Part::frame(frame),
@@ -190,7 +190,7 @@ impl<'a> Part<'a> {
     }
 }
 
-impl<'a> Sending<'a> {
+impl<'a> Outgoing<'a> {
     ghost use Rattle.std.specs.Prelude.{◌≡◌, ◌+◌, ◌↔◌, List, Some, drop, slice_get};
     ghost use Rattle.message_tree.specs.declared.items.Item.{Item};
     ghost use Rattle.message_tree.specs.Texts.{SentThen};
@@ -209,7 +209,7 @@ impl<'a> Sending<'a> {
             SentThen (drop (self.now.sent + 1) (bits_of self.now.byte)) (ThenText self.now.then) u }
     {
         if self.sent < 7 {
-            Part::Byte(Sending {
+            Part::Byte(Outgoing {
                 byte: self.byte,
                 sent: self.sent + 1,
                 then: self.then,
@@ -231,7 +231,7 @@ impl<'a> Acked<'a> {
     {
         match *self {
             Acked::Payload(payload) => Part::payload(payload),
-            Acked::Read { count, after } => Part::Read(Reading {
+            Acked::Read { count, after } => Part::Read(Incoming {
                 count,
                 done: 0,
                 left: 8,
@@ -241,18 +241,18 @@ impl<'a> Acked<'a> {
     }
 }
 
-impl<'a> Reading<'a> {
+impl<'a> Incoming<'a> {
     ghost use Rattle.std.specs.Prelude.{◌≡◌, ◌+◌, ◌≤◌, ◌↔◌, List, [], ◌∷◌, true, false};
     ghost use Rattle.message_tree.specs.declared.items.Item.{Item};
     ghost use Rattle.message_tree.specs.Counts.{least_of};
     ghost use Rattle.message_tree.specs.Texts.{Allows};
     ghost use Rattle.bench_places.specs.Offers.{Begins, MayPut};
-    ghost use Rattle.bench_places.specs.Parts.{PartText, ReadingText};
+    ghost use Rattle.bench_places.specs.Parts.{PartText, IncomingText};
 
     // What may come next.
     fn offered(&self) -> Offered
-        ensures items { (x : Item) → Begins (ReadingText self.now) x ↔ MayPut result x }
-        ensures end { ReadingText self.now [] ↔ (result ≡ Offered.Nothing) }
+        ensures items { (x : Item) → Begins (IncomingText self.now) x ↔ MayPut result x }
+        ensures end { IncomingText self.now [] ↔ (result ≡ Offered.Nothing) }
     {
         if self.left == 0 {
             Offered::Bit(self.acknowledge())
@@ -279,11 +279,11 @@ impl<'a> Reading<'a> {
 
     // What comes behind this item.
     fn after(&self, item: Item) -> Part<'a>
-        requires { Begins (ReadingText self.now) item }
-        ensures { (u : List Item) → PartText result u ↔ ReadingText self.now (item ∷ u) }
+        requires { Begins (IncomingText self.now) item }
+        ensures { (u : List Item) → PartText result u ↔ IncomingText self.now (item ∷ u) }
     {
         if 0 < self.left {
-            return Part::Read(Reading {
+            return Part::Read(Incoming {
                 count: self.count,
                 done: self.done,
                 left: self.left - 1,
@@ -291,7 +291,7 @@ impl<'a> Reading<'a> {
             });
         }
         match item {
-            Item::Sent(false) => Part::Read(Reading {
+            Item::Sent(false) => Part::Read(Incoming {
                 count: self.count,
                 done: self.done + 1,
                 left: 8,

@@ -5,7 +5,8 @@ use crate::parts::Part;
 use message_tree::Item;
 use plan_core::Sends;
 
-/// A place in what a participant sends, from the START on. It borrows the message and keeps no part of it.
+/// A place in what a participant sends, from the START on (UM10204, 3.1.4). It borrows the message, and has one size for
+/// all messages.
 #[derive(Clone, Copy, Debug, Drop)]
 pub struct Place<'a> {
     part: Part<'a>,

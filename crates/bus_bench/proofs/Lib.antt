@@ -3,3 +3,4 @@ pub mod StepLemmas
 pub mod SeatLemmas
 pub mod StarterLemmas
 pub mod OpeningLemmas
+pub mod FinishLemmas

@@ -1,5 +1,5 @@
 -- What is handed out when a bench is opened.
-use Rattle.std.proofs.Common.{◌≡◌, ◌≢◌, ◌↔◌, ℕ, zero, suc, ◌+◌, ◌<◌, ◌≤◌, List, [], ◌∷◌, ◌++◌, length, Option, Some, None, refl, sym, ap, ◌∙◌, subst, arith, replicate}
+use Rattle.std.proofs.Common.{◌≡◌, ◌≢◌, ◌↔◌, ℕ, zero, suc, ◌+◌, ◌<◌, ◌≤◌, List, [], ◌∷◌, ◌++◌, length, Option, Some, None, refl, sym, ap, ◌∙◌, subst, arith, replicate, map, Bool}
 use Rattle.std.specs.List.{slice_index_or}
 use Rattle.atomic_table.specs.Seated.{TableId}
 use Rattle.atomic_table.specs.Table.{Me, Splits}
@@ -17,9 +17,16 @@ use Rattle.bus_bench.specs.declared.seats.Standing.TheVariants.{Playing}
 use Rattle.bus_bench.specs.Hands.{hand_game, setup_game, starter}
 use Rattle.bus_bench.specs.Opening.{IsHanding}
 use Rattle.bus_bench.specs.Rule.{SLOTS, holds_at}
-use Rattle.bus_bench.specs.Seats.{BenchName, game_of}
+use Rattle.bus_bench.specs.Seats.{BenchName, game_of, fresh}
 use Rattle.bus_bench.specs.Steps.{HandPlayed, handing_out, handed_out}
 use Rattle.bus_bench.specs.Tickets.{bench_name, IsBench, ticket_bench, IsSeat}
+use Rattle.std.specs.List.{range_with_len}
+use Rattle.std.proofs.lemmas.List.{map-append}
+use Rattle.plan_core.specs.declared.plans.Plan.{Plan}
+use Rattle.plan_core.specs.Faults.{IsSafe}
+use Rattle.plan_core.proofs.PlanLemmas.{limits_of}
+use Rattle.bus_bench.specs.Starters.{starters_refusal}
+use Rattle.bus_bench.proofs.StarterLemmas.{game_of_starters}
 use Rattle.bus_bench.proofs.ViewLemmas.{at_those}
 use Rattle.bus_bench.proofs.StepLemmas.{hands_out}
 
@@ -65,3 +72,19 @@ pub handing_on : (bench : BenchName) (id id' : TableId) (me me' : Me Unit Hand) 
 handing_on bench id id' me me' number h same is =
     subst (λ (y : TableId × Me Unit Hand). IsHanding bench (number + 1) y.0 y.1) (λ i. (sym same i, sym is i))
         (record { named = h.named; slots = h.slots; hosts = h.hosts; out = ap (λ (n : ℕ). n + 1) h.out; none_back = h.none_back })
+
+-- one seat more, in order
+next_place : (a n : ℕ) → range_with_len a (suc n) ≡ range_with_len a n ++ (a + n) ∷ []
+next_place a zero = let s : a ≡ a + 0 = omega arith in ap (λ (k : ℕ). k ∷ []) s
+next_place a (suc n) = let s : a + 1 + n ≡ a + suc n = omega arith in let rest = next_place (a + 1) n in ap (λ (xs : List ℕ). a ∷ xs) (rest ∙ ap (λ (k : ℕ). range_with_len (a + 1) n ++ k ∷ []) s)
+
+pub one_more_seat : (bench : BenchName) (n : ℕ) → map (fresh bench) (range_with_len 0 n) ++ fresh bench n ∷ [] ≡ map (fresh bench) (range_with_len 0 (n + 1))
+one_more_seat bench n =
+    let here : 0 + n ≡ n = omega arith in
+    let next : suc n ≡ n + 1 = omega arith in
+    sym (map-append (fresh bench) (range_with_len 0 n) (n ∷ [])) ∙ ap (map (fresh bench)) (ap (λ (k : ℕ). range_with_len 0 n ++ k ∷ []) (sym here) ∙ sym (next_place 0 n) ∙ ap (range_with_len 0) next)
+
+-- what a bench is opened with is a game
+pub set_up : (plan : Plan) (starters starters' : List ℕ) (answers answers' : List Bool) → starters' ≡ starters → answers' ≡ answers → IsSafe (plan_contents plan) → starters_refusal (plan_contents plan) starters ≡ None → IsGame (record { plan = plan_contents plan; starters = starters'; answers = answers' })
+set_up plan starters starters' answers answers' b d safe none =
+    subst IsGame (λ i. record { plan = plan_contents plan; starters = sym b i; answers = sym d i }) (game_of_starters (plan_contents plan) starters answers (limits_of plan) safe none)

@@ -159,8 +159,8 @@ longer : {X : Type 0} (xs : List X) (x : X) → length (xs ++ x ∷ []) ≡ leng
 longer xs x = length-append xs (x ∷ [])
 
 stands_behind : (w : Item) (v : Hand) (before : List Item) (place : Place) (slot live : ℕ) → v.told.seen ≡ before ++ w ∷ [] → IsPlaying v place None slot live → StandsSo (seats.standing_behind w) v place None slot live
-stands_behind item.Stop v before place slot live e s = ((before, inl e), s.in_slot)
-stands_behind item.Claim v before place slot live e s = ((before, inr e), s.in_slot)
+stands_behind item.Stop v before place slot live e s = ((before, inl e), s.in_slot, s.few)
+stands_behind item.Claim v before place slot live e s = ((before, inr e), s.in_slot, s.few)
 stands_behind (item.Sent b) v before place slot live e s = s
 stands_behind (item.Heard b) v before place slot live e s = s
 stands_behind item.Again v before place slot live e s = s

@@ -5,3 +5,4 @@ pub mod Seats
 pub mod Tickets
 pub mod Starters
 pub mod Opening
+pub mod Finishing

@@ -68,7 +68,7 @@ pub record IsPlaying (v : Hand) (place : Place) (own : Option Put) (slot live : 
 abbrev pub StandsSo : Standing → Hand → Place → Option Put → ℕ → ℕ → Type 0
 StandsSo Playing v place own slot live = IsPlaying v place own slot live
 StandsSo Lost v place own slot live = ⊤
-StandsSo Ended v place own slot live = HasEnded v.told.seen × (slot ≡ length v.told.seen)
+StandsSo Ended v place own slot live = HasEnded v.told.seen × (slot ≡ length v.told.seen) × (slot ≤ SLOTS)
 
 pub record IsSeat (me : Me Unit Hand) (number : ℕ) (place : Place) (own : Option Put) (slot live : ℕ) (standing : Standing) : Type 0 where
   pub slots : me.1 ≡ []

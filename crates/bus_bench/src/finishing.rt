@@ -1,7 +1,15 @@
 // Finishing a bench.
 
+ghost use Rattle.std.specs.Prelude.{◌≡◌, ◌≤◌, ℕ, true, All, [], IfOk, IfErr, length, vec_capacity};
+ghost use Rattle.std.specs.List.{list_all};
+ghost use Rattle.bus_bench.specs.Finishing.{IsFinished, IsFinishFault, AreAll, is_done, has_won, winners, IsRunLength, HasBack, IsGivenBack, RunIs, IsReadOut};
+ghost use Rattle.bus_bench.specs.Rule.{SLOTS};
+ghost use Rattle.bus_bench.specs.Tickets.{IsBench, bench_name, ticket_bench};
+ghost use Rattle.bus_bench.specs.declared.hands.Role.TheVariants as Role;
+
 use crate::errors::FinishFault;
-use crate::opening::MOST_SLOTS;
+use crate::hands::Setup;
+use crate::putting::answer_in;
 use crate::seats::{Bench, Host, Seat, Standing, Ticket, Wire};
 use crate::steps::{ComesBack, Reads};
 use bench_plays::Tally;
@@ -32,10 +40,16 @@ pub fn finish<'a>(
     bench: Bench<'a>,
     host: Host,
     seats: Vec<Seat<'a>>,
-) -> Result<Played, Unfinished<'a>> {
+) -> Result<Played, Unfinished<'a>>
+    requires host { host ≡ bench }
+    requires seats { All (λ seat. seat.bench ≡ bench) seats.items }
+    ensures played { IfOk result (λ p. IsFinished bench.entry seats.entry.items p.wire.items p.won.items) }
+    ensures why { IfErr result (λ u. IsFinishFault u.why bench.entry seats.entry.items) }
+    ensures unchanged { IfErr result (λ u. (u.bench ≡ bench.entry) × (u.host ≡ host) × (u.seats.items ≡ seats.entry.items)) }
+{
     let why = if seats.len() != bench.setup.starters.len() {
         FinishFault::Missing
-    } else if !all_ended(&seats) {
+    } else if !all_done(&seats) {
         FinishFault::NotEnded
     } else {
         match room(alloc, &bench, &seats) {
@@ -51,16 +65,22 @@ pub fn finish<'a>(
     })
 }
 
-fn all_ended(seats: &[Seat<'_>]) -> bool {
+// Whether each has lost or seen the end.
+fn all_done(seats: &[Seat<'_>]) -> bool
+    ensures { result ≡ list_all is_done seats.now }
+{
     seats.iter().all(|seat| seat.standing != Standing::Playing)
 }
 
 // The winners, and room for the wire.
-fn room(alloc: Global, bench: &Bench<'_>, seats: &[Seat<'_>]) -> Result<Played, AllocError> {
-    let wire = Vec::with_capacity(alloc, MOST_SLOTS)?;
+fn room(alloc: Global, bench: &Bench<'_>, seats: &[Seat<'_>]) -> Result<Played, AllocError>
+    ensures won { IfOk result (λ p. p.won.items ≡ winners seats.now 0 bench.now.starters) }
+    ensures wire { IfOk result (λ p. (p.wire.items ≡ []) × (SLOTS ≤ vec_capacity p.wire)) }
+{
+    let wire = Vec::with_capacity(alloc, crate::opening::MOST_SLOTS)?;
     let mut won = Vec::with_capacity(alloc, seats.len())?;
     for (number, starter) in bench.setup.starters.iter().enumerate() {
-        if has_won(seats, number as u32) {
+        if is_winner(seats, number as u32) {
             won.push(*starter)?;
         }
     }
@@ -68,32 +88,99 @@ fn room(alloc: Global, bench: &Bench<'_>, seats: &[Seat<'_>]) -> Result<Played, 
 }
 
 // Whether the seat of this starter was live at the end.
-fn has_won(seats: &[Seat<'_>], number: u32) -> bool {
+fn is_winner(seats: &[Seat<'_>], number: u32) -> bool
+    ensures { result ≡ has_won seats.now number }
+{
     seats
         .iter()
         .any(|seat| seat.number == number && seat.standing == Standing::Ended)
 }
 
-// The wire, read from its words once all seats are back. There is room for it.
-fn read_all<'a>(bench: Bench<'a>, host: Host, seats: Vec<Seat<'a>>, mut played: Played) -> Played {
-    let Bench { wire: shared, setup } = bench;
-    let Host { mut ticket } = host;
-    let mut live = seats.len() as u32;
+// How many slots the run has: those of a seat that saw its end.
+fn run_length(seats: &[Seat<'_>]) -> u32
+    ensures { IsRunLength seats.now result }
+{
     for seat in seats {
-        let Seat { ticket: part, .. } = seat;
-        shared.shared.join_seat::<ComesBack>(&mut ticket, part);
-    }
-    for slot in 0..MOST_SLOTS {
-        let tally = Tally::new(shared.shared.load::<Reads>(&mut ticket, slot));
-        let shown = tally.shown(setup.answers.get(slot).copied().unwrap_or(true));
-        live = tally.left(live);
-        match played.wire.push(shown) {
-            Ok(()) => {}
-            Err(_) => unreachable!(),
-        }
-        if matches!(shown, Item::Stop | Item::Claim) {
-            break;
+        if seat.standing == Standing::Ended {
+            return seat.slot;
         }
     }
+    0
+}
+
+// The wire, read from its words once all seats are back. There is room for it.
+fn read_all<'a>(bench: Bench<'a>, host: Host, seats: Vec<Seat<'a>>, mut played: Played) -> Played
+    requires host { host ≡ bench }
+    requires seats { All (λ seat. seat.bench ≡ bench) seats.items }
+    requires all { AreAll bench seats.items }
+    requires done { list_all is_done seats.items ≡ true }
+    requires won { played.won.items ≡ winners seats.items 0 bench.starters }
+    requires wire { (played.wire.items ≡ []) × (SLOTS ≤ vec_capacity played.wire) }
+    ensures { IsFinished bench.entry seats.entry.items result.wire.items result.won.items }
+{
+    let count = run_length(&seats);
+    let Bench { wire, setup } = bench;
+    let Host { mut ticket } = host;
+    take_back(&wire, &setup, &mut ticket, seats);
+    read_wire(&wire, &setup, &mut ticket, count, &mut played.wire);
     played
+}
+
+// The host takes these seats back.
+fn take_back<'a>(wire: &Wire<'a>, setup: &Setup<'a>, ticket: &mut Ticket, seats: Vec<Seat<'a>>)
+    requires bench { IsBench wire.now.shared.table_id wire.now.shared.key setup.now }
+    requires host { HasBack (bench_name wire.now.shared.table_id setup.now) [] ticket.old.table_id ticket.old.me }
+    requires seats { All (λ seat. seat.bench ≡ bench_name wire.now.shared.table_id setup.now) seats.items }
+    ensures { HasBack (bench_name wire.now.shared.table_id setup.now) seats.entry.items ticket.new.table_id ticket.new.me }
+{
+    for seat in seats {
+        give_back(wire, setup, ticket, seat);
+    }
+}
+
+fn give_back<'a>(wire: &Wire<'a>, setup: &Setup<'a>, ticket: &mut Ticket, seat: Seat<'a>)
+    requires bench { IsBench wire.now.shared.table_id wire.now.shared.key setup.now }
+    requires host { ticket.old.me.0.role ≡ Role.Host }
+    requires slots { ticket.old.me.1 ≡ [] }
+    requires named { bench_name wire.now.shared.table_id setup.now ≡ ticket_bench ticket.old.table_id ticket.old.me }
+    requires seat { seat.bench ≡ bench_name wire.now.shared.table_id setup.now }
+    ensures same { ticket.new.table_id ≡ ticket.old.table_id }
+    ensures hand { IsGivenBack seat.entry ticket.old.me ticket.new.me }
+{
+    let Seat {
+        ticket: part,
+        number: _,
+        place: _,
+        own: _,
+        slot: _,
+        live: _,
+        standing: _,
+    } = seat;
+    wire.shared.join_seat::<ComesBack>(ticket, part);
+}
+
+// Reads the wire of a run of so many slots, once all seats are back. There is room for it.
+fn read_wire<'a>(
+    wire: &Wire<'a>,
+    setup: &Setup<'a>,
+    ticket: &mut Ticket,
+    count: u32,
+    items: &mut Vec<Item>,
+)
+    requires bench { IsBench wire.now.shared.table_id wire.now.shared.key setup.now }
+    requires host { ticket.old.me.0.role ≡ Role.Host }
+    requires slots { ticket.old.me.1 ≡ [] }
+    requires named { bench_name wire.now.shared.table_id setup.now ≡ ticket_bench ticket.old.table_id ticket.old.me }
+    requires all { length ticket.old.me.0.back ≡ length ticket.old.me.0.starters }
+    requires run { (count ≤ SLOTS) × RunIs ticket.old.me.0 count }
+    requires items { (items.old.items ≡ []) × (SLOTS ≤ vec_capacity items.old) }
+    ensures { IsReadOut ticket.old.me.0 items.new.items }
+{
+    wire.shared.load::<Reads>(ticket, 0);
+    let mut live = setup.starters.len() as u32;
+    for slot in 0..count {
+        let tally = Tally::new(wire.shared.load::<Reads>(ticket, slot as usize));
+        items.push_reserved(tally.shown(answer_in(&setup.answers, slot)));
+        live = tally.left(live);
+    }
 }

@@ -65,13 +65,25 @@ fn open<'a>(
 {
     let setup = Setup {
         plan,
-        starters: starters.to_vec(alloc)?,
-        answers: answers.to_vec(alloc)?,
+        starters: numbers(alloc, starters)?,
+        answers: bits(alloc, answers)?,
     };
     let (wire, mut ticket) = lay(alloc, &setup)?;
     let bench = Bench { wire, setup };
     let seats = hand_out_all(alloc, &bench, &mut ticket)?;
     Ok((bench, Host { ticket }, seats))
+}
+
+fn numbers(alloc: Global, starters: &[u32]) -> Result<Vec<u32>, AllocError>
+    ensures { IfOk result (λ v. v.items ≡ starters.now) }
+{
+    starters.to_vec(alloc)
+}
+
+fn bits(alloc: Global, answers: &[bool]) -> Result<Vec<bool>, AllocError>
+    ensures { IfOk result (λ v. v.items ≡ answers.now) }
+{
+    answers.to_vec(alloc)
 }
 
 // The words of the bench, all zero, and the host's ticket.

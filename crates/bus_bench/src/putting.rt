@@ -1,5 +1,8 @@
 // What a seat may put, and putting it.
 
+ghost use Rattle.std.specs.Prelude.{◌≡◌};
+ghost use Rattle.bench_plays.specs.Games.{answer_at};
+
 use crate::errors::PutError;
 use crate::seats::{Bench, Seat, Standing};
 use crate::steps::Puts;
@@ -7,23 +10,23 @@ use bench_places::Offered;
 use bench_plays::Put;
 
 impl<'a> Bench<'a> {
-    ghost use Rattle.std.specs.Prelude.{◌≡◌};
-    ghost use Rattle.bench_plays.specs.Games.{answer_at};
-
     // The bit of the targets in this slot.
     pub(crate) fn answer(&self, slot: u32) -> bool
         ensures { result ≡ answer_at self.now.answers slot }
     {
-        self.setup
-            .answers
-            .get(slot as usize)
-            .copied()
-            .unwrap_or(true)
+        answer_in(&self.setup.answers, slot)
     }
 }
 
+// The bit of the targets in this slot, of these answers.
+pub(crate) fn answer_in(answers: &[bool], slot: u32) -> bool
+    ensures { result ≡ answer_at answers.now slot }
+{
+    answers.get(slot as usize).copied().unwrap_or(true)
+}
+
 impl<'a> Seat<'a> {
-    ghost use Rattle.std.specs.Prelude.{◌≡◌, ◌↔◌, IfOk, IfErr};
+    ghost use Rattle.std.specs.Prelude.{◌↔◌, IfOk, IfErr};
     ghost use Rattle.message_tree.specs.declared.items.Item.{Item};
     ghost use Rattle.bench_places.specs.Offers.{MayPut};
     ghost use Rattle.bus_bench.specs.Seats.{MayOffer, CanPut, IsPutRefusal, after_put, HasPlay};

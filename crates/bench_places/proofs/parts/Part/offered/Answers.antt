@@ -1,14 +1,14 @@
 use Rattle.message_tree.specs.Trees.{frame_tree, tail_tree}
-use Rattle.bench_places.proofs.PartLemmas.{sending_begins, sending_goes_on, begins_answer, begins_again}
+use Rattle.bench_places.proofs.PartLemmas.{outgoing_begins, outgoing_goes_on, begins_answer, begins_again}
 use Rattle.bench_places.proofs.parts.Part.offered.Goals as goal
 
 pub returns-in-Byte-clause-items : goal.returns-in-Byte-clause-items
 returns-in-Byte-clause-items c = λ x.
-    rw c.in-Byte.is (sending_begins c.in-Byte.sending c.bit.result x c.bit.ensures)
+    rw c.in-Byte.is (outgoing_begins c.in-Byte.outgoing c.bit.result x c.bit.ensures)
 
 pub returns-in-Byte-clause-end : goal.returns-in-Byte-clause-end
 returns-in-Byte-clause-end c =
-    rw c.in-Byte.is (λ h. absurd (sending_goes_on c.in-Byte.sending c.bit.result c.bit.ensures h), λ e. cc)
+    rw c.in-Byte.is (λ h. absurd (outgoing_goes_on c.in-Byte.outgoing c.bit.result c.bit.ensures h), λ e. cc)
 
 pub returns-in-Answer-clause-items : goal.returns-in-Answer-clause-items
 returns-in-Answer-clause-items c = λ x.

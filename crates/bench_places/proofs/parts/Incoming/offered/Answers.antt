@@ -1,13 +1,13 @@
 use Rattle.std.proofs.Common.{◌≡◌, ◌<◌, arith}
-use Rattle.bench_places.proofs.PartLemmas.{reading_hears, reading_acknowledges}
-use Rattle.bench_places.proofs.parts.Reading.offered.Goals as goal
+use Rattle.bench_places.proofs.PartLemmas.{incoming_hears, incoming_acknowledges}
+use Rattle.bench_places.proofs.parts.Incoming.offered.Goals as goal
 
 pub returns-then-self-eq0-clause-items : goal.returns-then-self-eq0-clause-items
 returns-then-self-eq0-clause-items c = λ x.
     let none_left : c.args.self.now.left ≡ 0 = omega arith in
-    reading_acknowledges c.args.self.now c.acknowledge.result x none_left c.acknowledge.ensures.more c.acknowledge.ensures.last
+    incoming_acknowledges c.args.self.now c.acknowledge.result x none_left c.acknowledge.ensures.more c.acknowledge.ensures.last
 
 pub returns-else-self-eq0-clause-items : goal.returns-else-self-eq0-clause-items
 returns-else-self-eq0-clause-items c = λ x.
     let some_left : 0 < c.args.self.now.left = omega arith in
-    reading_hears c.args.self.now x some_left
+    incoming_hears c.args.self.now x some_left

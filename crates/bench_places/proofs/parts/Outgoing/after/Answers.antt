@@ -1,6 +1,6 @@
 use Rattle.std.proofs.Common.{◌+◌, ◌≤◌, arith}
 use Rattle.bench_places.proofs.PartLemmas.{no_bit_left}
-use Rattle.bench_places.proofs.parts.Sending.after.Goals as goal
+use Rattle.bench_places.proofs.parts.Outgoing.after.Goals as goal
 
 pub returns-else-self-lt7 : goal.returns-else-self-lt7
 returns-else-self-lt7 c = λ u.
