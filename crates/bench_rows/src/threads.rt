@@ -1,5 +1,6 @@
 // Seats in threads of their own.
 ghost use Rattle.std.specs.Prelude.{◌≡◌, All, IfOk};
+ghost use Rattle.bus_bench.specs.Seats.{BenchName};
 
 use crate::plans::{ACKNOWLEDGED, expect_ended, three};
 use crate::sittings::Sitting;
@@ -107,6 +108,19 @@ fn play_in_threads<'a, R: Threads + Sync>(
     )
 }
 
+// The seats, and how each came to its end.
+fn parted<'a>(alloc: Global, done: Vec<Done<'a>>) -> Result<(Vec<Seat<'a>>, Vec<End>), AllocError>
+    ensures { (bench : BenchName) → All (λ one. one.seat.bench ≡ bench) done.items → IfOk result (λ r. All (λ seat. seat.bench ≡ bench) r.0.items) }
+{
+    let mut seats = Vec::new(alloc);
+    let mut ends = Vec::new(alloc);
+    for one in done {
+        seats.push(one.seat)?;
+        ends.push(one.end)?;
+    }
+    Ok((seats, ends))
+}
+
 /// These starters have played in threads of their own, and how each came to its end.
 pub fn run_in_threads<'a, R: Threads + Sync>(
     rt: &R,
@@ -118,12 +132,7 @@ pub fn run_in_threads<'a, R: Threads + Sync>(
 ) -> Result<(Sitting<'a>, Vec<End>), Fail> {
     let Sitting { bench, host, seats } = Sitting::open(alloc, accepted, starters, answers)?;
     let done = play_in_threads(rt, &bench, seats, fill)?;
-    let mut ends = Vec::new(alloc);
-    let mut seats = Vec::new(alloc);
-    for one in done {
-        ends.push(one.end)?;
-        seats.push(one.seat)?;
-    }
+    let (seats, ends) = parted(alloc, done)?;
     Ok((Sitting { bench, host, seats }, ends))
 }
 
