@@ -7,8 +7,8 @@ use plan_core::{Participant, Plan};
 use std::alloc::{AllocError, Global};
 
 // Where a participant stands in what it sends.
-#[derive(Clone, Copy)]
-enum Place<'a> {
+#[derive(Clone, Copy, Drop)]
+pub(crate) enum Place<'a> {
     // In a header, so many of whose eight bits have been sent.
     Header(&'a Frame, u8),
     HeaderAnswer(&'a Frame),
@@ -90,7 +90,7 @@ pub fn first_fault(
     Ok(None)
 }
 
-fn start(plan: &Plan, p: u32) -> Place<'_> {
+pub(crate) fn start(plan: &Plan, p: u32) -> Place<'_> {
     if p >= plan.participants() {
         return Place::Over;
     }
@@ -107,7 +107,7 @@ fn start(plan: &Plan, p: u32) -> Place<'_> {
 
 // What may be put here: a 0 (or an `l`) stands before a 1 (or an `h`). Of the bits of a byte that is read only 0 is tried,
 // since nothing depends on them.
-fn offers(place: Place<'_>) -> [Option<Item>; 2] {
+pub(crate) fn offers(place: Place<'_>) -> [Option<Item>; 2] {
     match place {
         Place::Header(frame, sent) => bit_offers(header_bit(frame, sent)),
         Place::Data { bits, sent, .. } if sent < 8 => bit_offers(bits.bit(sent)),
@@ -170,7 +170,7 @@ fn acknowledge_offers(count: Count, bytes: u8) -> [Option<Item>; 2] {
 }
 
 // Where a participant stands after an item that it offers.
-fn step(place: Place<'_>, item: Item) -> Place<'_> {
+pub(crate) fn step(place: Place<'_>, item: Item) -> Place<'_> {
     match place {
         Place::Header(frame, sent) if sent < 7 => Place::Header(frame, sent + 1),
         Place::Header(frame, _) => Place::HeaderAnswer(frame),

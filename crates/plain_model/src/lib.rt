@@ -1,16 +1,18 @@
 //! The rules of the bus as plain and slow programs: all texts of a participant, all runs of a set, a walk of a pair slot by
-//! slot, and what a recorded wire shows. Tests compare the other crates with them. They are for small plans, and nothing is made fast.
+//! slot, one play of a set, and what a recorded wire shows. Tests compare the other crates with them. They are for small plans, and nothing is made fast.
 #![tactic(auto)]
 
 pub mod bit_by_bit;
 pub mod captures;
 pub mod dumps;
+pub mod plays;
 pub mod runs;
 pub mod texts;
 
 pub use bit_by_bit::first_fault;
 pub use captures::{Word, events_of, explainers_of, samples_of, transactions_of};
 pub use dumps::words_of as dump_words_of;
+pub use plays::{Ending, play_out};
 pub use runs::{Meeting, first_meeting, lawful_sets, play};
 pub use texts::texts_of;
 

@@ -284,7 +284,7 @@ fn hears_one_bit(round: &[Item], item: Item) -> bool {
 }
 
 // What the wire shows, or nothing where two clash. Where bits are sent it is their AND, and else the item that all put.
-fn wire_of(round: &[Item]) -> Option<Item> {
+pub(crate) fn wire_of(round: &[Item]) -> Option<Item> {
     for (i, a) in round.iter().enumerate() {
         for (j, b) in round.iter().enumerate() {
             if i != j && clash(*a, *b) {
