@@ -3,7 +3,6 @@ mod depth;
 mod dumps;
 mod generated;
 mod plans;
-mod plays;
 mod rows;
 mod sets;
 mod words;
