@@ -1,6 +1,6 @@
 -- What comes back to the host, and what it then reads.
-use Rattle.std.proofs.Common.{◌≡◌, ◌≢◌, ◌⊎◌, ℕ, zero, suc, ◌+◌, ◌<◌, ◌≤◌, Bool, true, false, List, [], ◌∷◌, ◌++◌, length, Option, Some, None, refl, sym, ap, ◌∙◌, subst, arith, inl, inr, append_assoc, append-nil, true≢false, take, drop, ◌&&◌, ◌||◌, ◌==◌}
-use Rattle.std.specs.Prelude.{All, slice_get, not, filter, ⊤, if◌then◌else◌, cond}
+use Rattle.std.proofs.Common.{◌≡◌, ◌⊎◌, ℕ, zero, suc, ◌+◌, ◌<◌, ◌≤◌, Bool, true, false, List, [], ◌∷◌, ◌++◌, length, Option, Some, refl, sym, ap, ◌∙◌, subst, arith, inl, inr, append_assoc, append-nil, take, drop, ◌&&◌, ◌||◌, ◌==◌}
+use Rattle.std.specs.Prelude.{All, slice_get, not, filter, if◌then◌else◌, cond}
 use Rattle.std.proofs.lemmas.Bool.Decides.{nat_tests}
 use Rattle.std.specs.List.{slice_index_or, list_any, list_all}
 use Rattle.std.proofs.lemmas.List.{length-append}
@@ -14,22 +14,22 @@ use Rattle.bench_places.specs.declared.places.Place.{Place}
 use Rattle.bench_plays.specs.declared.puts.Put.{Put}
 use Rattle.bench_plays.specs.Games.{Game, IsGame, those, answer_at}
 use Rattle.bench_plays.specs.Plays.{Puts, Goes, Leads, IsPlay, here}
-use Rattle.bench_plays.specs.Words.{word_of, arrivals_in, shown_in, left_in, count_in}
+use Rattle.bench_plays.specs.Words.{word_of, shown_in, left_in, count_in}
 use Rattle.bench_plays.proofs.PlayLemmas.{was_in, is_prefix, not_further, ended_goes_no_further, is_whole}
-use Rattle.bench_plays.proofs.SlotLemmas.{Open, Complete, slot_tells}
+use Rattle.bench_plays.proofs.SlotLemmas.{Complete, slot_tells}
 use Rattle.bus_bench.specs.declared.hands.Hand.{Hand}
 use Rattle.bus_bench.specs.declared.hands.Setup.{Setup}
 use Rattle.bus_bench.specs.declared.hands.Told.{Told}
-use Rattle.bus_bench.specs.declared.hands.Role.TheVariants.{Host, Player}
+use Rattle.bus_bench.specs.declared.hands.Role.TheVariants.{Host}
 use Rattle.bus_bench.specs.declared.seats.Standing.{Standing}
 use Rattle.bus_bench.specs.declared.seats.Standing.TheVariants.{Playing, Lost, Ended}
-use Rattle.bus_bench.specs.Finishing.{IsFinished, AreAll, is_over, is_done, is_ended, has_won, winners, IsRunLength, IsBack, AreBack, HasBack, IsGivenBack, RunIs, IsReadOut}
-use Rattle.bus_bench.specs.Hands.{hand_game, setup_game, starter}
+use Rattle.bus_bench.specs.Finishing.{IsFinished, is_over, is_done, is_ended, has_won, winners, IsRunLength, IsBack, AreBack, HasBack, IsGivenBack, RunIs, IsReadOut}
+use Rattle.bus_bench.specs.Hands.{hand_game, starter}
 use Rattle.bus_bench.specs.Rule.{SLOTS, Knows, holds_at}
 use Rattle.bus_bench.specs.Seats as seats
 use Rattle.bus_bench.specs.Steps.{puts_back, HasRead, taken_back, nobody}
 use Rattle.bus_bench.specs.Tickets.{bench_name, IsBench, ticket_bench, player_of, is_lost, IsSeat, StandsSo}
-use Rattle.bus_bench.proofs.ViewLemmas.{one_or_other, at_those, place_of, all_count}
+use Rattle.bus_bench.proofs.ViewLemmas.{place_of, all_count}
 use Rattle.bus_bench.proofs.StepLemmas.{comes_back, reads}
 
 -- ---- coming back
@@ -74,7 +74,7 @@ are_back_end (d ∷ es) (t ∷ ss) e s are is = (are.0, are_back_end es ss e s a
 pub one_more_back : (bench : seats.BenchName) (ss : List seats.Player) (seat : seats.Player) (id id' : TableId) (me me' : Me Unit Hand) → HasBack bench ss id me → id' ≡ id → IsGivenBack seat me me' → HasBack bench (ss ++ seat ∷ []) id' me'
 one_more_back bench ss seat id id' me me' h same g =
     subst (λ (y : TableId × Me Unit Hand). HasBack bench (ss ++ seat ∷ []) y.0 y.1) (λ i. (sym same i, sym g.hand i))
-        (record { named = h.named; slots = h.slots; hosts = h.hosts; back = are_back_end me.0.back ss g.entry seat h.back g.is_back })
+    (record { named = h.named; slots = h.slots; hosts = h.hosts; back = are_back_end me.0.back ss g.entry seat h.back g.is_back })
 
 -- ---- reading the wire
 
@@ -363,6 +363,7 @@ next_winner ss xs won new n x lt x_is new_is h =
     front : (b : Bool) (x : ℕ) (ys : List ℕ) → (if b then x ∷ [] else []) ++ ys ≡ (if b then x ∷ ys else ys)
     front true x ys = refl
     front false x ys = refl
+
     drop_here : (xs : List ℕ) (n : ℕ) → n < length xs → drop n xs ≡ slice_index_or xs n 0 ∷ drop (n + 1) xs
     drop_here [] n lt = absurd (omega arith)
     drop_here (x ∷ xs) zero lt = refl
@@ -377,6 +378,7 @@ none_more (t ∷ ss) (suc n) s at e none = let step : suc n + 1 ≡ suc (n + 1) 
     or_false : (a b : Bool) → a || b ≡ false → (a ≡ false) × (b ≡ false)
     or_false false b e = (refl, e)
     or_false true b e = absurd cc
+
     both_false : (a b : Bool) → a ≡ false → b ≡ false → a || b ≡ false
     both_false a b e f = cc
 

@@ -1,11 +1,11 @@
 -- What is handed out when a bench is opened.
-use Rattle.std.proofs.Common.{◌≡◌, ◌≢◌, ◌↔◌, ℕ, zero, suc, ◌+◌, ◌<◌, ◌≤◌, List, [], ◌∷◌, ◌++◌, length, Option, Some, None, refl, sym, ap, ◌∙◌, subst, arith, replicate, map, Bool}
+use Rattle.std.proofs.Common.{◌≡◌, ◌↔◌, ℕ, zero, suc, ◌+◌, ◌<◌, List, [], ◌∷◌, ◌++◌, length, Option, Some, None, refl, sym, ap, ◌∙◌, subst, arith, map, Bool}
 use Rattle.std.specs.List.{slice_index_or}
 use Rattle.atomic_table.specs.Seated.{TableId}
 use Rattle.atomic_table.specs.Table.{Me, Splits}
 use Rattle.message_tree.specs.declared.items.Item.{Item}
 use Rattle.message_tree.specs.Texts.{Sender, SenderText}
-use Rattle.plan_core.specs.Participants.{Text, TextOf, sender_at, participant_count}
+use Rattle.plan_core.specs.Participants.{TextOf, sender_at, participant_count}
 use Rattle.plan_core.specs.PlanContents.{plan_contents}
 use Rattle.bench_places.specs.declared.places.Place.{Place}
 use Rattle.bench_places.specs.Places.{rest_of}
@@ -18,7 +18,7 @@ use Rattle.bus_bench.specs.Hands.{hand_game, setup_game, starter}
 use Rattle.bus_bench.specs.Opening.{IsHanding}
 use Rattle.bus_bench.specs.Rule.{SLOTS, holds_at}
 use Rattle.bus_bench.specs.Seats.{BenchName, game_of, fresh}
-use Rattle.bus_bench.specs.Steps.{HandPlayed, handing_out, handed_out}
+use Rattle.bus_bench.specs.Steps.{handing_out, handed_out}
 use Rattle.bus_bench.specs.Tickets.{bench_name, IsBench, ticket_bench, IsSeat}
 use Rattle.std.specs.List.{range_with_len}
 use Rattle.std.proofs.lemmas.List.{map-append}
@@ -50,7 +50,7 @@ handed_seat id bid key setup me part number starts len place sent named b out lt
     let valid : IsGame (hand_game me.0) = subst IsGame game_is b.valid in
     let here_is : slice_index_or setup.starters.items number 0 ≡ starter (hand_game me.0) me.0.seat = λ i. slice_index_or (named i).starters (sym out i) 0 in
     let sender_is : sender_at (hand_game me.0).plan (starter (hand_game me.0) me.0.seat) ≡ Some sent =
-        subst (λ (y : Game × ℕ). sender_at y.0.plan y.1 ≡ Some sent) (λ i. (game_is i, (starts_is ∙ here_is) i)) sends in
+    subst (λ (y : Game × ℕ). sender_at y.0.plan y.1 ≡ Some sent) (λ i. (game_is i, (starts_is ∙ here_is) i)) sends in
     subst (λ (m : Me Unit Hand). IsSeat m number place None 0 len Playing) (sym is) (record {
       slots = refl;
       plays = refl;
@@ -71,7 +71,7 @@ handed_seat id bid key setup me part number starts len place sent named b out lt
 pub handing_on : (bench : BenchName) (id id' : TableId) (me me' : Me Unit Hand) (number : ℕ) → IsHanding bench number id me → id' ≡ id → me' ≡ (handing_out me.0, me.1) → IsHanding bench (number + 1) id' me'
 handing_on bench id id' me me' number h same is =
     subst (λ (y : TableId × Me Unit Hand). IsHanding bench (number + 1) y.0 y.1) (λ i. (sym same i, sym is i))
-        (record { named = h.named; slots = h.slots; hosts = h.hosts; out = ap (λ (n : ℕ). n + 1) h.out; none_back = h.none_back })
+    (record { named = h.named; slots = h.slots; hosts = h.hosts; out = ap (λ (n : ℕ). n + 1) h.out; none_back = h.none_back })
 
 -- one seat more, in order
 next_place : (a n : ℕ) → range_with_len a (suc n) ≡ range_with_len a n ++ (a + n) ∷ []

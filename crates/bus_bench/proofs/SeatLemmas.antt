@@ -1,5 +1,5 @@
 -- What a seat is before and after each of its steps.
-use Rattle.std.proofs.Common.{◌≡◌, ◌≢◌, ◌⊎◌, ◌↔◌, ℕ, zero, suc, ◌+◌, ◌^◌, ◌%◌, ◌<◌, ◌≤◌, Bool, true, false, List, [], ◌∷◌, ◌++◌, length, Option, Some, None, refl, sym, ap, ◌∙◌, subst, arith, inl, inr, append_assoc, append-nil}
+use Rattle.std.proofs.Common.{◌≡◌, ◌≢◌, ◌↔◌, ℕ, zero, suc, ◌+◌, ◌^◌, ◌%◌, ◌<◌, ◌≤◌, Bool, true, false, List, [], ◌∷◌, ◌++◌, length, Option, Some, None, refl, sym, ap, ◌∙◌, subst, arith, inl, inr, append_assoc}
 use Rattle.std.specs.Prelude.{not, take}
 use Rattle.std.specs.List.{slice_index_or}
 use Rattle.std.proofs.lemmas.List.{length-append}
@@ -9,33 +9,30 @@ use Rattle.message_tree.specs.declared.items.Item.{Item}
 use Rattle.message_tree.specs.declared.items.Item.TheVariants as item
 use Rattle.plan_core.specs.Participants.{Text}
 use Rattle.plan_core.specs.Rounds.{Offers, is_item}
-use Rattle.plan_core.specs.Runs.{HasEnded}
 use Rattle.plan_core.proofs.Model.{same_item, item_is_itself}
 use Rattle.bench_places.specs.declared.places.Place.{Place}
 use Rattle.bench_places.specs.Places.{rest_of}
 use Rattle.bench_places.specs.Offers.{Begins}
 use Rattle.bench_plays.specs.declared.puts.Put.{Put}
 use Rattle.bench_plays.specs.declared.puts.Put.TheVariants.{Listen}
-use Rattle.bench_plays.specs.Games.{IsGame, those, answer_at}
-use Rattle.bench_plays.specs.Plays.{IsPlay, item_of, item_with, put_in}
+use Rattle.bench_plays.specs.Games.{those, answer_at}
+use Rattle.bench_plays.specs.Plays.{item_of, item_with, put_in}
 use Rattle.bench_plays.specs.Words.{contribution, arrivals_in, shown_in, left_in}
 use Rattle.bench_plays.proofs.PlayLemmas.{has_room, was_in}
 use Rattle.std.proofs.lemmas.Bool.Decides.{nat_tests}
 use Rattle.plan_core.specs.Lawful.{In}
 use Rattle.bus_bench.specs.declared.hands.Hand.{Hand}
 use Rattle.bus_bench.specs.declared.hands.Setup.{Setup}
-use Rattle.bus_bench.specs.declared.hands.Told.{Told}
-use Rattle.bus_bench.specs.declared.hands.Role.TheVariants.{Player}
 use Rattle.bus_bench.specs.declared.seats.Standing.{Standing}
-use Rattle.bus_bench.specs.declared.seats.Standing.TheVariants.{Playing, Lost, Ended}
-use Rattle.bus_bench.specs.Hands.{hand_game, setup_game, starter}
+use Rattle.bus_bench.specs.declared.seats.Standing.TheVariants.{Playing, Lost}
+use Rattle.bus_bench.specs.Hands.{hand_game, starter}
 use Rattle.bus_bench.specs.Rule.{SLOTS, holds_at}
-use Rattle.bus_bench.specs.Steps.{IsPlayed, IsJust, HandPlayed, put_on, HasPut, own_item, item_shown, seen_on, HasSeen}
+use Rattle.bus_bench.specs.Steps.{IsJust, HandPlayed, put_on, HasPut, own_item, item_shown, seen_on, HasSeen}
 use Rattle.bus_bench.specs.Seats as seats
 use Rattle.bus_bench.specs.declared.errors.Sight.TheVariants as sight
 use Rattle.bus_bench.specs.Tickets.{bench_name, IsBench, ticket_bench, player_of, is_lost, HasOwn, IsPlaying, StandsSo, IsSeat}
 use Rattle.bus_bench.proofs.ViewLemmas.{at_those, one_or_other}
-use Rattle.bus_bench.proofs.StepLemmas.{MayPutNow, puts, sees}
+use Rattle.bus_bench.proofs.StepLemmas.{puts, sees}
 
 -- ---- what may be put
 
@@ -188,7 +185,7 @@ module _ (id : TableId) (me : Me Unit Hand) (number : ℕ) (place : Place) (x : 
     plays = s.plays;
     valid = s.valid;
     in_place = s.in_place;
-      number_within = s.number_within;
+    number_within = s.number_within;
     played = told;
     out = ap not (differ (own_item me.0) (item_shown n me.0) (λ e. n' (sym own_there ∙ e)));
     stands = tt;
@@ -222,8 +219,7 @@ module _ (id : TableId) (me : Me Unit Hand) (number : ℕ) (place : Place) (x : 
         left = λ u.
             let step = place_is u in
             let old = st.left (w ∷ u) in
-            let along : v.told.seen ++ w ∷ u ≡ (v.told.seen ++ w ∷ []) ++ u = sym (append_assoc v.told.seen (w ∷ []) u) in
-            (
+            let along : v.told.seen ++ w ∷ u ≡ (v.told.seen ++ w ∷ []) ++ u = sym (append_assoc v.told.seen (w ∷ []) u) in (
               (λ r. subst (Text (hand_game v).plan (starter (hand_game v) v.seat)) along (old.0 (step.0 r))),
               (λ t. step.1 (old.1 (subst (Text (hand_game v).plan (starter (hand_game v) v.seat)) (sym along) t))),
             );
@@ -233,7 +229,7 @@ module _ (id : TableId) (me : Me Unit Hand) (number : ℕ) (place : Place) (x : 
         plays = s.plays;
         valid = s.valid;
         in_place = s.in_place;
-      number_within = s.number_within;
+        number_within = s.number_within;
         played = told;
         out = ap not (ap (λ (y : Item). is_item y w) same ∙ item_is_itself w) ∙ sym (not_lost w);
         stands = stands_behind w after v.told.seen place' (slot + 1) live' refl playing;
@@ -334,7 +330,7 @@ complete_slot id me me' number place x slot live n word arrived bench bit shown 
 pub lost_now : (me me' : Me Unit Hand) (number : ℕ) (place place' : Place) (x : Put) (slot live n slot' live' : ℕ) (own' : Option Put) (shown own : Item) → Slot me me' number place x slot live n shown own → own ≢ shown → IsSeat me' number place' own' slot' live' Lost
 lost_now me me' number place place' x slot live n slot' live' own' shown own c differ' =
     subst (λ (m : Me Unit Hand). IsSeat m number place' own' slot' live' Lost) (sym c.after)
-        (after_lost no_id me number place x slot live n c.seat c.played place' own' slot' live' (λ e. differ' (c.own_is ∙ e ∙ sym c.shown_is)))
+    (after_lost no_id me number place x slot live n c.seat c.played place' own' slot' live' (λ e. differ' (c.own_is ∙ e ∙ sym c.shown_is)))
 
 pub begins_on : (me me' : Me Unit Hand) (number : ℕ) (place : Place) (x : Put) (slot live n : ℕ) (shown own : Item) → Slot me me' number place x slot live n shown own → own ≡ shown → Begins (rest_of place) shown
 begins_on me me' number place x slot live n shown own c e = subst (Begins (rest_of place)) (sym c.shown_is) (begins_shown no_id me number place x slot live n c.seat c.played (sym c.own_is ∙ e ∙ c.shown_is))
@@ -343,8 +339,8 @@ pub on_now : (me me' : Me Unit Hand) (number : ℕ) (place place' : Place) (x : 
     → ((u : List Item) → rest_of place' u ↔ rest_of place (shown ∷ u)) → standing ≡ seats.standing_behind shown → IsSeat me' number place' None (slot + 1) live' standing
 on_now me me' number place place' x slot live n word live' shown own standing c e same left_is place_is stands_is =
     subst (λ (y : Me Unit Hand × Standing). IsSeat y.0 number place' None (slot + 1) live' y.1) (λ i. (sym c.after i, sym (stands_is ∙ ap seats.standing_behind c.shown_is) i))
-        (after_on no_id me number place x slot live n c.seat c.played place' live' (sym c.own_is ∙ e ∙ c.shown_is) (left_is ∙ ap (λ (k : ℕ). left_in k live) same)
-            (λ u. subst (λ (w : Item). rest_of place' u ↔ rest_of place (w ∷ u)) c.shown_is (place_is u)))
+    (after_on no_id me number place x slot live n c.seat c.played place' live' (sym c.own_is ∙ e ∙ c.shown_is) (left_is ∙ ap (λ (k : ℕ). left_in k live) same)
+    (λ u. subst (λ (w : Item). rest_of place' u ↔ rest_of place (w ∷ u)) c.shown_is (place_is u)))
 
 own_seen : (id : TableId) (me me' : Me Unit Hand) (number : ℕ) (place : Place) (x : Put) (slot live n : ℕ) (shown own : Item) → Slot me me' number place x slot live n shown own → seats.own_item (player_of id me Playing) ≡ own
 own_seen id me me' number place x slot live n shown own c = own_there id me number place x slot live n c.seat c.played ∙ sym c.own_is
@@ -355,7 +351,7 @@ saw_lost id id' me me' number place x slot live n standing shown own old plays s
     let old_is : player_of id me Playing ≡ old = (λ i. player_of id me (sym plays i)) ∙ view in
     let new_is : player_of id' me' Lost ≡ seats.after_slot shown Lost (player_of id me Playing) = (λ i. player_of (same i) (c.after i) Lost) ∙ (λ i. seats.after_slot (sym c.shown_is i) Lost (player_of id me Playing)) in
     subst (λ (o : seats.Player). seats.Saw (sight.Lost shown) o (player_of id' me' Lost)) old_is
-        (refl, has_put_here id me number place x slot live n c.seat c.played, (λ e. other (sym (own_seen id me me' number place x slot live n shown own c) ∙ e)), new_is)
+    (refl, has_put_here id me number place x slot live n c.seat c.played, (λ e. other (sym (own_seen id me me' number place x slot live n shown own c) ∙ e)), new_is)
 
 pub saw_on : (id id' : TableId) (me me' : Me Unit Hand) (number : ℕ) (place : Place) (x : Put) (slot live n : ℕ) (standing standing' : Standing) (shown own : Item) (old : seats.Player) → standing ≡ Playing → id' ≡ id → Slot me me' number place x slot live n shown own → own ≡ shown → standing' ≡ seats.standing_behind shown → player_of id me standing ≡ old
     → seats.Saw (sight.On shown) old (player_of id' me' standing')
@@ -363,7 +359,7 @@ saw_on id id' me me' number place x slot live n standing standing' shown own old
     let old_is : player_of id me Playing ≡ old = (λ i. player_of id me (sym plays i)) ∙ view in
     let new_is : player_of id' me' standing' ≡ seats.after_slot shown (seats.standing_behind shown) (player_of id me Playing) = (λ i. player_of (same i) (c.after i) (stands i)) ∙ (λ i. seats.after_slot (sym c.shown_is i) (seats.standing_behind shown) (player_of id me Playing)) in
     subst (λ (o : seats.Player). seats.Saw (sight.On shown) o (player_of id' me' standing')) old_is
-        (refl, has_put_here id me number place x slot live n c.seat c.played, own_seen id me me' number place x slot live n shown own c ∙ e, new_is)
+    (refl, has_put_here id me number place x slot live n c.seat c.played, own_seen id me me' number place x slot live n shown own c ∙ e, new_is)
 
 pub not_one : (x y : Item) (b : Bool) → b ≡ is_item x y → b ≡ false → x ≢ y
 not_one x y b is off e = let same : is_item x y ≡ true = ap (λ (w : Item). is_item w y) e ∙ item_is_itself y in cc

@@ -1,15 +1,14 @@
 -- Each kind of step keeps the rule, however many seats there are, and tells what `Steps` says.
 use Rattle.std.proofs.Common.{◌≡◌, ◌≢◌, ◌⊎◌, ℕ, zero, suc, ◌+◌, ◌^◌, ◌%◌, ◌<◌, ◌≤◌, ◌==◌, ◌&&◌, Bool, true, false, List, [], ◌∷◌, ◌++◌, length, set, Some, refl, sym, ap, ◌∙◌, subst, arith, inl, inr, replicate}
-use Rattle.std.specs.Prelude.{AllPairs, slice_get, slice_index, slice_set, not, if◌then◌else◌}
+use Rattle.std.specs.Prelude.{slice_get, slice_index, not, if◌then◌else◌}
 use Rattle.std.specs.List.{slice_index_or}
-use Rattle.std.proofs.lemmas.List.{length-set, length-replicate, length-append, get_or-replicate, get_or-set_same, get_or-set_other, set-get_or}
+use Rattle.std.proofs.lemmas.List.{length-set, length-replicate, get_or-replicate, get_or-set_same, get_or-set_other, set-get_or}
 use Rattle.std.proofs.lemmas.Bool.{cases_lt, cases_eq}
-use Rattle.std.proofs.lemmas.Option.{slice_get_within}
 use Rattle.std.proofs.lemmas.Bool.Decides.{nat_tests}
 use mathlib.Core.Option.{some, some-injective, some-ne-none}
 use lib.ListN.{get_elem?}
-use Rattle.atomic_table.specs.Table.{State, Me, Step, step, Allows, Splits, Joins, keeps, opening as table_opening, stepped}
-use Rattle.atomic_table.proofs.Lists.{at_set, at_snoc, set_again}
+use Rattle.atomic_table.specs.Table.{Allows, Splits, Joins, keeps, opening as table_opening}
+use Rattle.atomic_table.proofs.Lists.{at_set, set_again}
 use Rattle.message_tree.specs.declared.items.Item.{Item}
 use Rattle.plan_core.specs.Lawful.{Set, In}
 use Rattle.plan_core.specs.Rounds.{Offers, is_item, survivors}
@@ -24,8 +23,8 @@ use Rattle.bus_bench.specs.declared.hands.Told.{Told}
 use Rattle.bus_bench.specs.declared.hands.Role.{Role}
 use Rattle.bus_bench.specs.declared.hands.Role.TheVariants.{Host, Player, Nobody}
 use Rattle.bus_bench.specs.Hands.{hand_game, setup_game, starter}
-use Rattle.bus_bench.specs.Rule.{SLOTS, Knows, Holder, FitsPlayer, FitsHost, FitsRole, Fits, IsWired, holds_at, opening, none_told}
-use Rattle.bus_bench.specs.Steps.{IsPlayed, IsJust, HandPlayed, put_on, HasPut, own_item, item_shown, seen_on, HasSeen, puts_back, HasRead, handing_out, handed_out, taken_back, nobody}
+use Rattle.bus_bench.specs.Rule.{SLOTS, Knows, Holder, FitsPlayer, FitsHost, FitsRole, Fits, IsWired, holds_at, opening}
+use Rattle.bus_bench.specs.Steps.{HandPlayed, put_on, HasPut, own_item, item_shown, seen_on, HasSeen, puts_back, HasRead, handing_out, handed_out, taken_back, nobody}
 use Rattle.bench_plays.proofs.PlayLemmas.{start_is_play, PutOn, put_is_play, not_further, is_prefix}
 use Rattle.bench_plays.proofs.WordLemmas.{word_small, contribution_small, word_none, word_put_here, word_put_elsewhere}
 use Rattle.bench_plays.proofs.SlotLemmas.{Open, Complete, slot_tells}
@@ -81,6 +80,7 @@ opens setup valid = record {
   where
     host : FitsHost (setup_game setup) (λ p. []) [] (those setup.starters.items) (λ k. 0) 0 (opening setup)
     host = record { one_game = refl; first = refl; made = omega arith; unmade = λ k a b. (refl, refl); returned = λ k e at. absurd cc; once = λ i k d e at_i at_k same. absurd cc }
+
     host_alone : (id : ℕ) (v : Hand) → get_elem? (opening setup ∷ []) id ≡ some v → Fits (setup_game setup) (λ p. []) [] (those setup.starters.items) (λ k. 0) id v
     host_alone zero v e = subst (Fits (setup_game setup) (λ p. []) [] (those setup.starters.items) (λ k. 0) 0) (some-injective _ _ e) host
     host_alone (suc id) v e = absurd (some-ne-none v (sym e))
@@ -149,7 +149,7 @@ module _ (words : List ℕ) (views : List Hand) (id : ℕ) (v : Hand) (x : Put) 
       let many : length (h.puts p) ≡ length h.wire = ap length k.made ∙ may.none_yet ∙ sym (ap length led_here.0) in
       let is_live : In p h.live = ap (λ (s : Set). s p) led_here.1 ∙ k.here ∙ ap not may.is_live in
       put_is_play (hand_game v) h.puts h.wire h.live p x h.valid h.play is_live many
-          (subst (λ (u : List Item). Offers (hand_game v).plan p u (item_of v.answers (length u) x)) (sym led_here.0) may.offers)
+      (subst (λ (u : List Item). Offers (hand_game v).plan p u (item_of v.answers (length u) x)) (sym led_here.0) may.offers)
 
   word_after : (k : ℕ) → k < SLOTS → slice_index (set words (length v.told.seen) ((slice_index words (length v.told.seen) + contribution x) % 2 ^ 64)) k ≡ word_of v.starters (with_put h.puts (starter (hand_game v) v.seat) x) k
   word_after k lt =
@@ -421,18 +421,18 @@ module _ (words : List ℕ) (views : List Hand) (id : ℕ) (v : Hand) (hosts : v
     unfolding new_holder
     new_host =
         host_under (hand_game v) h.puts h.wire h.live h.holder (held_by h.holder v.seat (suc (length views))) id v (handing_out v) refl (omega arith) (omega arith) refl
-            (λ k le. held_else h.holder v.seat (suc (length views)) k (λ e. omega arith))
-            (λ k lt. held_else h.holder v.seat (suc (length views)) k (λ e. omega arith))
-            host_here
+        (λ k le. held_else h.holder v.seat (suc (length views)) k (λ e. omega arith))
+        (λ k lt. held_else h.holder v.seat (suc (length views)) k (λ e. omega arith))
+        host_here
 
     fits_beside : (j : ℕ) (u : Hand) → j ≢ id → Fits (hand_game v) h.puts h.wire h.live h.holder j u → Fits (hand_game v) h.puts h.wire h.live new_holder j u
     unfolding new_holder
     fits_beside j u n f =
         refit (hand_game v) h.puts h.puts h.wire h.wire h.live h.live h.holder new_holder j u
-            (λ g. absurd (n (g.first ∙ sym host_here.first)))
-            (λ g. player_under (hand_game v) h.puts h.wire h.live h.holder (held_by h.holder v.seat (suc (length views))) j u
-                (held_else h.holder v.seat (suc (length views)) u.seat (λ e. let a : h.holder u.seat ≡ suc j = g.holds in let b : h.holder v.seat ≡ 0 = (host_here.unmade v.seat (omega arith) room).0 in let c : h.holder u.seat ≡ h.holder v.seat = ap h.holder e in omega arith)) g)
-            f
+        (λ g. absurd (n (g.first ∙ sym host_here.first)))
+        (λ g. player_under (hand_game v) h.puts h.wire h.live h.holder (held_by h.holder v.seat (suc (length views))) j u
+        (held_else h.holder v.seat (suc (length views)) u.seat (λ e. let a : h.holder u.seat ≡ suc j = g.holds in let b : h.holder v.seat ≡ 0 = (host_here.unmade v.seat (omega arith) room).0 in let c : h.holder u.seat ≡ h.holder v.seat = ap h.holder e in omega arith)) g)
+        f
 
     split_keeps : IsWired (hand_game v) words (set views id (handing_out v) ++ handed_out v ∷ [])
     split_keeps = record {
@@ -500,10 +500,10 @@ module _ (words : List ℕ) (views : List Hand) (id : ℕ) (v : Hand) (hosts : v
     unfolding left_holder
     stays_beside j u n m f =
         refit (hand_game v) h.puts h.puts h.wire h.wire h.live h.live h.holder left_holder j u
-            (λ g. absurd (n (g.first ∙ sym host_here.first)))
-            (λ g. player_under (hand_game v) h.puts h.wire h.live h.holder (held_by h.holder w.seat 0) j u
-                (held_else h.holder w.seat 0 u.seat (λ e. let a : h.holder u.seat ≡ suc j = g.holds in let b : h.holder w.seat ≡ suc other = guest.holds in let c : h.holder u.seat ≡ h.holder w.seat = ap h.holder e in m (omega arith))) g)
-            f
+        (λ g. absurd (n (g.first ∙ sym host_here.first)))
+        (λ g. player_under (hand_game v) h.puts h.wire h.live h.holder (held_by h.holder w.seat 0) j u
+        (held_else h.holder w.seat 0 u.seat (λ e. let a : h.holder u.seat ≡ suc j = g.holds in let b : h.holder w.seat ≡ suc other = guest.holds in let c : h.holder u.seat ≡ h.holder w.seat = ap h.holder e in m (omega arith))) g)
+        f
 
     join_keeps : IsWired (hand_game v) words (set (set views id (taken_back v w)) other nobody)
     join_keeps = record {

@@ -1,6 +1,6 @@
 -- Lists of starters, and of what came back.
-use Rattle.std.proofs.Common.{◌≡◌, ◌≢◌, ◌⊎◌, ℕ, zero, suc, ◌+◌, ◌<◌, ◌≤◌, ◌==◌, Bool, true, false, List, [], ◌∷◌, ◌++◌, length, Some, refl, sym, ap, ◌∙◌, subst, arith, inl, inr, map, get_or, eqb}
-use Rattle.std.specs.Prelude.{AllPairs, All, slice_get, count_by, cond, if◌then◌else◌}
+use Rattle.std.proofs.Common.{◌≡◌, ◌≢◌, ◌⊎◌, ℕ, zero, suc, ◌+◌, ◌<◌, ◌==◌, Bool, true, false, List, [], ◌∷◌, length, Some, refl, sym, ap, ◌∙◌, subst, arith, inl, inr, map, get_or, eqb}
+use Rattle.std.specs.Prelude.{AllPairs, All, slice_get, cond, if◌then◌else◌}
 use Rattle.std.specs.List.{slice_index_or, list_any}
 use Rattle.std.proofs.lemmas.Bool.{cases_lt}
 use Rattle.std.proofs.lemmas.Bool.{eqb-true}
@@ -14,7 +14,6 @@ use Rattle.std.proofs.lemmas.Map.Made.{IsDistinct-from_AllPairs}
 use Rattle.std.proofs.lemmas.Map.Steps.{length-le_from_distinct_below}
 use Rattle.std.proofs.lemmas.Bool.Decides.{nat_tests}
 use Rattle.plan_core.specs.Lawful.{Set, In}
-use Rattle.bench_plays.specs.declared.puts.Put.{Put}
 use Rattle.bench_plays.specs.Games.{Game, those}
 use Rattle.bus_bench.specs.Hands.{starter}
 use Rattle.bench_plays.specs.Plays.{Puts}
@@ -113,10 +112,12 @@ every_place es n many below once j lt =
     entry [] k within = absurd (omega arith)
     entry (e ∷ es) zero within = (e, refl, λ d. refl)
     entry (e ∷ es) (suc k) within = entry es k (omega arith)
+
     default_free : (xs : List ℕ) (k d : ℕ) → k < length xs → get_or xs k d ≡ slice_index_or xs k 0
     default_free [] k d within = absurd (omega arith)
     default_free (x ∷ xs) zero d within = refl
     default_free (x ∷ xs) (suc k) d within = default_free xs k d (omega arith)
+
     below_any : (xs : List ℕ) (n q : ℕ) → All (λ x. x < n) xs → list_any (eqb q) xs ≡ true → q < n
     below_any xs n q all any = let a = Any-from_list_any (eqb q) xs any in omega (arith, all a.0 a.1 a.2, a.3, eqb-true q a.1 a.4)
 

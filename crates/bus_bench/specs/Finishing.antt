@@ -12,7 +12,7 @@ use Rattle.bus_bench.specs.declared.errors.FinishFault.TheVariants.{Missing, Not
 use Rattle.bus_bench.specs.declared.hands.Hand.{Hand}
 use Rattle.bus_bench.specs.declared.hands.Told.{Told}
 use Rattle.bus_bench.specs.declared.seats.Standing.{Standing}
-use Rattle.bus_bench.specs.declared.seats.Standing.TheVariants.{Playing, Lost, Ended}
+use Rattle.bus_bench.specs.declared.seats.Standing.TheVariants.{Playing, Ended}
 use Rattle.bus_bench.specs.Hands.{hand_game, starter}
 use Rattle.bus_bench.specs.Rule.{SLOTS, Knows}
 use Rattle.bus_bench.specs.declared.hands.Role.TheVariants.{Host}

@@ -1,5 +1,5 @@
 -- What hands know, in the words of plays.
-use Rattle.std.specs.Prelude.{◌≡◌, ℕ, ◌<◌, Bool, true, false, not, List, [], ◌∷◌, ◌++◌, length, Option, Some, None}
+use Rattle.std.specs.Prelude.{ℕ, Option, Some, None}
 use Rattle.std.specs.List.{slice_index_or}
 use Rattle.plan_core.specs.declared.plans.Plan.{Plan}
 use Rattle.plan_core.specs.Contents.{Contents, empty}

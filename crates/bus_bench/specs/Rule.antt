@@ -1,6 +1,6 @@
 -- The rule of a bench: at every moment the puts of all starters are a play, the words count them slot by slot, each seat
 -- has seen a state that the play has passed, and the host knows what the seats that came back had done.
-use Rattle.std.specs.Prelude.{◌≡◌, ℕ, suc, ◌<◌, ◌≤◌, Bool, true, false, not, List, [], ◌∷◌, length, Option, Some, None, ⊤, slice_get, slice_index, count_by}
+use Rattle.std.specs.Prelude.{◌≡◌, ℕ, suc, ◌<◌, ◌≤◌, false, not, List, [], length, Some, ⊤, slice_get, slice_index}
 use mathlib.Core.Option.{some}
 use lib.ListN.{get_elem?}
 use Rattle.atomic_table.specs.Table.{State}

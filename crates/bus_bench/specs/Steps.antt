@@ -1,17 +1,17 @@
 -- What each kind of step tells the one who steps.
-use Rattle.std.specs.Prelude.{◌≡◌, ℕ, suc, ◌+◌, ◌<◌, ◌≤◌, ◌⊎◌, Bool, true, false, not, if◌then◌else◌, ◌==◌, List, [], ◌∷◌, ◌++◌, length, Option, Some, None, slice_get}
+use Rattle.std.specs.Prelude.{◌≡◌, ℕ, ◌+◌, ◌<◌, ◌⊎◌, not, if◌then◌else◌, ◌==◌, List, [], ◌∷◌, ◌++◌, length, Some, None, slice_get}
 use Rattle.std.specs.List.{slice_index_or}
 use Rattle.message_tree.specs.declared.items.Item.{Item}
 use Rattle.plan_core.specs.Lawful.{Set}
 use Rattle.plan_core.specs.Rounds.{is_item}
 use Rattle.bench_plays.specs.declared.puts.Put.{Put}
 use Rattle.bench_plays.specs.declared.puts.Put.TheVariants.{Listen}
-use Rattle.bench_plays.specs.Games.{Game, IsGame, answer_at}
+use Rattle.bench_plays.specs.Games.{Game, answer_at}
 use Rattle.bench_plays.specs.Plays.{Puts, IsPlay, item_of}
 use Rattle.bench_plays.specs.Words.{contribution, word_of, arrivals_in, shown_in, left_in}
 use Rattle.bus_bench.specs.declared.hands.Hand.{Hand}
 use Rattle.bus_bench.specs.declared.hands.Told.{Told}
-use Rattle.bus_bench.specs.declared.hands.Role.TheVariants.{Host, Player, Nobody}
+use Rattle.bus_bench.specs.declared.hands.Role.TheVariants.{Player, Nobody}
 use Rattle.bus_bench.specs.Hands.{hand_game, starter}
 use Rattle.bus_bench.specs.Rule.{none_told, Knows}
 

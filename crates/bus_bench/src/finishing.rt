@@ -104,9 +104,7 @@ fn add_winner(
 fn is_winner(seats: &[Seat<'_>], number: u32) -> bool
     ensures { result ≡ has_won seats.now number }
 {
-    seats
-        .iter()
-        .any(|seat| seat.number == number && seat.standing == Standing::Ended)
+    seats.iter().any(|seat| seat.number == number && seat.standing == Standing::Ended)
 }
 
 // How many slots the run has: those of a seat that saw its end.

@@ -57,14 +57,17 @@ impl<'a> Seat<'a> {
         if self.own.is_some() {
             return Err(PutError::Early);
         }
-        if !self.place.offered().allows(put.item(bench.answer(self.slot))) {
+        if !self
+            .place
+            .offered()
+            .allows(put.item(bench.answer(self.slot)))
+        {
             return Err(PutError::NotOffered);
         }
-        bench.wire.shared.fetch_add::<Puts>(
-            &mut self.ticket,
-            self.slot as usize,
-            put.contribution(),
-        );
+        bench
+            .wire
+            .shared
+            .fetch_add::<Puts>(&mut self.ticket, self.slot as usize, put.contribution());
         self.own = Some(put);
         Ok(())
     }

@@ -22,7 +22,6 @@ pub struct Bench<'a> {
 impl<'a> Model for Bench<'a> {
     ghost use Rattle.bus_bench.specs.Seats.{BenchName};
     ghost use Rattle.bus_bench.specs.Tickets.{bench_name, IsBench};
-
     ghost use Rattle.std.specs.Coded.{codes};
     ghost use Rattle.plan_core.specs.contracts.plans.Plan as plan;
 
@@ -44,7 +43,6 @@ pub struct Host {
 impl Model for Host {
     ghost use Rattle.bus_bench.specs.Seats.{BenchName};
     ghost use Rattle.bus_bench.specs.Tickets.{ticket_bench, IsHost};
-
     ghost use Rattle.std.specs.Coded.{codes};
     ghost use Rattle.plan_core.specs.contracts.plans.Plan as plan;
 
@@ -87,7 +85,6 @@ pub struct Seat<'a> {
 impl<'a> Model for Seat<'a> {
     ghost use Rattle.bus_bench.specs.Seats.{Player};
     ghost use Rattle.bus_bench.specs.Tickets.{player_of, IsSeat};
-
     ghost use Rattle.std.specs.Coded.{codes};
     ghost use Rattle.plan_core.specs.contracts.plans.Plan as plan;
 

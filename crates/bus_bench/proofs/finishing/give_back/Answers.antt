@@ -1,4 +1,3 @@
-use Rattle.std.proofs.Common.{rules, ◌≡◌, ◌∙◌, ap, sym, refl}
 use Rattle.bus_bench.proofs.FinishLemmas.{join_allowed, given_back}
 use Rattle.bus_bench.proofs.finishing.give_back.Goals as goal
 

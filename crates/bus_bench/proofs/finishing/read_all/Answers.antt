@@ -1,4 +1,4 @@
-use Rattle.std.proofs.Common.{rules, ◌≡◌, ◌∙◌, ap, sym, refl, subst, length, List}
+use Rattle.std.proofs.Common.{◌∙◌, sym, subst, length, List}
 use Rattle.bus_bench.specs.Finishing.{IsRunLength, HasBack}
 use Rattle.bus_bench.specs.Seats.{BenchName, Player}
 use Rattle.bus_bench.proofs.FinishLemmas.{as_many_back, runs_are, finished, of_bench, host_game_valid}

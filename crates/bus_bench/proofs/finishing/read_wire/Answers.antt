@@ -1,6 +1,5 @@
-use Rattle.std.proofs.Common.{rules, ◌≡◌, ◌<◌, ◌≤◌, ◌+◌, ◌∷◌, ◌++◌, [], ℕ, ◌∙◌, ap, sym, refl, subst, arith, length, List}
+use Rattle.std.proofs.Common.{◌≡◌, ◌<◌, ◌≤◌, ◌+◌, ◌∷◌, [], ℕ, ◌∙◌, ap, sym, refl, subst, arith, length, List}
 use Rattle.std.proofs.lemmas.List.{length-append}
-use Rattle.atomic_table.specs.Seated.{TableId}
 use Rattle.atomic_table.specs.Table.{Me}
 use Rattle.message_tree.specs.declared.items.Item.{Item}
 use Rattle.bench_plays.specs.Games.{answer_at}
@@ -38,7 +37,7 @@ load-requires-in-loop-slot c =
     let below : l.slot < c.args.count = c.loop-slot-test.true in
     let run = c.requires.run.0 in
     read_allowed l.ticket.table_id w.table_id w.key c.args.setup.now l.ticket.id l.ticket.me l.slot named c.requires.bench (ap (λ (m : Me Unit Hand). m.1) me_is ∙ c.requires.slots) (ap (λ (m : Me Unit Hand). m.0.role) me_is ∙ c.requires.host)
-        (ap (λ (m : Me Unit Hand). length m.0.back) me_is ∙ c.requires.all ∙ ap (λ (m : Me Unit Hand). length m.0.starters) (sym me_is)) (omega arith)
+    (ap (λ (m : Me Unit Hand). length m.0.back) me_is ∙ c.requires.all ∙ ap (λ (m : Me Unit Hand). length m.0.starters) (sym me_is)) (omega arith)
 
 pub loop-slot-preserved : goal.loop-slot-preserved
 loop-slot-preserved c =
@@ -52,8 +51,7 @@ loop-slot-preserved c =
     let answers : c.deref.result.now ≡ t.me.0.answers = c.deref.ensures.value ∙ (λ j. (c.requires.named j).answers) in
     let shown : c.shown.result ≡ shown_in c.load-in-loop-slot.result (answer_at t.me.0.answers l.slot) = c.shown.ensures ∙ (λ j. shown_in (word j) (c.answer_in.ensures j)) ∙ ap (λ xs. shown_in c.load-in-loop-slot.result (answer_at xs l.slot)) answers in
     let left : c.left-live.result ≡ left_in c.load-in-loop-slot.result l.live = c.left-live.ensures ∙ ap (λ (n : ℕ). left_in n l.live) word in
-    let next = read_on t.me.0 c.args.count l.items.items l.live l.slot c.load-in-loop-slot.result c.shown.result c.left-live.result valid i.7 found i.5 c.loop-slot-test.true shown left in
-    (
+    let next = read_on t.me.0 c.args.count l.items.items l.live l.slot c.load-in-loop-slot.result c.shown.result c.left-live.result valid i.7 found i.5 c.loop-slot-test.true shown left in (
       refl,
       refl,
       refl,

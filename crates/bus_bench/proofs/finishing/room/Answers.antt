@@ -1,4 +1,4 @@
-use Rattle.std.proofs.Common.{rules, ◌≡◌, ◌<◌, ◌∙◌, ap, sym, refl, subst, ℕ, List, length}
+use Rattle.std.proofs.Common.{◌≡◌, ◌<◌, ap, refl, subst, ℕ, List, length}
 use Rattle.std.specs.List.{slice_index_or}
 use Rattle.bus_bench.proofs.FinishLemmas.{next_winner}
 use Rattle.bus_bench.proofs.finishing.room.Goals as goal

@@ -1,4 +1,4 @@
-use Rattle.std.proofs.Common.{◌≡◌, refl}
+use Rattle.std.proofs.Common.{refl}
 use Rattle.bus_bench.proofs.FinishLemmas.{one_more_back}
 use Rattle.bus_bench.proofs.finishing.take_back.Goals as goal
 

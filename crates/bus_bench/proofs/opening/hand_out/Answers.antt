@@ -1,9 +1,8 @@
-use Rattle.std.proofs.Common.{rules, ◌≡◌, ◌<◌, ◌∙◌, length, ap, sym, subst, refl}
+use Rattle.std.proofs.Common.{◌<◌, ◌∙◌, length, sym, subst}
 use Rattle.bus_bench.specs.Seats.{BenchName}
 use Rattle.bus_bench.proofs.ViewLemmas.{any_default}
-use Rattle.bus_bench.specs.Tickets.{bench_name, ticket_bench}
 use Rattle.bus_bench.specs.Opening.{IsHanding}
-use Rattle.bus_bench.proofs.OpeningLemmas.{hand_out_allowed, starter_known, handed_seat, handing_on}
+use Rattle.bus_bench.proofs.OpeningLemmas.{hand_out_allowed, starter_known, handed_seat}
 use Rattle.bus_bench.proofs.opening.hand_out.Goals as goal
 
 pub split_seat-part-requires : goal.split_seat-part-requires

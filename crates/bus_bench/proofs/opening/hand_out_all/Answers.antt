@@ -1,12 +1,10 @@
-use Rattle.std.proofs.Common.{◌≡◌, ◌∙◌, ◌∷◌, ◌++◌, [], ap, refl}
-use Rattle.bus_bench.specs.Seats.{Player, fresh}
+use Rattle.std.proofs.Common.{◌∙◌, ◌∷◌, ◌++◌, [], refl}
 use Rattle.bus_bench.proofs.OpeningLemmas.{one_more_seat}
 use Rattle.bus_bench.proofs.opening.hand_out_all.Goals as goal
 
 pub loop-number-preserved : goal.loop-number-preserved
 loop-number-preserved c =
-    let i = c.loop-number.invariant in
-    (
+    let i = c.loop-number.invariant in (
       refl,
       i.1,
       c.hand_out.ensures.host,

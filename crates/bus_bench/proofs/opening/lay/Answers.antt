@@ -1,4 +1,4 @@
-use Rattle.std.proofs.Common.{rules, ◌≡◌, ◌∙◌, ap, sym, subst, refl, ℕ, List, [], ◌∷◌, length, replicate}
+use Rattle.std.proofs.Common.{◌≡◌, ◌∙◌, ap, sym, subst, ℕ, List, [], ◌∷◌, length, replicate}
 use Rattle.bus_bench.specs.Hands.{setup_game}
 use Rattle.bus_bench.specs.Rule.{SLOTS, IsWired, opening}
 use Rattle.std.proofs.lemmas.List.{length-replicate}

@@ -1,4 +1,3 @@
-use Rattle.std.proofs.Common.{rules, ◌≡◌, ◌∙◌, ap, sym, refl}
 use Rattle.bus_bench.proofs.OpeningLemmas.{set_up}
 use Rattle.bus_bench.proofs.opening.open.Goals as goal
 

@@ -1,4 +1,4 @@
-use Rattle.std.proofs.Common.{rules, ◌≡◌, ◌∙◌, ap, sym, subst, refl, ℕ, Bool, true, Option, Some, None}
+use Rattle.std.proofs.Common.{rules, ◌≡◌, ◌∙◌, ap, sym, subst, refl, ℕ, Bool, Option, Some, None}
 use Rattle.std.specs.Prelude.{IsTrue}
 use Rattle.atomic_table.specs.Seated.{TableId}
 use Rattle.atomic_table.specs.Table.{Me}
@@ -13,7 +13,7 @@ use Rattle.bus_bench.specs.declared.hands.Hand.{Hand}
 use Rattle.bus_bench.specs.declared.seats.Standing.{Standing}
 use Rattle.bus_bench.specs.declared.seats.Standing.TheVariants.{Playing}
 use Rattle.bus_bench.specs.Seats.{BenchName}
-use Rattle.bus_bench.specs.Tickets.{IsSeat, bench_name, ticket_bench}
+use Rattle.bus_bench.specs.Tickets.{IsSeat, ticket_bench}
 use Rattle.bus_bench.proofs.SeatLemmas.{put_allowed, put_done}
 use Rattle.bus_bench.proofs.seats.Seat.put.Goals as goal
 

@@ -1,21 +1,12 @@
-use Rattle.std.proofs.Common.{rules, ◌≡◌, ◌≢◌, ◌<◌, ◌↔◌, ◌+◌, ◌∙◌, ap, sym, subst, refl, ℕ, Bool, true, List, ◌∷◌, Option, Some, None}
-use Rattle.atomic_table.specs.Seated.{TableId}
+use Rattle.std.proofs.Common.{rules, ◌≡◌, ◌+◌, ◌∙◌, ap, sym, subst, ℕ, Option, Some, None}
 use Rattle.atomic_table.specs.Table.{Me}
-use Rattle.message_tree.specs.declared.items.Item.{Item}
 use Rattle.bench_places.specs.declared.places.Place.{Place}
-use Rattle.bench_places.specs.Places.{rest_of}
-use Rattle.bench_places.specs.Offers.{Begins}
 use Rattle.bench_plays.specs.declared.puts.Put.{Put}
-use Rattle.bench_plays.specs.Games.{answer_at}
-use Rattle.bench_plays.specs.Plays.{item_of, item_with}
-use Rattle.bench_plays.specs.Words.{arrivals_in, shown_in, left_in}
+use Rattle.bench_plays.specs.Words.{arrivals_in}
 use Rattle.bus_bench.specs.declared.hands.Hand.{Hand}
 use Rattle.bus_bench.specs.declared.seats.Standing.{Standing}
-use Rattle.bus_bench.specs.declared.seats.Standing.TheVariants.{Playing, Lost}
-use Rattle.bus_bench.specs.declared.errors.Sight.TheVariants as sight
-use Rattle.bus_bench.specs.Seats.{BenchName, Saw, Player, standing_behind}
-use Rattle.bus_bench.specs.Steps.{HasSeen, item_shown}
-use Rattle.bus_bench.specs.Tickets.{IsSeat, bench_name, ticket_bench, player_of}
+use Rattle.bus_bench.specs.declared.seats.Standing.TheVariants.{Playing}
+use Rattle.bus_bench.specs.Tickets.{IsSeat, ticket_bench}
 use Rattle.bus_bench.proofs.SeatLemmas.{see_allowed, still_waits, never_waits_alone, complete_slot, lost_now, on_now, begins_on, saw_lost, saw_on, not_one, is_one}
 use Rattle.bus_bench.proofs.seats.Seat.see.Goals as goal
 
