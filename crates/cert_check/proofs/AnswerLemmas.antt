@@ -21,7 +21,7 @@ use Rattle.cert_check.specs.declared.answers.Answer.{Answer}
 use Rattle.cert_check.specs.declared.answers.Answer.TheVariants.{Safe, Unsafe, Wrong}
 use Rattle.cert_check.specs.declared.answers.AcceptError.{AcceptError}
 use Rattle.cert_check.specs.declared.answers.AcceptError.TheVariants.{Plan, NoMemory}
-use Rattle.cert_check.specs.Accepts.{IsCertified, IsRefuted, IsMistaken, Contradicts, Answers, FoundSafe}
+use Rattle.cert_check.specs.Accepts.{IsCertified, IsRefuted, IsMistaken, Contradicts, Answers, AnswersPlan, FoundSafe}
 use Rattle.cert_check.specs.Judged.{Judges, IsJudged, IsAnswer, IsAnswered, IsRight}
 use Rattle.cert_check.specs.Refused.{refused_with}
 use Rattle.cert_check.proofs.Checked.{at_get, certified_is_safe, not_wrong, wrong_once}
@@ -55,6 +55,26 @@ refusal_right p q (plan_error.Unknown line) (inr f) = (f, λ e. cc)
 -- a refusal of the plan's text
 pub refused_right : (p q : List ℕ) (e : PlanError) (r : Result Answer AcceptError) → r ≡ Err (refused_with e) → (e ≡ plan_error.NoMemory) ⊎ refusals.First p e → IsRight p q r
 refused_right p q e r is h = subst (IsRight p q) (sym is) (refusal_right p q e h)
+
+pub answers_plan : (plan : Contents) (bytes : List ℕ) (answer : Answer) → IsJudged plan bytes answer → AnswersPlan plan bytes answer
+answers_plan plan bytes Safe (proofs trees, spelled, certified) text s = record { plan = plan; plan_spelled = s; trees = trees; proofs_spelled = spelled; certified = certified }
+answers_plan plan bytes Safe (flaw pair wire first second, spelled, none) text s = absurd none
+answers_plan plan bytes Unsafe (proofs trees, spelled, none) text s = absurd none
+answers_plan plan bytes Unsafe (flaw pair wire first second, spelled, fault) text s = record {
+  plan = plan;
+  plan_spelled = s;
+  pair = pair;
+  wire = wire;
+  first = first;
+  second = second;
+  flaw_spelled = spelled;
+  fault = fault;
+}
+answers_plan plan bytes (Wrong fault) (proofs trees, spelled, wrong) text s = record { plan = plan; plan_spelled = s; why = inr (proofs trees, spelled, wrong) }
+answers_plan plan bytes (Wrong fault) (flaw pair wire first second, spelled, wrong) text s = record { plan = plan; plan_spelled = s; why = inr (flaw pair wire first second, spelled, wrong) }
+
+pub answers_refused : (plan : Contents) (bytes : List ℕ) (fault : CertFault) → First bytes fault → AnswersPlan plan bytes (Wrong fault)
+answers_refused plan bytes fault first text s = record { plan = plan; plan_spelled = s; why = inl first }
 
 -- ---- what is right is answered
 
@@ -144,7 +164,7 @@ refuses p q (Err NoMemory) e a f = inr refl
 
 -- ---- what is found safe
 
-judged_safe : (plan : Contents) (value : Certificate) → Judges plan value Safe → IsSafe plan
+pub judged_safe : (plan : Contents) (value : Certificate) → Judges plan value Safe → IsSafe plan
 judged_safe plan (proofs trees) j = certified_is_safe plan trees j
 judged_safe plan (flaw pair wire first second) j = absurd j
 

@@ -11,7 +11,7 @@ use Rattle.certificate.specs.Texts as certificates
 use Rattle.plan_core.specs.Contents.{Contents}
 use Rattle.plan_text.specs.Grammar as plans
 use Rattle.cert_check.specs.declared.answers.Answer.{Answer}
-use Rattle.cert_check.specs.declared.answers.Answer.TheVariants.{Safe}
+use Rattle.cert_check.specs.declared.answers.Answer.TheVariants.{Safe, Unsafe, Wrong}
 use Rattle.cert_check.specs.declared.answers.AcceptError.{AcceptError}
 use Rattle.cert_check.specs.declared.answers.AcceptError.TheVariants.{NoMemory}
 use Rattle.cert_check.specs.PairFaults.{IsPairFault}
@@ -53,6 +53,16 @@ pub record IsMistaken (plan_bytes cert_bytes : List ℕ) (fault : CertFault) : T
   pub plan : Contents
   pub plan_spelled : plans.Spells plan_bytes plan
   pub why : First cert_bytes fault ⊎ SpellsWrong plan cert_bytes fault
+
+-- the answer is right for the bytes of a plan and of a certificate
+abbrev pub AnswersBytes : List ℕ → List ℕ → Answer → Type 0
+AnswersBytes plan cert Safe = IsCertified plan cert
+AnswersBytes plan cert Unsafe = IsRefuted plan cert
+AnswersBytes plan cert (Wrong fault) = IsMistaken plan cert fault
+
+-- it is right for these bytes of a certificate, and for all that spell this plan
+abbrev pub AnswersPlan : Contents → List ℕ → Answer → Type 0
+AnswersPlan plan cert answer = (text : List ℕ) → plans.Spells text plan → AnswersBytes text cert answer
 
 -- this is the answer, unless memory was refused
 abbrev pub Answers : Result Answer AcceptError → Result Answer AcceptError → Type 0

@@ -1,6 +1,6 @@
 // A plan and its certificate, both as bytes.
 
-ghost use Rattle.std.specs.Prelude.{◌≡◌, ◌≤◌, ℕ, [], List, Bool, length, Ok, Err, IfOk, IfErr, MatchResult};
+ghost use Rattle.std.specs.Prelude.{◌≡◌, ◌≢◌, ◌≤◌, ℕ, [], List, Bool, length, Ok, Err, IfOk, OnOk, IfErr, MatchResult};
 ghost use Rattle.message_tree.specs.declared.items.Item.{Item};
 ghost use Rattle.message_tree.specs.declared.items.Item.TheVariants.{Heard};
 ghost use Rattle.certificate.specs.declared.errors.CertFault.{CertFault};
@@ -16,16 +16,18 @@ ghost use Rattle.plan_core.specs.Runs.{IsReached, HasEnded, Whole};
 ghost use Rattle.plan_text.specs.declared.errors.PlanError.{PlanError};
 ghost use Rattle.plan_text.specs.Grammar.{Spells};
 ghost use Rattle.plan_text.specs.Refusals.{First};
-ghost use Rattle.cert_check.specs.Accepts.{IsCertified, IsRefuted, IsMistaken, Answers, FoundSafe};
+ghost use Rattle.cert_check.specs.Accepts.{IsCertified, IsRefuted, IsMistaken, Answers, AnswersPlan, FoundSafe};
+ghost use Rattle.cert_check.specs.Holds.{accepted_plan};
 ghost use Rattle.cert_check.specs.Judged.{Judges, IsJudged, IsRight};
 
+use crate::accepted::Accepted;
 use crate::answers::{AcceptError, Answer};
 use crate::faults::check_fault;
 use crate::tallies::Tally;
 use certificate::{CertError, CertFault, Fault, Head, ProofLines, read_head};
 use plan_core::Plan;
 use plan_text::read_plan;
-use std::alloc::Global;
+use std::alloc::{AllocError, Global};
 
 /// Whether the certificate proves that the plan is safe, or shows that it is not.
 ///
@@ -82,6 +84,26 @@ pub fn accept(alloc: Global, plan: &[u8], cert: &[u8]) -> Result<Answer, AcceptE
     ensures faulty { (P : Contents) → Spells plan.now P → result ≡ Ok Answer.Unsafe → IsSafe P → ⊥ }
 {
     judge(alloc, plan, cert)
+}
+
+/// The same for a plan that was read: it comes back accepted where `accept` answers `Safe`, and else there is the answer.
+/// It takes memory for one proof.
+pub fn accept_certificate(
+    alloc: Global,
+    plan: Plan,
+    cert: &[u8],
+) -> Result<Result<Accepted, Answer>, AllocError>
+    ensures plan { IfOk result (λ r. IfOk r (λ it. accepted_plan it ≡ plan)) }
+    ensures safe { IfOk result (λ r. OnOk r (AnswersPlan (plan_contents plan) cert.now Answer.Safe)) }
+    ensures not_safe { IfOk result (λ r. IfErr r (λ answer.
+        (answer ≢ Answer.Safe) × AnswersPlan (plan_contents plan) cert.now answer)) }
+{
+    match judge_cert(alloc, &plan, cert) {
+        Ok(Answer::Safe) => Ok(Ok(Accepted { plan })),
+        Ok(Answer::Unsafe) => Ok(Err(Answer::Unsafe)),
+        Ok(Answer::Wrong(fault)) | Err(CertError::Wrong(fault)) => Ok(Err(Answer::Wrong(fault))),
+        Err(CertError::NoMemory) => Err(AllocError),
+    }
 }
 
 // The same, by what is right.

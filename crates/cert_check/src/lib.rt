@@ -19,7 +19,7 @@ pub mod pairs;
 mod tallies;
 mod wires;
 
-pub use acceptance::accept;
+pub use acceptance::{accept, accept_certificate};
 pub use accepted::Accepted;
 pub use answers::{AcceptError, Answer};
 pub use certified::accept_plan;

@@ -3,6 +3,7 @@ mod depth;
 mod dumps;
 mod generated;
 mod plans;
+mod plays;
 mod rows;
 mod sets;
 mod words;

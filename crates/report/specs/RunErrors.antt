@@ -1,10 +1,12 @@
--- A refusal of a plan text, of an acceptance, and of workers, as that of a run.
+-- A refusal of a plan text, of an acceptance, of a bench, and of workers, as that of a run.
+use Rattle.bus_bench.specs.declared.errors.OpenError.{OpenError}
+use Rattle.bus_bench.specs.declared.errors.OpenError.TheVariants as opening
 use Rattle.cert_check.specs.declared.answers.AcceptError.{AcceptError}
 use Rattle.cert_check.specs.declared.answers.AcceptError.TheVariants as accept
 use Rattle.plan_text.specs.declared.errors.PlanError.{PlanError}
 use Rattle.plan_text.specs.declared.errors.PlanError.TheVariants as plan
 use Rattle.report.specs.declared.errors.RunError.{RunError}
-use Rattle.report.specs.declared.errors.RunError.TheVariants.{Plan, Vcd, Workers, NoMemory}
+use Rattle.report.specs.declared.errors.RunError.TheVariants.{Plan, Vcd, Bench, Workers, NoMemory}
 use Rattle.vcd_read.specs.declared.errors.VcdError.{VcdError}
 use Rattle.vcd_read.specs.declared.errors.VcdError.TheVariants as vcd
 use Rattle.verdicts.specs.declared.errors.TableError.{TableError}
@@ -23,6 +25,11 @@ accept_error accept.NoMemory = NoMemory
 abbrev pub vcd_error : VcdError → RunError
 vcd_error vcd.NoMemory = NoMemory
 vcd_error e = Vcd e
+
+-- where no bench is opened
+abbrev pub open_error : OpenError → RunError
+open_error opening.NoMemory = NoMemory
+open_error e = Bench e
 
 -- where workers give no answer
 abbrev pub table_error : TableError → RunError

@@ -71,7 +71,8 @@ pub fn run_verify<I: Input, J: Input, O: Output>(
     write_lines(out, report.as_bytes(), status_of_answer(answer))
 }
 
-fn status_of_answer(answer: Answer) -> Status
+/// The status of a run that ends with this answer.
+pub fn status_of_answer(answer: Answer) -> Status
     ensures { result ≡ answer_status answer }
 {
     match answer {
@@ -81,8 +82,8 @@ fn status_of_answer(answer: Answer) -> Status
     }
 }
 
-// The line of an answer.
-fn answer_line(alloc: Global, answer: Answer) -> Result<String, AllocError>
+/// The line of an answer.
+pub fn answer_line(alloc: Global, answer: Answer) -> Result<String, AllocError>
     ensures { IfOk result (λ line. string_bytes line ≡ verify_line answer) }
 {
     match answer {

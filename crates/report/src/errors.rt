@@ -2,8 +2,9 @@
 
 ghost use Rattle.std.specs.Prelude.{◌≡◌};
 ghost use Rattle.report.specs.declared.errors.RunError.TheVariants.{NoMemory};
-ghost use Rattle.report.specs.RunErrors.{run_error, vcd_error, accept_error, table_error};
+ghost use Rattle.report.specs.RunErrors.{run_error, vcd_error, accept_error, open_error, table_error};
 
+use bus_bench::OpenError;
 use cert_check::AcceptError;
 use plan_text::PlanError;
 use std::alloc::{AllocError, AllocFailed};
@@ -20,6 +21,9 @@ pub enum RunError {
     /// The dump is refused. For want of memory the refusal is `NoMemory`.
     #[error("{0}")]
     Vcd(VcdError),
+    /// The bench is not opened. For want of memory the refusal is `NoMemory`.
+    #[error("{0}")]
+    Bench(OpenError),
     /// The number of workers is 0, or above 8.
     #[error("workers")]
     Workers,
@@ -63,6 +67,17 @@ impl From<AcceptError> for RunError {
         match error {
             AcceptError::Plan(refusal) => RunError::Plan(refusal),
             AcceptError::NoMemory => RunError::NoMemory,
+        }
+    }
+}
+
+impl From<OpenError> for RunError {
+    ghost from_gives = { λ refusal e. e ≡ open_error refusal };
+
+    fn from(error: OpenError) -> RunError {
+        match error {
+            OpenError::NoMemory => RunError::NoMemory,
+            _ => RunError::Bench(error),
         }
     }
 }

@@ -74,8 +74,8 @@ fn push_fault_text(
     Ok(())
 }
 
-// The symbols of a wire.
-fn push_wire(report: &mut String, wire: &[Item]) -> Result<(), AllocError>
+/// Adds the symbols of a wire.
+pub fn push_wire(report: &mut String, wire: &[Item]) -> Result<(), AllocError>
     ensures { OnOk result (string_bytes report.new ≡ string_bytes report.old ++ wire_text wire.now) }
 {
     for item in wire {

@@ -18,8 +18,12 @@ pub enum Status {
     Refused,
 }
 
-// Writes the whole report of a run that ends with this status.
-pub(crate) fn write_lines<O: Output>(
+/// Writes the whole report of a run that ends with this status.
+///
+/// # Errors
+///
+/// `Write` where the writer failed or took no bytes, and it has then taken the first bytes of the report.
+pub fn write_lines<O: Output>(
     out: &mut O,
     report: &[u8],
     status: Status,

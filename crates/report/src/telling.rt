@@ -158,8 +158,8 @@ fn push_who(
     push_labels(alloc, lines, plan, participants)
 }
 
-// The labels of participants, each after a space.
-fn push_labels(
+/// Adds the labels of participants, each after a space.
+pub fn push_labels(
     alloc: Global,
     lines: &mut String,
     plan: &Plan,

@@ -1,11 +1,15 @@
 // The command line.
 
 use crate::help::{
-    ABOUT, AFTER_CAPTURE_HELP, AFTER_CERTIFY_HELP, AFTER_CHECK_HELP, AFTER_HELP, AFTER_VERIFY_HELP,
-    VERSION,
+    ABOUT, AFTER_BENCH_HELP, AFTER_CAPTURE_HELP, AFTER_CERTIFY_HELP, AFTER_CHECK_HELP, AFTER_HELP,
+    AFTER_VERIFY_HELP, VERSION,
 };
+use clap::error::ErrorKind;
 use clap::{Arg, ArgMatches, Command, Error, value_parser};
 use std::alloc::{AllocError, Global};
+
+// The texts of a bit.
+const BIT: [&str; 2] = ["0", "1"];
 
 /// What a command line asks for.
 #[derive(Clone, Copy, Debug)]
@@ -30,6 +34,14 @@ pub enum Request<'a> {
         vcd: &'a str,
         scl: &'a str,
         sda: &'a str,
+    },
+    /// What these starters of an accepted plan do on a bus.
+    Bench {
+        plan: &'a str,
+        cert: &'a str,
+        starters: &'a str,
+        fill: bool,
+        answers: &'a str,
     },
 }
 
@@ -59,6 +71,7 @@ pub fn parse_request<'a>(
         "certify" => certify_request(matches),
         "verify" => verify_request(matches),
         "capture" => capture_request(matches),
+        "bench" => bench_request(alloc, matches)?,
         _ => None,
     };
     Ok(match request {
@@ -104,6 +117,40 @@ fn capture_request<'a>(matches: &ArgMatches<'a>) -> Option<Request<'a>> {
     })
 }
 
+fn bench_request<'a>(
+    alloc: Global,
+    matches: &ArgMatches<'a>,
+) -> Result<Option<Request<'a>>, Error> {
+    match (bench_words(matches), matches.get_str("answers")) {
+        (Some(request), Some(answers)) if are_bits(answers) => Ok(Some(request)),
+        (Some(_), Some(_)) => Err(not_bits(alloc)?),
+        _ => Ok(None),
+    }
+}
+
+fn bench_words<'a>(matches: &ArgMatches<'a>) -> Option<Request<'a>> {
+    Some(Request::Bench {
+        plan: matches.get_str("PLAN")?,
+        cert: matches.get_str("CERT")?,
+        starters: matches.get_str("STARTERS")?,
+        fill: matches.get_str("fill")? == "1",
+        answers: matches.get_str("answers")?,
+    })
+}
+
+fn are_bits(text: &str) -> bool {
+    text.as_bytes()
+        .iter()
+        .all(|byte| *byte == b'0' || *byte == b'1')
+}
+
+fn not_bits(alloc: Global) -> Result<Error, AllocError> {
+    command(alloc)?.error(
+        ErrorKind::ValueValidation,
+        "the value for '--answers <BITS>' is not of 0 and 1",
+    )
+}
+
 fn command<'a>(alloc: Global) -> Result<Command<'a>, AllocError> {
     Command::new(alloc, "twire")
         .bin_name("twire")?
@@ -116,7 +163,8 @@ fn command<'a>(alloc: Global) -> Result<Command<'a>, AllocError> {
         .subcommand(check_command(alloc)?)?
         .subcommand(certify_command(alloc)?)?
         .subcommand(verify_command(alloc)?)?
-        .subcommand(capture_command(alloc)?)
+        .subcommand(capture_command(alloc)?)?
+        .subcommand(bench_command(alloc)?)
 }
 
 // An option of all commands.
@@ -154,14 +202,11 @@ fn certify_command<'a>(alloc: Global) -> Result<Command<'a>, AllocError> {
 }
 
 fn verify_command<'a>(alloc: Global) -> Result<Command<'a>, AllocError> {
-    let cert = Arg::new(alloc, "CERT").required(true).help(
-        "The file with the certificate; /dev/stdin reads standard input",
-    );
     Command::new(alloc, "verify")
         .about("Check a certificate against a plan, by a small checker of its own")
         .after_help(AFTER_VERIFY_HELP)
         .arg(plan_argument(alloc))?
-        .arg(cert)
+        .arg(cert_argument(alloc))
 }
 
 fn capture_command<'a>(alloc: Global) -> Result<Command<'a>, AllocError> {
@@ -177,6 +222,31 @@ fn capture_command<'a>(alloc: Global) -> Result<Command<'a>, AllocError> {
         .arg(line_option(alloc, "sda", "The name of SDA in the capture"))
 }
 
+fn bench_command<'a>(alloc: Global) -> Result<Command<'a>, AllocError> {
+    let starters = Arg::new(alloc, "STARTERS").required(true).help(
+        "Who starts together: labels of the plan's participants, joined by commas",
+    );
+    let fill = Arg::new(alloc, "fill")
+        .long("fill")
+        .value_name("BIT")
+        .value_parser(BIT.as_slice())
+        .default_value("0")
+        .help("What the starters send for a bit that is open");
+    let answers = Arg::new(alloc, "answers")
+        .long("answers")
+        .value_name("BITS")
+        .default_value("")
+        .help("What targets answer, by slot; past its end 1");
+    Command::new(alloc, "bench")
+        .about("Rehearse a plan: its starters play on a bench, each in a thread of its own")
+        .after_help(AFTER_BENCH_HELP)
+        .arg(plan_argument(alloc))?
+        .arg(cert_argument(alloc))?
+        .arg(starters)?
+        .arg(fill)?
+        .arg(answers)
+}
+
 // The option for the name of a line, which is its own name where nothing is said.
 fn line_option<'a>(alloc: Global, line: &'a str, help: &'a str) -> Arg<'a> {
     Arg::new(alloc, line)
@@ -184,6 +254,12 @@ fn line_option<'a>(alloc: Global, line: &'a str, help: &'a str) -> Arg<'a> {
         .value_name("NAME")
         .default_value(line)
         .help(help)
+}
+
+fn cert_argument<'a>(alloc: Global) -> Arg<'a> {
+    Arg::new(alloc, "CERT").required(true).help(
+        "The file with the certificate; /dev/stdin reads standard input",
+    )
 }
 
 fn plan_argument<'a>(alloc: Global) -> Arg<'a> {

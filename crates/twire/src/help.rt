@@ -25,11 +25,11 @@ counts, as '2..4', and 'never main guard ;' for two controllers that never start
 together.
 
 Exit status:
-  0  the plan is safe, or was accepted as safe; a capture is explained (or help was
-     asked for)
+  0  the plan is safe, or was accepted as safe; a capture is explained; a bench was
+     played (or help was asked for)
   1  the plan is not safe, or was accepted as unsafe; a capture is not explained
-  2  refused: the command line, the plan, the certificate, the capture, a file, or
-     want of memory";
+  2  refused: the command line, the plan, the certificate, the capture, the starters
+     of a bench, a file, or want of memory";
 
 pub const AFTER_CHECK_HELP: &str = "\
 The report has a line for each unsafe pair of participants,
@@ -117,3 +117,24 @@ With '--hints always', and on a terminal, further lines on standard error say wh
 is wrong with a refused capture, or why a report may have no transaction.
 
 Exit status: 0 all is explained, 1 something is not, 2 refused.";
+
+pub const AFTER_BENCH_HELP: &str = "\
+The certificate is checked first. Where it is not accepted as safe, the report is
+the line of 'twire verify', with its status. Else the starters are played to the
+end of one run, and the report has two lines:
+
+  wire 10010000l11001111ls      the bus, slot by slot
+  won main/set guard/get        who was live at the end
+
+A starter is a label, as 'main/set' for a message of a controller or '!sensor' for
+an interrupt. Open bits are sent as '--fill' says, and so is the acknowledge after
+which a read of a range may end: 1 ends it. '--answers' has the targets' bit for
+each slot from the first on, 0 for an acknowledge; it counts where targets drive
+the slot, and nowhere else.
+
+Starters that cannot start together are refused on standard error with a code:
+
+  B1  no starter                   B3  two of one controller, or one twice
+  B2  no participant of the plan   B8  two that never start together
+
+Exit status: 0 played, 1 accepted unsafe, 2 wrong or refused.";

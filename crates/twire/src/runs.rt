@@ -2,16 +2,18 @@
 
 use crate::advice::{Counted, Source, advise_on_capture, advise_on_plan};
 use crate::commands::{Request, When, parse_request};
+use bench_run::{NoGate, run_bench};
 use clap::error::ErrorKind;
 use hints::Names;
 use report::{Opened, RunError, Status, Watched, run_capture, run_certify, run_check, run_verify};
 use std::rt::{Env, Files};
+use std::sync::Wait;
 use std::thread::Threads;
 use std::{env, fs, io};
 
 /// Does what the command line asks for, and answers the exit status. Where nothing else is said, hints for people are
 /// given if somebody sees them on a terminal.
-pub fn run<R: Files + Env + Input + Print + Eprint + AllocGlobal + Threads + Sync>(
+pub fn run<R: Files + Env + Input + Print + Eprint + AllocGlobal + Threads + Wait + Sync>(
     rt: &R,
     on_terminal: bool,
 ) -> u8 {
@@ -28,7 +30,7 @@ fn refused<R: Eprint>(rt: &R, error: RunError) -> u8 {
     2
 }
 
-fn run_words<R: Files + Env + Input + Print + Eprint + AllocGlobal + Threads + Sync>(
+fn run_words<R: Files + Env + Input + Print + Eprint + AllocGlobal + Threads + Wait + Sync>(
     rt: &R,
     on_terminal: bool,
 ) -> Result<u8, RunError> {
@@ -51,7 +53,7 @@ fn are_wanted(hints: When, on_terminal: bool) -> bool {
     }
 }
 
-fn do_request<R: Files + Input + Print + Eprint + AllocGlobal + Threads + Sync>(
+fn do_request<R: Files + Input + Print + Eprint + AllocGlobal + Threads + Wait + Sync>(
     rt: &R,
     request: Request<'_>,
     hints: bool,
@@ -66,6 +68,13 @@ fn do_request<R: Files + Input + Print + Eprint + AllocGlobal + Threads + Sync>(
             scl,
             sda,
         } => capture(rt, plan, vcd, Names { scl, sda }, hints),
+        Request::Bench {
+            plan,
+            cert,
+            starters,
+            fill,
+            answers,
+        } => bench(rt, plan, cert, starters, fill, answers, hints),
     }
 }
 
@@ -133,6 +142,36 @@ fn capture<R: Files + Input + Print + Eprint + AllocGlobal + Threads + Sync>(
     if hints {
         let is_silent = out.into_inner().is_silent();
         advise_on_capture(rt, plan, vcd, names, ended, is_silent);
+    }
+    Ok(status)
+}
+
+fn bench<R: Files + Input + Print + Eprint + AllocGlobal + Threads + Wait + Sync>(
+    rt: &R,
+    plan: &str,
+    cert: &str,
+    starters: &str,
+    fill: bool,
+    answers: &str,
+    hints: bool,
+) -> Result<u8, RunError> {
+    let mut plan = open(rt, plan)?;
+    let mut cert = open(rt, cert)?;
+    let mut out = Watched::new(io::writer(rt));
+    let ended = run_bench(
+        rt,
+        rt.alloc(),
+        &mut plan,
+        &mut cert,
+        &mut out,
+        starters,
+        fill,
+        answers,
+        &NoGate,
+    );
+    let status = status_of(rt, ended);
+    if hints {
+        advise_on_plan(rt, plan, ended);
     }
     Ok(status)
 }

@@ -1,0 +1,19 @@
+// Numbers from a seed.
+
+/// A linear congruential generator.
+#[derive(Drop)]
+pub struct Dice {
+    pub state: u64,
+}
+
+impl Dice {
+    /// A number below `sides`, or 0.
+    pub fn throw(&mut self, sides: u32) -> u32 {
+        self.state = self
+            .state
+            .wrapping_mul(6_364_136_223_846_793_005)
+            .wrapping_add(1_442_695_040_888_963_407);
+        let high = (self.state >> 33) as u32;
+        if sides == 0 { 0 } else { high % sides }
+    }
+}

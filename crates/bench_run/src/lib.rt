@@ -1,0 +1,13 @@
+//! Rehearses a plan: its starters play on a bench, each in a thread of its own, and put the same bit wherever they may
+//! choose. `starters` reads who starts, `players` plays one seat, `rounds` all of them, and `runs` reads and writes.
+#![tactic(auto)]
+
+pub mod gates;
+mod lines;
+mod players;
+mod rounds;
+pub mod runs;
+mod starters;
+
+pub use gates::{Gate, NoGate};
+pub use runs::run_bench;

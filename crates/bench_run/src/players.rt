@@ -1,0 +1,147 @@
+// One player, and what it does in each slot.
+
+ghost use Rattle.std.specs.Prelude.{◌≡◌, Some, None, IfSome};
+ghost use Rattle.bench_places.specs.declared.offers.Offered.TheVariants.{Nothing};
+ghost use Rattle.bus_bench.specs.Seats.{Player as SeatOf, HasPutHere, Saw};
+ghost use Rattle.bus_bench.specs.declared.seats.Standing.TheVariants.{Playing};
+ghost use Rattle.bench_run.specs.Players.{IsInStep, IsFilling};
+
+use crate::gates::Gate;
+use bus_bench::{Bench, Offered, Put, Seat, Sight};
+use message_tree::{Bit, Item};
+use std::thread;
+
+/// How often in a row a player is told to wait, and yields its thread, before it gives its seat back. The others may be
+/// threads that have not begun yet, or that a gate holds up, so this is a few hundredths of a second; where they can
+/// have no threads, each seat costs as much once.
+const MOST_WAITS: u32 = 65_536;
+
+/// What a player does next.
+#[derive(Clone, Copy, Debug, Drop, PartialEq, Eq)]
+pub(crate) enum Stage {
+    /// It puts in its slot.
+    Puts,
+    /// It has put, and looks whether the slot is complete.
+    Looks,
+    /// It has lost, or the run has ended.
+    Over,
+}
+
+/// A seat, its place among the starters, and where its player is.
+#[derive(Drop)]
+pub(crate) struct Player<'a> {
+    pub(crate) seat: Seat<'a>,
+    pub(crate) number: u32,
+    pub(crate) slot: u32,
+    pub(crate) stage: Stage,
+}
+
+impl<'a> Player<'a> {
+    ghost use Rattle.std.specs.Prelude.{◌≡◌, Bool};
+    ghost use Rattle.bench_run.specs.Players.{PlaysOn, IsFresh};
+
+    /// A player that has done nothing yet.
+    pub(crate) fn new(seat: Seat<'a>, number: u32) -> Player<'a>
+        requires { IsFresh seat.bench seat }
+        ensures { (fill : Bool) → PlaysOn seat.entry.bench fill result }
+    {
+        Player {
+            seat,
+            number,
+            slot: 0,
+            stage: Stage::Puts,
+        }
+    }
+
+    /// Plays until it is through, or has waited in vain.
+    pub(crate) fn play<G: Gate>(&mut self, bench: &Bench<'a>, fill: bool, gate: &G)
+        requires { PlaysOn bench.now fill self.old }
+        ensures { PlaysOn bench.now fill self.new }
+    {
+        for _ in 0..MOST_SLOTS {
+            self.put(bench, fill, gate);
+            self.wait(bench, gate);
+            if self.stage != Stage::Puts {
+                return;
+            }
+        }
+    }
+
+    /// Puts in its slot, where it has not.
+    pub(crate) fn put<G: Gate>(&mut self, bench: &Bench<'a>, fill: bool, gate: &G)
+        requires { PlaysOn bench.now fill self.old }
+        ensures { PlaysOn bench.now fill self.new }
+    {
+        if self.stage != Stage::Puts {
+            return;
+        }
+        let Some(put) = filled(self.seat.offered(), fill) else {
+            return;
+        };
+        gate.before(self.number, self.slot);
+        if self.seat.put(bench, put).is_ok() {
+            self.stage = Stage::Looks;
+        }
+    }
+
+    // Looks until the slot is complete, or too often in a row.
+    fn wait<G: Gate>(&mut self, bench: &Bench<'a>, gate: &G)
+        requires { self.old.seat.bench ≡ bench.now }
+        ensures { (fill : Bool) → PlaysOn bench.now fill self.old → PlaysOn bench.now fill self.new }
+    {
+        for _ in 0..MOST_WAITS {
+            self.look(bench, gate);
+            if self.stage != Stage::Looks {
+                return;
+            }
+            thread::yield_now();
+        }
+    }
+
+    /// Looks whether its slot is complete, where it has put there.
+    pub(crate) fn look<G: Gate>(&mut self, bench: &Bench<'a>, gate: &G)
+        requires { self.old.seat.bench ≡ bench.now }
+        ensures { (fill : Bool) → PlaysOn bench.now fill self.old → PlaysOn bench.now fill self.new }
+    {
+        if self.stage != Stage::Looks {
+            return;
+        }
+        self.stage = stage_after(self.seat.see(bench));
+        if self.stage != Stage::Looks {
+            gate.after(self.number, self.slot);
+            self.slot = self.slot.saturating_add(1);
+        }
+    }
+}
+
+// The most slots of a run.
+const MOST_SLOTS: u32 = 2_560;
+
+// What a player does that has put, and is told this.
+fn stage_after(sight: Sight) -> Stage
+    ensures { (old new : SeatOf) → old.standing ≡ Playing → HasPutHere old → Saw sight old new → IsInStep result new }
+{
+    match sight {
+        Sight::Waiting => Stage::Looks,
+        Sight::NotPut => Stage::Puts,
+        Sight::On(Item::Stop | Item::Claim) | Sight::Lost(_) | Sight::Ended => Stage::Over,
+        Sight::On(_) => Stage::Puts,
+    }
+}
+
+// What is put where this is offered: the bit `fill` where either may be.
+fn filled(offered: Offered, fill: bool) -> Option<Put>
+    ensures none { result ≡ None → offered ≡ Nothing }
+    ensures some { IfSome result (IsFilling offered fill) }
+{
+    match offered {
+        Offered::Bit(Bit::Zero) => Some(Put::Drive(false)),
+        Offered::Bit(Bit::One) => Some(Put::Drive(true)),
+        Offered::Bit(Bit::Either) => Some(Put::Drive(fill)),
+        Offered::Listen => Some(Put::Listen),
+        Offered::Again => Some(Put::Again),
+        Offered::Stop => Some(Put::Stop),
+        Offered::Claim => Some(Put::Claim),
+        Offered::Nothing => None,
+    }
+}

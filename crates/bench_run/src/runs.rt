@@ -1,0 +1,69 @@
+// The run that rehearses a plan.
+
+use crate::gates::Gate;
+use crate::lines::bench_lines;
+use crate::rounds::play_all;
+use crate::starters::{bits_of, numbers_of};
+use bus_bench::open_bench;
+use cert_check::{Accepted, accept_certificate};
+use plan_text::read_plan;
+use report::devices::reading::READS;
+use report::{
+    Input, Output, RunError, Status, answer_line, read_within, status_of_answer, write_lines,
+};
+use std::alloc::Global;
+use std::sync::Wait;
+use std::thread::Threads;
+
+/// Plays the starters of an accepted plan on a bench, each in a thread of its own, and writes the wire and who was live
+/// at its end. `starters` has their labels, which commas part; `fill` is what they send for a bit that is open; `answers`
+/// has the bits of the targets by slot as `0` and `1`, and past its end they are 1. Each player calls the gate. Where the certificate is not accepted it writes the line of `run_verify`, with its status.
+///
+/// # Errors
+///
+/// `Read` where a reader failed or gave no end, `Plan` with the first refusal of the plan text, before the second reader
+/// is called, `Bench` with the refusal of the starters, and `Write` where the writer failed or took no bytes. `NoMemory`
+/// where memory is refused. Only after `Write` has a part of the report been written: its first bytes. After every other
+/// error the writer was not called.
+pub fn run_bench<R: Threads + Wait + Sync, I: Input, J: Input, O: Output, G: Gate + Sync>(
+    rt: &R,
+    alloc: Global,
+    plan: &mut I,
+    cert: &mut J,
+    out: &mut O,
+    starters: &str,
+    fill: bool,
+    answers: &str,
+    gate: &G,
+) -> Result<Status, RunError> {
+    let text = read_within(alloc, plan, READS)?;
+    let plan = read_plan(alloc, text.as_slice())?;
+    let cert = read_within(alloc, cert, READS)?;
+    let (report, status) = match accept_certificate(alloc, plan, cert.as_slice())? {
+        Ok(accepted) => (
+            bench_report(rt, alloc, &accepted, starters, fill, answers, gate)?,
+            Status::Good,
+        ),
+        Err(answer) => (answer_line(alloc, answer)?, status_of_answer(answer)),
+    };
+    write_lines(out, report.as_bytes(), status)
+}
+
+// The report of a bench.
+fn bench_report<R: Threads + Wait + Sync, G: Gate + Sync>(
+    rt: &R,
+    alloc: Global,
+    accepted: &Accepted,
+    starters: &str,
+    fill: bool,
+    answers: &str,
+    gate: &G,
+) -> Result<String, RunError> {
+    let plan = accepted.plan();
+    let starters = numbers_of(alloc, plan, starters)?;
+    let answers = bits_of(alloc, answers)?;
+    let (bench, host, seats) =
+        open_bench(alloc, accepted, starters.as_slice(), answers.as_slice())?;
+    let played = play_all(rt, alloc, bench, host, seats, fill, gate)?;
+    Ok(bench_lines(alloc, plan, &played)?)
+}

@@ -1,0 +1,177 @@
+#!/usr/bin/env bash
+# Rehearsals from the command line: what is written, the refusals, and the exit status. The last line is
+# 'N passed, M failed', and the exit status is 1 where a case fails.
+#
+# It runs the launcher at the top of the repository, or the program that TWIRE names.
+set -u
+
+tests=$(dirname -- "$(readlink -f -- "${BASH_SOURCE[0]}")")
+twire=$(readlink -f -- "${TWIRE:-$tests/../twire}")
+work=$(mktemp -d)
+trap 'rm -rf -- "$work"' EXIT
+cd -- "$work" || exit 1
+
+passed=0
+failed=0
+
+# expect NAME STATUS OUT ERR ARG..: one call of `twire bench`, with this script's standard input.
+expect() {
+    local name=$1 status=$2 out=$3 err=$4
+    shift 4
+    local found_out found_err found_status
+    found_out=$("$twire" bench "$@" 2>err)
+    found_status=$?
+    found_err=$(cat err)
+    if [[ $found_status == "$status" && $found_out == "$out" && $found_err == "$err" ]]; then
+        passed=$((passed + 1))
+    else
+        failed=$((failed + 1))
+        printf 'FAILED: %s: wanted %s, found %s\n%s\n%s\n' "$name" "$status $out $err" "$found_status" "$found_out" "$found_err"
+    fi
+}
+
+# fault NAME ARG..: a command line that is refused, with a message that is not compared.
+fault() {
+    local name=$1
+    shift
+    "$twire" bench "$@" >out 2>err
+    if [[ $? == 2 && ! -s out ]] && grep -q '^error: ' err; then
+        passed=$((passed + 1))
+    else
+        failed=$((failed + 1))
+        echo "FAILED: $name"
+        cat out err
+    fi
+}
+
+"$twire" --version >/dev/null 2>&1
+
+write_plan() {
+    printf '%s\n' "${@:2}" >"$1"
+}
+
+# Three writers, whose second bytes differ.
+three=("message m write 1001000 11110000 stop else stop else stop ;"
+    "message n write 1001000 11001111 stop else stop else stop ;"
+    "message o write 1001000 1100xxxx stop else stop else stop ;"
+    "controller a m ;" "controller b n ;" "controller c o ;")
+write_plan three.plan "plan 1" "${three[@]}"
+printf '%s\n' "cert 1" "pairs 3" "B P2 ." "B P2 ." "B B . . ." >three.cert
+acks=000000000000000000
+
+expect "open bits sent as 1" 0 "wire 10010000l11001111ls
+won b/n c/o" "" three.plan three.cert a/m,b/n,c/o --fill 1 --answers $acks
+expect "open bits sent as 0" 0 "wire 10010000l11000000ls
+won c/o" "" three.plan three.cert a/m,b/n,c/o --fill 0 --answers $acks
+expect "open bits are 0 where nothing is said" 0 "wire 10010000l11000000ls
+won c/o" "" three.plan three.cert a/m,b/n,c/o --answers $acks
+expect "targets that do not answer" 0 "wire 10010000hs
+won a/m b/n c/o" "" three.plan three.cert a/m,b/n,c/o
+expect "an empty list of answers" 0 "wire 10010000hs
+won a/m b/n c/o" "" three.plan three.cert a/m,b/n,c/o --answers ""
+expect "an acknowledge of the header alone" 0 "wire 10010000l11001111hs
+won c/o b/n" "" three.plan three.cert c/o,b/n,a/m --fill 1 --answers 000000000
+expect "answers to slots that no target drives" 0 "wire 10010000hs
+won a/m b/n c/o" "" three.plan three.cert a/m,b/n,c/o --answers 00000000111111111
+expect "one starter" 0 "wire 10010000l11110000ls
+won a/m" "" three.plan three.cert a/m --answers $acks
+expect "a plan from standard input" 0 "wire 10010000hs
+won a/m" "" /dev/stdin three.cert a/m <three.plan
+expect "a certificate from standard input" 0 "wire 10010000hs
+won a/m" "" three.plan /dev/stdin a/m <three.cert
+expect "a certificate from a pipe" 0 "wire 10010000hs
+won a/m" "" three.plan /dev/stdin a/m < <("$twire" certify three.plan)
+
+# Starters that are refused.
+
+expect "no starter" 2 "" "refused B1" three.plan three.cert ""
+expect "an unknown starter" 2 "" "refused B2" three.plan three.cert a/q
+expect "a number" 2 "" "refused B2" three.plan three.cert 0
+expect "empty labels" 2 "" "refused B2" three.plan three.cert ,
+expect "an empty label at the end" 2 "" "refused B2" three.plan three.cert a/m,
+expect "a space in a label" 2 "" "refused B2" three.plan three.cert "a/m, b/n"
+expect "one starter twice" 2 "" "refused B3" three.plan three.cert a/m,a/m
+expect "the first refusal is told" 2 "" "refused B3" three.plan three.cert a/m,a/m,q
+expect "an unknown starter before one twice" 2 "" "refused B2" three.plan three.cert a/m,q,a/m
+
+# Controllers that never start together.
+write_plan never.plan "plan 2" "message m write 1001000 stop else stop ;" \
+    "message n write 1001000 0000000x stop else stop else stop ;" "controller a m ;" "controller b n ;" "never a b ;"
+printf '%s\n' "cert 1" "pairs 0" >never.cert
+expect "two that never start together" 2 "" "refused B8" never.plan never.cert a/m,b/n
+expect "one of them" 0 "wire 10010000hs
+won a/m" "" never.plan never.cert a/m
+
+# Certificates that are not accepted: the starters are not looked at.
+printf '%s\n' "cert 1" "pairs 3" "B P2 ." "B P1 ." "B B . . ." >wrong.cert
+expect "a wrong certificate" 2 "wrong C5 pair 1" "" three.plan wrong.cert ""
+expect "no certificate" 2 "wrong C1 line 1" "" three.plan three.plan a/m
+expect "too few proofs" 2 "wrong C2" "" three.plan never.cert a/m
+write_plan unsafe.plan "plan 1" "message m write 1001000 stop else stop ;" \
+    "message n write 1001000 0000000x stop else stop else stop ;" "controller a m ;" "controller b n ;"
+printf '%s\n' "cert 1" "fault 0 10010000l stop data" >unsafe.cert
+expect "a fault of the plan" 1 "accepted unsafe" "" unsafe.plan unsafe.cert q
+printf '%s\n' "plan 3" >refused.plan
+expect "a refused plan" 2 "" "refused P2 line 1" refused.plan three.cert a/m
+expect "a refused plan with a directory" 2 "" "refused P2 line 1" refused.plan . a/m
+expect "a missing plan" 2 "" "refused read" missing.plan three.cert a/m
+expect "a missing certificate" 2 "" "refused read" three.plan missing.cert a/m
+expect "a missing certificate of a refused plan" 2 "" "refused read" refused.plan missing.cert a/m
+expect "a directory as certificate" 2 "" "refused read" three.plan . a/m
+
+# Reads of a range of counts: the acknowledge after which a read may end is an open bit, and 1 ends it.
+write_plan range.plan "plan 2" "message m read 1001000 1..2 stop else stop ;" \
+    "message n read 1001000 2 stop else stop ;" "controller a m ;" "controller b n ;"
+printf '%s\n' "cert 1" "pairs 1" "D . ." >range.cert
+expect "a read that ends early loses" 0 "wire 10010001lhhhhhhhh0hhhhhhhh1s
+won b/n" "" range.plan range.cert a/m,b/n --fill 1 --answers 000000000
+expect "a read that goes on" 0 "wire 10010001lhhhhhhhh0hhhhhhhh1s
+won a/m b/n" "" range.plan range.cert a/m,b/n --fill 0 --answers 000000000
+expect "a read that ends early, alone" 0 "wire 10010001lhhhhhhhh1s
+won a/m" "" range.plan range.cert a/m --fill 1 --answers 000000000
+expect "a read of bits that targets drive" 0 "wire 10010001lhlhlhlhl1s
+won a/m" "" range.plan range.cert a/m --fill 1 --answers 00000000010101010
+
+# Interrupts.
+write_plan interrupt.plan "plan 1" "message m write 1001000 stop else stop ;" "controller a m ;" "interrupt t 1001000 ;"
+printf '%s\n' "cert 1" "pairs 1" "P7" >interrupt.cert
+expect "an interrupt that loses" 0 "wire 10010000hs
+won a/m" "" interrupt.plan interrupt.cert "a/m,!t"
+expect "an interrupt alone" 0 "wire 10010001c
+won !t" "" interrupt.plan interrupt.cert "!t"
+
+# Command lines.
+fault "a fill that is no bit" three.plan three.cert a/m --fill 2
+fault "a fill of two bits" three.plan three.cert a/m --fill 01
+fault "an empty fill" three.plan three.cert a/m --fill ""
+fault "answers that are no bits" three.plan three.cert a/m --answers 0120
+fault "answers with a space" three.plan three.cert a/m --answers "0 0"
+fault "a fault of the command line before a missing file" missing.plan three.cert a/m --answers l
+fault "fill twice" three.plan three.cert a/m --fill 0 --fill 0
+fault "no starters" three.plan three.cert
+fault "no certificate" three.plan
+fault "no plan"
+fault "a word too many" three.plan three.cert a/m b/n
+
+# Help.
+help=$("$twire" bench --help)
+if [[ $? == 0 && $help == "$(cat "$tests/expected/bench_help.txt")" ]]; then
+    passed=$((passed + 1))
+else
+    failed=$((failed + 1))
+    echo "FAILED: help on bench"
+fi
+
+# The example, of which the header and two bytes are acknowledged: at bit 6 of the second byte main sends a 1.
+examples=$tests/../examples
+expect "the example" 0 "wire 10010000l00000001l00100000ls
+won guard/write_alarm" "" "$examples/two_writers.plan" "$examples/two_writers.cert" main/write_limit,guard/write_alarm --answers 000000000000000000000000000
+
+# A hundred rehearsals write the same, whatever the schedule of the threads.
+for _ in {1..100}; do
+    expect "one of many" 0 "wire 10010000l11001111ls
+won b/n c/o" "" three.plan three.cert a/m,b/n,c/o --fill 1 --answers $acks
+done
+
+echo "$passed passed, $failed failed"
+((failed == 0))
