@@ -152,12 +152,14 @@ expect "capture of a dump of zeros" 2 "" "refused V2 line 1" capture plan zeros
 
 # held CHANGE..: runs `capture` on a dump that is changed so while the run waits for its plan.
 held() {
-    (
-        exec 3>fifo
-        "$@"
-        cat plan >&3
-    ) &
-    bounded capture fifo changing >out 2>err
+    "$twire" capture fifo changing >out 2>err &
+    pid=$!
+    exec 3>fifo
+    until [[ /proc/$pid/fd/4 -ef changing || ! -e /proc/$pid/exe ]]; do :; done
+    "$@"
+    cat plan >&3
+    exec 3>&-
+    wait "$pid"
     status=$?
 }
 

@@ -9,6 +9,7 @@ use capture_check::{Event, Listener, Transaction, Watch, explain};
 use plan_core::Plan;
 use plan_text::read_plan;
 use std::alloc::{AllocError, Global};
+use std::num::nearest_usize_to_f64;
 use std::time::{Clock, Instant};
 use std::{env, fs, io};
 use vcd_read::{Reader, Sample};
@@ -199,5 +200,5 @@ fn print_step(rt: &impl Print, name: &str, step: &Step, bytes: usize) -> io::Res
 
 // Millions of bytes a second.
 fn rate(bytes: usize, seconds: f64) -> f64 {
-    bytes as f64 / seconds / 1e6
+    nearest_usize_to_f64(bytes) / seconds / 1e6
 }

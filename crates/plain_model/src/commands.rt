@@ -4,8 +4,8 @@ use crate::captures::{events_of, samples_of, transactions_of};
 use crate::certificates::{Flaw, Reading, read_certificate};
 use crate::dumps::words_of;
 use crate::pairs::{Clash, clashes_so, first_clash, is_proved, proof_of};
-use crate::plans::{Items, Refusal, items_of};
-use crate::senders::{Form, START, after, at, form_of, may_put};
+use crate::plans::{Items, Named, Refusal, items_of};
+use crate::senders::{Form, Place, START, after, at, count, form_of, may_put};
 use capture_check::{Mark, Transaction, Until};
 use message_tree::{Item, Kind};
 use std::alloc::{AllocError, Global};
@@ -49,11 +49,7 @@ pub fn check(alloc: Global, plan: &[u8]) -> Result<Answer, AllocError> {
     for (i, pair) in pairs.iter().enumerate() {
         if let Some(clash) = clash_of(alloc, &items, pair)? {
             faults = faults.saturating_add(1);
-            let (x, y) = (pair.x.label.as_str(), pair.y.label.as_str());
-            let (first, second) = (word(clash.first), word(clash.second));
-            write!(out, "pair {i} {x} {y}: {first} against {second} after ")?;
-            push_wire(&mut out, &clash.wire)?;
-            out.push('\n')?;
+            push_fault(&mut out, i, pair, &clash)?;
         }
     }
     let count = pairs.len();
@@ -64,6 +60,23 @@ pub fn check(alloc: Global, plan: &[u8]) -> Result<Answer, AllocError> {
         writeln!(out, "unsafe: {faults} of {count} pairs")?;
         answered(alloc, 1, out)
     }
+}
+
+fn push_fault(
+    out: &mut String,
+    i: usize,
+    pair: &Pair<'_>,
+    clash: &Clash,
+) -> Result<(), AllocError> {
+    write!(out, "pair {i} {} {}: ", pair.x.label, pair.y.label)?;
+    write!(
+        out,
+        "{} against {} after ",
+        word(clash.first),
+        word(clash.second)
+    )?;
+    push_wire(out, &clash.wire)?;
+    out.push('\n')
 }
 
 /// `twire certify PLAN`.
@@ -82,8 +95,10 @@ pub fn certify(alloc: Global, plan: &[u8]) -> Result<Answer, AllocError> {
             writeln!(out, " {} {}", word(clash.first), word(clash.second))?;
             return answered(alloc, 1, out);
         }
-        let proof = proof_of(alloc, sent(&items, pair.x), sent(&items, pair.y))?;
-        writeln!(proofs, "{proof}")?;
+        if let (Some(x), Some(y)) = (sent(&items, pair.x), sent(&items, pair.y)) {
+            proofs.push_str(proof_of(alloc, x, y)?.as_str())?;
+        }
+        proofs.push('\n')?;
     }
     answered(alloc, 0, proofs)
 }
@@ -119,11 +134,10 @@ fn judge_flaw(
     } = flaw;
     if let Ok(place) = usize::try_from(*number)
         && let Some(pair) = pairs.get(place)
+        && let (Some(x), Some(y)) = (sent(items, pair.x), sent(items, pair.y))
+        && clashes_so(x, y, wire, *first, *second)
     {
-        let (x, y) = (sent(items, pair.x), sent(items, pair.y));
-        if clashes_so(x, y, wire, *first, *second) {
-            return answered(alloc, 1, format!(in alloc; "accepted unsafe\n")?);
-        }
+        return answered(alloc, 1, format!(in alloc; "accepted unsafe\n")?);
     }
     answered(alloc, 2, format!(in alloc; "wrong C5 pair {number}\n")?)
 }
@@ -142,7 +156,11 @@ fn judge_proofs(
             Some(line) => line,
             None => b"",
         };
-        if !is_proved(alloc, line, sent(items, pair.x), sent(items, pair.y))? {
+        let is_right = match (sent(items, pair.x), sent(items, pair.y)) {
+            (Some(x), Some(y)) => is_proved(alloc, line, x, y)?,
+            _ => false,
+        };
+        if !is_right {
             return answered(alloc, 2, format!(in alloc; "wrong C5 pair {i}\n")?);
         }
     }
@@ -227,7 +245,7 @@ pub fn spelling(alloc: Global, plan: &[u8]) -> Result<String, AllocError> {
 fn push_words(out: &mut String, words: &[&[u8]]) -> Result<(), AllocError> {
     for (k, word) in words.iter().enumerate() {
         if form_of(words, k) == Form::Count {
-            match crate::senders::count(words, k) {
+            match count(words, k) {
                 (least, greatest) if least == greatest => write!(out, " {least}")?,
                 (least, greatest) => write!(out, " {least}..{greatest}")?,
             }
@@ -266,7 +284,7 @@ fn text(name: &[u8]) -> &str {
     str::from_utf8(name).unwrap_or("?")
 }
 
-fn name_at<'a>(messages: &[crate::plans::Named<'a>], k: usize) -> &'a str {
+fn name_at<'a>(messages: &[Named<'a>], k: usize) -> &'a str {
     match messages.get(k) {
         Some(message) => text(message.name),
         None => "?",
@@ -281,15 +299,12 @@ fn controller_at<'a>(items: &Items<'a>, k: usize) -> &'a str {
 }
 
 // The words of what a sender sends.
-fn sent<'a, 'b>(items: &'b Items<'a>, sender: &Sender) -> &'b [&'a [u8]] {
-    let list = match sender.controller {
-        Some(_) => &items.messages,
-        None => &items.interrupts,
+fn sent<'a, 'b>(items: &'b Items<'a>, sender: &Sender) -> Option<&'b [&'a [u8]]> {
+    let named = match sender.controller {
+        Some(_) => items.messages.get(sender.place)?,
+        None => items.interrupts.get(sender.place)?,
     };
-    match list.get(sender.place) {
-        Some(named) => named.words.as_slice(),
-        None => &[],
-    }
+    Some(named.words.as_slice())
 }
 
 fn pairs_of<'a>(
@@ -322,7 +337,10 @@ fn clash_of(
     items: &Items<'_>,
     pair: &Pair<'_>,
 ) -> Result<Option<Clash>, AllocError> {
-    first_clash(alloc, sent(items, pair.x), sent(items, pair.y))
+    match (sent(items, pair.x), sent(items, pair.y)) {
+        (Some(x), Some(y)) => first_clash(alloc, x, y),
+        _ => Ok(None),
+    }
 }
 
 // ---- transactions
@@ -337,7 +355,9 @@ fn who_explains(
     let mut who = String::new(alloc);
     if let Until::Stopped(_) = transaction.until {
         for sender in senders {
-            if explains(sent(items, sender), &transaction.marks) {
+            if let Some(words) = sent(items, sender)
+                && explains(words, &transaction.marks)
+            {
                 write!(who, " {}", sender.label)?;
             }
         }
@@ -368,7 +388,7 @@ fn explains(words: &[&[u8]], marks: &[Mark]) -> bool {
 }
 
 // What a sender puts at a place, or hears there, that leaves this mark.
-fn put_so(words: &[&[u8]], place: crate::senders::Place, mark: Mark) -> Option<Item> {
+fn put_so(words: &[&[u8]], place: Place, mark: Mark) -> Option<Item> {
     let items = match mark {
         Mark::Level(level) => [Item::Sent(level), Item::Heard(level)],
         Mark::Again => [Item::Again, Item::Again],
