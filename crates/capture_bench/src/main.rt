@@ -1,7 +1,7 @@
-// How fast a capture is read, heard and explained, on one thread and from memory. With the arguments `PLAN DUMP` it feeds the
-// dump to the reader block by block, watches the samples of each block, listens to its events and explains its transactions,
-// and writes how many of each there are and how long each of these four steps took. With no argument it takes a small
-// capture of its own, and writes the numbers alone.
+// How fast a capture is read, heard and explained, on one thread. With the arguments `PLAN DUMP` it feeds the dump to the
+// reader block by block, watches the samples of each block, listens to its events and explains its transactions, and writes
+// how many of each there are and how long each of these four steps took, without the calls that read the file. With no
+// argument it takes a small capture of its own, and writes the numbers alone.
 #![tactic(auto)]
 
 use anyhow::Result;
@@ -9,6 +9,7 @@ use capture_check::{Event, Listener, Transaction, Watch, explain};
 use plan_core::Plan;
 use plan_text::read_plan;
 use std::alloc::{AllocError, Global};
+use std::io::Read;
 use std::num::nearest_usize_to_f64;
 use std::time::{Clock, Instant};
 use std::{env, fs, io};
@@ -50,6 +51,7 @@ impl Step {
 // A capture that is followed step by step.
 #[derive(Drop)]
 struct Capture {
+    bytes: usize,
     watch: Watch,
     listener: Listener,
     samples: Step,
@@ -65,19 +67,19 @@ fn main(rt: HostRuntime) -> Result<()> {
     match (words.next(), words.next()) {
         (Some(plan), Some(dump)) => {
             let plan = fs::read_to_string(&rt, plan.as_str())?;
-            let dump = fs::read_to_string(&rt, dump.as_str())?;
-            let capture = follow(&rt, alloc, plan.as_str(), dump.as_str())?;
-            print_times(&rt, &capture, dump.len())
+            let mut dump = fs::open(&rt, dump.as_str())?;
+            print_times(&rt, &follow(&rt, alloc, plan.as_str(), &mut dump)?)
         }
-        _ => print_numbers(&rt, &follow(&rt, alloc, PLAN, DUMP)?),
+        _ => print_numbers(&rt, &follow(&rt, alloc, PLAN, &mut DUMP.as_bytes())?),
     }
 }
 
 // ---- the four steps
 
-fn follow(rt: &impl Clock, alloc: Global, plan: &str, dump: &str) -> Result<Capture> {
+fn follow<I: Read>(rt: &impl Clock, alloc: Global, plan: &str, dump: &mut I) -> Result<Capture> {
     let plan = read_plan(alloc, plan.as_bytes())?;
     let mut capture = Capture {
+        bytes: 0,
         watch: Watch::new(),
         listener: Listener::new(),
         samples: Step::new(),
@@ -86,9 +88,15 @@ fn follow(rt: &impl Clock, alloc: Global, plan: &str, dump: &str) -> Result<Capt
         explained: Step::new(),
     };
     let mut reader = Reader::new(alloc, "scl", "sda")?;
-    for block in dump.as_bytes().chunks(BLOCK) {
+    let mut block = vec![in alloc; 0u8; BLOCK]?;
+    for _ in 0..u64::MAX {
+        let count = dump.read(block.as_mut_slice())?;
+        if count == 0 {
+            break;
+        }
+        capture.bytes = capture.bytes.saturating_add(count);
         let start = Instant::now(rt)?;
-        reader.feed(block)?;
+        reader.feed(&block[..count])?;
         let samples = reader.samples();
         capture.samples.add(rt, start, samples.len())?;
         hear(rt, alloc, &plan, &mut capture, samples)?;
@@ -178,7 +186,8 @@ fn print_numbers(rt: &impl Print, capture: &Capture) -> Result<()> {
 }
 
 // A line for each step, and one for all: bytes of the dump a second.
-fn print_times(rt: &impl Print, capture: &Capture, bytes: usize) -> Result<()> {
+fn print_times(rt: &impl Print, capture: &Capture) -> Result<()> {
+    let bytes = capture.bytes;
     let all = capture.samples.seconds
         + capture.events.seconds
         + capture.transactions.seconds

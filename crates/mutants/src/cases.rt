@@ -44,7 +44,7 @@ impl Command {
 
 /// The next case.
 pub fn next_case(alloc: Global, dice: &mut Dice) -> Result<Case, AllocError> {
-    let plan = dice.pick(&PLANS, "").as_bytes();
+    let plan = dice.pick(&PLANS, "");
     let second = Vec::new(alloc);
     match dice.throw(4) {
         0 => {
@@ -72,20 +72,20 @@ pub fn next_case(alloc: Global, dice: &mut Dice) -> Result<Case, AllocError> {
 }
 
 // The plan or one that is refused, most often mutated.
-fn any_plan(alloc: Global, plan: &[u8], dice: &mut Dice) -> Result<Vec<u8>, AllocError> {
+fn any_plan(alloc: Global, plan: &'static str, dice: &mut Dice) -> Result<Vec<u8>, AllocError> {
     let text = if dice.throw(6) == 0 {
-        dice.pick(&REFUSED, "").as_bytes()
+        dice.pick(&REFUSED, "")
     } else {
         plan
     };
-    maybe_mutated(alloc, text, &PLAN_WORDS, 7, dice)
+    maybe_mutated(alloc, text.as_bytes(), &PLAN_WORDS, 7, dice)
 }
 
 // Mutated in so many of eight cases.
 fn maybe_mutated(
     alloc: Global,
     text: &[u8],
-    words: &[&str],
+    words: &[&'static str],
     often: usize,
     dice: &mut Dice,
 ) -> Result<Vec<u8>, AllocError> {
@@ -97,21 +97,23 @@ fn maybe_mutated(
 }
 
 // Most often the certificate is that of the plan.
-fn verify_case(alloc: Global, plan: &[u8], dice: &mut Dice) -> Result<Case, AllocError> {
-    let own = commands::certify(alloc, plan)?;
-    let cert = match dice.throw(3) {
-        0 => dice.pick(&CERTS, ""),
-        _ => own.out.as_str(),
+fn verify_case(alloc: Global, plan: &'static str, dice: &mut Dice) -> Result<Case, AllocError> {
+    let cert = if dice.throw(3) == 0 {
+        let cert = dice.pick(&CERTS, "");
+        maybe_mutated(alloc, cert.as_bytes(), &CERT_WORDS, 6, dice)?
+    } else {
+        let cert = commands::certify(alloc, plan.as_bytes())?.out;
+        maybe_mutated(alloc, cert.as_bytes(), &CERT_WORDS, 6, dice)?
     };
     Ok(Case {
         command: Command::Verify,
-        plan: maybe_mutated(alloc, plan, &PLAN_WORDS, 2, dice)?,
-        second: maybe_mutated(alloc, cert.as_bytes(), &CERT_WORDS, 6, dice)?,
+        plan: maybe_mutated(alloc, plan.as_bytes(), &PLAN_WORDS, 2, dice)?,
+        second: cert,
     })
 }
 
 // One of the examples has other names of the two lines.
-fn capture_case(alloc: Global, plan: &[u8], dice: &mut Dice) -> Result<Case, AllocError> {
+fn capture_case(alloc: Global, plan: &'static str, dice: &mut Dice) -> Result<Case, AllocError> {
     let dump = dice.pick(&DUMPS, "");
     let (scl, sda) = if dump.contains(" D0 ") && dice.throw(4) > 0 {
         ("D0", "D1")
@@ -120,7 +122,7 @@ fn capture_case(alloc: Global, plan: &[u8], dice: &mut Dice) -> Result<Case, All
     };
     Ok(Case {
         command: Command::Capture { scl, sda },
-        plan: maybe_mutated(alloc, plan, &PLAN_WORDS, 2, dice)?,
+        plan: maybe_mutated(alloc, plan.as_bytes(), &PLAN_WORDS, 2, dice)?,
         second: maybe_mutated(alloc, dump.as_bytes(), &DUMP_WORDS, 7, dice)?,
     })
 }

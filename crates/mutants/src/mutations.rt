@@ -145,7 +145,7 @@ pub const DUMP_WORDS: [&str; 40] = [
 pub fn mutated(
     alloc: Global,
     text: &[u8],
-    words: &[&str],
+    words: &[&'static str],
     dice: &mut Dice,
 ) -> Result<Vec<u8>, AllocError> {
     let mut text = copied(alloc, text)?;
@@ -253,7 +253,7 @@ fn run_length(text: &[u8], white: bool) -> usize {
 fn with_words_changed(
     alloc: Global,
     text: &[u8],
-    words: &[&str],
+    words: &[&'static str],
     dice: &mut Dice,
 ) -> Result<Vec<u8>, AllocError> {
     let pieces = pieces_of(alloc, text)?;
