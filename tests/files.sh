@@ -26,13 +26,23 @@ clean_up() {
 # No run may take longer, in seconds.
 limit=60
 
-# run STATUS OUT ERR COMMAND ARG..: what the next call ends with, and the call. Each text has a line feed behind it where
-# it is not empty. The command's standard input and output are those of this call.
+# bounded ARG..: a run, with the standard input and output of this call.
 bounded() {
     timeout --signal=KILL "$limit" "$twire" "$@"
 }
 
-# judge NAME STATUS OUT ERR: compares these with what stands in `status` and the files out and err.
+# Waits for the run that was started in the background: its number is in pid.
+await() {
+    local began=$SECONDS
+    while [[ -e /proc/$pid/exe ]] && ((SECONDS - began < limit)); do
+        sleep 0.01
+    done
+    kill -KILL "$pid" 2>/dev/null
+    wait "$pid" 2>/dev/null
+    status=$?
+}
+
+# judge NAME STATUS OUT ERR: compares these with what stands in status and in the files out and err.
 judge() {
     local name=$1 want=$2 out=$3 err=$4
     if [[ $status == "$want" && $(cat out) == "$out" && $(cat err) == "$err" ]]; then
@@ -159,8 +169,7 @@ held() {
     "$@"
     cat plan >&3
     exec 3>&-
-    wait "$pid"
-    status=$?
+    await
 }
 
 cut_dump() { truncate -s 0 changing; }
@@ -196,8 +205,7 @@ stopped() {
 
 go_on() {
     kill -CONT "$pid"
-    wait "$pid"
-    status=$?
+    await
 }
 
 # changed MAKE CHANGE FD ARG..: a run on the file `long`, which MAKE makes of some number of bytes, and which CHANGE changes
@@ -212,7 +220,7 @@ changed() {
             return
         fi
         kill -CONT "$pid" 2>/dev/null
-        wait "$pid"
+        await
         size=$((2 * size))
     done
     status=never
@@ -274,8 +282,7 @@ held_by_signals() {
     done
     tail -c +13 "$sent" >&3
     exec 3>&-
-    wait "$pid"
-    status=$?
+    await
 }
 
 sent=plan
@@ -344,8 +351,7 @@ sleep 0.05
 kill -CONT "$pid"
 cat <&3 >out
 exec 3<&-
-wait "$pid"
-status=$?
+await
 judge "a long report through a pipe, with signals" 0 "$(cat report)" ""
 expect "a long report is longer than a pipe" 0 "$(cat report)" "" capture plan long
 (($(stat -c %s report) > 65536)) || { failed=$((failed + 1)) && echo "FAILED: the long report is short"; }
