@@ -112,13 +112,15 @@ fn verify_case(alloc: Global, plan: &'static str, dice: &mut Dice) -> Result<Cas
     })
 }
 
-// One of the examples has other names of the two lines.
+const NAMES: [&str; 6] = ["scl", "sda", "D0", "D1", "clk", ""];
+
+// One of the examples has other names of the two lines, and some cases have any.
 fn capture_case(alloc: Global, plan: &'static str, dice: &mut Dice) -> Result<Case, AllocError> {
     let dump = dice.pick(&DUMPS, "");
-    let (scl, sda) = if dump.contains(" D0 ") && dice.throw(4) > 0 {
-        ("D0", "D1")
-    } else {
-        ("scl", "sda")
+    let (scl, sda) = match dice.throw(16) {
+        0 => (dice.pick(&NAMES, ""), dice.pick(&NAMES, "")),
+        _ if dump.contains(" D0 ") => ("D0", "D1"),
+        _ => ("scl", "sda"),
     };
     Ok(Case {
         command: Command::Capture { scl, sda },

@@ -2,7 +2,7 @@
 // certificates and captures that show one rule each.
 
 /// Plans.
-pub const PLANS: [&str; 35] = [
+pub const PLANS: [&str; 37] = [
     "plan 2
 message drain
   write 1101000
@@ -264,6 +264,299 @@ interrupt t 1001001 ;
     "plan 1
 message m write 1001000 stop else stop ;
 controller c0 ; controller c1 ; controller c2 ; controller c3 ; controller c4 ; controller c5 ; controller c6 ; controller c7 ; controller c8 ; controller c9 ; controller c10 ; controller c11 ; controller c12 ; controller c13 ; controller c14 ; controller c15 ; controller c16 ; controller c17 ; controller c18 ; controller c19 ; controller c20 ; controller c21 ; controller c22 ; controller c23 ; controller c24 ; controller c25 ; controller c26 ; controller c27 ; controller c28 ; controller c29 ; controller c30 ; controller c31 ;
+",
+    "plan 1
+message m0 write 1001000 00000000 stop else stop else stop ;
+message m1 write 1001000 00000001 stop else stop else stop ;
+message m2 write 1001000 0000001x stop else stop else stop ;
+message m3 write 1001000 00000100 stop else stop else stop ;
+message m4 write 1001000 1xxxxxxx stop else stop else stop ;
+controller c0 m0 m1 m2 m3 m4 ;
+controller c1 m0 m1 m2 m3 m4 ;
+controller c2 m0 m1 m2 m3 m4 ;
+controller c3 m0 m1 m2 m3 m4 ;
+controller c4 m0 m1 m2 m3 m4 ;
+controller c5 m0 m1 m2 m3 m4 ;
+controller c6 m0 m1 m2 m3 m4 ;
+controller c7 m0 m1 m2 m3 m4 ;
+",
+    "plan 1
+message m
+write 1001000 again
+write 1001000 again
+write 1001000 again
+write 1001000 again
+write 1001000 again
+write 1001000 again
+write 1001000 again
+write 1001000 again
+write 1001000 again
+write 1001000 again
+write 1001000 again
+write 1001000 again
+write 1001000 again
+write 1001000 again
+write 1001000 again
+write 1001000 again
+write 1001000 again
+write 1001000 again
+write 1001000 again
+write 1001000 again
+write 1001000 again
+write 1001000 again
+write 1001000 again
+write 1001000 again
+write 1001000 again
+write 1001000 again
+write 1001000 again
+write 1001000 again
+write 1001000 again
+write 1001000 again
+write 1001000 again
+write 1001000 again
+write 1001000 again
+write 1001000 again
+write 1001000 again
+write 1001000 again
+write 1001000 again
+write 1001000 again
+write 1001000 again
+write 1001000 again
+write 1001000 again
+write 1001000 again
+write 1001000 again
+write 1001000 again
+write 1001000 again
+write 1001000 again
+write 1001000 again
+write 1001000 again
+write 1001000 again
+write 1001000 again
+write 1001000 again
+write 1001000 again
+write 1001000 again
+write 1001000 again
+write 1001000 again
+write 1001000 again
+write 1001000 again
+write 1001000 again
+write 1001000 again
+write 1001000 again
+write 1001000 again
+write 1001000 again
+write 1001000 again
+write 1001000 again
+write 1001000 again
+write 1001000 again
+write 1001000 again
+write 1001000 again
+write 1001000 again
+write 1001000 again
+write 1001000 again
+write 1001000 again
+write 1001000 again
+write 1001000 again
+write 1001000 again
+write 1001000 again
+write 1001000 again
+write 1001000 again
+write 1001000 again
+write 1001000 again
+write 1001000 again
+write 1001000 again
+write 1001000 again
+write 1001000 again
+write 1001000 again
+write 1001000 again
+write 1001000 again
+write 1001000 again
+write 1001000 again
+write 1001000 again
+write 1001000 again
+write 1001000 again
+write 1001000 again
+write 1001000 again
+write 1001000 again
+write 1001000 again
+write 1001000 again
+write 1001000 again
+write 1001000 again
+write 1001000 again
+write 1001000 again
+write 1001000 again
+write 1001000 again
+write 1001000 again
+write 1001000 again
+write 1001000 again
+write 1001000 again
+write 1001000 again
+write 1001000 again
+write 1001000 again
+write 1001000 again
+write 1001000 again
+write 1001000 again
+write 1001000 again
+write 1001000 again
+write 1001000 again
+write 1001000 again
+write 1001000 again
+write 1001000 again
+write 1001000 again
+write 1001000 again
+write 1001000 again
+write 1001000 again
+write 1001000 again
+write 1001000 again
+write 1001000 again
+write 1001000 again
+write 1001000 again
+write 1001000 again
+write 1001000 again
+write 1001000 again
+write 1001000 again
+write 1001000 again
+write 1001000 again
+write 1001000 again
+write 1001000 again
+write 1001000 again
+write 1001000 again
+write 1001000 again
+write 1001000 again
+write 1001000 again
+write 1001000 again
+write 1001000 again
+write 1001000 again
+write 1001000 again
+write 1001000 again
+write 1001000 again
+write 1001000 again
+write 1001000 again
+write 1001000 again
+write 1001000 again
+write 1001000 again
+write 1001000 again
+write 1001000 again
+write 1001000 again
+write 1001000 again
+write 1001000 again
+write 1001000 again
+write 1001000 again
+write 1001000 again
+write 1001000 again
+write 1001000 again
+write 1001000 again
+write 1001000 again
+write 1001000 again
+write 1001000 again
+write 1001000 again
+write 1001000 again
+write 1001000 again
+write 1001000 again
+write 1001000 again
+write 1001000 again
+write 1001000 again
+write 1001000 again
+write 1001000 again
+write 1001000 again
+write 1001000 again
+write 1001000 again
+write 1001000 again
+write 1001000 again
+write 1001000 again
+write 1001000 again
+write 1001000 again
+write 1001000 again
+write 1001000 again
+write 1001000 again
+write 1001000 again
+write 1001000 again
+write 1001000 again
+write 1001000 again
+write 1001000 again
+write 1001000 again
+write 1001000 again
+write 1001000 again
+write 1001000 again
+write 1001000 again
+write 1001000 again
+write 1001000 again
+write 1001000 again
+write 1001000 again
+write 1001000 again
+write 1001000 again
+write 1001000 again
+write 1001000 again
+write 1001000 again
+write 1001000 again
+write 1001000 again
+write 1001000 again
+write 1001000 again
+write 1001000 again
+write 1001000 again
+write 1001000 again
+write 1001000 again
+write 1001000 again
+write 1001000 again
+write 1001000 again
+write 1001000 again
+write 1001000 again
+write 1001000 again
+write 1001000 again
+write 1001000 again
+write 1001000 again
+write 1001000 again
+write 1001000 again
+write 1001000 again
+write 1001000 again
+write 1001000 again
+write 1001000 again
+write 1001000 again
+write 1001000 again
+write 1001000 again
+write 1001000 again
+write 1001000 again
+write 1001000 again
+write 1001000 again
+write 1001000 again
+write 1001000 again
+write 1001000 again
+write 1001000 again
+write 1001000 again
+write 1001000 again
+write 1001000 again
+write 1001000 again
+write 1001000 again
+write 1001000 again
+write 1001000 again
+write 1001000 again
+write 1001000 again
+write 1001000 again
+write 1001000 again
+write 1001000 again
+write 1001000 again
+write 1001000 again
+write 1001000 again
+write 1001000 again
+write 1001000 stop
+else stop else stop else stop else stop else stop else stop else stop else stop else stop else stop else stop else stop else stop else stop else stop else stop 
+else stop else stop else stop else stop else stop else stop else stop else stop else stop else stop else stop else stop else stop else stop else stop else stop 
+else stop else stop else stop else stop else stop else stop else stop else stop else stop else stop else stop else stop else stop else stop else stop else stop 
+else stop else stop else stop else stop else stop else stop else stop else stop else stop else stop else stop else stop else stop else stop else stop else stop 
+else stop else stop else stop else stop else stop else stop else stop else stop else stop else stop else stop else stop else stop else stop else stop else stop 
+else stop else stop else stop else stop else stop else stop else stop else stop else stop else stop else stop else stop else stop else stop else stop else stop 
+else stop else stop else stop else stop else stop else stop else stop else stop else stop else stop else stop else stop else stop else stop else stop else stop 
+else stop else stop else stop else stop else stop else stop else stop else stop else stop else stop else stop else stop else stop else stop else stop else stop 
+else stop else stop else stop else stop else stop else stop else stop else stop else stop else stop else stop else stop else stop else stop else stop else stop 
+else stop else stop else stop else stop else stop else stop else stop else stop else stop else stop else stop else stop else stop else stop else stop else stop 
+else stop else stop else stop else stop else stop else stop else stop else stop else stop else stop else stop else stop else stop else stop else stop else stop 
+else stop else stop else stop else stop else stop else stop else stop else stop else stop else stop else stop else stop else stop else stop else stop else stop 
+else stop else stop else stop else stop else stop else stop else stop else stop else stop else stop else stop else stop else stop else stop else stop else stop 
+else stop else stop else stop else stop else stop else stop else stop else stop else stop else stop else stop else stop else stop else stop else stop else stop 
+else stop else stop else stop else stop else stop else stop else stop else stop else stop else stop else stop else stop else stop else stop else stop else stop 
+else stop else stop else stop else stop else stop else stop else stop else stop else stop else stop else stop else stop else stop else stop else stop else stop 
+;
+controller a m ;
+controller b m ;
 ",
 ];
 
