@@ -155,8 +155,7 @@ fn bench<R: Files + Input + Print + Eprint + AllocGlobal + Threads + Wait + Sync
     answers: &str,
     hints: bool,
 ) -> Result<u8, RunError> {
-    let mut plan = open(rt, plan)?;
-    let mut cert = open(rt, cert)?;
+    let (mut plan, mut cert) = open_both(rt, plan, cert)?;
     let mut out = Watched::new(io::writer(rt));
     let ended = run_bench(
         rt,
