@@ -175,10 +175,10 @@ all_fresh bench ns ss are = subst (All (IsFresh bench)) (sym are) (All-map (IsFr
 
 nothing_filled : (bench : BenchName) (fill : Bool) (stage : Stage) (s : seats.Player) → IsFresh bench s → stage ≡ Puts → (s.bench ≡ bench) × IsInStep stage s × IsFilledSeat fill s
 nothing_filled bench fill stage s f e = (
-    f.0,
-    subst (λ (x : Stage). IsInStep x s) (sym e) (f.1, ap length f.2 ∙ sym (ap length f.3)),
-    λ k lt either. absurd (let none : length s.puts ≡ 0 = ap length f.2 in omega (arith, none, lt)),
-  )
+  f.0,
+  subst (λ (x : Stage). IsInStep x s) (sym e) (f.1, ap length f.2 ∙ sym (ap length f.3)),
+  λ k lt either. absurd (let none : length s.puts ≡ 0 = ap length f.2 in omega (arith, none, lt)),
+)
 
 -- parts with such seats are ready to be played
 pub ready_parts : (bench : BenchName) (fill : Bool) (parts : List Part) → All (IsFresh bench) (map (λ p. p.player.seat) parts) → All (IsReady bench fill) parts → All (IsPart bench fill) parts

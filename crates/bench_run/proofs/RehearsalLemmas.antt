@@ -56,8 +56,8 @@ plays_out plan text answer_text fill numbers slice bits bit_slice bench host ss 
   wire = wire;
   won = won;
   rehearsed =
-    let game = game_is plan slice bit_slice bench host ss opened ∙ ap (λ (bs : List Bool). made (Some plan) slice bs) (same_bits ∙ bits_are) in
-    subst (λ (g : Game). IsRehearsed g fill wire won) game rehearsed;
+      let game = game_is plan slice bit_slice bench host ss opened ∙ ap (λ (bs : List Bool). made (Some plan) slice bs) (same_bits ∙ bits_are) in
+      subst (λ (g : Game). IsRehearsed g fill wire won) game rehearsed;
   lines = lines;
 }
 

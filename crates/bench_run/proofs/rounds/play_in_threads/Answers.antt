@@ -14,8 +14,8 @@ map_vec-requires-send-J g c κs _ =
 pub returns-clause-each : goal.returns-clause-each
 returns-clause-each g c bench fill are =
     IfOk-weaker c.map_vec.result _ _ (λ v h k d lt.
-      let many : length v.items ≡ length c.args.parts.items = sym v.ok.0 ∙ h.0 ∙ c.args.parts.ok.0 in
-      let there : k < length c.args.parts.items = omega (arith, lt, many) in
-      let job = (h.1 k d there).1 in
-      let is_part : IsPart bench fill job.job = subst (IsPart bench fill) (sym job.job_read) (are k job.job there) in
-      job.call.met bench fill is_part) (both_ok c.map_vec.result _ _ c.map_vec.ensures.len c.map_vec.ensures.each)
+    let many : length v.items ≡ length c.args.parts.items = sym v.ok.0 ∙ h.0 ∙ c.args.parts.ok.0 in
+    let there : k < length c.args.parts.items = omega (arith, lt, many) in
+    let job = (h.1 k d there).1 in
+    let is_part : IsPart bench fill job.job = subst (IsPart bench fill) (sym job.job_read) (are k job.job there) in
+    job.call.met bench fill is_part) (both_ok c.map_vec.result _ _ c.map_vec.ensures.len c.map_vec.ensures.each)
