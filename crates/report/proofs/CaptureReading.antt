@@ -1,8 +1,8 @@
 -- What the loop over a dump keeps.
-use Rattle.std.proofs.Common.{◌≡◌, ℕ, ◌+◌, ◌<◌, ◌≤◌, false, List, [], ◌++◌, length, take, Some, Result, Ok, Err, IfOk, IfErr, ap, ◌∙◌, subst, refl, append-nil, arith}
+use Rattle.std.proofs.Common.{◌≡◌, ℕ, ◌+◌, ◌<◌, ◌≤◌, false, List, [], ◌++◌, length, take, Some, Result, Ok, Err, IfOk, IfErr, ap, ◌∙◌, subst, refl, append-nil, length-take, arith}
 use Rattle.std.proofs.KnownBytes.{Consumes-trans}
 use Rattle.std.specs.Io.KnownBytes.{Consumes, IsAtEnd}
-use Rattle.report.specs.Captures.{RefusesBeginning, RefusesDump, HaltsAtDump, refused_within, refused_at_end}
+use Rattle.report.specs.Captures.{PassesSoFar, RefusesBeginning, RefusesDump, HaltsAtDump, refused_within, refused_at_end}
 use Rattle.report.specs.Reading.{ReadsAll}
 use Rattle.report.specs.Runs.{ReadsText, most_reads}
 use Rattle.report.specs.declared.errors.RunError.{RunError}
@@ -17,6 +17,7 @@ pub record ReadsOn {D : Type 0} (reader : Reader D) (start : D) (plan : Contents
   pub text : List ℕ
   pub reading : Reading reader start reads text now
   pub follows : (scl sda : List ℕ) → Follows scl sda plan [] begun → Follows scl sda plan text capture
+  pub passes : (scl sda : List ℕ) → Follows scl sda plan [] begun → PassesSoFar scl sda text
 
 module _ {D : Type 0} (reader : Reader D) (start : D) where
   -- the read that gave no bytes
@@ -38,7 +39,7 @@ module _ {D : Type 0} (reader : Reader D) (start : D) where
 
   module _ (plan : Contents) (begun : Capture) where
     pub begin : ReadsOn reader start plan begun 0 start begun
-    begin = record { text = []; reading = nothing_read reader start [] refl; follows = λ scl sda f. f }
+    begin = record { text = []; reading = nothing_read reader start [] refl; follows = λ scl sda f. f; passes = λ scl sda f. tt }
 
     -- the whole dump has been read
     pub ends : {R : Type 0} (P : List ℕ → List ℕ → List ℕ → R → Type 0) (r : Result R RunError) (reads : ℕ) (last now : D) (capture : Capture) → (on : ReadsOn reader start plan begun reads last capture) → ReadsAll reader most_reads start on.text now → IfOk r (λ it. (scl sda text : List ℕ) → Follows scl sda plan text capture → P scl sda text it) → (scl sda : List ℕ) → Follows scl sda plan [] begun → IfOk r (λ it. (dump : List ℕ) × ReadsText reader start dump now × P scl sda dump it)
@@ -47,18 +48,19 @@ module _ {D : Type 0} (reader : Reader D) (start : D) where
 
     pub end_halts : {R : Type 0} (r : Result R RunError) (reads : ℕ) (last now : D) (capture : Capture) → (on : ReadsOn reader start plan begun reads last capture) → ReadsAll reader most_reads start on.text now → IfErr r (λ e. (scl sda text : List ℕ) → Follows scl sda plan text capture → RefusesDump scl sda text e) → (scl sda : List ℕ) → Follows scl sda plan [] begun → IfErr r (λ e. HaltsAtDump reader scl sda start e now)
     end_halts (Ok it) reads last now capture on all h scl sda f = tt
-    end_halts (Err e) reads last now capture on all h scl sda f = refused_at_end all (h scl sda on.text (on.follows scl sda f))
+    end_halts (Err e) reads last now capture on all h scl sda f = refused_at_end all (on.passes scl sda f) (h scl sda on.text (on.follows scl sda f))
 
     -- a read that gave a piece, which the capture then followed
-    pub one_more : (reads n : ℕ) (buf : List ℕ) (before after : D) (capture grown : Capture) → ReadsOn reader start plan begun reads before capture → reader.gives before (length buf) (Some (take n buf)) after → 0 < n → n ≤ length buf → reader.has_failed after ≡ false → Consumes (reader.remaining before) (reader.remaining after) (take n buf) → ((scl sda text : List ℕ) → Follows scl sda plan text capture → Follows scl sda plan (text ++ take n buf) grown) → ReadsOn reader start plan begun (reads + 1) after grown
-    one_more reads n buf before after capture grown on call some within sound lost follows = record {
+    pub one_more : (reads n : ℕ) (buf : List ℕ) (before after : D) (capture grown : Capture) → ReadsOn reader start plan begun reads before capture → reader.gives before (length buf) (Some (take n buf)) after → 0 < n → n ≤ length buf → reader.has_failed after ≡ false → Consumes (reader.remaining before) (reader.remaining after) (take n buf) → ((scl sda text : List ℕ) → Follows scl sda plan text capture → Follows scl sda plan (text ++ take n buf) grown) → ((scl sda text : List ℕ) → Follows scl sda plan text capture → PassesSoFar scl sda (text ++ take n buf)) → ReadsOn reader start plan begun (reads + 1) after grown
+    one_more reads n buf before after capture grown on call some within sound lost follows passes = record {
       text = on.text ++ take n buf;
       reading = one_more_read reader start reads (length buf) n on.text buf (on.text ++ take n buf) before after on.reading call some within sound lost refl;
       follows = λ scl sda f. follows scl sda on.text (on.follows scl sda f);
+      passes = λ scl sda f. passes scl sda on.text (on.follows scl sda f);
     }
 
     -- a read that gave a piece, at which the dump is refused
-    pub feed_halts : (reads n : ℕ) (buf : List ℕ) (before after : D) (capture : Capture) (e : RunError) → ReadsOn reader start plan begun reads before capture → reads < most_reads → reader.gives before (length buf) (Some (take n buf)) after → 0 < n → n ≤ length buf → reader.has_failed after ≡ false → Consumes (reader.remaining before) (reader.remaining after) (take n buf) → ((scl sda text : List ℕ) → Follows scl sda plan text capture → RefusesBeginning scl sda (text ++ take n buf) e) → (scl sda : List ℕ) → Follows scl sda plan [] begun → HaltsAtDump reader scl sda start e after
-    feed_halts reads n buf before after capture e on few call some within sound lost refuses scl sda f =
-        let read = one_more_read reader start reads (length buf) n on.text buf (on.text ++ take n buf) before after on.reading call some within sound lost refl in
-        refused_within (omega (arith, few)) read.read (refuses scl sda on.text (on.follows scl sda f))
+    pub feed_halts : (reads n : ℕ) (buf : List ℕ) (before after : D) (capture : Capture) (e : RunError) → ReadsOn reader start plan begun reads before capture → reads < most_reads → reader.gives before (length buf) (Some (take n buf)) after → 0 < n → n ≤ length buf → reader.has_failed after ≡ false → ((scl sda text : List ℕ) → Follows scl sda plan text capture → RefusesBeginning scl sda (text ++ take n buf) e) → (scl sda : List ℕ) → Follows scl sda plan [] begun → HaltsAtDump reader scl sda start e after
+    feed_halts reads n buf before after capture e on few call some within sound refuses scl sda f =
+        let long : 0 < length (take n buf) = omega (arith, length-take n buf) in
+        refused_within few (record { given = on.reading.read; passes = on.passes scl sda f }) call long sound (refuses scl sda on.text (on.follows scl sda f))

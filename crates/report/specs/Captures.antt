@@ -1,5 +1,5 @@
 -- What a run says of a plan text and a dump.
-use Rattle.std.specs.Prelude.{◌≡◌, ◌≢◌, ℕ, ◌≤◌, List, Ok, Err}
+use Rattle.std.specs.Prelude.{◌≡◌, ◌≢◌, ℕ, ◌<◌, ◌≤◌, true, false, List, ◌++◌, length, Some, None, Ok, Err, MatchResult}
 use Rattle.plan_core.specs.Contents.{Contents}
 use Rattle.plan_text.specs.Grammar.{Spells}
 use Rattle.vcd_read.specs.declared.errors.Refusal.{Refusal}
@@ -10,7 +10,6 @@ use Rattle.capture_check.specs.Following.{transactions_in}
 use Rattle.report.specs.CaptureLines.{Tally, Tells, capture_report}
 use Rattle.report.specs.Checks.{RefusesPlan, SpellsPlan}
 use Rattle.report.specs.Devices.{Reader, HasGiven}
-use Rattle.report.specs.Reading.{ReadingStops}
 use Rattle.report.specs.Runs.{ReadsText, HaltsAtText, most_reads}
 use Rattle.report.specs.declared.runs.Status.{Status}
 use Rattle.report.specs.declared.runs.Status.TheVariants.{Good, Bad, Refused}
@@ -38,6 +37,10 @@ pub record Captured (scl sda : List ℕ) (texts : List ℕ × List ℕ) (report 
   pub spelled : Spells texts.0 plan
   pub capture : CaptureOf scl sda plan texts.1 report status
 
+-- nothing is refused in what was read of a dump
+abbrev pub PassesSoFar : List ℕ → List ℕ → List ℕ → Type 0
+PassesSoFar scl sda text = MatchResult (said_so_far scl sda text) (λ _. Unit {0}) (λ _. ⊥)
+
 -- A dump that begins so is refused whatever follows, by the first refusal in what was read; or memory was refused.
 abbrev pub RefusesBeginning : List ℕ → List ℕ → List ℕ → RunError → Type 0
 RefusesBeginning scl sda text (error.Vcd e) = (r : Refusal) × (said_so_far scl sda text ≡ Err r) × (e ≡ error_of r)
@@ -51,18 +54,38 @@ RefusesDump scl sda text error.NoMemory = Unit {0}
 RefusesDump scl sda text _ = ⊥
 
 module _ {E : Type 0} (second : Reader E) where
-  -- why the reading of a dump goes no further: the reader stopped, or what it gave so far is refused, or the whole dump is
+  -- so many reads have given this text, and nothing in it is refused
+  pub record HasBegun (scl sda : List ℕ) (before : E) (reads : ℕ) (text : List ℕ) (now : E) : Type 0 where
+    pub given : HasGiven second before reads text now
+    pub passes : PassesSoFar scl sda text
+
+  -- Why the reading of a dump goes no further: a read answered an error, the reads met no end, memory was refused, a read
+  -- gave the first bytes that are refused with what was there, or the whole dump is refused.
   pub data HaltsAtDump (scl sda : List ℕ) (before : E) : RunError → E → Type 0 where
-    unread : {error : RunError} {now : E} →
-        ReadingStops second most_reads before error now →
-        HaltsAtDump scl sda before error now
-    refused_within : {error : RunError} {now : E} {reads : ℕ} {text : List ℕ} →
+    read_fails : {reads room : ℕ} {text : List ℕ} {last now : E} →
+        reads < most_reads →
+        HasBegun scl sda before reads text last →
+        second.gives last room None now →
+        second.has_failed now ≡ true →
+        HaltsAtDump scl sda before error.Read now
+    meets_no_end : {text : List ℕ} {now : E} →
+        HasBegun scl sda before most_reads text now →
+        HaltsAtDump scl sda before error.Read now
+    no_memory : {reads : ℕ} {text : List ℕ} {now : E} →
         reads ≤ most_reads →
-        HasGiven second before reads text now →
-        RefusesBeginning scl sda text error →
+        HasBegun scl sda before reads text now →
+        HaltsAtDump scl sda before error.NoMemory now
+    refused_within : {error : RunError} {reads room : ℕ} {text piece : List ℕ} {last now : E} →
+        reads < most_reads →
+        HasBegun scl sda before reads text last →
+        second.gives last room (Some piece) now →
+        0 < length piece →
+        second.has_failed now ≡ false →
+        RefusesBeginning scl sda (text ++ piece) error →
         HaltsAtDump scl sda before error now
-    refused_at_end : {error : RunError} {now : E} {text : List ℕ} →
+    refused_at_end : {error : RunError} {text : List ℕ} {now : E} →
         ReadsText second before text now →
+        PassesSoFar scl sda text →
         RefusesDump scl sda text error →
         HaltsAtDump scl sda before error now
 

@@ -23,7 +23,7 @@ impl Capture {
     ghost use Rattle.plan_core.specs.PlanContents.{plan_contents};
     ghost use Rattle.vcd_read.specs.declared.samples.Sample.{Sample};
     ghost use Rattle.capture_check.specs.Views.{recorded};
-    ghost use Rattle.report.specs.Captures.{CaptureOf, RefusesBeginning, RefusesDump};
+    ghost use Rattle.report.specs.Captures.{CaptureOf, PassesSoFar, RefusesBeginning, RefusesDump};
     ghost use Rattle.report.specs.CaptureViews.{Follows};
 
     /// Nothing of the dump has been read.
@@ -48,6 +48,8 @@ impl Capture {
         ensures fed { OnOk result ((scl sda text : List ℕ) →
             Follows scl sda (plan_contents plan.now) text self.old →
             Follows scl sda (plan_contents plan.now) (text ++ piece.now) self.new) }
+        ensures passed { OnOk result ((scl sda text : List ℕ) →
+            Follows scl sda (plan_contents plan.now) text self.old → PassesSoFar scl sda (text ++ piece.now)) }
         ensures refused { IfErr result (λ error. (scl sda text : List ℕ) →
             Follows scl sda (plan_contents plan.now) text self.old →
             RefusesBeginning scl sda (text ++ piece.now) error) }

@@ -1,6 +1,6 @@
-use Rattle.std.proofs.Common.{◌≡◌, ◌<◌, ℕ, inl, inr, subst, arith, length, string_bytes}
+use Rattle.std.proofs.Common.{◌≡◌, ◌<◌, ℕ, subst, arith, length, string_bytes}
 use Rattle.plan_core.specs.PlanContents.{plan_contents}
-use Rattle.report.specs.Captures.{CaptureOf, HaltsAtDump, unread}
+use Rattle.report.specs.Captures.{CaptureOf, HaltsAtDump, read_fails, meets_no_end}
 use Rattle.report.specs.Devices.{HasGiven}
 use Rattle.report.proofs.CaptureReading.{begin, all_read, ends, end_halts, one_more, feed_halts}
 use Rattle.report.proofs.RunLemmas.{on_error}
@@ -30,23 +30,23 @@ returns-in_err-feed-in-Ok-clause-stops g c = λ scl sda f.
     let reader = g.J.Input.reader in
     let some : 0 < c.in-Ok.count = omega (arith, c.in-Ok.count-test) in
     on_error c.from_residual.result c.in_err-feed-in-Ok.field-0.0 (λ e. HaltsAtDump reader scl sda c.args.vcd.now e c.read.new.self) c.from_residual.ensures.1
-    (feed_halts reader c.args.vcd.now (plan_contents c.args.plan.now) c.args.capture c.loop.counter c.in-Ok.count c.read.new.buf c.loop.vcd c.read.new.self c.loop.capture c.in_err-feed-in-Ok.field-0.0 c.loop.invariant.reads c.loop-test.true c.in-Ok.ensures.call some c.in-Ok.ensures.bound.0 c.in-Ok.ensures.failed c.in-Ok.ensures.bytes.0 c.in_err-feed-in-Ok.ensures.refused scl sda f)
+    (feed_halts reader c.args.vcd.now (plan_contents c.args.plan.now) c.args.capture c.loop.counter c.in-Ok.count c.read.new.buf c.loop.vcd c.read.new.self c.loop.capture c.in_err-feed-in-Ok.field-0.0 c.loop.invariant.reads c.loop-test.true c.in-Ok.ensures.call some c.in-Ok.ensures.bound.0 c.in-Ok.ensures.failed c.in_err-feed-in-Ok.ensures.refused scl sda f)
 
 pub returns-in-Err-clause-stops : goal.returns-in-Err-clause-stops
 returns-in-Err-clause-stops g c = λ scl sda f.
     let on = c.loop.invariant.reads in
-    unread (inl (record { reads = c.loop.counter; few = c.loop-test.true; text = on.text; last = c.loop.vcd; read = on.reading.read; room = length c.read.new.buf; fault = c.in-Err.ensures.call; failed = c.in-Err.ensures.failed }))
+    read_fails c.loop-test.true (record { given = on.reading.read; passes = on.passes scl sda f }) c.in-Err.ensures.call c.in-Err.ensures.failed
 
 pub loop-preserved : goal.loop-preserved
 loop-preserved g c =
     let some : 0 < c.in-Ok.count = omega (arith, c.in-Ok.count-test) in
     record {
       room = omega (arith, c.loop.invariant.room, c.read.auto.buf);
-      reads = one_more g.J.Input.reader c.args.vcd.now (plan_contents c.args.plan.now) c.args.capture c.loop.counter c.in-Ok.count c.read.new.buf c.loop.vcd c.read.new.self c.loop.capture c.feed.new.self c.loop.invariant.reads c.in-Ok.ensures.call some c.in-Ok.ensures.bound.0 c.in-Ok.ensures.failed c.in-Ok.ensures.bytes.0 c.in_ok-feed-in-Ok.ensures.fed;
+      reads = one_more g.J.Input.reader c.args.vcd.now (plan_contents c.args.plan.now) c.args.capture c.loop.counter c.in-Ok.count c.read.new.buf c.loop.vcd c.read.new.self c.loop.capture c.feed.new.self c.loop.invariant.reads c.in-Ok.ensures.call some c.in-Ok.ensures.bound.0 c.in-Ok.ensures.failed c.in-Ok.ensures.bytes.0 c.in_ok-feed-in-Ok.ensures.fed c.in_ok-feed-in-Ok.ensures.passed;
     }
 
 pub returns-clause-stops : goal.returns-clause-stops
 returns-clause-stops g c = λ scl sda f.
     let on = c.loop.invariant.reads in
     let all : c.loop.counter ≡ 4_294_967_295 = omega (arith, c.loop-test.false, c.loop.auto.counter-end) in
-    unread (inr (record { text = on.text; read = subst (λ (n : ℕ). HasGiven g.J.Input.reader c.args.vcd.now n on.text c.loop.vcd) all on.reading.read }))
+    meets_no_end (record { given = subst (λ (n : ℕ). HasGiven g.J.Input.reader c.args.vcd.now n on.text c.loop.vcd) all on.reading.read; passes = on.passes scl sda f })

@@ -1,6 +1,6 @@
 use Rattle.std.proofs.Common.{[], arith}
 use Rattle.plan_core.specs.PlanContents.{plan_contents}
-use Rattle.report.specs.Captures.{HaltsAtDump, unread}
+use Rattle.report.specs.Captures.{HaltsAtDump, no_memory}
 use Rattle.report.specs.Devices.{no_read}
 use Rattle.report.specs.declared.errors.RunError.TheVariants as error
 use Rattle.report.proofs.RunLemmas.{on_error}
@@ -8,11 +8,11 @@ use Rattle.report.proofs.captures.read_capture.Goals as goal
 
 pub returns-in_err-block-clause-stops : goal.returns-in_err-block-clause-stops
 returns-in_err-block-clause-stops g c =
-    on_error c.from_residual.result error.NoMemory (λ e. HaltsAtDump g.J.Input.reader c.args.scl.now c.args.sda.now c.args.vcd.now e c.args.vcd.now) c.from_residual.ensures.1 (unread (record { reads = 0; few = omega arith; text = []; read = no_read }))
+    on_error c.from_residual.result error.NoMemory (λ e. HaltsAtDump g.J.Input.reader c.args.scl.now c.args.sda.now c.args.vcd.now e c.args.vcd.now) c.from_residual.ensures.1 (no_memory {reads = 0} {text = []} (omega arith) (record { given = no_read; passes = tt }))
 
 pub returns-in_err-capture-clause-stops : goal.returns-in_err-capture-clause-stops
 returns-in_err-capture-clause-stops g c =
-    on_error c.from_residual-in_err-capture.result error.NoMemory (λ e. HaltsAtDump g.J.Input.reader c.args.scl.now c.args.sda.now c.args.vcd.now e c.args.vcd.now) c.from_residual-in_err-capture.ensures.1 (unread (record { reads = 0; few = omega arith; text = []; read = no_read }))
+    on_error c.from_residual-in_err-capture.result error.NoMemory (λ e. HaltsAtDump g.J.Input.reader c.args.scl.now c.args.sda.now c.args.vcd.now e c.args.vcd.now) c.from_residual-in_err-capture.ensures.1 (no_memory {reads = 0} {text = []} (omega arith) (record { given = no_read; passes = tt }))
 
 pub returns-clause-all : goal.returns-clause-all
 returns-clause-all g c = c.read_blocks.ensures.all c.args.scl.now c.args.sda.now (c.in_ok-capture.ensures (plan_contents c.args.plan.now))
