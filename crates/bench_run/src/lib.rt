@@ -6,7 +6,7 @@ pub mod gates;
 pub mod laws;
 mod lines;
 mod players;
-mod rounds;
+pub mod rounds;
 pub mod runs;
 mod starters;
 

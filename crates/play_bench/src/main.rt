@@ -1,0 +1,222 @@
+// How fast a bench is played: by turns on one thread, and with one thread for each of two, four and eight starters, who all
+// send the same message of 250 bytes. It writes how many slots a run has; with the argument `--time` also how many slots a
+// second were played in ten runs each way, one after the other.
+#![tactic(auto)]
+
+ghost use Rattle.std.specs.Prelude.{◌≡◌, All, length};
+
+use anyhow::Result;
+use bench_run::NoGate;
+use bench_run::rounds::play_all;
+use bus_bench::{Bench, Offered, Put, Seat, open_bench};
+use cert_check::{Accepted, accept_certificate};
+use message_tree::Bit;
+use plan_text::read_plan;
+use std::alloc::{AllocError, Global};
+use std::rt::Env;
+use std::sync::Wait;
+use std::thread::Threads;
+use std::time::{Clock, Instant};
+use std::{env, io};
+use verdicts::{certificate_text, faults};
+
+// The data bytes of the message.
+const BYTES: u32 = 250;
+
+const STARTERS: [u32; 3] = [2, 4, 8];
+
+const RUNS: u32 = 10;
+
+// No run has more slots.
+const MOST_SLOTS: u32 = 2_560;
+
+fn main(rt: HostRuntime) -> Result<()> {
+    let alloc = rt.alloc();
+    let is_timed = has_argument(&rt, "--time")?;
+    for starters in STARTERS {
+        let Some(accepted) = accepted(alloc, starters)? else {
+            println!(&rt; "{starters} starters: not accepted")?;
+            continue;
+        };
+        compare(&rt, alloc, &accepted, starters, is_timed)?;
+    }
+    Ok(())
+}
+
+fn has_argument(rt: &(impl Env + Alloc), wanted: &str) -> io::Result<bool> {
+    for word in env::args(rt)? {
+        if word.as_str() == wanted {
+            return Ok(true);
+        }
+    }
+    Ok(false)
+}
+
+// A plan of so many controllers that may each send the same message, with its certificate accepted.
+fn accepted(alloc: Global, controllers: u32) -> Result<Option<Accepted>, AllocError> {
+    let text = plan(alloc, controllers)?;
+    let Ok(plan) = read_plan(alloc, text.as_bytes()) else {
+        return Ok(None);
+    };
+    let faults = faults(alloc, &plan)?;
+    let cert = certificate_text(alloc, &plan, &faults)?;
+    Ok(accept_certificate(alloc, plan, cert.as_slice())?.ok())
+}
+
+fn plan(alloc: Global, controllers: u32) -> Result<String, AllocError> {
+    let mut text = String::from_str(alloc, "plan 1\nmessage m write 1001000")?;
+    for _ in 0..BYTES {
+        text.push_str(" 01010101")?;
+    }
+    text.push_str(" stop else stop")?;
+    for _ in 0..BYTES {
+        text.push_str(" else stop")?;
+    }
+    text.push_str(" ;\n")?;
+    for controller in 0..controllers {
+        writeln!(text, "controller c{controller} m ;")?;
+    }
+    Ok(text)
+}
+
+// Runs by turns and runs in threads.
+fn compare<R: Clock + Print + Threads + Wait + Sync>(
+    rt: &R,
+    alloc: Global,
+    accepted: &Accepted,
+    count: u32,
+    is_timed: bool,
+) -> Result<()> {
+    let starters = first_numbers(alloc, count)?;
+    // The targets acknowledge each byte.
+    let answers = vec![in alloc; false; 2560]?;
+    let (mut slots, mut turns, mut threads) = (0u32, 0.0, 0.0);
+    for _ in 0..RUNS {
+        let (found, seconds) = by_turns(
+            rt,
+            alloc,
+            accepted,
+            starters.as_slice(),
+            answers.as_slice(),
+        )?;
+        slots = found;
+        turns += seconds;
+        let (found, seconds) = in_threads(
+            rt,
+            alloc,
+            accepted,
+            starters.as_slice(),
+            answers.as_slice(),
+        )?;
+        if found != slots {
+            println!(rt; "{count} starters: {slots} slots by turns, and {found} in threads")?;
+        }
+        threads += seconds;
+    }
+    println!(rt; "{count} starters: {slots} slots")?;
+    if is_timed {
+        print_rate(rt, "by turns", slots, turns)?;
+        print_rate(rt, "in threads", slots, threads)?;
+    }
+    Ok(())
+}
+
+fn print_rate(rt: &impl Print, how: &str, slots: u32, seconds: f64) -> io::Result<()> {
+    let rate = f64::from(slots) * f64::from(RUNS) / seconds;
+    println!(rt; "  {how}: {rate:.0} slots a second")
+}
+
+fn first_numbers(alloc: Global, count: u32) -> Result<Vec<u32>, AllocError> {
+    let mut numbers = Vec::new(alloc);
+    for number in 0..count {
+        numbers.push(number)?;
+    }
+    Ok(numbers)
+}
+
+// The slots of a run that one thread plays by turns, and the seconds that they took.
+fn by_turns<R: Clock>(
+    rt: &R,
+    alloc: Global,
+    accepted: &Accepted,
+    starters: &[u32],
+    answers: &[bool],
+) -> Result<(u32, f64)> {
+    let (bench, _host, mut seats) = open_bench(alloc, accepted, starters, answers)?;
+    let start = Instant::now(rt)?;
+    let slots = play_by_turns(&bench, seats.as_mut_slice());
+    Ok((slots, start.elapsed(rt)?.as_secs_f64()))
+}
+
+fn play_by_turns<'a>(bench: &Bench<'a>, seats: &mut [Seat<'a>]) -> u32
+    requires { All (λ s. s.bench ≡ bench.now) seats.old }
+{
+    for slot in 0..MOST_SLOTS {
+        if !put_all(bench, seats) {
+            return slot;
+        }
+        see_all(bench, seats);
+    }
+    MOST_SLOTS
+}
+
+// Whether some seat has put.
+fn put_all<'a>(bench: &Bench<'a>, seats: &mut [Seat<'a>]) -> bool
+    requires { All (λ s. s.bench ≡ bench.now) seats.old }
+    ensures len { length seats.new ≡ length seats.old }
+    ensures each { All (λ s. s.bench ≡ bench.now) seats.new }
+{
+    let mut has_put = false;
+    for seat in seats {
+        has_put |= put(bench, seat);
+    }
+    has_put
+}
+
+fn see_all<'a>(bench: &Bench<'a>, seats: &mut [Seat<'a>])
+    requires { All (λ s. s.bench ≡ bench.now) seats.old }
+    ensures len { length seats.new ≡ length seats.old }
+    ensures each { All (λ s. s.bench ≡ bench.now) seats.new }
+{
+    for seat in seats {
+        see(bench, seat);
+    }
+}
+
+fn put<'a>(bench: &Bench<'a>, seat: &mut Seat<'a>) -> bool
+    requires { seat.old.bench ≡ bench.now }
+    ensures { seat.new.bench ≡ bench.now }
+{
+    let put = match seat.offered() {
+        Offered::Bit(Bit::One | Bit::Either) => Put::Drive(true),
+        Offered::Bit(Bit::Zero) => Put::Drive(false),
+        Offered::Listen => Put::Listen,
+        Offered::Again => Put::Again,
+        Offered::Stop => Put::Stop,
+        Offered::Claim => Put::Claim,
+        Offered::Nothing => return false,
+    };
+    seat.put(bench, put).is_ok()
+}
+
+fn see<'a>(bench: &Bench<'a>, seat: &mut Seat<'a>)
+    requires { seat.old.bench ≡ bench.now }
+    ensures { seat.new.bench ≡ bench.now }
+{
+    let _ = seat.see(bench);
+}
+
+// The same with a thread for each starter. The seconds are those of the threads too.
+fn in_threads<R: Clock + Threads + Wait + Sync>(
+    rt: &R,
+    alloc: Global,
+    accepted: &Accepted,
+    starters: &[u32],
+    answers: &[bool],
+) -> Result<(u32, f64)> {
+    let (bench, host, seats) = open_bench(alloc, accepted, starters, answers)?;
+    let start = Instant::now(rt)?;
+    let played = play_all(rt, alloc, bench, host, seats, true, &NoGate)?;
+    let seconds = start.elapsed(rt)?.as_secs_f64();
+    Ok((played.wire.len() as u32, seconds))
+}
