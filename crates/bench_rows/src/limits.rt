@@ -81,27 +81,27 @@ fn numbers(alloc: Global, first: u32, end: u32) -> Result<Vec<u32>, AllocError> 
 fn sixty_four_start_on_one_bench(rt: HostRuntime) -> Result<(), Fail> {
     let alloc = rt.alloc();
     let starters = numbers(alloc, 0, 64)?;
-    let writers = numbers(alloc, 0, 32)?;
-    for (front, answers, fill, wire, won) in [
-        // Interrupts with greater addresses lose.
-        ("11", [].as_slice(), true, "10010000hs", writers.as_slice()),
-        ("11", &[false; 18], true, "10010000l11111111ls", &writers),
-        ("11", &[false; 18], false, "10010000l00000000ls", &writers),
+    for (front, answers, fill, wire, (first, end)) in [
+        // Interrupts with greater addresses lose, and all who write win.
+        ("11", [].as_slice(), true, "10010000hs", (0, 32)),
+        ("11", &[false; 18], true, "10010000l11111111ls", (0, 32)),
+        ("11", &[false; 18], false, "10010000l00000000ls", (0, 32)),
         // One with a smaller address wins alone.
-        ("10", &[], true, "10000001c", &[32]),
+        ("10", &[], true, "10000001c", (32, 33)),
     ] {
+        let won = numbers(alloc, first, end)?;
         let accepted = accepted_sixty_four(alloc, front)?;
         let run = Run {
             starters: &starters,
             answers,
             fill,
             wire,
-            won,
+            won: &won,
         };
         expect_run(&rt, alloc, &accepted, &run)?;
         let (sitting, ends) = run_in_threads(&rt, alloc, &accepted, &starters, answers, fill)?;
         assert_eq!(rt; ends.len(), 64);
-        expect_ended(&rt, alloc, sitting, wire, won)?;
+        expect_ended(&rt, alloc, sitting, wire, &won)?;
     }
     Ok(())
 }

@@ -8,6 +8,22 @@ use bus_bench::{
 use cert_check::Accepted;
 use std::alloc::{AllocError, Global};
 
+/// The seat puts on its bench.
+pub fn put_on<'a>(bench: &Bench<'a>, seat: &mut Seat<'a>, put: Put) -> Result<(), PutError>
+    requires { bench.now ≡ seat.old.bench }
+    ensures { seat.new.bench ≡ seat.old.bench }
+{
+    seat.put(bench, put)
+}
+
+/// The seat looks at its bench.
+pub fn see_on<'a>(bench: &Bench<'a>, seat: &mut Seat<'a>) -> Sight
+    requires { bench.now ≡ seat.old.bench }
+    ensures { seat.new.bench ≡ seat.old.bench }
+{
+    seat.see(bench)
+}
+
 /// A bench with its host and those of its seats that are there.
 #[derive(Drop)]
 pub struct Sitting<'a> {
@@ -44,7 +60,7 @@ impl<'a> Sitting<'a> {
     /// This seat puts. A seat that is not there is over.
     pub fn put(&mut self, k: usize, put: Put) -> Result<(), PutError> {
         if k < self.seats.len() {
-            self.seats[k].put(&self.bench, put)
+            put_on(&self.bench, &mut self.seats[k], put)
         } else {
             Err(PutError::Over)
         }
@@ -53,7 +69,7 @@ impl<'a> Sitting<'a> {
     /// This seat looks. A seat that is not there has ended.
     pub fn see(&mut self, k: usize) -> Sight {
         if k < self.seats.len() {
-            self.seats[k].see(&self.bench)
+            see_on(&self.bench, &mut self.seats[k])
         } else {
             Sight::Ended
         }

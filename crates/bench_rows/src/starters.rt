@@ -2,7 +2,7 @@
 
 use crate::plans::{accepted, three};
 use crate::turns::{Run, expect_run};
-use bus_bench::{OpenError, open_bench};
+use bus_bench::{OpenError, PutError, open_bench};
 use cert_check::Accepted;
 use std::alloc::Global;
 use std::process::Abort;
@@ -112,4 +112,26 @@ fn messages_that_clash_may_belong_to_controllers_that_never_start_together(
         won: &[0],
     };
     expect_run(&rt, alloc, &accepted, &run)
+}
+
+#[test]
+fn each_refusal_prints_its_code(rt: HostRuntime) -> Result<(), Fail> {
+    let alloc = rt.alloc();
+    for (error, code) in [
+        (OpenError::NoStarter, "B1"),
+        (OpenError::Unknown, "B2"),
+        (OpenError::SameController, "B3"),
+        (OpenError::NoMemory, "B4"),
+        (OpenError::Never, "B8"),
+    ] {
+        assert_eq!(rt; format!(in alloc; "{error}")?.as_str(), code);
+    }
+    for (error, code) in [
+        (PutError::NotOffered, "B5"),
+        (PutError::Early, "B6"),
+        (PutError::Over, "B7"),
+    ] {
+        assert_eq!(rt; format!(in alloc; "{error}")?.as_str(), code);
+    }
+    Ok(())
 }

@@ -1,9 +1,8 @@
 // Seats in threads of their own.
 ghost use Rattle.std.specs.Prelude.{◌≡◌, All, IfOk};
-ghost use Rattle.bus_bench.specs.Seats.{BenchName};
 
 use crate::plans::{ACKNOWLEDGED, expect_ended, three};
-use crate::sittings::Sitting;
+use crate::sittings::{Sitting, put_on, see_on};
 use crate::turns::{MOST_SLOTS, put_of};
 use bus_bench::{Bench, PutError, Seat, Sight};
 use cert_check::Accepted;
@@ -45,7 +44,7 @@ fn ask<'a>(bench: &Bench<'a>, seat: &mut Seat<'a>) -> Sight
     ensures { seat.new.bench ≡ seat.old.bench }
 {
     for _ in 0..MOST_ASKS {
-        let sight = seat.see(bench);
+        let sight = see_on(bench, seat);
         if sight != Sight::Waiting {
             return sight;
         }
@@ -62,7 +61,7 @@ fn play_slot<'a>(bench: &Bench<'a>, seat: &mut Seat<'a>, slot: u32, fill: bool) 
     let Some(put) = put_of(seat.offered(), fill) else {
         return Some(End::Stuck(slot));
     };
-    if let Err(error) = seat.put(bench, put) {
+    if let Err(error) = put_on(bench, seat, put) {
         return Some(End::Refused(slot, error));
     }
     match ask(bench, seat) {
@@ -74,7 +73,7 @@ fn play_slot<'a>(bench: &Bench<'a>, seat: &mut Seat<'a>, slot: u32, fill: bool) 
 }
 
 fn play_seat<'a>(bench: &Bench<'a>, mut seat: Seat<'a>, fill: bool) -> Done<'a>
-    requires { bench.now ≡ seat.entry.bench }
+    requires { bench.now ≡ seat.bench }
     ensures { result.seat.bench ≡ seat.entry.bench }
 {
     for slot in 0..MOST_SLOTS {
@@ -101,16 +100,21 @@ fn play_in_threads<'a, R: Threads + Sync>(
     thread::map_vec(
         rt,
         seats,
-        &|seat: Seat<'_>| -> Done<'_>
+        &|seat|
             requires { bench.now ≡ seat.bench }
-            ensures { result.seat.bench ≡ seat.bench }
+            ensures { result.seat.bench ≡ seat.entry.bench }
         { play_seat(bench, seat, fill) },
     )
 }
 
-// The seats, and how each came to its end.
-fn parted<'a>(alloc: Global, done: Vec<Done<'a>>) -> Result<(Vec<Seat<'a>>, Vec<End>), AllocError>
-    ensures { (bench : BenchName) → All (λ one. one.seat.bench ≡ bench) done.items → IfOk result (λ r. All (λ seat. seat.bench ≡ bench) r.0.items) }
+// The seats of this bench, and how each came to its end.
+fn parted<'a>(
+    alloc: Global,
+    bench: &Bench<'a>,
+    done: Vec<Done<'a>>,
+) -> Result<(Vec<Seat<'a>>, Vec<End>), AllocError>
+    requires { All (λ one. one.seat.bench ≡ bench.now) done.items }
+    ensures { IfOk result (λ r. All (λ seat. seat.bench ≡ bench.now) r.0.items) }
 {
     let mut seats = Vec::new(alloc);
     let mut ends = Vec::new(alloc);
@@ -132,7 +136,7 @@ pub fn run_in_threads<'a, R: Threads + Sync>(
 ) -> Result<(Sitting<'a>, Vec<End>), Fail> {
     let Sitting { bench, host, seats } = Sitting::open(alloc, accepted, starters, answers)?;
     let done = play_in_threads(rt, &bench, seats, fill)?;
-    let (seats, ends) = parted(alloc, done)?;
+    let (seats, ends) = parted(alloc, &bench, done)?;
     Ok((Sitting { bench, host, seats }, ends))
 }
 

@@ -11,6 +11,14 @@ use std::test::Fail;
 /// How often a seat is asked that has to wait.
 const ASKS: u32 = 1_000;
 
+// None of the three may put this.
+fn expect_not_offered(rt: &impl Abort, sitting: &mut Sitting<'_>, wrong: Put) {
+    for k in 0..3usize {
+        assert_eq!(rt; sitting.put(k, wrong), Err(PutError::NotOffered));
+        assert_eq!(rt; sitting.see(k), Sight::NotPut);
+    }
+}
+
 // `a` and `b` put, and `a` waits until `c` has put too. Then all of them see this.
 fn expect_wait(rt: &impl Abort, sitting: &mut Sitting<'_>, item: Item) {
     put_next(rt, sitting, 0, true);
@@ -33,9 +41,12 @@ fn a_seat_waits_until_all_who_are_live_have_put(rt: HostRuntime) -> Result<(), F
     let mut sitting = Sitting::open(alloc, &accepted, &[0, 1, 2], &ACKNOWLEDGED)?;
     assert_eq!(rt; sitting.see(0), Sight::NotPut);
     for bit in [true, false, false, true, false, false, false, false] {
+        expect_not_offered(&rt, &mut sitting, Put::Drive(!bit));
         expect_wait(&rt, &mut sitting, Item::Sent(bit));
     }
+    expect_not_offered(&rt, &mut sitting, Put::Drive(true));
     expect_wait(&rt, &mut sitting, Item::Heard(false));
+    expect_not_offered(&rt, &mut sitting, Put::Listen);
     assert_eq!(rt; play_on(&rt, &mut sitting, true), 10);
     expect_ended(&rt, alloc, sitting, "10010000l11001111ls", &[1, 2])
 }
