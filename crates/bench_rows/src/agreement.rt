@@ -111,7 +111,7 @@ fn play_at_random(
         if players.iter().all(|player| player.over) {
             return;
         }
-        let chosen = dice.throw(players.len() as u32) as usize;
+        let chosen = dice.index(players.len());
         let slot = players.get(chosen).map_or(0, |player| player.seen);
         let complete = is_complete(players, ending, slot);
         if let Some(player) = players.get_mut(chosen) {
@@ -150,7 +150,7 @@ fn players(alloc: Global, seats: usize, choices: &[u64]) -> Result<Vec<Player>, 
 // Puts the seats into an order that the dice choose.
 fn shuffle(sitting: &mut Sitting<'_>, dice: &mut Dice) {
     for k in 0..sitting.len() {
-        let other = dice.throw(sitting.len() as u32) as usize;
+        let other = dice.index(sitting.len());
         sitting.swap(k, other);
     }
 }

@@ -1,5 +1,6 @@
 // Seats in threads of their own.
 ghost use Rattle.std.specs.Prelude.{◌≡◌, All, IfOk};
+ghost use Rattle.bus_bench.specs.Seats.{BenchName};
 
 use crate::plans::{ACKNOWLEDGED, expect_ended, three};
 use crate::sittings::{Sitting, put_on, see_on};
@@ -29,6 +30,13 @@ pub enum End {
     Stuck(u32),
     /// Its put in this slot was refused.
     Refused(u32, PutError),
+}
+
+/// A seat that is to be played, and its bench.
+#[derive(Drop)]
+struct Job<'b, 'a> {
+    bench: &'b Bench<'a>,
+    seat: Seat<'a>,
 }
 
 /// A seat that was played to its end.
@@ -72,10 +80,12 @@ fn play_slot<'a>(bench: &Bench<'a>, seat: &mut Seat<'a>, slot: u32, fill: bool) 
     }
 }
 
-fn play_seat<'a>(bench: &Bench<'a>, mut seat: Seat<'a>, fill: bool) -> Done<'a>
-    requires { bench.now ≡ seat.bench }
-    ensures { result.seat.bench ≡ seat.entry.bench }
+// The seat of this job plays to its end.
+fn play_seat<'a>(job: Job<'_, 'a>, fill: bool) -> Done<'a>
+    requires { job.seat.bench ≡ job.bench.now }
+    ensures { result.seat.bench ≡ job.entry.seat.bench }
 {
+    let Job { bench, mut seat } = job;
     for slot in 0..MOST_SLOTS {
         if let Some(end) = play_slot(bench, &mut seat, slot, fill) {
             return Done { seat, end };
@@ -87,42 +97,65 @@ fn play_seat<'a>(bench: &Bench<'a>, mut seat: Seat<'a>, fill: bool) -> Done<'a>
     }
 }
 
-// Each seat plays in a thread of its own.
-fn play_in_threads<'a, R: Threads + Sync>(
-    rt: &R,
-    bench: &Bench<'a>,
+// The seats of this bench, each with the bench.
+fn jobs_of<'b, 'a>(
+    alloc: Global,
+    bench: &'b Bench<'a>,
     seats: Vec<Seat<'a>>,
+) -> Result<Vec<Job<'b, 'a>>, AllocError>
+    requires { All (λ seat. seat.bench ≡ bench.now) seats.items }
+    ensures bench { IfOk result (λ v. All (λ job. job.bench.now ≡ bench.now) v.items) }
+    ensures seats { IfOk result (λ v. All (λ job. job.seat.bench ≡ bench.now) v.items) }
+{
+    let mut jobs = Vec::new(alloc);
+    for seat in seats {
+        jobs.push(Job { bench, seat })?;
+    }
+    Ok(jobs)
+}
+
+// Each seat plays in a thread of its own.
+fn play_in_threads<'b, 'a, R: Threads + Sync>(
+    rt: &R,
+    jobs: Vec<Job<'b, 'a>>,
     fill: bool,
 ) -> Result<Vec<Done<'a>>, AllocError>
-    requires { All (λ seat. seat.bench ≡ bench.now) seats.items }
-    ensures { IfOk result (λ v. All (λ done. done.seat.bench ≡ bench.now) v.items) }
+    requires { All (λ job. job.seat.bench ≡ job.bench.now) jobs.items }
+    ensures { (bench : BenchName) → All (λ job. job.seat.bench ≡ bench) jobs.entry.items → IfOk result (λ v. All (λ done. done.seat.bench ≡ bench) v.items) }
 {
     thread::map_vec(
         rt,
-        seats,
-        &|seat|
-            requires { bench.now ≡ seat.bench }
-            ensures { result.seat.bench ≡ seat.entry.bench }
-        { play_seat(bench, seat, fill) },
+        jobs,
+        &|job|
+            requires { job.seat.bench ≡ job.bench.now }
+            ensures { result.seat.bench ≡ job.entry.seat.bench }
+        { play_seat(job, fill) },
     )
 }
 
-// The seats of this bench, and how each came to its end.
-fn parted<'a>(
+// How each seat came to its end.
+fn ends_of(alloc: Global, done: &[Done<'_>]) -> Result<Vec<End>, AllocError> {
+    let mut ends = Vec::new(alloc);
+    for one in done {
+        ends.push(one.end)?;
+    }
+    Ok(ends)
+}
+
+// The seats, which are of this bench.
+fn seats_of<'a>(
     alloc: Global,
     bench: &Bench<'a>,
     done: Vec<Done<'a>>,
-) -> Result<(Vec<Seat<'a>>, Vec<End>), AllocError>
+) -> Result<Vec<Seat<'a>>, AllocError>
     requires { All (λ one. one.seat.bench ≡ bench.now) done.items }
-    ensures { IfOk result (λ r. All (λ seat. seat.bench ≡ bench.now) r.0.items) }
+    ensures { IfOk result (λ v. All (λ seat. seat.bench ≡ bench.now) v.items) }
 {
     let mut seats = Vec::new(alloc);
-    let mut ends = Vec::new(alloc);
     for one in done {
         seats.push(one.seat)?;
-        ends.push(one.end)?;
     }
-    Ok((seats, ends))
+    Ok(seats)
 }
 
 /// These starters have played in threads of their own, and how each came to its end.
@@ -135,8 +168,10 @@ pub fn run_in_threads<'a, R: Threads + Sync>(
     fill: bool,
 ) -> Result<(Sitting<'a>, Vec<End>), Fail> {
     let Sitting { bench, host, seats } = Sitting::open(alloc, accepted, starters, answers)?;
-    let done = play_in_threads(rt, &bench, seats, fill)?;
-    let (seats, ends) = parted(alloc, &bench, done)?;
+    let jobs = jobs_of(alloc, &bench, seats)?;
+    let done = play_in_threads(rt, jobs, fill)?;
+    let ends = ends_of(alloc, &done)?;
+    let seats = seats_of(alloc, &bench, done)?;
     Ok((Sitting { bench, host, seats }, ends))
 }
 
