@@ -31,7 +31,7 @@ one_wire live put w v a b =
 
 module _ (game : Game) (puts : Puts) (u : List Item) (live : Set) (led : Leads game puts u live) where
   -- of two states to which the same puts lead, one is passed on the way to the other
-  comparable : {v : List Item} {among : Set} → Leads game puts v among → Goes game puts v among u live ⊎ Goes game puts u live v among
+  pub comparable : {v : List Item} {among : Set} → Leads game puts v among → Goes game puts v among u live ⊎ Goes game puts u live v among
   comparable here = inl led
   comparable (slot {v} {on} w g h o) = elim (comparable g) [
     | inr before ↦ inr (slot w before h o)

@@ -1,2 +1,5 @@
 pub mod PlayerLemmas
 pub mod WonLemmas
+pub mod OneRunLemmas
+pub mod RehearsalLemmas
+pub mod StarterLemmas

@@ -1,3 +1,5 @@
 pub mod Filled
 pub mod Players
 pub mod Lines
+pub mod Starters
+pub mod Rehearsals

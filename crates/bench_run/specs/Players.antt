@@ -12,6 +12,7 @@ use Rattle.bus_bench.specs.Seats.{BenchName, game_of, participant, HasNotPut, Ha
 use Rattle.bus_bench.specs.declared.seats.Standing.TheVariants.{Playing}
 use Rattle.bench_run.specs.declared.players.Player.{Player}
 use Rattle.bench_run.specs.declared.players.Stage.{Stage}
+use Rattle.bench_run.specs.declared.rounds.Part.{Part}
 use Rattle.bench_run.specs.declared.players.Stage.TheVariants.{Puts, Looks, Over}
 use Rattle.bench_run.specs.Filled.{AreFilled}
 
@@ -34,6 +35,14 @@ pub record PlaysOn (bench : BenchName) (fill : Bool) (player : Player) : Type 0 
   pub seat_of : player.seat.bench ≡ bench
   pub in_step : IsInStep player.stage player.seat
   pub filled : IsFilledSeat fill player.seat
+
+-- the part of this bench, to be played with this fill
+abbrev pub IsReady : BenchName → Bool → Part → Type 0
+IsReady bench fill part = (part.bench.now ≡ bench) × (part.fill ≡ fill) × (part.player.stage ≡ Puts)
+
+-- the part of this bench, played with this fill
+abbrev pub IsPart : BenchName → Bool → Part → Type 0
+IsPart bench fill part = (part.bench.now ≡ bench) × (part.fill ≡ fill) × PlaysOn bench fill part.player
 
 -- x is what is put where this is offered
 abbrev pub IsFilling : Offered → Bool → Put → Type 0

@@ -3,6 +3,7 @@
 #![tactic(auto)]
 
 pub mod gates;
+pub mod laws;
 mod lines;
 mod players;
 mod rounds;

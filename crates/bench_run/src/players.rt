@@ -27,6 +27,13 @@ pub(crate) enum Stage {
     Over,
 }
 
+/// What players send where they may choose, and whom they call round each slot.
+#[derive(Drop)]
+pub(crate) struct Manner<'g, G> {
+    pub(crate) fill: bool,
+    pub(crate) gate: &'g G,
+}
+
 /// A seat, its place among the starters, and where its player is.
 #[derive(Drop)]
 pub(crate) struct Player<'a> {
@@ -38,12 +45,12 @@ pub(crate) struct Player<'a> {
 
 impl<'a> Player<'a> {
     ghost use Rattle.std.specs.Prelude.{◌≡◌, Bool};
-    ghost use Rattle.bench_run.specs.Players.{PlaysOn, IsFresh};
+    ghost use Rattle.bench_run.specs.Players.{PlaysOn};
 
     /// A player that has done nothing yet.
     pub(crate) fn new(seat: Seat<'a>, number: u32) -> Player<'a>
-        requires { IsFresh seat.bench seat }
-        ensures { (fill : Bool) → PlaysOn seat.entry.bench fill result }
+        ensures seat { result.seat ≡ seat.entry }
+        ensures stage { result.stage ≡ Stage.Puts }
     {
         Player {
             seat,
@@ -54,13 +61,13 @@ impl<'a> Player<'a> {
     }
 
     /// Plays until it is through, or has waited in vain.
-    pub(crate) fn play<G: Gate>(&mut self, bench: &Bench<'a>, fill: bool, gate: &G)
-        requires { PlaysOn bench.now fill self.old }
-        ensures { PlaysOn bench.now fill self.new }
+    pub(crate) fn play<G: Gate>(&mut self, bench: &Bench<'a>, manner: &Manner<'_, G>)
+        requires { PlaysOn bench.now manner.now.fill self.old }
+        ensures { PlaysOn bench.now manner.now.fill self.new }
     {
         for _ in 0..MOST_SLOTS {
-            self.put(bench, fill, gate);
-            self.wait(bench, gate);
+            self.put(bench, manner);
+            self.wait(bench, manner);
             if self.stage != Stage::Puts {
                 return;
             }
@@ -68,29 +75,29 @@ impl<'a> Player<'a> {
     }
 
     /// Puts in its slot, where it has not.
-    pub(crate) fn put<G: Gate>(&mut self, bench: &Bench<'a>, fill: bool, gate: &G)
-        requires { PlaysOn bench.now fill self.old }
-        ensures { PlaysOn bench.now fill self.new }
+    pub(crate) fn put<G: Gate>(&mut self, bench: &Bench<'a>, manner: &Manner<'_, G>)
+        requires { PlaysOn bench.now manner.now.fill self.old }
+        ensures { PlaysOn bench.now manner.now.fill self.new }
     {
-        if self.stage != Stage::Puts {
-            return;
-        }
-        let Some(put) = filled(self.seat.offered(), fill) else {
+        let Stage::Puts = self.stage else {
             return;
         };
-        gate.before(self.number, self.slot);
+        let Some(put) = filled(self.seat.offered(), manner.fill) else {
+            return;
+        };
+        manner.gate.before(self.number, self.slot);
         if self.seat.put(bench, put).is_ok() {
             self.stage = Stage::Looks;
         }
     }
 
     // Looks until the slot is complete, or too often in a row.
-    fn wait<G: Gate>(&mut self, bench: &Bench<'a>, gate: &G)
-        requires { self.old.seat.bench ≡ bench.now }
-        ensures { (fill : Bool) → PlaysOn bench.now fill self.old → PlaysOn bench.now fill self.new }
+    fn wait<G: Gate>(&mut self, bench: &Bench<'a>, manner: &Manner<'_, G>)
+        requires { PlaysOn bench.now manner.now.fill self.old }
+        ensures { PlaysOn bench.now manner.now.fill self.new }
     {
         for _ in 0..MOST_WAITS {
-            self.look(bench, gate);
+            self.look(bench, manner);
             if self.stage != Stage::Looks {
                 return;
             }
@@ -99,16 +106,16 @@ impl<'a> Player<'a> {
     }
 
     /// Looks whether its slot is complete, where it has put there.
-    pub(crate) fn look<G: Gate>(&mut self, bench: &Bench<'a>, gate: &G)
-        requires { self.old.seat.bench ≡ bench.now }
-        ensures { (fill : Bool) → PlaysOn bench.now fill self.old → PlaysOn bench.now fill self.new }
+    pub(crate) fn look<G: Gate>(&mut self, bench: &Bench<'a>, manner: &Manner<'_, G>)
+        requires { PlaysOn bench.now manner.now.fill self.old }
+        ensures { PlaysOn bench.now manner.now.fill self.new }
     {
-        if self.stage != Stage::Looks {
+        let Stage::Looks = self.stage else {
             return;
-        }
+        };
         self.stage = stage_after(self.seat.see(bench));
         if self.stage != Stage::Looks {
-            gate.after(self.number, self.slot);
+            manner.gate.after(self.number, self.slot);
             self.slot = self.slot.saturating_add(1);
         }
     }

@@ -3,19 +3,27 @@
 ghost use Rattle.std.specs.Prelude.{◌≡◌, All, IfOk, map, length, vec_len, true, Bool};
 ghost use Rattle.std.specs.List.{list_all, range_with_len};
 ghost use Rattle.std.specs.Thread.{IsSync};
-ghost use Rattle.bus_bench.specs.Seats.{fresh, game_of};
+ghost use Rattle.bus_bench.specs.Seats.{BenchName, fresh, game_of};
 ghost use Rattle.bus_bench.specs.Finishing.{AreAll, is_done};
 ghost use Rattle.bench_run.specs.Filled.{IsRehearsed};
-ghost use Rattle.bench_run.specs.Players.{PlaysOn, IsFresh};
+ghost use Rattle.bench_run.specs.Players.{PlaysOn, IsReady, IsPart};
 ghost use Rattle.bench_run.specs.declared.players.Stage.TheVariants.{Over};
 
 use crate::gates::Gate;
-use crate::players::{Player, Stage};
+use crate::players::{Manner, Player, Stage};
 use bus_bench::{Bench, FinishFault, Host, Played, Seat, Unfinished, finish};
 use std::alloc::{AllocError, Global};
 use std::sync::Wait;
 use std::thread;
 use std::thread::Threads;
+
+// What one thread plays: this player, on this bench.
+#[derive(Drop)]
+pub(crate) struct Part<'b, 'a> {
+    pub(crate) player: Player<'a>,
+    pub(crate) bench: &'b Bench<'a>,
+    pub(crate) fill: bool,
+}
 
 /// Plays the bench to its end: each seat in a thread of its own, where one can be made, and what is then left by turns.
 pub fn play_all<'a, R: Threads + Wait + Sync, G: Gate + Sync>(
@@ -31,9 +39,9 @@ pub fn play_all<'a, R: Threads + Wait + Sync, G: Gate + Sync>(
     requires seats { seats.items ≡ map (fresh bench) (range_with_len 0 (length bench.starters)) }
     ensures { IfOk result (λ p. IsRehearsed (game_of bench.entry) fill p.wire.items p.won.items) }
 {
-    let players = players_of(alloc, &bench, seats)?;
-    let (bench, mut players) = play_in_threads(rt, bench, players, fill, gate)?;
-    play_by_turns(rt, &bench, players.as_mut_slice(), fill, gate);
+    let parts = parts_of(alloc, &bench, seats, fill)?;
+    let mut players = play_in_threads(rt, parts, gate)?;
+    play_by_turns(rt, &bench, players.as_mut_slice(), &Manner { fill, gate });
     let seats = seats_of(alloc, players)?;
     match finish(alloc, bench, host, seats) {
         Ok(played) => Ok(played),
@@ -45,23 +53,27 @@ pub fn play_all<'a, R: Threads + Wait + Sync, G: Gate + Sync>(
     }
 }
 
-// A player for each seat of this bench, in order.
-fn players_of<'a>(
+// A part for each seat of this bench, in order.
+fn parts_of<'b, 'a>(
     alloc: Global,
-    bench: &Bench<'a>,
+    bench: &'b Bench<'a>,
     seats: Vec<Seat<'a>>,
-) -> Result<Vec<Player<'a>>, AllocError>
-    requires { All (IsFresh bench.now) seats.items }
-    ensures len { IfOk result (λ v. vec_len v ≡ vec_len seats.entry) }
-    ensures each { IfOk result (λ v. (fill : Bool) → All (PlaysOn bench.now fill) v.items) }
+    fill: bool,
+) -> Result<Vec<Part<'b, 'a>>, AllocError>
+    ensures seats { IfOk result (λ v. map (λ p. p.player.seat) v.items ≡ seats.entry.items) }
+    ensures each { IfOk result (λ v. All (IsReady bench.now fill) v.items) }
 {
-    let mut players = Vec::with_capacity(alloc, seats.len())?;
+    let mut parts = Vec::with_capacity(alloc, seats.len())?;
     let mut number = 0u32;
     for seat in seats {
-        players.push(Player::new(seat, number))?;
+        parts.push(Part {
+            player: Player::new(seat, number),
+            bench,
+            fill,
+        })?;
         number = number.saturating_add(1);
     }
-    Ok(players)
+    Ok(parts)
 }
 
 // The seats of the players, in order.
@@ -75,41 +87,38 @@ fn seats_of<'a>(alloc: Global, players: Vec<Player<'a>>) -> Result<Vec<Seat<'a>>
     Ok(seats)
 }
 
-// Each player in a thread of its own, where one can be made, until it is through or has waited in vain.
-fn play_in_threads<'a, R: Threads + Sync, G: Gate + Sync>(
+// Each part in a thread of its own, where one can be made, until its player is through or has waited in vain.
+fn play_in_threads<'b, 'a, R: Threads + Sync, G: Gate + Sync>(
     rt: &R,
-    bench: Bench<'a>,
-    players: Vec<Player<'a>>,
-    fill: bool,
+    parts: Vec<Part<'b, 'a>>,
     gate: &G,
-) -> Result<(Bench<'a>, Vec<Player<'a>>), AllocError>
-    requires { All (PlaysOn bench fill) players.items }
-    ensures bench { IfOk result (λ v. v.0 ≡ bench.entry) }
-    ensures len { IfOk result (λ v. vec_len v.1 ≡ vec_len players.entry) }
-    ensures each { IfOk result (λ v. All (PlaysOn bench.entry fill) v.1.items) }
+) -> Result<Vec<Player<'a>>, AllocError>
+    requires { All (λ part. PlaysOn part.bench.now part.fill part.player) parts.items }
+    ensures len { IfOk result (λ v. vec_len v ≡ vec_len parts.entry) }
+    ensures each { (bench : BenchName) (fill : Bool) → All (IsPart bench fill) parts.entry.items →
+        IfOk result (λ v. All (PlaysOn bench fill) v.items) }
 {
-    let players = thread::map_vec(
+    thread::map_vec(
         rt,
-        players,
-        &|player|
-            requires { PlaysOn bench fill player }
-            ensures { PlaysOn bench.entry fill result }
-        { played(player, &bench, fill, gate) },
-    )?;
-    Ok((bench, players))
+        parts,
+        &|part|
+            requires { PlaysOn part.bench.now part.fill part.player }
+            ensures { (bench : BenchName) (fill : Bool) → IsPart bench fill part.entry → PlaysOn bench fill result }
+        { played(part, gate) },
+    )
 }
 
 // The player, when it has played.
-fn played<'a, G: Gate>(
-    mut player: Player<'a>,
-    bench: &Bench<'a>,
-    fill: bool,
-    gate: &G,
-) -> Player<'a>
-    requires { PlaysOn bench.now fill player }
-    ensures { PlaysOn bench.now fill result }
+fn played<'b, 'a, G: Gate>(part: Part<'b, 'a>, gate: &G) -> Player<'a>
+    requires { PlaysOn part.bench.now part.fill part.player }
+    ensures { (bench : BenchName) (fill : Bool) → IsPart bench fill part.entry → PlaysOn bench fill result }
 {
-    player.play(bench, fill, gate);
+    let Part {
+        mut player,
+        bench,
+        fill,
+    } = part;
+    player.play(bench, &Manner { fill, gate });
     player
 }
 
@@ -118,20 +127,19 @@ fn play_by_turns<'a, R: Wait, G: Gate>(
     rt: &R,
     bench: &Bench<'a>,
     players: &mut [Player<'a>],
-    fill: bool,
-    gate: &G,
+    manner: &Manner<'_, G>,
 )
-    requires { All (PlaysOn bench.now fill) players.old }
+    requires { All (PlaysOn bench.now manner.now.fill) players.old }
     ensures len { length players.new ≡ length players.old }
-    ensures each { All (PlaysOn bench.now fill) players.new }
+    ensures each { All (PlaysOn bench.now manner.now.fill) players.new }
     ensures over { All (λ p. p.stage ≡ Over) players.new }
 {
     for _ in rt.forever() {
         if are_over(players) {
             return;
         }
-        put_all(bench, players, fill, gate);
-        look_all(bench, players, gate);
+        put_all(bench, players, manner);
+        look_all(bench, players, manner);
     }
 }
 
@@ -141,22 +149,22 @@ fn are_over(players: &[Player<'_>]) -> bool
     players.iter().all(|player| player.stage == Stage::Over)
 }
 
-fn put_all<'a, G: Gate>(bench: &Bench<'a>, players: &mut [Player<'a>], fill: bool, gate: &G)
-    requires { All (PlaysOn bench.now fill) players.old }
+fn put_all<'a, G: Gate>(bench: &Bench<'a>, players: &mut [Player<'a>], manner: &Manner<'_, G>)
+    requires { All (PlaysOn bench.now manner.now.fill) players.old }
     ensures len { length players.new ≡ length players.old }
-    ensures each { All (PlaysOn bench.now fill) players.new }
+    ensures each { All (PlaysOn bench.now manner.now.fill) players.new }
 {
     for player in players {
-        player.put(bench, fill, gate);
+        player.put(bench, manner);
     }
 }
 
-fn look_all<'a, G: Gate>(bench: &Bench<'a>, players: &mut [Player<'a>], gate: &G)
-    requires { All (λ p. p.seat.bench ≡ bench.now) players.old }
+fn look_all<'a, G: Gate>(bench: &Bench<'a>, players: &mut [Player<'a>], manner: &Manner<'_, G>)
+    requires { All (PlaysOn bench.now manner.now.fill) players.old }
     ensures len { length players.new ≡ length players.old }
-    ensures each { (fill : Bool) → All (PlaysOn bench.now fill) players.old → All (PlaysOn bench.now fill) players.new }
+    ensures each { All (PlaysOn bench.now manner.now.fill) players.new }
 {
     for player in players {
-        player.look(bench, gate);
+        player.look(bench, manner);
     }
 }

@@ -1,11 +1,19 @@
 // The run that rehearses a plan.
 
+ghost use Rattle.std.specs.Prelude.{◌≡◌, ◌⊎◌, ℕ, List, IfOk, IfErr, string_bytes};
+ghost use Rattle.plan_core.specs.PlanContents.{plan_contents};
+ghost use Rattle.plan_text.specs.Grammar.{Spells};
+ghost use Rattle.cert_check.specs.Holds.{accepted_plan};
+ghost use Rattle.report.specs.Runs.{ReadsBoth, Reports, Stops};
+ghost use Rattle.bench_run.specs.Rehearsals.{Rehearsed, IsPlayedOut, RefusesStarters, IsNotOpened, HaltsAtBench};
+
 use crate::gates::Gate;
 use crate::lines::bench_lines;
 use crate::rounds::play_all;
 use crate::starters::{bits_of, numbers_of};
 use bus_bench::open_bench;
 use cert_check::{Accepted, accept_certificate};
+use plan_core::Plan;
 use plan_text::read_plan;
 use report::devices::reading::READS;
 use report::{
@@ -17,7 +25,8 @@ use std::thread::Threads;
 
 /// Plays the starters of an accepted plan on a bench, each in a thread of its own, and writes the wire and who was live
 /// at its end. `starters` has their labels, which commas part; `fill` is what they send for a bit that is open; `answers`
-/// has the bits of the targets by slot as `0` and `1`, and past its end they are 1. Each player calls the gate. Where the certificate is not accepted it writes the line of `run_verify`, with its status.
+/// has the bits of the targets by slot as `0` and `1`, and past its end they are 1. Each player calls the gate. Where the
+/// certificate is not accepted it writes the line of `run_verify`, with its status.
 ///
 /// # Errors
 ///
@@ -35,21 +44,57 @@ pub fn run_bench<R: Threads + Wait + Sync, I: Input, J: Input, O: Output, G: Gat
     fill: bool,
     answers: &str,
     gate: &G,
-) -> Result<Status, RunError> {
+) -> Result<Status, RunError>
+    ensures report { IfOk result (λ status.
+        Reports (ReadsBoth I.reader J.reader) (Rehearsed starters.now answers.now fill) O.writer
+        (plan.old, cert.old) out.old status (plan.new, cert.new) out.new) }
+    ensures stops { IfErr result (λ error.
+        Stops (ReadsBoth I.reader J.reader) (Rehearsed starters.now answers.now fill) O.writer
+        (HaltsAtBench I.reader J.reader starters.now)
+        (plan.old, cert.old) out.old error (plan.new, cert.new) out.new) }
+{
     let text = read_within(alloc, plan, READS)?;
     let plan = read_plan(alloc, text.as_slice())?;
     let cert = read_within(alloc, cert, READS)?;
-    let (report, status) = match accept_certificate(alloc, plan, cert.as_slice())? {
-        Ok(accepted) => (
-            bench_report(rt, alloc, &accepted, starters, fill, answers, gate)?,
-            Status::Good,
-        ),
-        Err(answer) => (answer_line(alloc, answer)?, status_of_answer(answer)),
-    };
+    let (report, status) = rehearse(
+        rt,
+        alloc,
+        plan,
+        cert.as_slice(),
+        starters,
+        fill,
+        answers,
+        gate,
+    )?;
     write_lines(out, report.as_bytes(), status)
 }
 
-// The report of a bench.
+// The report on a plan that was read, and on the bytes of a certificate.
+fn rehearse<R: Threads + Wait + Sync, G: Gate + Sync>(
+    rt: &R,
+    alloc: Global,
+    plan: Plan,
+    cert: &[u8],
+    starters: &str,
+    fill: bool,
+    answers: &str,
+    gate: &G,
+) -> Result<(String, Status), RunError>
+    ensures report { IfOk result (λ r. (text : List ℕ) → Spells text (plan_contents plan) →
+        Rehearsed starters.now answers.now fill (text, cert.now) (string_bytes r.0) r.1) }
+    ensures refused { IfErr result (λ error. (text : List ℕ) → Spells text (plan_contents plan) →
+        (error ≡ RunError.NoMemory) ⊎ IsNotOpened starters.now (text, cert.now) error) }
+{
+    match accept_certificate(alloc, plan, cert)? {
+        Ok(accepted) => {
+            let report = bench_report(rt, alloc, &accepted, starters, fill, answers, gate)?;
+            Ok((report, Status::Good))
+        }
+        Err(answer) => Ok((answer_line(alloc, answer)?, status_of_answer(answer))),
+    }
+}
+
+// The report on a bench of an accepted plan.
 fn bench_report<R: Threads + Wait + Sync, G: Gate + Sync>(
     rt: &R,
     alloc: Global,
@@ -58,7 +103,11 @@ fn bench_report<R: Threads + Wait + Sync, G: Gate + Sync>(
     fill: bool,
     answers: &str,
     gate: &G,
-) -> Result<String, RunError> {
+) -> Result<String, RunError>
+    ensures report { IfOk result (λ r. IsPlayedOut (plan_contents (accepted_plan accepted.now))
+        starters.now answers.now fill (string_bytes r)) }
+    ensures refused { IfErr result (RefusesStarters (plan_contents (accepted_plan accepted.now)) starters.now) }
+{
     let plan = accepted.plan();
     let starters = numbers_of(alloc, plan, starters)?;
     let answers = bits_of(alloc, answers)?;

@@ -1,5 +1,10 @@
 // Who starts, and what the targets answer, as texts say it.
 
+ghost use Rattle.std.specs.Prelude.{◌≡◌, ◌==◌, IfOk, map};
+ghost use Rattle.std.specs.List.{slice_split};
+ghost use Rattle.plan_core.specs.PlanContents.{plan_contents};
+ghost use Rattle.bench_run.specs.Starters.{labels_in, IsNumberOf, AreNumbersOf, bits_in};
+
 use plan_core::Plan;
 use std::alloc::{AllocError, Global};
 
@@ -9,25 +14,42 @@ pub(crate) fn numbers_of(
     alloc: Global,
     plan: &Plan,
     starters: &str,
-) -> Result<Vec<u32>, AllocError> {
-    let mut numbers = Vec::new(alloc);
+) -> Result<Vec<u32>, AllocError>
+    ensures { IfOk result (λ v. AreNumbersOf (plan_contents plan.now) (labels_in starters.now) v.items) }
+{
     if starters.is_empty() {
-        return Ok(numbers);
+        return Ok(Vec::new(alloc));
     }
-    for label in starters.split(',') {
+    let labels = labels_of(alloc, starters)?;
+    let mut numbers = Vec::new(alloc);
+    for label in labels {
         numbers.push(number_of(plan, label))?;
     }
     Ok(numbers)
 }
 
-fn number_of(plan: &Plan, label: &str) -> u32 {
-    plan.find(label).unwrap_or(plan.participants())
+fn labels_of(alloc: Global, starters: &str) -> Result<Vec<&str>, AllocError>
+    ensures { IfOk result (λ v. map (λ x. x.now) v.items ≡ slice_split (λ b. b == 44) starters.now) }
+{
+    starters.split(',').collect(alloc)
+}
+
+fn number_of(plan: &Plan, label: &str) -> u32
+    ensures { IsNumberOf (plan_contents plan.now) label.now result }
+{
+    match plan.find(label) {
+        Some(number) => number,
+        None => plan.participants(),
+    }
 }
 
 /// The bits of a text of `0` and `1`.
-pub(crate) fn bits_of(alloc: Global, answers: &str) -> Result<Vec<bool>, AllocError> {
+pub(crate) fn bits_of(alloc: Global, answers: &str) -> Result<Vec<bool>, AllocError>
+    ensures { IfOk result (λ v. v.items ≡ bits_in answers.now) }
+{
     let mut bits = Vec::new(alloc);
-    for byte in answers.as_bytes() {
+    let bytes = answers.as_bytes();
+    for byte in bytes {
         bits.push(*byte == b'1')?;
     }
     Ok(bits)

@@ -13,13 +13,14 @@ use Rattle.bench_plays.specs.Games.{Game, IsGame, those}
 use Rattle.bench_plays.proofs.PlayLemmas.{start_is_play}
 use Rattle.bus_bench.specs.declared.hands.Hand.{Hand}
 use Rattle.bus_bench.specs.declared.hands.Setup.{Setup}
+use Rattle.bus_bench.specs.declared.hands.Terms.{Terms}
 use Rattle.bus_bench.specs.declared.seats.Standing.TheVariants.{Playing}
 use Rattle.bus_bench.specs.Hands.{hand_game, setup_game, starter}
 use Rattle.bus_bench.specs.Opening.{IsHanding}
 use Rattle.bus_bench.specs.Rule.{SLOTS, holds_at}
 use Rattle.bus_bench.specs.Seats.{BenchName, game_of, fresh}
 use Rattle.bus_bench.specs.Steps.{handing_out, handed_out}
-use Rattle.bus_bench.specs.Tickets.{bench_name, IsBench, ticket_bench, IsSeat}
+use Rattle.bus_bench.specs.Tickets.{bench_name, setup_of, IsBench, ticket_bench, IsSeat}
 use Rattle.std.specs.List.{range_with_len}
 use Rattle.std.proofs.lemmas.List.{map-append}
 use Rattle.plan_core.specs.declared.plans.Plan.{Plan}
@@ -88,3 +89,12 @@ one_more_seat bench n =
 pub set_up : (plan : Plan) (starters starters' : List ℕ) (answers answers' : List Bool) → starters' ≡ starters → answers' ≡ answers → IsSafe (plan_contents plan) → starters_refusal (plan_contents plan) starters ≡ None → IsGame (record { plan = plan_contents plan; starters = starters'; answers = answers' })
 set_up plan starters starters' answers answers' b d safe none =
     subst IsGame (λ i. record { plan = plan_contents plan; starters = sym b i; answers = sym d i }) (game_of_starters (plan_contents plan) starters answers (limits_of plan) safe none)
+
+abbrev kept : Setup → Terms
+kept setup = record { starters = setup.starters; answers = setup.answers }
+
+-- a table that was told a setup, and what is kept of that, are a bench
+pub is_opening : (id : TableId) (key setup : Setup) → key ≡ setup → id.words ≡ SLOTS → IsGame (setup_game setup) → IsBench id key (setup_of key (kept setup))
+is_opening id key setup told words valid =
+    let same : setup ≡ setup_of key (kept setup) = ap (λ (k : Setup). setup_of k (kept setup)) (sym told) in
+    record { told = told ∙ same; words = words; valid = subst (λ (s : Setup). IsGame (setup_game s)) same valid }

@@ -11,6 +11,7 @@ use Rattle.bench_plays.specs.declared.puts.Put.{Put}
 use Rattle.bench_plays.specs.Games.{IsGame}
 use Rattle.bus_bench.specs.declared.hands.Hand.{Hand}
 use Rattle.bus_bench.specs.declared.hands.Setup.{Setup}
+use Rattle.bus_bench.specs.declared.hands.Terms.{Terms}
 use Rattle.bus_bench.specs.declared.hands.Told.{Told}
 use Rattle.bus_bench.specs.declared.hands.Role.TheVariants.{Host, Player}
 use Rattle.bus_bench.specs.declared.seats.Standing.{Standing}
@@ -22,6 +23,10 @@ use Rattle.bus_bench.specs.Seats.{BenchName, Player as PlayerOf}
 
 abbrev pub bench_name : TableId → Setup → BenchName
 bench_name id setup = record { wire = id; plan = Some setup.plan.now; starters = setup.starters.items; answers = setup.answers.items }
+
+-- what its table was told, with what the bench keeps of that
+abbrev pub setup_of : Setup → Terms → Setup
+setup_of key terms = record { plan = key.plan; starters = terms.starters; answers = terms.answers }
 
 -- its table was told this setup, and has a word for each slot
 pub record IsBench (id : TableId) (key setup : Setup) : Type 0 where

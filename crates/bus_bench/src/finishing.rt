@@ -4,11 +4,11 @@ ghost use Rattle.std.specs.Prelude.{◌≡◌, ◌≤◌, ℕ, true, All, [], �
 ghost use Rattle.std.specs.List.{list_all};
 ghost use Rattle.bus_bench.specs.Finishing.{IsFinished, IsFinishFault, AreAll, is_done, has_won, winners, IsRunLength, HasBack, IsGivenBack, RunIs, IsReadOut};
 ghost use Rattle.bus_bench.specs.Rule.{SLOTS};
-ghost use Rattle.bus_bench.specs.Tickets.{IsBench, bench_name, ticket_bench};
+ghost use Rattle.bus_bench.specs.Tickets.{IsBench, bench_name, ticket_bench, setup_of};
 ghost use Rattle.bus_bench.specs.declared.hands.Role.TheVariants as Role;
 
 use crate::errors::FinishFault;
-use crate::hands::Setup;
+use crate::hands::Terms;
 use crate::putting::answer_in;
 use crate::seats::{Bench, Host, Seat, Standing, Ticket, Wire};
 use crate::steps::{ComesBack, Reads};
@@ -47,7 +47,7 @@ pub fn finish<'a>(
     ensures why { IfErr result (λ u. IsFinishFault u.why bench.entry seats.entry.items) }
     ensures unchanged { IfErr result (λ u. (u.bench ≡ bench.entry) × (u.host ≡ host) × (u.seats.items ≡ seats.entry.items)) }
 {
-    let why = if seats.len() != bench.setup.starters.len() {
+    let why = if seats.len() != bench.terms.starters.len() {
         FinishFault::Missing
     } else if !all_done(&seats) {
         FinishFault::NotEnded
@@ -79,7 +79,7 @@ fn room(alloc: Global, bench: &Bench<'_>, seats: &[Seat<'_>]) -> Result<Played, 
 {
     let wire = Vec::with_capacity(alloc, crate::opening::MOST_SLOTS)?;
     let mut won = Vec::with_capacity(alloc, seats.len())?;
-    for (number, starter) in bench.setup.starters.iter().enumerate() {
+    for (number, starter) in bench.terms.starters.iter().enumerate() {
         add_winner(seats, number as u32, *starter, &mut won)?;
     }
     Ok(Played { wire, won })
@@ -130,31 +130,31 @@ fn read_all<'a>(bench: Bench<'a>, host: Host, seats: Vec<Seat<'a>>, mut played: 
     ensures { IsFinished bench.entry seats.entry.items result.wire.items result.won.items }
 {
     let count = run_length(&seats);
-    let Bench { wire, setup } = bench;
+    let Bench { wire, terms } = bench;
     let Host { mut ticket } = host;
-    take_back(&wire, &setup, &mut ticket, seats);
-    read_wire(&wire, &setup, &mut ticket, count, &mut played.wire);
+    take_back(&wire, &terms, &mut ticket, seats);
+    read_wire(&wire, &terms, &mut ticket, count, &mut played.wire);
     played
 }
 
 // The host takes these seats back.
-fn take_back<'a>(wire: &Wire<'a>, setup: &Setup<'a>, ticket: &mut Ticket, seats: Vec<Seat<'a>>)
-    requires bench { IsBench wire.now.shared.table_id wire.now.shared.key setup.now }
-    requires host { HasBack (bench_name wire.now.shared.table_id setup.now) [] ticket.old.table_id ticket.old.me }
-    requires seats { All (λ seat. seat.bench ≡ bench_name wire.now.shared.table_id setup.now) seats.items }
-    ensures { HasBack (bench_name wire.now.shared.table_id setup.now) seats.entry.items ticket.new.table_id ticket.new.me }
+fn take_back<'a>(wire: &Wire<'a>, terms: &Terms, ticket: &mut Ticket, seats: Vec<Seat<'a>>)
+    requires bench { IsBench wire.now.shared.table_id wire.now.shared.key (setup_of wire.now.shared.key terms.now) }
+    requires host { HasBack (bench_name wire.now.shared.table_id (setup_of wire.now.shared.key terms.now)) [] ticket.old.table_id ticket.old.me }
+    requires seats { All (λ seat. seat.bench ≡ bench_name wire.now.shared.table_id (setup_of wire.now.shared.key terms.now)) seats.items }
+    ensures { HasBack (bench_name wire.now.shared.table_id (setup_of wire.now.shared.key terms.now)) seats.entry.items ticket.new.table_id ticket.new.me }
 {
     for seat in seats {
-        give_back(wire, setup, ticket, seat);
+        give_back(wire, terms, ticket, seat);
     }
 }
 
-fn give_back<'a>(wire: &Wire<'a>, setup: &Setup<'a>, ticket: &mut Ticket, seat: Seat<'a>)
-    requires bench { IsBench wire.now.shared.table_id wire.now.shared.key setup.now }
+fn give_back<'a>(wire: &Wire<'a>, terms: &Terms, ticket: &mut Ticket, seat: Seat<'a>)
+    requires bench { IsBench wire.now.shared.table_id wire.now.shared.key (setup_of wire.now.shared.key terms.now) }
     requires host { ticket.old.me.0.role ≡ Role.Host }
     requires slots { ticket.old.me.1 ≡ [] }
-    requires named { bench_name wire.now.shared.table_id setup.now ≡ ticket_bench ticket.old.table_id ticket.old.me }
-    requires seat { seat.bench ≡ bench_name wire.now.shared.table_id setup.now }
+    requires named { bench_name wire.now.shared.table_id (setup_of wire.now.shared.key terms.now) ≡ ticket_bench ticket.old.table_id ticket.old.me }
+    requires seat { seat.bench ≡ bench_name wire.now.shared.table_id (setup_of wire.now.shared.key terms.now) }
     ensures same { ticket.new.table_id ≡ ticket.old.table_id }
     ensures hand { IsGivenBack seat.entry ticket.old.me ticket.new.me }
 {
@@ -173,25 +173,25 @@ fn give_back<'a>(wire: &Wire<'a>, setup: &Setup<'a>, ticket: &mut Ticket, seat: 
 // Reads the wire of a run of so many slots, once all seats are back. There is room for it.
 fn read_wire<'a>(
     wire: &Wire<'a>,
-    setup: &Setup<'a>,
+    terms: &Terms,
     ticket: &mut Ticket,
     count: u32,
     items: &mut Vec<Item>,
 )
-    requires bench { IsBench wire.now.shared.table_id wire.now.shared.key setup.now }
+    requires bench { IsBench wire.now.shared.table_id wire.now.shared.key (setup_of wire.now.shared.key terms.now) }
     requires host { ticket.old.me.0.role ≡ Role.Host }
     requires slots { ticket.old.me.1 ≡ [] }
-    requires named { bench_name wire.now.shared.table_id setup.now ≡ ticket_bench ticket.old.table_id ticket.old.me }
+    requires named { bench_name wire.now.shared.table_id (setup_of wire.now.shared.key terms.now) ≡ ticket_bench ticket.old.table_id ticket.old.me }
     requires all { length ticket.old.me.0.back ≡ length ticket.old.me.0.starters }
     requires run { (count ≤ SLOTS) × RunIs ticket.old.me.0 count }
     requires items { (items.old.items ≡ []) × (SLOTS ≤ vec_capacity items.old) }
     ensures { IsReadOut ticket.old.me.0 items.new.items }
 {
     wire.shared.load::<Reads>(ticket, 0);
-    let mut live = setup.starters.len() as u32;
+    let mut live = terms.starters.len() as u32;
     for slot in 0..count {
         let tally = Tally::new(wire.shared.load::<Reads>(ticket, slot as usize));
-        items.push_reserved(tally.shown(answer_in(&setup.answers, slot)));
+        items.push_reserved(tally.shown(answer_in(&terms.answers, slot)));
         live = tally.left(live);
     }
 }

@@ -16,6 +16,13 @@ pub struct Setup<'a> {
     pub answers: Vec<bool>,
 }
 
+/// What a bench keeps of that. Its seats alone have the plan.
+#[derive(Drop)]
+pub struct Terms {
+    pub starters: Vec<u32>,
+    pub answers: Vec<bool>,
+}
+
 /// Who has a hand.
 pub enum Role {
     /// It opened the bench.

@@ -1,6 +1,6 @@
 // Opening a bench.
 
-ghost use Rattle.std.specs.Prelude.{◌≡◌, ◌<◌, ◌+◌, [], length, map, replicate, IfOk, IfErr, None};
+ghost use Rattle.std.specs.Prelude.{◌≡◌, ◌<◌, ◌+◌, [], length, map, replicate, IfOk, IfErr, Some, None};
 ghost use Rattle.std.specs.List.{range_with_len};
 ghost use Rattle.plan_core.specs.Faults.{IsSafe};
 ghost use Rattle.plan_core.specs.PlanContents.{plan_contents};
@@ -13,7 +13,7 @@ ghost use Rattle.bus_bench.specs.Seats.{fresh};
 ghost use Rattle.bus_bench.specs.Starters.{starters_refusal};
 
 use crate::errors::OpenError;
-use crate::hands::Setup;
+use crate::hands::{Setup, Terms};
 use crate::seats::{Bench, Host, Seat, Standing, Ticket, Wire};
 use crate::starters::check_starters;
 use crate::steps::HandsOut;
@@ -69,8 +69,14 @@ fn open<'a>(
         answers: bits(alloc, answers)?,
     };
     let (wire, mut ticket) = lay(alloc, &setup)?;
-    let bench = Bench { wire, setup };
-    let seats = hand_out_all(alloc, &bench, &mut ticket)?;
+    let Setup {
+        plan,
+        starters,
+        answers,
+    } = setup;
+    let terms = Terms { starters, answers };
+    let bench = Bench { wire, terms };
+    let seats = hand_out_all(alloc, &bench, plan, &mut ticket)?;
     Ok((bench, Host { ticket }, seats))
 }
 
@@ -105,37 +111,44 @@ fn no_puts(alloc: Global) -> Result<Vec<u64>, AllocError>
 fn hand_out_all<'a>(
     alloc: Global,
     bench: &Bench<'a>,
+    plan: &'a Plan,
     ticket: &mut Ticket,
 ) -> Result<Vec<Seat<'a>>, AllocError>
-    requires { IsHanding bench.now 0 ticket.old.table_id ticket.old.me }
+    requires plan { bench.now.plan ≡ Some plan.now }
+    requires host { IsHanding bench.now 0 ticket.old.table_id ticket.old.me }
     ensures host { IfOk result (λ _. IsHanding bench.now (length bench.now.starters) ticket.new.table_id ticket.new.me) }
     ensures seats { IfOk result (λ r. r.items ≡ map (fresh bench.now) (range_with_len 0 (length bench.now.starters))) }
 {
-    let count = bench.setup.starters.len();
+    let count = bench.terms.starters.len();
     let mut seats = Vec::with_capacity(alloc, count)?;
     for number in 0..count {
-        seats.push(hand_out(bench, ticket, number as u32))?;
+        seats.push(hand_out(bench, plan, ticket, number as u32))?;
     }
     Ok(seats)
 }
 
 // The seat of this starter.
-fn hand_out<'a>(bench: &Bench<'a>, ticket: &mut Ticket, number: u32) -> Seat<'a>
+fn hand_out<'a>(
+    bench: &Bench<'a>,
+    plan: &'a Plan,
+    ticket: &mut Ticket,
+    number: u32,
+) -> Seat<'a>
+    requires plan { bench.now.plan ≡ Some plan.now }
     requires number { number < length bench.now.starters }
     requires host { IsHanding bench.now number ticket.old.table_id ticket.old.me }
     ensures host { IsHanding bench.now (number + 1) ticket.new.table_id ticket.new.me }
     ensures seat { result ≡ fresh bench.now number }
 {
     let part = bench.wire.shared.split_seat::<HandsOut>(ticket);
-    let plan = bench.setup.plan;
-    let starter = bench.setup.starters[number as usize];
+    let starter = bench.terms.starters[number as usize];
     Seat {
         ticket: part,
         number,
         place: Place::start(plan.sends(starter)),
         own: None,
         slot: 0,
-        live: bench.setup.starters.len() as u32,
+        live: bench.terms.starters.len() as u32,
         standing: Standing::Playing,
     }
 }

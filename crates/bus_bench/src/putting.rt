@@ -14,7 +14,7 @@ impl<'a> Bench<'a> {
     pub(crate) fn answer(&self, slot: u32) -> bool
         ensures { result ≡ answer_at self.now.answers slot }
     {
-        answer_in(&self.setup.answers, slot)
+        answer_in(&self.terms.answers, slot)
     }
 }
 

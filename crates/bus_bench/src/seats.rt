@@ -1,6 +1,6 @@
 // The bench, its host, and the seats of those who play.
 
-use crate::hands::{Hand, Setup};
+use crate::hands::{Hand, Setup, Terms};
 use crate::steps::Wired;
 use atomic_table::Table;
 use bench_places::Place;
@@ -16,12 +16,12 @@ pub(crate) type Ticket = atomic_table::Seat<(), Hand>;
 #[derive(Drop)]
 pub struct Bench<'a> {
     pub(crate) wire: Wire<'a>,
-    pub(crate) setup: Setup<'a>,
+    pub(crate) terms: Terms,
 }
 
 impl<'a> Model for Bench<'a> {
     ghost use Rattle.bus_bench.specs.Seats.{BenchName};
-    ghost use Rattle.bus_bench.specs.Tickets.{bench_name, IsBench};
+    ghost use Rattle.bus_bench.specs.Tickets.{bench_name, setup_of, IsBench};
     ghost use Rattle.std.specs.Coded.{codes};
     ghost use Rattle.plan_core.specs.contracts.plans.Plan as plan;
 
@@ -29,9 +29,9 @@ impl<'a> Model for Bench<'a> {
 
     ghost coded = { Prim.hlevel (codes, plan.the_row.coded) };
 
-    ghost view = { λ b. bench_name b.wire.shared.table_id b.setup };
+    ghost view = { λ b. bench_name b.wire.shared.table_id (setup_of b.wire.shared.key b.terms) };
 
-    ghost invariant = { λ b. IsBench b.wire.shared.table_id b.wire.shared.key b.setup };
+    ghost invariant = { λ b. IsBench b.wire.shared.table_id b.wire.shared.key (setup_of b.wire.shared.key b.terms) };
 }
 
 /// The right to finish a bench. Contracts see it by the name of its bench.

@@ -2,7 +2,7 @@
 use Rattle.std.proofs.Common.{◌≡◌, List, ℕ, Result, Ok, Err, refl, subst}
 use Rattle.certificate.specs.declared.errors.CertFault.{CertFault}
 use Rattle.certificate.specs.Texts.{cert_text}
-use Rattle.cert_check.specs.Accepts.{IsCertified, IsRefuted, IsMistaken}
+use Rattle.cert_check.specs.Accepts.{IsCertified, IsRefuted, IsMistaken, AnswersBytes}
 use Rattle.cert_check.specs.declared.answers.AcceptError.{AcceptError}
 use Rattle.cert_check.specs.declared.answers.AcceptError.TheVariants as accept
 use Rattle.cert_check.specs.declared.answers.Answer.{Answer}
@@ -16,7 +16,7 @@ use Rattle.plan_text.specs.Refusals.{First}
 use Rattle.plan_text.specs.declared.errors.PlanError.{PlanError}
 use Rattle.verdicts.specs.Certificates.{certificate_for}
 use Rattle.verdicts.specs.Verdicts.{AreVerdicts}
-use Rattle.report.specs.Certificates.{Certified, AnswersTexts}
+use Rattle.report.specs.Certificates.{Certified}
 use Rattle.report.specs.Checks.{Judges, SpellsPlan}
 use Rattle.report.specs.RunErrors.{accept_error}
 use Rattle.report.specs.declared.errors.RunError.TheVariants.{NoMemory}
@@ -50,7 +50,7 @@ accept_halts text slice accept.NoMemory same spelled first = refl
 
 pub answers_texts : (plan plan_slice cert cert_slice : List ℕ) (answer : Answer) → plan_slice ≡ plan → cert_slice ≡ cert
     → (answered answer ≡ answered Safe → IsCertified plan_slice cert_slice) → (answered answer ≡ answered Unsafe → IsRefuted plan_slice cert_slice) → ((fault : CertFault) → answered answer ≡ answered (Wrong fault) → IsMistaken plan_slice cert_slice fault)
-    → AnswersTexts plan cert answer
+    → AnswersBytes plan cert answer
 answers_texts plan p cert q Safe same_plan same_cert safe unsafe wrong =
     subst (λ (t : List ℕ). IsCertified t cert) same_plan (subst (λ (t : List ℕ). IsCertified p t) same_cert (safe refl))
 answers_texts plan p cert q Unsafe same_plan same_cert safe unsafe wrong =

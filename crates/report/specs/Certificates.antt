@@ -3,7 +3,7 @@ use Rattle.std.specs.Prelude.{◌≡◌, ℕ, List, ◌++◌, codes}
 use Rattle.std.specs.Fmt.{decimal}
 use Rattle.certificate.specs.declared.errors.CertFault.TheVariants.{Format, Count, TooDeep, Pair}
 use Rattle.certificate.specs.Texts.{cert_text}
-use Rattle.cert_check.specs.Accepts.{IsCertified, IsRefuted, IsMistaken}
+use Rattle.cert_check.specs.Accepts.{AnswersBytes}
 use Rattle.cert_check.specs.declared.answers.Answer.{Answer}
 use Rattle.cert_check.specs.declared.answers.Answer.TheVariants.{Safe, Unsafe, Wrong}
 use Rattle.pair_walk.specs.declared.walk_pair.Verdict.{Verdict}
@@ -27,12 +27,6 @@ pub record Certified (text report : List ℕ) (status : Status) : Type 0 where
   pub written : report ≡ cert_text (certificate_for verdicts)
   pub judged : Judges status plan
 
--- what an answer says of the two texts
-abbrev pub AnswersTexts : List ℕ → List ℕ → Answer → Type 0
-AnswersTexts plan cert Safe = IsCertified plan cert
-AnswersTexts plan cert Unsafe = IsRefuted plan cert
-AnswersTexts plan cert (Wrong fault) = IsMistaken plan cert fault
-
 abbrev pub answer_status : Answer → Status
 answer_status Safe = Good
 answer_status Unsafe = Bad
@@ -49,6 +43,6 @@ verify_line (Wrong (Pair pair)) = codes "wrong C5 pair " ++ (decimal pair ++ cod
 -- the report is the line of the answer that the texts of the plan and of the certificate have, and the status is its own
 pub record Verified (texts : List ℕ × List ℕ) (report : List ℕ) (status : Status) : Type 0 where
   pub answer : Answer
-  pub right : AnswersTexts texts.0 texts.1 answer
+  pub right : AnswersBytes texts.0 texts.1 answer
   pub line : report ≡ verify_line answer
   pub ended : status ≡ answer_status answer

@@ -1,6 +1,7 @@
 use Rattle.std.proofs.Common.{◌∙◌, sym, subst, length, List}
 use Rattle.bus_bench.specs.Finishing.{IsRunLength, HasBack}
 use Rattle.bus_bench.specs.Seats.{BenchName, Player}
+use Rattle.bus_bench.specs.Tickets.{setup_of}
 use Rattle.bus_bench.proofs.FinishLemmas.{as_many_back, runs_are, finished, of_bench, host_game_valid}
 use Rattle.bus_bench.proofs.finishing.read_all.Goals as goal
 
@@ -19,5 +20,5 @@ returns c =
     let t = c.take_back.new.ticket in
     let w = c.bench.inside.wire.shared in
     let back = subst (λ (n : BenchName). HasBack n c.args.seats.items t.table_id t.me) c.bench.view_is c.take_back.ensures in
-    let valid = host_game_valid t.table_id w.table_id w.key c.bench.inside.setup t.me c.take_back.ensures.named c.bench.invariant in
+    let valid = host_game_valid t.table_id w.table_id w.key (setup_of w.key c.bench.inside.terms) t.me c.take_back.ensures.named c.bench.invariant in
     finished c.args.bench c.args.seats.items t.table_id t.me c.read_wire.new.items.items back (of_bench c.args.bench c.args.seats.items c.requires.seats) c.requires.done valid c.read_wire.ensures c.args.played.won.items c.requires.won

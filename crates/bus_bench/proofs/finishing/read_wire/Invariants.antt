@@ -7,7 +7,7 @@ use Rattle.bus_bench.proofs.finishing.read_wire.Given as goal
 abbrev pub invariant-loop-slot : goal.invariant-loop-slot
 invariant-loop-slot l =
     (l.wire ≡ l.fn.wire)
-    × (l.setup ≡ l.fn.setup)
+    × (l.terms ≡ l.fn.terms)
     × (l.count ≡ l.fn.count)
     × (l.ticket.table_id ≡ l.fn.ticket.table_id)
     × (l.ticket.me ≡ l.fn.ticket.me)

@@ -13,7 +13,7 @@ use Rattle.bus_bench.specs.declared.hands.Hand.{Hand}
 use Rattle.bus_bench.specs.declared.seats.Standing.{Standing}
 use Rattle.bus_bench.specs.declared.seats.Standing.TheVariants.{Playing}
 use Rattle.bus_bench.specs.Seats.{BenchName}
-use Rattle.bus_bench.specs.Tickets.{IsSeat, ticket_bench}
+use Rattle.bus_bench.specs.Tickets.{IsSeat, ticket_bench, setup_of}
 use Rattle.bus_bench.proofs.SeatLemmas.{put_allowed, put_done}
 use Rattle.bus_bench.proofs.seats.Seat.put.Goals as goal
 
@@ -33,7 +33,7 @@ fetch_add-requires c =
     let was_free = free i.ticket.me i.number i.place i.own i.slot i.live i.standing (search rules) (search rules) c.self.invariant in
     let item_is = item_here _ i.ticket.table_id i.ticket.me i.slot c.args.put _ _ named c.answer.ensures c.item.ensures in
     let begins = subst (Begins (rest_of i.place)) item_is ((c.offered.ensures.items c.item.result).1 (c.allows.ensures.0 (subst IsTrue (sym c.if-not-allows.false) refl))) in
-    put_allowed i.ticket.table_id b.wire.shared.table_id b.wire.shared.key b.setup i.ticket.id i.ticket.me i.number i.place i.slot i.live _ c.args.put (c.bench.view_is ∙ named) c.bench.invariant was_free begins c.contribution.ensures
+    put_allowed i.ticket.table_id b.wire.shared.table_id b.wire.shared.key (setup_of b.wire.shared.key b.terms) i.ticket.id i.ticket.me i.number i.place i.slot i.live _ c.args.put (c.bench.view_is ∙ named) c.bench.invariant was_free begins c.contribution.ensures
 
 pub invariant_of-self : goal.invariant_of-self
 invariant_of-self c =

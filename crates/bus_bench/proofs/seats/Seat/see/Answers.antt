@@ -6,7 +6,7 @@ use Rattle.bench_plays.specs.Words.{arrivals_in}
 use Rattle.bus_bench.specs.declared.hands.Hand.{Hand}
 use Rattle.bus_bench.specs.declared.seats.Standing.{Standing}
 use Rattle.bus_bench.specs.declared.seats.Standing.TheVariants.{Playing}
-use Rattle.bus_bench.specs.Tickets.{IsSeat, ticket_bench}
+use Rattle.bus_bench.specs.Tickets.{IsSeat, ticket_bench, setup_of}
 use Rattle.bus_bench.proofs.SeatLemmas.{see_allowed, still_waits, never_waits_alone, complete_slot, lost_now, on_now, begins_on, saw_lost, saw_on, not_one, is_one}
 use Rattle.bus_bench.proofs.seats.Seat.see.Goals as goal
 
@@ -20,7 +20,7 @@ load-word-requires c =
     let b = c.bench.inside in
     let named : c.args.bench.now ≡ ticket_bench i.ticket.table_id i.ticket.me = c.requires ∙ sym (λ j. (c.self.view_is j).bench) in
     let was = free i.ticket.me i.number i.place i.own c.in-Some.own i.slot i.live i.standing (search rules) c.in-Some.is c.self.invariant in
-    see_allowed i.ticket.table_id b.wire.shared.table_id b.wire.shared.key b.setup i.ticket.id i.ticket.me i.number i.place i.slot i.live c.in-Some.own (c.bench.view_is ∙ named) c.bench.invariant was
+    see_allowed i.ticket.table_id b.wire.shared.table_id b.wire.shared.key (setup_of b.wire.shared.key b.terms) i.ticket.id i.ticket.me i.number i.place i.slot i.live c.in-Some.own (c.bench.view_is ∙ named) c.bench.invariant was
 
 pub returns-then-arrivals-self-clause-seen : goal.returns-then-arrivals-self-clause-seen
 returns-then-arrivals-self-clause-seen c =

@@ -1,0 +1,5 @@
+use Rattle.bench_run.specs.Players.{PlaysOn}
+use Rattle.bench_run.proofs.players.Player.play.Given as goal
+
+abbrev pub invariant-loop : goal.invariant-loop
+invariant-loop g l = PlaysOn l.bench l.manner.fill l.self
