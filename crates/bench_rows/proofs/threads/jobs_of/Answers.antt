@@ -1,4 +1,4 @@
-use Rattle.std.proofs.Common.{◌≡◌, ◌∷◌, refl, sym, subst}
+use Rattle.std.proofs.Common.{◌≡◌, List, ◌∷◌, refl, sym, subst}
 use Rattle.std.specs.Prelude.{All}
 use Rattle.std.specs.Vec.Iter.{into_iter_items}
 use Rattle.std.proofs.lemmas.List.Elements.{All-head, All-tail, All-push}
@@ -15,7 +15,7 @@ loop-seat-preserved c =
     let job : Job = record { bench = c.args.bench; seat = seat } in
     let at_bench : Job → Type 0 = λ j. j.bench.now ≡ c.args.bench.now in
     let of_bench : Job → Type 0 = λ j. j.seat.bench ≡ c.args.bench.now in
-    let items = sym c.in_ok-push.ensures.items in (
+    let items = sym {A = List Job} c.in_ok-push.ensures.items in (
       tt,
       tt,
       All-tail of seat left all,

@@ -1,4 +1,4 @@
-use Rattle.std.proofs.Common.{◌≡◌, ◌∷◌, sym, subst}
+use Rattle.std.proofs.Common.{◌≡◌, List, ◌∷◌, sym, subst}
 use Rattle.std.specs.Prelude.{All}
 use Rattle.std.specs.Vec.Iter.{into_iter_items}
 use Rattle.std.proofs.lemmas.List.Elements.{All-head, All-tail, All-push}
@@ -16,5 +16,5 @@ loop-one-preserved c =
       tt,
       tt,
       All-tail done one left all,
-      subst (All of) (sym c.in_ok-push.ensures.items) (All-push of c.loop-one.seats.items one.seat c.loop-one.invariant.3 (All-head done one left all)),
+      subst (All of) (sym {A = List Player} c.in_ok-push.ensures.items) (All-push of c.loop-one.seats.items one.seat c.loop-one.invariant.3 (All-head done one left all)),
     )
