@@ -3,3 +3,4 @@ pub mod WonLemmas
 pub mod OneRunLemmas
 pub mod RehearsalLemmas
 pub mod StarterLemmas
+pub mod Crossing

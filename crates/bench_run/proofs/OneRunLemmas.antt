@@ -61,9 +61,9 @@ joined game puts v w on among first here = first
 joined game puts v w on among first (slot x g h o) = slot x (joined game puts v w on among first g) h o
 
 module _ (game : Game) (fill : Bool) (is : IsGame game) (mine yours : Puts) (u t : List Item) (live left : Set)
-         (play : IsPlay game mine u live) (other : IsPlay game yours t left)
-         (filled : IsFilled game fill mine u) (filled_too : IsFilled game fill yours t)
-         (ended : HasEnded u) (ended_too : HasEnded t) where
+    (play : IsPlay game mine u live) (other : IsPlay game yours t left)
+    (filled : IsFilled game fill mine u) (filled_too : IsFilled game fill yours t)
+    (ended : HasEnded u) (ended_too : HasEnded t) where
   -- a starter that has put in the slot behind a wire that both pass has put the same
   same_put : (v rest more : List Item) → u ≡ v ++ rest → t ≡ v ++ more → (p : ℕ) → In p (those game.starters) →
       length v < length (mine p) → length v < length (yours p) → put_in game mine (length v) p ≡ put_in game yours (length v) p
@@ -109,9 +109,9 @@ module _ (game : Game) (fill : Bool) (is : IsGame game) (mine yours : Puts) (u t
               λ p i. same_put v prefix.0 prefix_too.0 prefix.1 prefix_too.1 p (was_in game mine [] v (those game.starters) on p g i) (h p i) (f.have_put p (sym (agree p) ∙ i)) in
               let wire : IsWire on mine_puts f.shown = record {
                 some =
-                  let s = f.is_slot.is_wire.some in
-                  let i : In s.0 on = agree s.0 ∙ s.1 in
-                  (s.0, i, same s.0 i ∙ s.2);
+                    let s = f.is_slot.is_wire.some in
+                    let i : In s.0 on = agree s.0 ∙ s.1 in
+                    (s.0, i, same s.0 i ∙ s.2);
                 all = λ p i. elim (f.is_slot.is_wire.all p (sym (agree p) ∙ i)) [
                   | inl e ↦ inl (same p i ∙ e)
                   | inr e ↦ inr (same p i ∙ e.0, e.1)
@@ -125,6 +125,7 @@ module _ (game : Game) (fill : Bool) (is : IsGame game) (mine yours : Puts) (u t
     where
       open_here : HasEnded v → ⊥
       open_here = goes_on_there v w on (survivors on (put_in game mine (length v)) w) (slot w here h o) goes
+
       kept : (p : ℕ) (a b : Bool) → on p ≡ a → a ≡ b → (x y z : Item) → (In p on → x ≡ y) → (a && is_item x z) ≡ (b && is_item y z)
       kept p true b i e x y z s = ap (λ (c : Bool). c && is_item x z) e ∙ ap (λ (k : Item). b && is_item k z) (s i)
       kept p false b i e x y z s = ap (λ (c : Bool). c && is_item x z) e ∙ sym (ap (λ (c : Bool). c && is_item x z) e) ∙ ap (λ (c : Bool). c && is_item y z) e

@@ -1,8 +1,9 @@
 -- What players put is filled, and what that makes of a play.
 use Rattle.std.proofs.Common.{◌≡◌, ◌↔◌, ◌⊎◌, ℕ, zero, suc, ◌+◌, ◌-◌, ◌<◌, ◌≤◌, Bool, true, false, List, [], ◌∷◌, ◌++◌, length, map, take, Some, refl, sym, ap, ◌∙◌, subst, arith, inl, inr}
-use Rattle.std.specs.Prelude.{All, slice_get}
-use Rattle.std.specs.List.{slice_index_or, list_all}
-use Rattle.std.proofs.lemmas.List.{get_or_append_left, get_or-append-add, take-append-le, take_all, length_push}
+use Rattle.std.specs.Prelude.{All, slice_get, Result, Ok, Err, IfOk}
+use Rattle.std.specs.List.{slice_index_or, list_all, range_with_len}
+use Rattle.std.proofs.lemmas.List.FromFn.{length-range_with_len}
+use Rattle.std.proofs.lemmas.List.{length-map, get_or_append_left, get_or-append-add, take-append-le, take_all, length_push}
 use Rattle.std.proofs.lemmas.List.Elements.{All-nil, All-cons, All-map}
 use Rattle.std.proofs.lemmas.Bool.{cases_lt}
 use Rattle.message_tree.specs.declared.items.Item.{Item}
@@ -17,7 +18,7 @@ use Rattle.bus_bench.specs.Seats as seats
 use Rattle.bus_bench.specs.Seats.{BenchName, fresh, game_of, participant, MayOffer, HasPutHere, Saw, after_put, after_slot, standing_behind}
 use Rattle.bus_bench.specs.declared.errors.Sight.{Sight}
 use Rattle.bus_bench.specs.declared.errors.Sight.TheVariants as sight
-use Rattle.bus_bench.specs.Finishing.{IsFinished, is_done, is_over}
+use Rattle.bus_bench.specs.Finishing.{AreAll, IsFinished, is_done, is_over}
 use Rattle.bus_bench.specs.declared.seats.Standing.{Standing}
 use Rattle.bus_bench.specs.declared.seats.Standing.TheVariants as standing
 use Rattle.bus_bench.proofs.ViewLemmas.{place_of}
@@ -174,10 +175,10 @@ all_fresh bench ns ss are = subst (All (IsFresh bench)) (sym are) (All-map (IsFr
 
 nothing_filled : (bench : BenchName) (fill : Bool) (stage : Stage) (s : seats.Player) → IsFresh bench s → stage ≡ Puts → (s.bench ≡ bench) × IsInStep stage s × IsFilledSeat fill s
 nothing_filled bench fill stage s f e = (
-    f.0,
-    subst (λ (x : Stage). IsInStep x s) (sym e) (f.1, ap length f.2 ∙ sym (ap length f.3)),
-    λ k lt either. absurd (let none : length s.puts ≡ 0 = ap length f.2 in omega (arith, none, lt)),
-  )
+  f.0,
+  subst (λ (x : Stage). IsInStep x s) (sym e) (f.1, ap length f.2 ∙ sym (ap length f.3)),
+  λ k lt either. absurd (let none : length s.puts ≡ 0 = ap length f.2 in omega (arith, none, lt)),
+)
 
 -- parts with such seats are ready to be played
 pub ready_parts : (bench : BenchName) (fill : Bool) (parts : List Part) → All (IsFresh bench) (map (λ p. p.player.seat) parts) → All (IsReady bench fill) parts → All (IsPart bench fill) parts
@@ -200,3 +201,21 @@ pub seats_stay : (bench : BenchName) (fill : Bool) (players : List Player) → A
 seats_stay bench fill [] plays = All-nil (λ s. s.bench ≡ bench)
 seats_stay bench fill (p ∷ ps) plays =
     All-cons (λ s. s.bench ≡ bench) p.seat (map seat_in ps) (plays 0 p (omega arith)).seat_of (seats_stay bench fill ps (λ k d lt. plays (suc k) d (omega (arith, lt))))
+
+-- the seats of a bench are as many as its starters, also when their players have played
+pub all_there : (bench : BenchName) (ss given : List seats.Player) (players : List Player) (parts : List Part) →
+    given ≡ map (fresh bench) (range_with_len 0 (length bench.starters)) → map (λ p. p.player.seat) parts ≡ given →
+    length players ≡ length parts → ss ≡ map seat_in players → AreAll bench ss
+all_there bench ss given players parts opened taken many back =
+    ap length back ∙ length-map players seat_in ∙ many
+    ∙ sym (length-map parts (λ p. p.player.seat)) ∙ ap length (taken ∙ opened)
+    ∙ length-map (range_with_len 0 (length bench.starters)) (fresh bench) ∙ length-range_with_len 0 (length bench.starters)
+
+-- what was lent whole comes back whole
+pub whole_slice : (len : ℕ) (new rest : List Player) → length new ≡ len → take len (new ++ rest) ≡ new
+whole_slice len new rest same =
+    ap (λ (n : ℕ). take n (new ++ rest)) (sym same) ∙ take-append-le (length new) new rest (omega arith) ∙ take_all (length new) new (omega arith)
+
+pub both_ok : {X Y : Type 0} (r : Result X Y) (P Q : X → Type 0) → IfOk r P → IfOk r Q → IfOk r (λ x. P x × Q x)
+both_ok (Ok x) P Q p q = (p, q)
+both_ok (Err e) P Q p q = tt

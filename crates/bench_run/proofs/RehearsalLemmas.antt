@@ -1,8 +1,11 @@
 -- What a run knows of the bench that it has played, or has not opened.
-use Rattle.std.proofs.Common.{◌≡◌, ◌≢◌, ℕ, Bool, Option, Some, None, List, refl, ap, sym, ◌∙◌, subst, inl, inr}
+use Rattle.std.proofs.Common.{◌≡◌, ◌≢◌, ◌⊎◌, ◌<◌, ℕ, Bool, Option, Some, None, List, refl, ap, sym, ◌∙◌, subst, inl, inr}
+use Rattle.std.specs.Prelude.{Contains, filter}
 use Rattle.message_tree.specs.declared.items.Item.{Item}
 use Rattle.plan_core.specs.Contents.{Contents}
+use Rattle.plan_core.specs.Participants.{participant_count}
 use Rattle.plan_core.specs.PlanContents.{plan_contents}
+use Rattle.plan_core.proofs.PlanLemmas.{limits_of}
 use Rattle.plan_core.specs.declared.plans.Plan.{Plan}
 use Rattle.plan_text.specs.Grammar.{Spells}
 use Rattle.cert_check.specs.Accepts.{AnswersPlan}
@@ -17,12 +20,18 @@ use Rattle.bus_bench.specs.Starters.{starters_refusal}
 use Rattle.bus_bench.specs.declared.errors.OpenError.{OpenError}
 use Rattle.bus_bench.specs.declared.errors.OpenError.TheVariants.{NoStarter, Unknown, SameController, Never, NoMemory}
 use Rattle.report.specs.Certificates.{verify_line, answer_status}
+use Rattle.report.specs.Checks.{RefusesPlan, SpellsPlan}
+use Rattle.report.specs.Devices.{Reader}
+use Rattle.report.specs.Runs.{ReadsBoth, HaltsAtBoth, after_both}
 use Rattle.report.specs.RunErrors.{open_error}
+use Rattle.report.specs.declared.errors.RunError.{RunError}
+use Rattle.report.specs.declared.errors.RunError.TheVariants as memory
 use Rattle.report.specs.declared.runs.Status.{Status}
 use Rattle.report.specs.declared.runs.Status.TheVariants.{Good}
 use Rattle.bench_run.specs.Filled.{IsRehearsed}
 use Rattle.bench_run.specs.Lines.{rehearsal_lines}
-use Rattle.bench_run.specs.Rehearsals.{IsPlayedOut, Rehearsed, RefusesStarters}
+use Rattle.bench_run.specs.Rehearsals.{IsPlayedOut, Rehearsed, RefusesStarters, IsNotOpened, HaltsAtBench, at_texts, at_starters}
+use Rattle.bench_run.proofs.WonLemmas.{won_below}
 use Rattle.bench_run.specs.Starters.{labels_in, AreNumbersOf, bits_in}
 
 abbrev made : Option Plan → List ℕ → List Bool → Game
@@ -47,8 +56,8 @@ plays_out plan text answer_text fill numbers slice bits bit_slice bench host ss 
   wire = wire;
   won = won;
   rehearsed =
-    let game = game_is plan slice bit_slice bench host ss opened ∙ ap (λ (bs : List Bool). made (Some plan) slice bs) (same_bits ∙ bits_are) in
-    subst (λ (g : Game). IsRehearsed g fill wire won) game rehearsed;
+      let game = game_is plan slice bit_slice bench host ss opened ∙ ap (λ (bs : List Bool). made (Some plan) slice bs) (same_bits ∙ bits_are) in
+      subst (λ (g : Game). IsRehearsed g fill wire won) game rehearsed;
   lines = lines;
 }
 
@@ -91,3 +100,35 @@ not_accepted plan starters answers cert report fill answer status right line end
   line = line;
   ended = ended;
 })
+
+pub not_opened : (plan accepted : Plan) (starters cert : List ℕ) (error : RunError) → accepted ≡ plan → AnswersPlan (plan_contents plan) cert Safe →
+    RefusesStarters (plan_contents accepted) starters error →
+    (text : List ℕ) → Spells text (plan_contents plan) → (error ≡ memory.NoMemory) ⊎ IsNotOpened starters (text, cert) error
+not_opened plan accepted starters cert error same safe refused text spelled = inr (record {
+  plan = plan_contents plan;
+  spelled = spelled;
+  certified = safe text spelled;
+  refused = subst (λ (p : Plan). RefusesStarters (plan_contents p) starters error) same refused;
+})
+
+-- whoever has won is a participant
+pub winners_known : (plan given : Plan) (slice : List ℕ) (bits : List Bool) (bench host : BenchName) (ss : List seats.Player) (fill : Bool) (wire : List Item) (won : List ℕ) → given ≡ plan →
+    IsOpened plan slice bits bench host ss → starters_refusal (plan_contents plan) slice ≡ None → IsRehearsed (game_of bench) fill wire won →
+    (p : ℕ) → Contains won p → p < participant_count (plan_contents given)
+winners_known plan given slice bits bench host ss fill wire won same opened fit r p c =
+    subst (λ (q : Plan). p < participant_count (plan_contents q)) (sym same)
+    (won_below (plan_contents plan) slice won r.live (limits_of plan) fit (r.winners ∙ ap (filter r.live) opened.same_starters) p c)
+
+-- what is due for the bytes that were read
+pub due_for : (starters answers : List ℕ) (fill : Bool) (text cert slice report bytes : List ℕ) (status : Status) → slice ≡ cert → bytes ≡ report →
+    Rehearsed starters answers fill (text, slice) report status → Rehearsed starters answers fill (text, cert) bytes status
+due_for starters answers fill text cert slice report bytes status same spelled due =
+    subst (λ (b : List ℕ). Rehearsed starters answers fill (text, cert) b status) (sym spelled)
+    (subst (λ (c : List ℕ). Rehearsed starters answers fill (text, c) report status) same due)
+
+module _ {D E : Type 0} (first : Reader D) (second : Reader E) (starters : List ℕ) (before now : D × E) (text cert slice : List ℕ) where
+  pub halts_after : (e : RunError) → slice ≡ cert → ReadsBoth first second before (text, cert) now → (e ≡ memory.NoMemory) ⊎ IsNotOpened starters (text, slice) e → HaltsAtBench first second starters before e now
+  halts_after e same read (inl wanted) =
+      at_texts (subst (λ (x : RunError). HaltsAtBoth first second RefusesPlan SpellsPlan before x now) (sym wanted) (after_both {texts = (text, cert)} read))
+  halts_after e same read (inr n) =
+      at_starters {texts = (text, cert)} read (subst (λ (c : List ℕ). IsNotOpened starters (text, c) e) same n)

@@ -11,11 +11,7 @@ use report::{push_labels, push_wire};
 use std::alloc::{AllocError, Global};
 
 /// The wire, and those who were live at its end.
-pub(crate) fn bench_lines(
-    alloc: Global,
-    plan: &Plan,
-    played: &Played,
-) -> Result<String, AllocError>
+pub(crate) fn bench_lines(alloc: Global, plan: &Plan, played: &Played) -> Result<String, AllocError>
     requires { (p : ℕ) → Contains played.now.won.items p → p < participant_count (plan_contents plan.now) }
     ensures { IfOk result (λ lines. string_bytes lines ≡
         rehearsal_lines (plan_contents plan.now) played.now.wire.items played.now.won.items) }

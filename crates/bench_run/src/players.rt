@@ -86,9 +86,10 @@ impl<'a> Player<'a> {
             return;
         };
         manner.gate.before(self.number, self.slot);
-        if self.seat.put(bench, put).is_ok() {
-            self.stage = Stage::Looks;
-        }
+        let Ok(()) = self.seat.put(bench, put) else {
+            return;
+        };
+        self.stage = Stage::Looks;
     }
 
     // Looks until the slot is complete, or too often in a row.

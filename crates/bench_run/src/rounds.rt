@@ -45,11 +45,11 @@ pub fn play_all<'a, R: Threads + Wait + Sync, G: Gate + Sync>(
     let seats = seats_of(alloc, players)?;
     match finish(alloc, bench, host, seats) {
         Ok(played) => Ok(played),
-        Err(Unfinished {
-            why: FinishFault::NoMemory,
-            ..
-        }) => Err(AllocError),
-        Err(_) => unreachable!(),
+        Err(Unfinished { why, .. }) => match why {
+            FinishFault::NoMemory => Err(AllocError),
+            FinishFault::Missing => unreachable!(),
+            FinishFault::NotEnded => unreachable!(),
+        },
     }
 }
 

@@ -111,8 +111,12 @@ fn bench_report<R: Threads + Wait + Sync, G: Gate + Sync>(
     let plan = accepted.plan();
     let starters = numbers_of(alloc, plan, starters)?;
     let answers = bits_of(alloc, answers)?;
-    let (bench, host, seats) =
-        open_bench(alloc, accepted, starters.as_slice(), answers.as_slice())?;
+    let (bench, host, seats) = open_bench(
+        alloc,
+        accepted,
+        starters.as_slice(),
+        answers.as_slice(),
+    )?;
     let played = play_all(rt, alloc, bench, host, seats, fill, gate)?;
     Ok(bench_lines(alloc, plan, &played)?)
 }

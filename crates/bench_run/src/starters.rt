@@ -10,11 +10,7 @@ use std::alloc::{AllocError, Global};
 
 /// The participants with these labels, which commas part. The empty text has none. In place of a label that the plan
 /// does not have stands a number that no participant has.
-pub(crate) fn numbers_of(
-    alloc: Global,
-    plan: &Plan,
-    starters: &str,
-) -> Result<Vec<u32>, AllocError>
+pub(crate) fn numbers_of(alloc: Global, plan: &Plan, starters: &str) -> Result<Vec<u32>, AllocError>
     ensures { IfOk result (λ v. AreNumbersOf (plan_contents plan.now) (labels_in starters.now) v.items) }
 {
     if starters.is_empty() {

@@ -128,12 +128,7 @@ fn hand_out_all<'a>(
 }
 
 // The seat of this starter.
-fn hand_out<'a>(
-    bench: &Bench<'a>,
-    plan: &'a Plan,
-    ticket: &mut Ticket,
-    number: u32,
-) -> Seat<'a>
+fn hand_out<'a>(bench: &Bench<'a>, plan: &'a Plan, ticket: &mut Ticket, number: u32) -> Seat<'a>
     requires plan { bench.now.plan ≡ Some plan.now }
     requires number { number < length bench.now.starters }
     requires host { IsHanding bench.now number ticket.old.table_id ticket.old.me }

@@ -1,12 +1,19 @@
 //! The rules of the bus as plain and slow programs: all texts of a participant, all runs of a set, a walk of a pair slot by
-//! slot, one play of a set, and what a recorded wire shows. Tests compare the other crates with them. They are for small plans, and nothing is made fast.
+//! slot, one play of a set, and what a recorded wire shows. `commands` has the four commands from the bytes of their files to
+//! what they write, over lists of words alone. Tests compare the other crates with them. They are for small plans, and nothing
+//! is made fast.
 #![tactic(auto)]
 
 pub mod bit_by_bit;
 pub mod captures;
+pub mod certificates;
+pub mod commands;
 pub mod dumps;
+pub mod pairs;
+pub mod plans;
 pub mod plays;
 pub mod runs;
+pub mod senders;
 pub mod texts;
 
 pub use bit_by_bit::first_fault;

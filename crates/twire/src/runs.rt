@@ -11,6 +11,8 @@ use std::sync::Wait;
 use std::thread::Threads;
 use std::{env, fs, io};
 
+const STANDARD_INPUT: &str = "/dev/stdin";
+
 /// Does what the command line asks for, and answers the exit status. Where nothing else is said, hints for people are
 /// given if somebody sees them on a terminal.
 pub fn run<R: Files + Env + Input + Print + Eprint + AllocGlobal + Threads + Wait + Sync>(
@@ -115,8 +117,7 @@ fn verify<R: Files + Input + Print + Eprint + AllocGlobal>(
     cert: &str,
     hints: bool,
 ) -> Result<u8, RunError> {
-    let mut plan = open(rt, plan)?;
-    let mut cert = open(rt, cert)?;
+    let (mut plan, mut cert) = open_both(rt, plan, cert)?;
     let mut out = Watched::new(io::writer(rt));
     let ended = run_verify(rt.alloc(), &mut plan, &mut cert, &mut out);
     let status = status_of(rt, ended);
@@ -133,8 +134,7 @@ fn capture<R: Files + Input + Print + Eprint + AllocGlobal + Threads + Sync>(
     names: Names<'_>,
     hints: bool,
 ) -> Result<u8, RunError> {
-    let mut plan = open(rt, plan)?;
-    let mut vcd = open(rt, vcd)?;
+    let (mut plan, mut vcd) = open_both(rt, plan, vcd)?;
     let mut out = Watched::new(Counted::new(io::writer(rt)));
     let Names { scl, sda } = names;
     let ended = run_capture(rt, rt.alloc(), &mut plan, &mut vcd, &mut out, scl, sda);
@@ -155,8 +155,7 @@ fn bench<R: Files + Input + Print + Eprint + AllocGlobal + Threads + Wait + Sync
     answers: &str,
     hints: bool,
 ) -> Result<u8, RunError> {
-    let mut plan = open(rt, plan)?;
-    let mut cert = open(rt, cert)?;
+    let (mut plan, mut cert) = open_both(rt, plan, cert)?;
     let mut out = Watched::new(io::writer(rt));
     let ended = run_bench(
         rt,
@@ -186,10 +185,25 @@ fn status_of<R: Eprint>(rt: &R, ended: Result<Status, RunError>) -> u8 {
     }
 }
 
+// Opens two files for reading, in this order. Where standard input is closed, the first file may come to stand in its place,
+// so it is looked for before that.
+fn open_both<R: Files + Input>(
+    rt: &R,
+    first: &str,
+    second: &str,
+) -> Result<(Source<R::File, R::Reader>, Source<R::File, R::Reader>), RunError> {
+    if second == STANDARD_INPUT && is_input_closed(rt) {
+        return Err(RunError::Read);
+    }
+    let first = open(rt, first)?;
+    let second = open(rt, second)?;
+    Ok((first, second))
+}
+
 // Opens a file for reading.
 fn open<R: Files + Input>(rt: &R, path: &str) -> Result<Source<R::File, R::Reader>, RunError> {
-    if path == "/dev/stdin" {
-        return open_standard_input(rt, path);
+    if path == STANDARD_INPUT {
+        return open_standard_input(rt);
     }
     match fs::open(rt, path) {
         Ok(file) => Ok(Opened::File(Watched::new(file))),
@@ -198,15 +212,19 @@ fn open<R: Files + Input>(rt: &R, path: &str) -> Result<Source<R::File, R::Reade
     }
 }
 
-// This path is standard input itself, which needs no leave to open that file. There is none where it is closed, and the
-// path then names nothing.
-fn open_standard_input<R: Files + Input>(
-    rt: &R,
-    path: &str,
-) -> Result<Source<R::File, R::Reader>, RunError> {
-    match fs::metadata(rt, path) {
-        Err(error) if error.kind() == io::ErrorKind::NotFound => Err(RunError::Read),
-        _ => Ok(Opened::Standard(Watched::new(rt.reader()))),
+// This path is standard input itself, which needs no leave to open that file.
+fn open_standard_input<R: Files + Input>(rt: &R) -> Result<Source<R::File, R::Reader>, RunError> {
+    if is_input_closed(rt) {
+        return Err(RunError::Read);
+    }
+    Ok(Opened::Standard(Watched::new(rt.reader())))
+}
+
+// Where standard input is closed its path names nothing.
+fn is_input_closed(rt: &impl Files) -> bool {
+    match fs::metadata(rt, STANDARD_INPUT) {
+        Err(error) => error.kind() == io::ErrorKind::NotFound,
+        Ok(_) => false,
     }
 }
 

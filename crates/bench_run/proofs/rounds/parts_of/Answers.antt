@@ -14,7 +14,9 @@ pub loop-seat-preserved : goal.loop-seat-preserved
 loop-seat-preserved c =
     let part : Part = record { player = c.new.result; bench = c.args.bench; fill = c.args.fill } in
     let ready = IsReady c.args.bench.now c.args.fill in
-    let old = c.loop-seat.parts.items in
-    (tt, tt,
+    let old = c.loop-seat.parts.items in (
+      tt,
+      tt,
       ap (map seat_in) c.in_ok-push.ensures.items ∙ map-append seat_in old (part ∷ []) ∙ (λ i. c.loop-seat.invariant.2 i ++ c.new.ensures.seat i ∷ []),
-      subst (All ready) (sym c.in_ok-push.ensures.items) (All-append ready old (part ∷ []) c.loop-seat.invariant.3 (All-cons ready part [] (refl, refl, c.new.ensures.stage) (All-nil ready))))
+      subst (All ready) (sym c.in_ok-push.ensures.items) (All-append ready old (part ∷ []) c.loop-seat.invariant.3 (All-cons ready part [] (refl, refl, c.new.ensures.stage) (All-nil ready))),
+    )

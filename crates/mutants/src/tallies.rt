@@ -1,0 +1,105 @@
+// How often each kind of answer came up.
+
+use crate::cases::{Case, Command};
+use plain_model::commands::Answer;
+use std::alloc::{AllocError, Global};
+use std::io;
+
+// Each of these is to come up, some more often than others.
+const WANTED: [&str; 24] = [
+    "check 0",
+    "check 1",
+    "check P1",
+    "check P2",
+    "check P3",
+    "check P4",
+    "check P5",
+    "check P6",
+    "check P7",
+    "check P8",
+    "certify 0",
+    "certify 1",
+    "verify safe",
+    "verify unsafe",
+    "verify C1",
+    "verify C2",
+    "verify C3",
+    "verify C5",
+    "capture 0",
+    "capture 1",
+    "capture V1",
+    "capture V2",
+    "capture V3",
+    "capture V4",
+];
+
+const LEAST: u64 = 5;
+
+/// The kinds of answers that came up, and how often each did.
+#[derive(Drop)]
+pub struct Tallies {
+    kinds: Vec<(String, u64)>,
+}
+
+impl Tallies {
+    pub fn new(alloc: Global) -> Tallies {
+        Tallies {
+            kinds: Vec::new(alloc),
+        }
+    }
+
+    pub fn count(&mut self, alloc: Global, case: &Case, answer: &Answer) -> Result<(), AllocError> {
+        let kind = kind_of(alloc, case, answer)?;
+        for (known, count) in self.kinds.iter_mut() {
+            if *known == kind {
+                *count = count.saturating_add(1);
+                return Ok(());
+            }
+        }
+        self.kinds.push((kind, 1))?;
+        Ok(())
+    }
+
+    pub fn print(&self, rt: &impl Print) -> io::Result<()> {
+        for (kind, count) in &self.kinds {
+            println!(rt; "{count} {kind}")?;
+        }
+        Ok(())
+    }
+
+    // Says of which kind there were too few, and whether there was none.
+    pub fn print_rare(&self, rt: &impl Print) -> io::Result<bool> {
+        let mut is_complete = true;
+        for kind in WANTED {
+            let found = self.found(kind);
+            if found < LEAST {
+                println!(rt; "too few of {kind}: {found}")?;
+                is_complete = false;
+            }
+        }
+        Ok(is_complete)
+    }
+
+    fn found(&self, wanted: &str) -> u64 {
+        for (kind, count) in &self.kinds {
+            if kind.as_str() == wanted {
+                return *count;
+            }
+        }
+        0
+    }
+}
+
+// The command with the code of a refusal, the word that verify says, or the status.
+fn kind_of(alloc: Global, case: &Case, answer: &Answer) -> Result<String, AllocError> {
+    let name = case.command.name();
+    if let Some(code) = answer.refusal.as_str().split(' ').next()
+        && !code.is_empty()
+    {
+        return format!(in alloc; "{name} {code}");
+    }
+    match (case.command, answer.out.as_str().trim().split(' ').nth(1)) {
+        (Command::Verify, Some(word)) => format!(in alloc; "{name} {word}"),
+        _ => format!(in alloc; "{name} {}", answer.status),
+    }
+}
