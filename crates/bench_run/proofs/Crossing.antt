@@ -1,5 +1,5 @@
 -- A player may be handed to another thread, with the bench on which it plays.
-use denote.Param.Send.{IsSend, IsSync, sendable, arg_send, param_send, shr_send, view_send, view_sync, recorded_send, recorded_sync, struct_send, struct_sync}
+use denote.Param.Send.{IsSend, IsSync, sendable, view_send, view_sync, recorded_send, recorded_sync, struct_send, struct_sync}
 use denote.Struct.Declared.{shape}
 use Rattle.std.proofs.Crossing.{crosses}
 use Rattle.message_tree.proofs.tree.Frame.TheLaws.TheKnot as knot

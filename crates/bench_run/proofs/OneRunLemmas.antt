@@ -1,10 +1,9 @@
 -- Filled plays of one game that have ended have one wire, and the same are live there.
-use Rattle.std.proofs.Common.{◌≡◌, ℕ, ◌+◌, ◌<◌, ◌⊎◌, inl, inr, Bool, true, false, ◌&&◌, Option, Some, None, List, [], ◌∷◌, ◌++◌, length, length-append, take, refl, ap, sym, ◌∙◌, subst, arith}
+use Rattle.std.proofs.Common.{◌≡◌, ℕ, ◌+◌, ◌<◌, inl, inr, Bool, true, false, ◌&&◌, Option, Some, None, List, [], ◌∷◌, ◌++◌, length, length-append, take, refl, ap, sym, ◌∙◌, subst, arith}
 use Rattle.std.specs.Prelude.{filter, if◌then◌else◌}
 use Rattle.std.specs.List.{slice_index_or}
 use Rattle.std.proofs.lemmas.List.{take_all, take-append-le}
 use Rattle.message_tree.specs.declared.items.Item.{Item}
-use Rattle.message_tree.specs.declared.items.Item.TheVariants as item
 use Rattle.message_tree.specs.Items.{kind_of}
 use Rattle.message_tree.specs.Texts.{Sender}
 use Rattle.certificate.specs.Laws.{OneKind}
@@ -17,8 +16,8 @@ use Rattle.plan_core.specs.Runs.{HasEnded}
 use Rattle.bench_plays.specs.declared.puts.Put.{Put}
 use Rattle.bench_plays.specs.declared.puts.Put.TheVariants.{Drive, Listen, Again, Stop, Claim}
 use Rattle.bench_plays.specs.Games.{Game, IsGame, those, answer_at}
-use Rattle.bench_plays.specs.Plays.{item_of, item_with, Puts, HavePut, put_in, Goes, here, slot, Leads, IsPlay}
-use Rattle.bench_plays.proofs.PlayLemmas.{was_in, is_prefix, ended_goes_no_further, either}
+use Rattle.bench_plays.specs.Plays.{item_with, Puts, HavePut, put_in, Goes, here, slot, Leads, IsPlay}
+use Rattle.bench_plays.proofs.PlayLemmas.{was_in, is_prefix, ended_goes_no_further}
 use Rattle.bench_plays.proofs.RunLemmas.{comparable, one_wire}
 use Rattle.bench_plays.proofs.SlotLemmas.{first_slot}
 use Rattle.bench_run.specs.Filled.{MaySendEither, IsFilled, IsRehearsed}

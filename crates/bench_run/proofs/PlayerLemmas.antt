@@ -1,19 +1,17 @@
 -- What players put is filled, and what that makes of a play.
-use Rattle.std.proofs.Common.{◌≡◌, ◌↔◌, ◌⊎◌, ℕ, zero, suc, ◌+◌, ◌-◌, ◌<◌, ◌≤◌, Bool, true, false, List, [], ◌∷◌, ◌++◌, length, map, take, Some, refl, sym, ap, ◌∙◌, subst, arith, inl, inr}
+use Rattle.std.proofs.Common.{◌≡◌, ◌↔◌, ◌⊎◌, ℕ, zero, suc, ◌+◌, ◌<◌, ◌≤◌, Bool, true, false, List, [], ◌∷◌, ◌++◌, length, map, take, Some, refl, sym, ap, ◌∙◌, subst, arith, inl, inr}
 use Rattle.std.specs.Prelude.{All, slice_get, Result, Ok, Err, IfOk}
 use Rattle.std.specs.List.{slice_index_or, list_all, range_with_len}
 use Rattle.std.proofs.lemmas.List.FromFn.{length-range_with_len}
-use Rattle.std.proofs.lemmas.List.{length-map, get_or_append_left, get_or-append-add, take-append-le, take_all, length_push}
+use Rattle.std.proofs.lemmas.List.{length-map, get_or_append_left, take-append-le, take_all, length_push}
 use Rattle.std.proofs.lemmas.List.Elements.{All-nil, All-cons, All-map}
 use Rattle.std.proofs.lemmas.Bool.{cases_lt}
 use Rattle.message_tree.specs.declared.items.Item.{Item}
 use Rattle.message_tree.specs.declared.items.Item.TheVariants.{Sent}
-use Rattle.plan_core.specs.Lawful.{In}
 use Rattle.bench_places.specs.declared.offers.Offered.{Offered}
 use Rattle.bench_places.specs.Offers.{MayPut}
 use Rattle.bench_plays.specs.declared.puts.Put.{Put}
-use Rattle.bench_plays.specs.declared.puts.Put.TheVariants.{Drive, Listen}
-use Rattle.bench_plays.specs.Games.{those}
+use Rattle.bench_plays.specs.declared.puts.Put.TheVariants.{Listen}
 use Rattle.bus_bench.specs.Seats as seats
 use Rattle.bus_bench.specs.Seats.{BenchName, fresh, game_of, participant, MayOffer, HasPutHere, Saw, after_put, after_slot, standing_behind}
 use Rattle.bus_bench.specs.declared.errors.Sight.{Sight}
@@ -25,7 +23,7 @@ use Rattle.bus_bench.proofs.ViewLemmas.{place_of}
 use Rattle.bench_run.specs.declared.players.Player.{Player}
 use Rattle.bench_run.specs.declared.players.Stage.{Stage}
 use Rattle.bench_run.specs.declared.players.Stage.TheVariants.{Puts, Looks, Over}
-use Rattle.bench_run.specs.Filled.{MaySendEither, AreFilled, IsFilled, IsRehearsed}
+use Rattle.bench_run.specs.Filled.{MaySendEither, AreFilled, IsRehearsed}
 use Rattle.bench_run.specs.Players.{IsInStep, IsFresh, IsFilledSeat, PlaysOn, IsReady, IsPart, IsFilling}
 use Rattle.bench_run.specs.declared.rounds.Part.{Part}
 

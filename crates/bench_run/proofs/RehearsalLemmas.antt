@@ -1,5 +1,5 @@
 -- What a run knows of the bench that it has played, or has not opened.
-use Rattle.std.proofs.Common.{◌≡◌, ◌≢◌, ◌⊎◌, ◌<◌, ℕ, Bool, Option, Some, None, List, refl, ap, sym, ◌∙◌, subst, inl, inr}
+use Rattle.std.proofs.Common.{◌≡◌, ◌≢◌, ◌⊎◌, ◌<◌, ℕ, Bool, Option, Some, None, List, ap, sym, ◌∙◌, subst, inl, inr}
 use Rattle.std.specs.Prelude.{Contains, filter}
 use Rattle.message_tree.specs.declared.items.Item.{Item}
 use Rattle.plan_core.specs.Contents.{Contents}

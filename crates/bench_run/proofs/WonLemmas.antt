@@ -1,5 +1,5 @@
 -- Who has won is a participant of the plan.
-use Rattle.std.proofs.Common.{◌≡◌, ℕ, ◌<◌, List, length, sym, subst}
+use Rattle.std.proofs.Common.{◌≡◌, ℕ, ◌<◌, List, sym, subst}
 use Rattle.std.specs.Prelude.{All, Contains, filter, None}
 use Rattle.std.specs.List.{slice_index_or}
 use Rattle.std.proofs.lemmas.List.Elements.{All-filter, All-contains}

@@ -1,6 +1,5 @@
 -- What is known of a player while it plays. Only private contracts and proofs use this.
 use Rattle.std.specs.Prelude.{◌≡◌, ◌≢◌, Bool, true, false, []}
-use Rattle.message_tree.specs.declared.items.Item.{Item}
 use Rattle.message_tree.specs.declared.items.Item.TheVariants as item
 use Rattle.bench_places.specs.declared.offers.Offered.{Offered}
 use Rattle.bench_places.specs.Offers.{MayPut}

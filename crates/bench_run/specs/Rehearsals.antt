@@ -6,7 +6,6 @@ use Rattle.plan_text.specs.Grammar.{Spells}
 use Rattle.cert_check.specs.Accepts.{IsCertified, AnswersBytes}
 use Rattle.cert_check.specs.declared.answers.Answer.{Answer}
 use Rattle.cert_check.specs.declared.answers.Answer.TheVariants.{Safe}
-use Rattle.bench_plays.specs.Games.{Game}
 use Rattle.bus_bench.specs.Starters.{starters_refusal}
 use Rattle.report.specs.Certificates.{verify_line, answer_status}
 use Rattle.report.specs.Checks.{RefusesPlan, SpellsPlan}

@@ -1,12 +1,10 @@
-use Rattle.std.proofs.Common.{◌≡◌, true, false, List, length, sym, subst, ap, ◌∙◌}
+use Rattle.std.proofs.Common.{◌≡◌, true, length, sym, subst, ap, ◌∙◌}
 use Rattle.std.specs.Prelude.{All}
 use Rattle.std.specs.List.{list_all, range_with_len}
 use Rattle.bus_bench.specs.Finishing.{IsFinishFault, is_done}
 use Rattle.bus_bench.specs.declared.errors.FinishFault.{FinishFault}
 use Rattle.bench_run.specs.declared.players.Stage.TheVariants.{Over}
-use Rattle.bus_bench.specs.Seats as seats
-use Rattle.bench_run.specs.Players.{PlaysOn, IsFresh, IsPart}
-use Rattle.bench_run.specs.declared.players.Player.{Player}
+use Rattle.bench_run.specs.Players.{PlaysOn, IsFresh}
 use Rattle.bench_run.proofs.PlayerLemmas.{all_fresh, ready_parts, parts_play, seats_stay, rehearsed, all_done, all_there, whole_slice}
 use Rattle.bench_run.proofs.rounds.play_all.Goals as goal
 
