@@ -17,6 +17,8 @@ mod plans;
 #[cfg(test)]
 mod ranges;
 #[cfg(test)]
+mod rehearsals;
+#[cfg(test)]
 mod safe_plans;
 #[cfg(test)]
 mod sittings;
