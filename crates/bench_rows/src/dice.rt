@@ -1,0 +1,27 @@
+// Numbers from a seed.
+
+/// A linear congruential generator.
+#[derive(Drop)]
+pub struct Dice {
+    pub state: u64,
+}
+
+impl Dice {
+    /// A number below `sides`, or 0.
+    pub fn throw(&mut self, sides: u32) -> u32 {
+        self.next().checked_rem(sides).unwrap_or(0)
+    }
+
+    /// An index of a list of this length, or 0.
+    pub fn index(&mut self, len: usize) -> usize {
+        (self.next() as usize).checked_rem(len).unwrap_or(0)
+    }
+
+    fn next(&mut self) -> u32 {
+        self.state = self
+            .state
+            .wrapping_mul(6_364_136_223_846_793_005)
+            .wrapping_add(1_442_695_040_888_963_407);
+        (self.state >> 33) as u32
+    }
+}
