@@ -13,6 +13,7 @@ use cert_check::{Accepted, accept_certificate};
 use message_tree::Bit;
 use plan_text::read_plan;
 use std::alloc::{AllocError, Global};
+use std::num::nearest_usize_to_f64;
 use std::rt::Env;
 use std::sync::Wait;
 use std::thread::Threads;
@@ -28,7 +29,7 @@ const STARTERS: [u32; 3] = [2, 4, 8];
 const RUNS: u32 = 10;
 
 // No run has more slots.
-const MOST_SLOTS: u32 = 2_560;
+const MOST_SLOTS: usize = 2_560;
 
 fn main(rt: HostRuntime) -> Result<()> {
     let alloc = rt.alloc();
@@ -90,7 +91,7 @@ fn compare<R: Clock + Print + Threads + Wait + Sync>(
     let starters = first_numbers(alloc, count)?;
     // The targets acknowledge each byte.
     let answers = vec![in alloc; false; 2560]?;
-    let (mut slots, mut turns, mut threads) = (0u32, 0.0, 0.0);
+    let (mut slots, mut turns, mut threads) = (0usize, 0.0, 0.0);
     for _ in 0..RUNS {
         let (found, seconds) = by_turns(
             rt,
@@ -121,8 +122,8 @@ fn compare<R: Clock + Print + Threads + Wait + Sync>(
     Ok(())
 }
 
-fn print_rate(rt: &impl Print, how: &str, slots: u32, seconds: f64) -> io::Result<()> {
-    let rate = f64::from(slots) * f64::from(RUNS) / seconds;
+fn print_rate(rt: &impl Print, how: &str, slots: usize, seconds: f64) -> io::Result<()> {
+    let rate = nearest_usize_to_f64(slots) * f64::from(RUNS) / seconds;
     println!(rt; "  {how}: {rate:.0} slots a second")
 }
 
@@ -141,14 +142,14 @@ fn by_turns<R: Clock>(
     accepted: &Accepted,
     starters: &[u32],
     answers: &[bool],
-) -> Result<(u32, f64)> {
+) -> Result<(usize, f64)> {
     let (bench, _host, mut seats) = open_bench(alloc, accepted, starters, answers)?;
     let start = Instant::now(rt)?;
     let slots = play_by_turns(&bench, seats.as_mut_slice());
     Ok((slots, start.elapsed(rt)?.as_secs_f64()))
 }
 
-fn play_by_turns<'a>(bench: &Bench<'a>, seats: &mut [Seat<'a>]) -> u32
+fn play_by_turns<'a>(bench: &Bench<'a>, seats: &mut [Seat<'a>]) -> usize
     requires { All (λ s. s.bench ≡ bench.now) seats.old }
 {
     for slot in 0..MOST_SLOTS {
@@ -213,10 +214,10 @@ fn in_threads<R: Clock + Threads + Wait + Sync>(
     accepted: &Accepted,
     starters: &[u32],
     answers: &[bool],
-) -> Result<(u32, f64)> {
+) -> Result<(usize, f64)> {
     let (bench, host, seats) = open_bench(alloc, accepted, starters, answers)?;
     let start = Instant::now(rt)?;
     let played = play_all(rt, alloc, bench, host, seats, true, &NoGate)?;
     let seconds = start.elapsed(rt)?.as_secs_f64();
-    Ok((played.wire.len() as u32, seconds))
+    Ok((played.wire.len(), seconds))
 }
