@@ -1,6 +1,6 @@
 // How fast a bench is played: by turns on one thread, and with one thread for each of two, four and eight starters, who all
-// send the same message of 250 bytes. It writes how many slots a run has; with the argument `--time` also how many slots a
-// second were played in ten runs each way, one after the other.
+// send the same message of 10 bytes, once each way. It writes how many slots a run has. With the argument `--time` the
+// message has 250 bytes and there are ten runs each way, in turn, and it also writes how many slots a second were played.
 #![tactic(auto)]
 
 ghost use Rattle.std.specs.Prelude.{◌≡◌, All, length};
@@ -21,25 +21,44 @@ use std::time::{Clock, Instant};
 use std::{env, io};
 use verdicts::{certificate_text, faults};
 
-// The data bytes of the message.
-const BYTES: u32 = 250;
-
 const STARTERS: [u32; 3] = [2, 4, 8];
 
-const RUNS: u32 = 10;
+// The data bytes of the message, and how often it is sent each way.
+#[derive(Clone, Copy)]
+struct Load {
+    bytes: u32,
+    runs: u32,
+    is_timed: bool,
+}
+
+const SHORT: Load = Load {
+    bytes: 10,
+    runs: 1,
+    is_timed: false,
+};
+
+const LONG: Load = Load {
+    bytes: 250,
+    runs: 10,
+    is_timed: true,
+};
 
 // No run has more slots.
 const MOST_SLOTS: usize = 2_560;
 
 fn main(rt: HostRuntime) -> Result<()> {
     let alloc = rt.alloc();
-    let is_timed = has_argument(&rt, "--time")?;
+    let load = if has_argument(&rt, "--time")? {
+        LONG
+    } else {
+        SHORT
+    };
     for starters in STARTERS {
-        let Some(accepted) = accepted(alloc, starters)? else {
+        let Some(accepted) = accepted(alloc, starters, load.bytes)? else {
             println!(&rt; "{starters} starters: not accepted")?;
             continue;
         };
-        compare(&rt, alloc, &accepted, starters, is_timed)?;
+        compare(&rt, alloc, &accepted, starters, load)?;
     }
     Ok(())
 }
@@ -54,8 +73,8 @@ fn has_argument(rt: &(impl Env + Alloc), wanted: &str) -> io::Result<bool> {
 }
 
 // A plan of so many controllers that may each send the same message, with its certificate accepted.
-fn accepted(alloc: Global, controllers: u32) -> Result<Option<Accepted>, AllocError> {
-    let text = plan(alloc, controllers)?;
+fn accepted(alloc: Global, controllers: u32, bytes: u32) -> Result<Option<Accepted>, AllocError> {
+    let text = plan(alloc, controllers, bytes)?;
     let Ok(plan) = read_plan(alloc, text.as_bytes()) else {
         return Ok(None);
     };
@@ -64,13 +83,13 @@ fn accepted(alloc: Global, controllers: u32) -> Result<Option<Accepted>, AllocEr
     Ok(accept_certificate(alloc, plan, cert.as_slice())?.ok())
 }
 
-fn plan(alloc: Global, controllers: u32) -> Result<String, AllocError> {
+fn plan(alloc: Global, controllers: u32, bytes: u32) -> Result<String, AllocError> {
     let mut text = String::from_str(alloc, "plan 1\nmessage m write 1001000")?;
-    for _ in 0..BYTES {
+    for _ in 0..bytes {
         text.push_str(" 01010101")?;
     }
     text.push_str(" stop else stop")?;
-    for _ in 0..BYTES {
+    for _ in 0..bytes {
         text.push_str(" else stop")?;
     }
     text.push_str(" ;\n")?;
@@ -86,13 +105,13 @@ fn compare<R: Clock + Print + Threads + Wait + Sync>(
     alloc: Global,
     accepted: &Accepted,
     count: u32,
-    is_timed: bool,
+    load: Load,
 ) -> Result<()> {
     let starters = first_numbers(alloc, count)?;
     // The targets acknowledge each byte.
     let answers = vec![in alloc; false; 2560]?;
     let (mut slots, mut turns, mut threads) = (0usize, 0.0, 0.0);
-    for _ in 0..RUNS {
+    for _ in 0..load.runs {
         let (found, seconds) = by_turns(
             rt,
             alloc,
@@ -115,15 +134,15 @@ fn compare<R: Clock + Print + Threads + Wait + Sync>(
         threads += seconds;
     }
     println!(rt; "{count} starters: {slots} slots")?;
-    if is_timed {
-        print_rate(rt, "by turns", slots, turns)?;
-        print_rate(rt, "in threads", slots, threads)?;
+    if load.is_timed {
+        print_rate(rt, "by turns", slots, load.runs, turns)?;
+        print_rate(rt, "in threads", slots, load.runs, threads)?;
     }
     Ok(())
 }
 
-fn print_rate(rt: &impl Print, how: &str, slots: usize, seconds: f64) -> io::Result<()> {
-    let rate = nearest_usize_to_f64(slots) * f64::from(RUNS) / seconds;
+fn print_rate(rt: &impl Print, how: &str, slots: usize, runs: u32, seconds: f64) -> io::Result<()> {
+    let rate = nearest_usize_to_f64(slots) * f64::from(runs) / seconds;
     println!(rt; "  {how}: {rate:.0} slots a second")
 }
 
