@@ -4,5 +4,4 @@ pub mod Halting
 pub mod HeaderLemmas
 pub mod Interrupts
 pub mod Nodes
-pub mod Senders
 pub mod Unique

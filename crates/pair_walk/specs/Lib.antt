@@ -1,6 +1,5 @@
 pub mod Canonical
 pub mod Compare
 pub mod FirstClash
-pub mod Starts
 pub mod Verdicts
 pub mod Wires

@@ -8,7 +8,7 @@ ghost use Rattle.pair_walk.specs.Verdicts.{IsVerdict, IsFirstFaultIfAny};
 
 use crate::halts::{Halt, Meeting};
 use crate::makes::{Makes, Nothing};
-use crate::starts::{compare_starts, start_of};
+use crate::starts::compare_starts;
 use certificate::{Cert, Fault};
 use plan_core::Plan;
 use std::alloc::{AllocError, Global};
@@ -68,7 +68,7 @@ fn judge<M: Makes>(alloc: Global, plan: &Plan, i: u32) -> Result<Result<M, Fault
         Judges M.shows (plan_contents plan.now) x y judged) }
 {
     let (x, y) = plan.pair(i);
-    match compare_starts(alloc, &start_of(plan, x), &start_of(plan, y)) {
+    match compare_starts(alloc, &plan.sends(x), &plan.sends(y)) {
         Ok(made) => Ok(Ok(made)),
         Err(Halt::Clash(meeting)) => Ok(Err(fault_of(meeting))),
         Err(Halt::NoMemory) => Err(AllocError),
