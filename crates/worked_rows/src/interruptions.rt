@@ -4,7 +4,9 @@ ghost use Rattle.std.specs.Prelude.{◌≡◌};
 
 use crate::devices::{RUNS, answer, texts};
 use report::devices::watched::TURNS;
-use report::{FaultyReader, FaultyWriter, Input, Output, RunError, Watched, read_within, write_report};
+use report::{
+    FaultyReader, FaultyWriter, Input, Output, RunError, Watched, read_within, write_report,
+};
 use std::io;
 use std::io::{Error, ErrorKind, Read, Write};
 use std::test::Fail;
@@ -91,10 +93,16 @@ fn interrupted_devices_give_the_report_of_whole_texts(rt: HostRuntime) {
 fn a_read_gets_through_in_its_last_turn_and_not_after(rt: HostRuntime) -> Result<(), Fail> {
     let alloc = rt.alloc();
     let mut slow = reader(b"abc", TURNS - 1);
-    assert_eq!(rt; read_within(alloc, &mut slow, 2)?.as_slice(), b"abc".as_slice());
+    assert_eq!(rt;
+        read_within(alloc, &mut slow, 2)?.as_slice(),
+        b"abc".as_slice()
+    );
     assert!(rt; !slow.failed());
     let mut stuck = reader(b"abc", TURNS);
-    assert_eq!(rt; read_within(alloc, &mut stuck, 2).err(), Some(RunError::Read));
+    assert_eq!(rt;
+        read_within(alloc, &mut stuck, 2).err(),
+        Some(RunError::Read)
+    );
     assert!(rt; stuck.failed());
     Ok(())
 }
