@@ -2,7 +2,7 @@
 
 use crate::dice::Dice;
 use crate::sittings::Sitting;
-use crate::turns::put_of;
+use bench_run::filled;
 use bus_bench::{Put, PutError, Sight};
 use cert_check::{Accepted, accept_plan};
 use message_tree::Item;
@@ -54,7 +54,7 @@ fn lost(ending: &Ending, number: usize) -> Option<u32> {
 
 fn turn_to_put(rt: &impl Abort, sitting: &mut Sitting<'_>, player: &mut Player) {
     let choice = (player.choices >> (player.seen % 64)) % 2 == 1;
-    let put = put_of(sitting.offered(player.number), choice);
+    let put = filled(sitting.offered(player.number), choice);
     let answer = sitting.put(player.number, put.unwrap_or(Put::Stop));
     if player.over {
         assert_eq!(rt; put, None);

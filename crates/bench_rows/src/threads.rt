@@ -4,7 +4,8 @@ ghost use Rattle.bus_bench.specs.Seats.{BenchName};
 
 use crate::plans::{ACKNOWLEDGED, expect_ended, three};
 use crate::sittings::{Sitting, put_on, see_on};
-use crate::turns::{MOST_SLOTS, put_of};
+use crate::turns::MOST_SLOTS;
+use bench_run::filled;
 use bus_bench::{Bench, PutError, Seat, Sight};
 use cert_check::Accepted;
 use message_tree::Item;
@@ -66,7 +67,7 @@ fn play_slot<'a>(bench: &Bench<'a>, seat: &mut Seat<'a>, slot: u32, fill: bool) 
     requires { bench.now ≡ seat.old.bench }
     ensures { seat.new.bench ≡ seat.old.bench }
 {
-    let Some(put) = put_of(seat.offered(), fill) else {
+    let Some(put) = filled(seat.offered(), fill) else {
         return Some(End::Stuck(slot));
     };
     if let Err(error) = put_on(bench, seat, put) {

@@ -2,9 +2,10 @@
 
 use crate::plans::{ACKNOWLEDGED, expect_ended, three};
 use crate::sittings::Sitting;
+use bench_run::filled;
 use bus_bench::{Offered, Put, PutError, Sight};
 use cert_check::Accepted;
-use message_tree::{Bit, Item};
+use message_tree::Item;
 use std::alloc::Global;
 use std::process::Abort;
 use std::test::Fail;
@@ -22,23 +23,9 @@ pub const PUTS: [Put; 6] = [
     Put::Claim,
 ];
 
-/// What a seat puts that may put this and has this bit for open ones, or None where it may put nothing.
-pub fn put_of(offered: Offered, fill: bool) -> Option<Put> {
-    match offered {
-        Offered::Bit(Bit::Zero) => Some(Put::Drive(false)),
-        Offered::Bit(Bit::One) => Some(Put::Drive(true)),
-        Offered::Bit(Bit::Either) => Some(Put::Drive(fill)),
-        Offered::Listen => Some(Put::Listen),
-        Offered::Again => Some(Put::Again),
-        Offered::Stop => Some(Put::Stop),
-        Offered::Claim => Some(Put::Claim),
-        Offered::Nothing => None,
-    }
-}
-
 /// The seat puts what it may put. Whether it may put something.
 pub fn put_next(rt: &impl Abort, sitting: &mut Sitting<'_>, k: usize, fill: bool) -> bool {
-    let Some(put) = put_of(sitting.offered(k), fill) else {
+    let Some(put) = filled(sitting.offered(k), fill) else {
         return false;
     };
     assert_eq!(rt; sitting.put(k, put), Ok(()));

@@ -23,8 +23,8 @@ use Rattle.bus_bench.proofs.ViewLemmas.{place_of}
 use Rattle.bench_run.specs.declared.players.Player.{Player}
 use Rattle.bench_run.specs.declared.players.Stage.{Stage}
 use Rattle.bench_run.specs.declared.players.Stage.TheVariants.{Puts, Looks, Over}
-use Rattle.bench_run.specs.Filled.{MaySendEither, AreFilled, IsRehearsed}
-use Rattle.bench_run.specs.Players.{IsInStep, IsFresh, IsFilledSeat, PlaysOn, IsReady, IsPart, IsFilling}
+use Rattle.bench_run.specs.Filled.{IsFilling, MaySendEither, AreFilled, IsRehearsed}
+use Rattle.bench_run.specs.Players.{IsInStep, IsFresh, IsFilledSeat, PlaysOn, IsReady, IsPart}
 use Rattle.bench_run.specs.declared.rounds.Part.{Part}
 
 split_at : (k n : ℕ) → k < n + 1 → (k < n) ⊎ (k ≡ n)

@@ -1,11 +1,5 @@
 -- What is known of a player while it plays. Only private contracts and proofs use this.
-use Rattle.std.specs.Prelude.{◌≡◌, ◌≢◌, Bool, true, false, []}
-use Rattle.message_tree.specs.declared.items.Item.TheVariants as item
-use Rattle.bench_places.specs.declared.offers.Offered.{Offered}
-use Rattle.bench_places.specs.Offers.{MayPut}
-use Rattle.bench_plays.specs.declared.puts.Put.{Put}
-use Rattle.bench_plays.specs.declared.puts.Put.TheVariants.{Drive}
-use Rattle.bench_plays.specs.Plays.{item_with}
+use Rattle.std.specs.Prelude.{◌≡◌, ◌≢◌, Bool, []}
 use Rattle.bus_bench.specs.Seats as seats
 use Rattle.bus_bench.specs.Seats.{BenchName, game_of, participant, HasNotPut, HasPutHere}
 use Rattle.bus_bench.specs.declared.seats.Standing.TheVariants.{Playing}
@@ -42,9 +36,3 @@ IsReady bench fill part = (part.bench.now ≡ bench) × (part.fill ≡ fill) × 
 -- the part of this bench, played with this fill
 abbrev pub IsPart : BenchName → Bool → Part → Type 0
 IsPart bench fill part = (part.bench.now ≡ bench) × (part.fill ≡ fill) × PlaysOn bench fill part.player
-
--- x is what is put where this is offered
-abbrev pub IsFilling : Offered → Bool → Put → Type 0
-IsFilling offered fill x =
-    ((b : Bool) → MayPut offered (item_with b x))
-    × (MayPut offered (item.Sent false) → MayPut offered (item.Sent true) → x ≡ Drive fill)

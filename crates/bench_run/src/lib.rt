@@ -1,7 +1,9 @@
 //! Rehearses a plan: its starters play on a bench, each in a thread of its own, and put the same bit wherever they may
-//! choose. `starters` reads who starts, `players` plays one seat, `rounds` all of them, and `runs` reads and writes.
+//! choose. `starters` reads who starts, `filling` says what is put, `players` plays one seat, `rounds` all of them, and `runs`
+//! reads and writes.
 #![tactic(auto)]
 
+pub mod filling;
 pub mod gates;
 pub mod laws;
 mod lines;
@@ -10,5 +12,6 @@ pub mod rounds;
 pub mod runs;
 mod starters;
 
+pub use filling::filled;
 pub use gates::{Gate, NoGate};
 pub use runs::run_bench;

@@ -1,14 +1,14 @@
 // One player, and what it does in each slot.
 
-ghost use Rattle.std.specs.Prelude.{◌≡◌, Some, None, IfSome};
-ghost use Rattle.bench_places.specs.declared.offers.Offered.TheVariants.{Nothing};
+ghost use Rattle.std.specs.Prelude.{◌≡◌};
 ghost use Rattle.bus_bench.specs.Seats.{Player as SeatOf, HasPutHere, Saw};
 ghost use Rattle.bus_bench.specs.declared.seats.Standing.TheVariants.{Playing};
-ghost use Rattle.bench_run.specs.Players.{IsInStep, IsFilling};
+ghost use Rattle.bench_run.specs.Players.{IsInStep};
 
+use crate::filling::filled;
 use crate::gates::Gate;
-use bus_bench::{Bench, Offered, Put, Seat, Sight};
-use message_tree::{Bit, Item};
+use bus_bench::{Bench, Seat, Sight};
+use message_tree::Item;
 use std::thread;
 
 /// How often in a row a player is told to wait, and yields its thread, before it gives its seat back. The others may be
@@ -134,22 +134,5 @@ fn stage_after(sight: Sight) -> Stage
         Sight::NotPut => Stage::Puts,
         Sight::On(Item::Stop | Item::Claim) | Sight::Lost(_) | Sight::Ended => Stage::Over,
         Sight::On(_) => Stage::Puts,
-    }
-}
-
-// What is put where this is offered: the bit `fill` where either may be.
-fn filled(offered: Offered, fill: bool) -> Option<Put>
-    ensures none { result ≡ None → offered ≡ Nothing }
-    ensures some { IfSome result (IsFilling offered fill) }
-{
-    match offered {
-        Offered::Bit(Bit::Zero) => Some(Put::Drive(false)),
-        Offered::Bit(Bit::One) => Some(Put::Drive(true)),
-        Offered::Bit(Bit::Either) => Some(Put::Drive(fill)),
-        Offered::Listen => Some(Put::Listen),
-        Offered::Again => Some(Put::Again),
-        Offered::Stop => Some(Put::Stop),
-        Offered::Claim => Some(Put::Claim),
-        Offered::Nothing => None,
     }
 }

@@ -1,12 +1,14 @@
 // One case: a command with its files, and what two programs say of it.
 
 use crate::dice::Dice;
-use crate::mutations::{CERT_WORDS, DUMP_WORDS, PLAN_WORDS, copied, mutated};
+use crate::mutations::{CERT_WORDS, DUMP_WORDS, LABELS, PLAN_WORDS, copied, mutated};
 use crate::seeds::{CERTS, DUMPS, PLANS, REFUSED};
+use bench_run::{NoGate, run_bench};
 use plain_model::commands::{self, Answer};
 use plan_text::{print_plan, read_plan};
 use report::{RunError, Status, Watched, run_capture, run_certify, run_check, run_verify};
 use std::alloc::{AllocError, Global};
+use std::sync::Wait;
 use std::thread::Threads;
 
 /// A command with its files.
@@ -18,7 +20,7 @@ pub struct Case {
     pub second: Vec<u8>,
 }
 
-#[derive(Clone, Copy, Debug, PartialEq, Eq)]
+#[derive(Debug, Drop)]
 pub enum Command {
     Check {
         workers: u32,
@@ -29,6 +31,11 @@ pub enum Command {
         scl: &'static str,
         sda: &'static str,
     },
+    Bench {
+        starters: String,
+        fill: bool,
+        answers: String,
+    },
 }
 
 impl Command {
@@ -38,6 +45,7 @@ impl Command {
             Command::Certify => "certify",
             Command::Verify => "verify",
             Command::Capture { .. } => "capture",
+            Command::Bench { .. } => "bench",
         }
     }
 }
@@ -46,7 +54,7 @@ impl Command {
 pub fn next_case(alloc: Global, dice: &mut Dice) -> Result<Case, AllocError> {
     let plan = dice.pick(&PLANS, "");
     let second = Vec::new(alloc);
-    match dice.throw(4) {
+    match dice.throw(5) {
         0 => {
             let workers = if dice.throw(16) == 0 { 3 } else { 1 };
             let command = Command::Check { workers };
@@ -67,7 +75,8 @@ pub fn next_case(alloc: Global, dice: &mut Dice) -> Result<Case, AllocError> {
             })
         }
         2 => verify_case(alloc, plan, dice),
-        _ => capture_case(alloc, plan, dice),
+        3 => capture_case(alloc, plan, dice),
+        _ => bench_case(alloc, plan, dice),
     }
 }
 
@@ -129,29 +138,114 @@ fn capture_case(alloc: Global, plan: &'static str, dice: &mut Dice) -> Result<Ca
     })
 }
 
+// Most often the certificate is that of the plan, and the starters are some of its participants.
+fn bench_case(alloc: Global, plan: &'static str, dice: &mut Dice) -> Result<Case, AllocError> {
+    let plan = maybe_mutated(alloc, plan.as_bytes(), &PLAN_WORDS, 2, dice)?;
+    let cert = if dice.throw(16) == 0 {
+        copied(alloc, dice.pick(&CERTS, "").as_bytes())?
+    } else {
+        commands::certify(alloc, &plan)?.out.into_bytes()
+    };
+    Ok(Case {
+        command: Command::Bench {
+            starters: starters(alloc, &plan, dice)?,
+            fill: dice.throw(2) == 1,
+            answers: answers(alloc, dice)?,
+        },
+        plan,
+        second: maybe_mutated(alloc, &cert, &CERT_WORDS, 1, dice)?,
+    })
+}
+
+// Labels of at most four participants that stand one behind the other in the plan, now and then with others among them.
+fn starters(alloc: Global, plan: &[u8], dice: &mut Dice) -> Result<String, AllocError> {
+    let labels = commands::labels(alloc, plan)?;
+    let first = dice.throw(labels.len());
+    let mut text = String::new(alloc);
+    for k in 0..dice.throw(4).saturating_add(1).min(labels.len()) {
+        if k > 0 {
+            text.push(',')?;
+        }
+        let label = match dice.throw(24) {
+            0 => dice.pick(&LABELS, ""),
+            1 => label_at(&labels, dice.throw(labels.len())),
+            _ => label_at(&labels, first.saturating_add(k) % labels.len().max(1)),
+        };
+        text.push_str(label)?;
+    }
+    if dice.throw(8) > 0 {
+        return Ok(text);
+    }
+    match String::from_utf8(mutated(alloc, text.as_bytes(), &LABELS, dice)?) {
+        Ok(changed) => Ok(changed),
+        Err(_) => Ok(text),
+    }
+}
+
+fn label_at(labels: &[String], k: usize) -> &str {
+    match labels.get(k) {
+        Some(label) => label.as_str(),
+        None => "",
+    }
+}
+
+// Targets mostly acknowledge.
+fn answers(alloc: Global, dice: &mut Dice) -> Result<String, AllocError> {
+    let mut text = String::new(alloc);
+    for _ in 0..dice.throw(60) {
+        text.push(if dice.throw(6) == 0 { '1' } else { '0' })?;
+    }
+    Ok(text)
+}
+
 /// What the plain program says.
 pub fn said_plainly(alloc: Global, case: &Case) -> Result<Answer, AllocError> {
     let plan = case.plan.as_slice();
-    match case.command {
+    let second = case.second.as_slice();
+    match &case.command {
         Command::Check { .. } => commands::check(alloc, plan),
         Command::Certify => commands::certify(alloc, plan),
-        Command::Verify => commands::verify(alloc, plan, &case.second),
-        Command::Capture { scl, sda } => commands::capture(alloc, plan, &case.second, scl, sda),
+        Command::Verify => commands::verify(alloc, plan, second),
+        Command::Capture { scl, sda } => commands::capture(alloc, plan, second, scl, sda),
+        Command::Bench {
+            starters,
+            fill,
+            answers,
+        } => commands::bench(alloc, plan, second, starters, *fill, answers),
     }
 }
 
 /// What twire says.
-pub fn said(rt: &(impl Threads + Sync), alloc: Global, case: &Case) -> Result<Answer, AllocError> {
+pub fn said(
+    rt: &(impl Threads + Wait + Sync),
+    alloc: Global,
+    case: &Case,
+) -> Result<Answer, AllocError> {
     let mut page = Watched::new(Vec::new(alloc));
     let mut plan = Watched::new(case.plan.as_slice());
     let mut second = Watched::new(case.second.as_slice());
-    let ended = match case.command {
-        Command::Check { workers } => run_check(rt, alloc, &mut plan, &mut page, workers),
+    let ended = match &case.command {
+        Command::Check { workers } => run_check(rt, alloc, &mut plan, &mut page, *workers),
         Command::Certify => run_certify(alloc, &mut plan, &mut page),
         Command::Verify => run_verify(alloc, &mut plan, &mut second, &mut page),
         Command::Capture { scl, sda } => {
             run_capture(rt, alloc, &mut plan, &mut second, &mut page, scl, sda)
         }
+        Command::Bench {
+            starters,
+            fill,
+            answers,
+        } => run_bench(
+            rt,
+            alloc,
+            &mut plan,
+            &mut second,
+            &mut page,
+            starters,
+            *fill,
+            answers,
+            &NoGate,
+        ),
     };
     answer(alloc, ended, page.into_inner())
 }

@@ -1,5 +1,6 @@
-//! Compares twire with plain programs that were written from its documents: the commands run on examples and worked plans,
-//! certificates and captures in which bytes and words were changed. Each case comes from a seed, so a run can be repeated:
+//! Compares twire with plain programs that were written from its documents: the five commands run on examples and worked
+//! plans, certificates, captures and starters in which bytes and words were changed. Each case comes from a seed, so a run
+//! can be repeated:
 //! `mutants [CASES [SEED]]`.
 #![tactic(auto)]
 
@@ -16,6 +17,7 @@ use plain_model::commands::Answer;
 use std::alloc::{AllocError, Global};
 use std::process::ExitCode;
 use std::rt::Env;
+use std::sync::Wait;
 use std::thread::Threads;
 use std::{env, io};
 use tallies::Tallies;
@@ -39,7 +41,7 @@ fn main(rt: HostRuntime) -> ExitCode {
 }
 
 // Whether all agreed, and each kind of answer came up.
-fn run<R: Env + Print + AllocGlobal + Threads + Sync>(rt: &R) -> Result<bool> {
+fn run<R: Env + Print + AllocGlobal + Threads + Wait + Sync>(rt: &R) -> Result<bool> {
     let alloc = rt.alloc();
     let cases = number_at(rt, 1)?.unwrap_or(CASES);
     let mut dice = Dice {

@@ -97,6 +97,12 @@ pub const CERT_WORDS: [&str; 32] = [
     "",
 ];
 
+/// Labels of participants, and some that none has.
+pub const LABELS: [&str; 16] = [
+    "a/m", "b/n", "b/m", "c/o", "!t", "!u", "", "a", "a/", "/m", "!", " a/m", "A/m", "a/m,b/n",
+    ",", "0",
+];
+
 /// Words of captures, and some that are out of place in most places.
 pub const DUMP_WORDS: [&str; 40] = [
     "$end",

@@ -6,7 +6,7 @@ use std::alloc::{AllocError, Global};
 use std::io;
 
 // Each of these is to come up, some more often than others.
-const WANTED: [&str; 24] = [
+const WANTED: [&str; 42] = [
     "check 0",
     "check 1",
     "check P1",
@@ -31,6 +31,24 @@ const WANTED: [&str; 24] = [
     "capture V2",
     "capture V3",
     "capture V4",
+    "bench P3",
+    "bench P8",
+    "bench unsafe",
+    "bench C1",
+    "bench C2",
+    "bench C5",
+    "bench B1",
+    "bench B2",
+    "bench B3",
+    "bench B8",
+    "bench stop, 1 of 1",
+    "bench stop, 1 of 2",
+    "bench stop, 2 of 2",
+    "bench stop, 1 of 3",
+    "bench stop, 2 of 3",
+    "bench stop, 3 of 3",
+    "bench claim, 1 of 1",
+    "bench claim, 1 of 2",
 ];
 
 const LEAST: u64 = 5;
@@ -90,7 +108,7 @@ impl Tallies {
     }
 }
 
-// The command with the code of a refusal, the word that verify says, or the status.
+// The command with the code of a refusal, the word that verify says, how a bench ended, or the status.
 fn kind_of(alloc: Global, case: &Case, answer: &Answer) -> Result<String, AllocError> {
     let name = case.command.name();
     if let Some(code) = answer.refusal.as_str().split(' ').next()
@@ -98,8 +116,24 @@ fn kind_of(alloc: Global, case: &Case, answer: &Answer) -> Result<String, AllocE
     {
         return format!(in alloc; "{name} {code}");
     }
-    match (case.command, answer.out.as_str().trim().split(' ').nth(1)) {
-        (Command::Verify, Some(word)) => format!(in alloc; "{name} {word}"),
+    let second = answer.out.as_str().trim().split(' ').nth(1);
+    match (&case.command, second) {
+        (Command::Bench { starters, .. }, _) if answer.status == 0 => {
+            let end = end_of(alloc, answer.out.as_str(), starters)?;
+            format!(in alloc; "{name} {end}")
+        }
+        (Command::Verify | Command::Bench { .. }, Some(word)) => format!(in alloc; "{name} {word}"),
         _ => format!(in alloc; "{name} {}", answer.status),
     }
+}
+
+// What ended a bench that was played, and how many of its starters won.
+fn end_of(alloc: Global, report: &str, starters: &str) -> Result<String, AllocError> {
+    let (wire, won) = match report.trim().split_once('\n') {
+        Some(lines) => lines,
+        None => (report, ""),
+    };
+    let end = if wire.ends_with('c') { "claim" } else { "stop" };
+    let won = won.split(' ').count().saturating_sub(1);
+    format!(in alloc; "{end}, {won} of {}", starters.split(',').count())
 }

@@ -1,5 +1,6 @@
 // The commands, from the bytes of their files to what they write and their status.
 
+use crate::benches::{Player, play_on};
 use crate::captures::{events_of, samples_of, transactions_of};
 use crate::certificates::{Flaw, Reading, read_certificate};
 use crate::dumps::words_of;
@@ -202,6 +203,68 @@ pub fn capture(
     answered(alloc, if unexplained == 0 { 0 } else { 1 }, out)
 }
 
+/// `twire bench PLAN CERT STARTERS`: each starter sends `fill` wherever it may choose, and the targets' bits are the
+/// characters `0` and `1` of `answers`, slot by slot, and 1 past their end.
+pub fn bench(
+    alloc: Global,
+    plan: &[u8],
+    cert: &[u8],
+    starters: &str,
+    fill: bool,
+    answers: &str,
+) -> Result<Answer, AllocError> {
+    let items = match items_of(alloc, plan) {
+        Ok(items) => items,
+        Err(refusal) => return refused_plan(alloc, refusal),
+    };
+    let verified = verify(alloc, plan, cert)?;
+    if verified.status != 0 {
+        return Ok(verified);
+    }
+    let senders = senders_of(alloc, &items)?;
+    match chosen(alloc, &items, &senders, starters)? {
+        Ok(chosen) => rehearsed(alloc, &items, &chosen, fill, answers),
+        Err(code) => refused(alloc, format!(in alloc; "B{code}")?),
+    }
+}
+
+fn rehearsed(
+    alloc: Global,
+    items: &Items<'_>,
+    chosen: &[&Sender],
+    fill: bool,
+    answers: &str,
+) -> Result<Answer, AllocError> {
+    let mut players = Vec::new(alloc);
+    for sender in chosen {
+        if let Some(words) = sent(items, sender) {
+            players.push(Player::new(words))?;
+        }
+    }
+    let wire = play_on(alloc, &mut players, fill, answers)?;
+    let mut out = format!(in alloc; "wire ")?;
+    push_wire(&mut out, &wire)?;
+    out.push_str("\nwon")?;
+    for (sender, player) in chosen.iter().zip(&players) {
+        if player.is_live {
+            write!(out, " {}", sender.label)?;
+        }
+    }
+    out.push('\n')?;
+    answered(alloc, 0, out)
+}
+
+/// The labels of the participants, or none where the text spells no plan.
+pub fn labels(alloc: Global, plan: &[u8]) -> Result<Vec<String>, AllocError> {
+    let mut labels = Vec::new(alloc);
+    if let Ok(items) = items_of(alloc, plan) {
+        for sender in senders_of(alloc, &items)? {
+            labels.push(sender.label)?;
+        }
+    }
+    Ok(labels)
+}
+
 /// The canonical spelling of a plan, or nothing where the text spells none.
 pub fn spelling(alloc: Global, plan: &[u8]) -> Result<String, AllocError> {
     let mut out = String::new(alloc);
@@ -329,6 +392,52 @@ fn may_start_together(items: &Items<'_>, x: &Sender, y: &Sender) -> bool {
             c != d && !items.nevers.contains(&(c, d)) && !items.nevers.contains(&(d, c))
         }
         _ => true,
+    }
+}
+
+// The senders with these labels, which commas part, or the number of the code that refuses them, 1 for B1.
+fn chosen<'a>(
+    alloc: Global,
+    items: &Items<'_>,
+    senders: &'a [Sender],
+    labels: &str,
+) -> Result<Result<Vec<&'a Sender>, u8>, AllocError> {
+    if labels.is_empty() {
+        return Ok(Err(1));
+    }
+    let mut chosen: Vec<&Sender> = Vec::new(alloc);
+    for label in labels.split(',') {
+        let Some(sender) = labelled(senders, label) else {
+            return Ok(Err(2));
+        };
+        if chosen.iter().any(|other| is_of_one(other, sender)) {
+            return Ok(Err(3));
+        }
+        if !chosen
+            .iter()
+            .all(|other| may_start_together(items, other, sender))
+        {
+            return Ok(Err(8));
+        }
+        chosen.push(sender)?;
+    }
+    Ok(Ok(chosen))
+}
+
+fn labelled<'a>(senders: &'a [Sender], label: &str) -> Option<&'a Sender> {
+    for sender in senders {
+        if sender.label.as_str() == label {
+            return Some(sender);
+        }
+    }
+    None
+}
+
+// Both are of one controller, or one interrupt.
+fn is_of_one(x: &Sender, y: &Sender) -> bool {
+    match (x.controller, y.controller) {
+        (Some(c), Some(d)) => c == d,
+        _ => x.label == y.label,
     }
 }
 

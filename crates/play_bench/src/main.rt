@@ -6,11 +6,10 @@
 ghost use Rattle.std.specs.Prelude.{◌≡◌, All, length};
 
 use anyhow::Result;
-use bench_run::NoGate;
 use bench_run::rounds::play_all;
-use bus_bench::{Bench, Offered, Put, Seat, open_bench};
+use bench_run::{NoGate, filled};
+use bus_bench::{Bench, Seat, open_bench};
 use cert_check::{Accepted, accept_certificate};
-use message_tree::Bit;
 use plan_text::read_plan;
 use std::alloc::{AllocError, Global};
 use std::num::nearest_usize_to_f64;
@@ -207,14 +206,8 @@ fn put<'a>(bench: &Bench<'a>, seat: &mut Seat<'a>) -> bool
     requires { seat.old.bench ≡ bench.now }
     ensures { seat.new.bench ≡ bench.now }
 {
-    let put = match seat.offered() {
-        Offered::Bit(Bit::One | Bit::Either) => Put::Drive(true),
-        Offered::Bit(Bit::Zero) => Put::Drive(false),
-        Offered::Listen => Put::Listen,
-        Offered::Again => Put::Again,
-        Offered::Stop => Put::Stop,
-        Offered::Claim => Put::Claim,
-        Offered::Nothing => return false,
+    let Some(put) = filled(seat.offered(), true) else {
+        return false;
     };
     seat.put(bench, put).is_ok()
 }
