@@ -1,6 +1,7 @@
 // Bits, counts, items, sizes and texts of messages, by tables of cases.
 
 use message_tree::{Address, Bit, Count, Frame, Item, Kind, Pattern, Payload, Tail};
+use plan_core::{BuildError, Builder, Name};
 use std::alloc::{AllocError, Global};
 use std::process::Abort;
 use std::test::Fail;
@@ -385,16 +386,80 @@ fn in_bytes(alloc: Global, n: u32) -> Result<Frame, AllocError> {
     write(alloc, payload, Tail::Stop)
 }
 
+// `n` repeated STARTs, each behind the last byte of the read before it.
+fn behind_reads(alloc: Global, n: u32) -> Result<Frame, Fail> {
+    let one = Count::new(1).ok_or("no count")?;
+    let mut frame = read(one, Tail::Stop);
+    for _ in 0..n {
+        frame = read(one, again(alloc, frame)?);
+    }
+    Ok(frame)
+}
+
+/// How many shapes of deep messages there are.
+const SHAPES: u32 = 5;
+
+// A message in one of these shapes.
+fn deep(alloc: Global, shape: u32, n: u32) -> Result<Frame, Fail> {
+    let message = match shape {
+        0 => behind_refusals(alloc, n)?,
+        1 => behind_acknowledges(alloc, n)?,
+        2 => behind_bytes(alloc, n)?,
+        3 => in_bytes(alloc, n)?,
+        _ => behind_reads(alloc, n)?,
+    };
+    Ok(message)
+}
+
+/// Far more levels than a thread has stack for, at one call a level.
+const LEVELS: u32 = 3_000_000;
+
 #[test]
-fn messages_of_300_000_levels_are_measured_and_dropped(rt: HostRuntime) -> Result<(), Fail> {
+fn messages_of_3_000_000_levels_are_measured_and_dropped(rt: HostRuntime) -> Result<(), Fail> {
+    for shape in 0..SHAPES {
+        let deep = deep(rt.alloc(), shape, LEVELS)?;
+        assert_eq!(rt; deep.room_left(4096), None, "shape {shape}");
+    }
+    Ok(())
+}
+
+#[test]
+fn messages_of_3_000_000_levels_are_too_long_for_a_plan(rt: HostRuntime) -> Result<(), Fail> {
     let alloc = rt.alloc();
-    for deep in [
-        behind_refusals(alloc, 300_000)?,
-        behind_acknowledges(alloc, 300_000)?,
-        behind_bytes(alloc, 300_000)?,
-        in_bytes(alloc, 300_000)?,
-    ] {
-        assert_eq!(rt; deep.room_left(4096), None);
+    let mut builder = Builder::new(alloc);
+    for shape in 0..SHAPES {
+        let deep = deep(alloc, shape, LEVELS)?;
+        let refusal = builder.message(Name::new(alloc, "m")?, deep).err();
+        assert_eq!(rt; refusal, Some(BuildError::TooLong), "shape {shape}");
+    }
+    assert_eq!(rt; builder.finish().messages(), 0);
+    Ok(())
+}
+
+// A copy, the sizes and the text for debugging go down level by level: a caller's message may have 4,096 levels there.
+#[test]
+fn messages_of_4096_levels_have_sizes_and_copies(rt: HostRuntime) -> Result<(), Fail> {
+    let alloc = rt.alloc();
+    // 4,096 headers, with as many slots as 4,096 * 9 + 4,095 + 1
+    assert_sizes(&rt, alloc, &deep(alloc, 0, 4095)?, 4096, 4096, 40_960)?;
+    assert_sizes(&rt, alloc, &deep(alloc, 1, 4095)?, 4096, 4096, 40_960)?;
+    // 2,049 headers and 2,048 bytes: 4,097 * 9 + 2,048 + 1
+    assert_sizes(&rt, alloc, &deep(alloc, 2, 2048)?, 4097, 4097, 38_922)?;
+    // a header and 4,095 bytes: 4,096 * 9 + 1
+    assert_sizes(&rt, alloc, &deep(alloc, 3, 4095)?, 4096, 4096, 36_865)?;
+    // 4,096 headers, and a byte read behind each: 8,192 * 9 + 4,095 + 1
+    assert_sizes(&rt, alloc, &deep(alloc, 4, 4095)?, 4096, 8192, 77_824)?;
+    Ok(())
+}
+
+#[test]
+fn messages_of_4096_levels_are_written_for_debugging(rt: HostRuntime) -> Result<(), Fail> {
+    let alloc = rt.alloc();
+    // The word that each level has
+    for (shape, word) in [(0, "Write"), (1, "Write"), (3, "Byte"), (4, "Read")] {
+        let message = deep(alloc, shape, 4095)?;
+        let text = format!(in alloc; "{message:?}")?;
+        assert!(rt; text.as_str().matches(word).count() >= 4095, "{word}");
     }
     Ok(())
 }

@@ -6,6 +6,8 @@ mod captures;
 #[cfg(test)]
 mod certificates;
 #[cfg(test)]
+mod devices;
+#[cfg(test)]
 mod faults;
 #[cfg(test)]
 mod limits;

@@ -1,10 +1,8 @@
 // What a run answers besides its report.
 
-use crate::memory::{check, page, source, two};
+use crate::memory::{page, source, two};
 use plan_text::PlanError;
-use report::{
-    FaultyReader, FaultyWriter, Input, Output, RunError, Status, Watched, read_within, run_check,
-};
+use report::{FaultyReader, RunError, Status, Watched, read_within, run_check};
 use std::alloc::Global;
 use std::test::Fail;
 use std::thread::Threads;
@@ -75,44 +73,5 @@ fn the_call_that_gives_no_bytes_counts(rt: HostRuntime) -> Result<(), Fail> {
         read_within(alloc, &mut byte_by_byte(b""), 0).err(),
         Some(RunError::Read)
     );
-    Ok(())
-}
-
-#[test]
-fn a_reader_that_fails_in_some_call_is_a_read_fault(rt: HostRuntime) -> Result<(), Fail> {
-    let alloc = rt.alloc();
-    let text = b"plan 1\ncontroller a ;";
-    // The calls that give a byte, and the one that gives none.
-    for k in 1..=text.len() as u32 + 1 {
-        let mut page = Watched::new(Vec::new(alloc));
-        let mut plan = Watched::new(FaultyReader::new(text, 1, k));
-        assert_eq!(rt;
-            run_check(&rt, alloc, &mut plan, &mut page, 1),
-            Err(RunError::Read)
-        );
-        assert!(rt; plan.failed());
-        assert!(rt; page.into_inner().is_empty());
-    }
-    Ok(())
-}
-
-#[test]
-fn a_writer_that_stops_has_the_first_bytes(rt: HostRuntime) -> Result<(), Fail> {
-    let alloc = rt.alloc();
-    let safe = "write 1001000 stop else stop";
-    let plan = two(alloc, 1, safe, safe)?;
-    let report = check(&rt, alloc, plan.as_str())?;
-    for k in 0..report.len() {
-        for fails in [false, true] {
-            let mut page = Watched::new(FaultyWriter::new(alloc, k, fails));
-            let mut text = Watched::new(plan.as_bytes());
-            assert_eq!(rt;
-                run_check(&rt, alloc, &mut text, &mut page, 1),
-                Err(RunError::Write)
-            );
-            assert_eq!(rt; page.failed(), fails);
-            assert_eq!(rt; page.into_inner().taken(), &report.as_bytes()[..k]);
-        }
-    }
     Ok(())
 }
