@@ -11,9 +11,9 @@ use std::process::Abort;
 use std::thread::Threads;
 use vcd_read::VcdError;
 
-// A run, with the texts that its readers give.
+/// A run, with the texts that its readers give.
 #[derive(Clone, Copy, Drop)]
-enum Run {
+pub enum Run {
     Check(&'static str),
     Certify(&'static str),
     Verify(&'static str, &'static str),
@@ -33,8 +33,8 @@ const DUMP: &str = "$var wire 1 ! scl $end $var wire 1 \" sda $end $enddefinitio
 #0 1! 1\" #5 0\" #7 x\" #9 1\" #12 0\" #14 1\"
 ";
 
-// Each run, its report, and its status.
-const RUNS: [(Run, &str, Status); 4] = [
+/// Each run, its report, and its status.
+pub const RUNS: [(Run, &str, Status); 4] = [
     (
         Run::Check(PLAN),
         "pair 0 a/m b/n: stop against data after 10010000l\nunsafe: 1 of 1 pairs\n",
@@ -49,8 +49,8 @@ const RUNS: [(Run, &str, Status); 4] = [
     ),
 ];
 
-// The texts of the first and of the second reader.
-fn texts(run: Run) -> (&'static [u8], &'static [u8]) {
+/// The texts of the first and of the second reader.
+pub fn texts(run: Run) -> (&'static [u8], &'static [u8]) {
     match run {
         Run::Check(plan) | Run::Certify(plan) => (plan.as_bytes(), b""),
         Run::Verify(plan, other) | Run::Capture(plan, other) => (plan.as_bytes(), other.as_bytes()),
@@ -61,8 +61,8 @@ fn has_two_readers(run: Run) -> bool {
     matches!(run, Run::Verify(_, _) | Run::Capture(_, _))
 }
 
-// What the run answers over these devices. A run of one reader does not call the second.
-fn answer<R: Threads + Sync, I: Input, J: Input, O: Output>(
+/// What the run answers over these devices. A run of one reader does not call the second.
+pub fn answer<R: Threads + Sync, I: Input, J: Input, O: Output>(
     rt: &R,
     alloc: Global,
     run: Run,

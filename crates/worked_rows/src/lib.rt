@@ -10,6 +10,8 @@ mod devices;
 #[cfg(test)]
 mod faults;
 #[cfg(test)]
+mod interruptions;
+#[cfg(test)]
 mod limits;
 #[cfg(test)]
 mod memory;
