@@ -76,6 +76,8 @@ safe="safe: 1 pairs"
 proofs=$(cat cert)
 accepted="accepted safe"
 explained=$'5-160 a/m\n1 transactions, 0 unexplained'
+# Both send the same six bits, and then a/m sends 0 and b/n 1. No target answers.
+played=$'wire 10010000hs\nwon a/m'
 echo "plan 1 ;" >bad_plan
 
 # ---- a FIFO, in each place
@@ -109,12 +111,23 @@ expect "capture, the dump a FIFO" 0 "$explained" "" capture plan fifo
 feed plan fifo
 feed vcd fifo2
 expect "capture, two FIFOs" 0 "$explained" "" capture fifo fifo2
+feed plan fifo
+expect "bench, the plan a FIFO" 0 "$played" "" bench fifo cert a/m,b/n
+feed cert fifo
+expect "bench, the certificate a FIFO" 0 "$played" "" bench plan fifo a/m,b/n
+feed plan fifo
+feed cert fifo2
+expect "bench, two FIFOs" 0 "$played" "" bench fifo fifo2 a/m,b/n
 : >fifo &
 expect "check a FIFO that gives nothing" 2 "" "refused P2 line 1" check fifo
 : >fifo &
 expect "verify a FIFO that gives nothing" 2 "wrong C1 line 1" "" verify plan fifo
 : >fifo &
 expect "capture of a FIFO that gives nothing" 2 "" "refused V1 scl" capture plan fifo
+: >fifo &
+expect "bench, the plan a FIFO that gives nothing" 2 "" "refused P2 line 1" bench fifo cert a/m
+: >fifo &
+expect "bench, the certificate a FIFO that gives nothing" 2 "wrong C1 line 1" "" bench plan fifo a/m
 
 # ---- what cannot be opened, and what opens and cannot be read
 
@@ -128,12 +141,16 @@ for path in missing directory directory/missing plan/below loop "$name_too_long"
     expect "verify '${path:0:20}' as the certificate" 2 "" "refused read" verify plan "$path"
     expect "capture, '${path:0:20}' as the plan" 2 "" "refused read" capture "$path" vcd
     expect "capture, '${path:0:20}' as the dump" 2 "" "refused read" capture plan "$path"
+    expect "bench, '${path:0:20}' as the plan" 2 "" "refused read" bench "$path" cert a/m
+    expect "bench, '${path:0:20}' as the certificate" 2 "" "refused read" bench plan "$path" a/m
 done
 # All files are opened first; a directory opens, and fails only once it is read.
 expect "verify a refused plan, and no certificate" 2 "" "refused read" verify bad_plan missing
 expect "verify a refused plan, and a directory" 2 "" "refused P3 line 1" verify bad_plan directory
 expect "capture, a refused plan and no dump" 2 "" "refused read" capture bad_plan missing
 expect "capture, a refused plan and a directory" 2 "" "refused P3 line 1" capture bad_plan directory
+expect "bench, a refused plan and no certificate" 2 "" "refused read" bench bad_plan missing a/m
+expect "bench, a refused plan and a directory" 2 "" "refused P3 line 1" bench bad_plan directory a/m
 
 # ---- empty files
 
@@ -144,9 +161,12 @@ expect "verify an empty plan" 2 "" "refused P2 line 1" verify empty cert
 expect "verify an empty certificate" 2 "wrong C1 line 1" "" verify plan empty
 expect "capture of an empty plan" 2 "" "refused P2 line 1" capture empty vcd
 expect "capture of an empty dump" 2 "" "refused V1 scl" capture plan empty
+expect "bench of an empty plan" 2 "" "refused P2 line 1" bench empty cert a/m
+expect "bench with an empty certificate" 2 "wrong C1 line 1" "" bench plan empty a/m
 expect "check /dev/null" 2 "" "refused P2 line 1" check /dev/null
 expect "verify /dev/null" 2 "wrong C1 line 1" "" verify plan /dev/null
 expect "capture of /dev/null" 2 "" "refused V1 scl" capture plan /dev/null
+expect "bench with /dev/null" 2 "wrong C1 line 1" "" bench plan /dev/null a/m
 
 # ---- files of zeros alone, which have no line feed
 
@@ -157,6 +177,8 @@ expect "verify a plan of zeros" 2 "" "refused P3 line 1" verify zeros cert
 expect "verify a certificate of zeros" 2 "wrong C1 line 1" "" verify plan zeros
 expect "capture of a plan of zeros" 2 "" "refused P3 line 1" capture zeros vcd
 expect "capture of a dump of zeros" 2 "" "refused V2 line 1" capture plan zeros
+expect "bench of a plan of zeros" 2 "" "refused P3 line 1" bench zeros cert a/m
+expect "bench with a certificate of zeros" 2 "wrong C1 line 1" "" bench plan zeros a/m
 
 # ---- a file that changes once it has been opened, and before it is read: the plan's FIFO holds the run
 
@@ -244,6 +266,8 @@ changed long_plan cut_short 3 verify long cert
 judge "verify a plan that is cut while it is read" 0 "$accepted" ""
 changed long_plan cut_short 3 capture long vcd
 judge "capture, a plan that is cut while it is read" 0 "$explained" ""
+changed long_plan cut_short 3 bench long cert a/m,b/n
+judge "bench, a plan that is cut while it is read" 0 "$played" ""
 changed long_plan grow_by_a_controller 3 check long
 judge "check a plan that grows where it is read" 0 "safe: 3 pairs" ""
 changed long_plan grow_behind_its_end 3 check long
@@ -293,6 +317,8 @@ judge "certify a FIFO, with signals" 0 "$proofs" ""
 sent=cert
 held_by_signals verify plan fifo
 judge "verify a FIFO, with signals" 0 "$accepted" ""
+held_by_signals bench plan fifo a/m,b/n
+judge "bench, the certificate a FIFO, with signals" 0 "$played" ""
 sent=vcd
 held_by_signals capture plan fifo
 judge "capture of a FIFO, with signals" 0 "$explained" ""
@@ -306,10 +332,13 @@ expect "verify, the plan closed standard input" 2 "" "refused read" verify /dev/
 expect "verify, the certificate closed standard input" 2 "" "refused read" verify plan /dev/stdin <&-
 expect "capture, the plan closed standard input" 2 "" "refused read" capture /dev/stdin vcd <&-
 expect "capture, the dump closed standard input" 2 "" "refused read" capture plan /dev/stdin <&-
+expect "bench, the plan closed standard input" 2 "" "refused read" bench /dev/stdin cert a/m <&-
+expect "bench, the certificate closed standard input" 2 "" "refused read" bench plan /dev/stdin a/m <&-
 expect "check a file, with closed standard input" 0 "$safe" "" check plan <&-
 expect "certify a file, with closed standard input" 0 "$proofs" "" certify plan <&-
 expect "verify files, with closed standard input" 0 "$accepted" "" verify plan cert <&-
 expect "capture of files, with closed standard input" 0 "$explained" "" capture plan vcd <&-
+expect "bench of files, with closed standard input" 0 "$played" "" bench plan cert a/m,b/n <&-
 
 # ---- standard output that takes nothing, or little at once
 
@@ -322,7 +351,8 @@ unwritten() {
 }
 
 mkfifo unread
-for words in "check plan" "certify plan" "verify plan cert" "verify plan empty" "capture plan vcd"; do
+for words in "check plan" "certify plan" "verify plan cert" "verify plan empty" "capture plan vcd" \
+    "bench plan cert a/m,b/n" "bench plan empty a/m"; do
     read -ra arguments <<<"$words"
     unwritten "$words, standard output closed" "refused write" "${arguments[@]}" >&-
     unwritten "$words, standard input and output closed" "refused write" "${arguments[@]}" <&- >&-
@@ -333,10 +363,11 @@ for words in "check plan" "certify plan" "verify plan cert" "verify plan empty" 
         unwritten "$words, onto a full device" "refused write" "${arguments[@]}" >/dev/full
     fi
 done
-for words in "check bad_plan" "certify bad_plan" "verify bad_plan cert" "capture bad_plan vcd"; do
+for words in "check bad_plan" "certify bad_plan" "verify bad_plan cert" "capture bad_plan vcd" "bench bad_plan cert a/m"; do
     read -ra arguments <<<"$words"
     unwritten "$words, standard output closed" "refused P3 line 1" "${arguments[@]}" >&-
 done
+unwritten "bench of an unknown starter, standard output closed" "refused B2" bench plan cert q >&-
 
 # A report longer than a pipe holds, which is read late, while the run is stopped and goes on.
 "$tests/../tools/dump" 100100000 4000 >long
