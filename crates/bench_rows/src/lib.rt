@@ -5,6 +5,8 @@
 #[cfg(test)]
 mod agreement;
 #[cfg(test)]
+mod devices;
+#[cfg(test)]
 mod dice;
 #[cfg(test)]
 mod ends;

@@ -7,7 +7,7 @@ use crate::tree::{Frame, Payload, Tail};
 use std::alloc::{AllocError, Global};
 
 impl Frame {
-    /// The same message in memory of its own.
+    /// The same message in memory of its own. For messages of at most 4,096 levels: each level is a call.
     #[cycle(copy)]
     pub fn copy(&self, alloc: Global) -> Result<Frame, AllocError>
         ensures { IfOk result (λ copy. frame_tree copy ≡ frame_tree self.now) }

@@ -10,6 +10,7 @@ use crate::tree::{Frame, Payload, Tail};
 
 impl Frame {
     /// The bytes on the longest path: headers, written bytes, and as many read bytes as each range allows.
+    /// For messages of at most 4,096 levels: each level is a call.
     #[cycle(longest)]
     pub fn longest(&self) -> u32
         ensures { result ≡ capped (frame_bytes (frame_tree self.now)) }
@@ -31,7 +32,7 @@ impl Frame {
         }
     }
 
-    /// The nodes of the message: headers and written bytes.
+    /// The nodes of the message: headers and written bytes. For messages of at most 4,096 levels: each level is a call.
     #[cycle(nodes)]
     pub fn nodes(&self) -> u32
         ensures { result ≡ capped (frame_nodes (frame_tree self.now)) }
@@ -71,7 +72,7 @@ impl Frame {
         }
     }
 
-    /// The slots of the message's longest text.
+    /// The slots of the message's longest text. For messages of at most 4,096 levels: each level is a call.
     #[cycle(slots)]
     pub fn slots(&self) -> u32
         ensures value { result ≡ capped (frame_slots (frame_tree self.now)) }
