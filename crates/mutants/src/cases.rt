@@ -157,12 +157,13 @@ fn bench_case(alloc: Global, plan: &'static str, dice: &mut Dice) -> Result<Case
     })
 }
 
-// Labels of at most four participants that stand one behind the other in the plan, now and then with others among them.
+// Labels of one to three participants that stand one behind the other in the plan, now and then with others among them: each
+// is a thread, and no slot is complete before all have come.
 fn starters(alloc: Global, plan: &[u8], dice: &mut Dice) -> Result<String, AllocError> {
     let labels = commands::labels(alloc, plan)?;
     let first = dice.throw(labels.len());
     let mut text = String::new(alloc);
-    for k in 0..dice.throw(4).saturating_add(1).min(labels.len()) {
+    for k in 0..dice.throw(3).saturating_add(1).min(labels.len()) {
         if k > 0 {
             text.push(',')?;
         }

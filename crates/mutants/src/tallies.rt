@@ -6,7 +6,7 @@ use std::alloc::{AllocError, Global};
 use std::io;
 
 // Each of these is to come up, some more often than others.
-const WANTED: [&str; 42] = [
+const WANTED: [&str; 41] = [
     "check 0",
     "check 1",
     "check P1",
@@ -46,7 +46,6 @@ const WANTED: [&str; 42] = [
     "bench stop, 2 of 2",
     "bench stop, 1 of 3",
     "bench stop, 2 of 3",
-    "bench stop, 3 of 3",
     "bench claim, 1 of 1",
     "bench claim, 1 of 2",
 ];
