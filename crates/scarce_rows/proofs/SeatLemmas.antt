@@ -1,0 +1,18 @@
+-- A seat stays at its bench, whatever it puts and sees.
+use Rattle.std.proofs.Common.{◌≡◌, Result, Ok, Err, IfOk, IfErr}
+use Rattle.bench_plays.specs.declared.puts.Put.{Put}
+use Rattle.bus_bench.specs.declared.errors.PutError.{PutError}
+use Rattle.bus_bench.specs.declared.errors.Sight.{Sight}
+use Rattle.bus_bench.specs.declared.errors.Sight.TheVariants.{NotPut, Waiting, On, Lost, Ended}
+use Rattle.bus_bench.specs.Seats.{Player, CanPut, IsPutRefusal, after_put, Saw}
+
+pub put_at_bench : (r : Result Unit PutError) (x : Put) (old new : Player) → IfOk r (λ _. CanPut old x × (new ≡ after_put x old)) → IfErr r (λ e. IsPutRefusal e old x × (new ≡ old)) → new.bench ≡ old.bench
+put_at_bench (Ok _) x old new ok err = λ i. (ok.1 i).bench
+put_at_bench (Err e) x old new ok err = λ i. (err.1 i).bench
+
+pub saw_at_bench : (sight : Sight) (old new : Player) → Saw sight old new → new.bench ≡ old.bench
+saw_at_bench Ended old new s = λ i. (s.1 i).bench
+saw_at_bench NotPut old new s = λ i. (s.2 i).bench
+saw_at_bench Waiting old new s = λ i. (s.2 i).bench
+saw_at_bench (On w) old new s = λ i. (s.3 i).bench
+saw_at_bench (Lost w) old new s = λ i. (s.3 i).bench

@@ -1,0 +1,319 @@
+// Calls on pairs, and the checker of certificates.
+
+use crate::certs::{EQUAL, FLAW, THREE};
+use crate::harness::{Harness, Memory, Row};
+use crate::scarcity::Scarcity;
+use crate::shown::{plan, shown_cert, shown_plan};
+use cert_check::{AcceptError, accept, accept_plan, check_fault, check_pair};
+use certificate::{Cert, CertText, Fault, read_cert};
+use pair_walk::{Outcome, first_fault, walk};
+use plan_core::Plan;
+use std::alloc::{AllocError, Global};
+use std::test::Fail;
+use std::thread::Threads;
+
+pub fn try_all<R: Threads + Sync + Print>(rt: &R, harness: &mut Harness) -> Result<(), Fail> {
+    for (name, text, given) in PAIRS {
+        harness.try_row(rt, &Walk { name, text, given })?;
+    }
+    harness.try_row(rt, &FirstFault)?;
+    for (name, plan, cert, given) in ANSWERS {
+        harness.try_row(
+            rt,
+            &Accept {
+                name,
+                plan,
+                cert,
+                given,
+            },
+        )?;
+    }
+    harness.try_row(rt, &Checks)?;
+    harness.try_row(rt, &AcceptPlan)
+}
+
+/// Two equal writes of one byte.
+pub const TWO: &str =
+    "plan 1\nmessage m write 1010000 xxxxxxxx stop else stop else stop ;\ncontroller a m ;\ncontroller b m ;\n";
+
+/// A STOP that meets a data bit.
+pub const CLASH: &str =
+    "plan 1\nmessage m write 1001000 stop else stop ;\nmessage n write 1001000 0000000x stop else stop else stop ;\ncontroller a m ;\ncontroller b n ;\n";
+
+/// Three writes, of which the third leaves bits open.
+pub const OPEN: &str =
+    "plan 1\nmessage m write 1001000 11110000 stop else stop else stop ;\nmessage n write 1001000 11001111 stop else stop else stop ;\nmessage o write 1001000 1100xxxx stop else stop else stop ;\ncontroller a m ;\ncontroller b n ;\ncontroller c o ;\n";
+
+const PAIRS: [(&str, &str, &str); 5] = [
+    (
+        "walk, two addresses",
+        "plan 1 message m write 1001000 stop else stop ; message n write 1001001 stop else stop ; controller a m ; controller b n ;",
+        "cert 1\npairs 1\nP6\n",
+    ),
+    ("walk, two equal writes", TWO, EQUAL),
+    ("walk, a STOP meets a data bit", CLASH, FLAW),
+    (
+        "walk, two counts",
+        "plan 1 message m read 1001000 1 stop else stop ; message n read 1001000 2 stop else stop ; controller a m ; controller b n ;",
+        "cert 1\npairs 1\nD R .\n",
+    ),
+    (
+        "walk, a repeated START",
+        "plan 1 message m write 1001000 00000001 again read 1001000 1 stop else stop else stop else stop ; controller a m ; controller b m ;",
+        "cert 1\npairs 1\nB B S D . . . .\n",
+    ),
+];
+
+// The verdict of pair 0 as a certificate.
+#[derive(Drop)]
+struct Walk {
+    name: &'static str,
+    text: &'static str,
+    given: &'static str,
+}
+
+impl<R: Threads + Sync> Row<R> for Walk {
+    fn name(&self) -> &str {
+        self.name
+    }
+
+    fn memory(&self) -> Memory {
+        if self.given.ends_with("P6\n") {
+            Memory::May
+        } else {
+            Memory::Asks
+        }
+    }
+
+    fn is_given(&self, text: &str) -> bool {
+        text == self.given
+    }
+
+    fn run(&self, _rt: &R, scarce: &mut Scarcity) -> Result<String, Fail> {
+        let alloc = scarce.alloc;
+        let plan = plan_with_pairs(alloc, self.text)?;
+        let verdict = scarcely!(scarce, AllocError, walked(alloc, &plan))?;
+        let cert = match verdict {
+            Outcome::Safe(proof) => CertText::Proofs(vec![in alloc; proof]?),
+            Outcome::Unsafe(fault) => CertText::Flaw(0, fault),
+        };
+        shown_cert(alloc, &cert)
+    }
+}
+
+fn plan_with_pairs(alloc: Global, text: &str) -> Result<Plan, Fail> {
+    plan(alloc, text)
+}
+
+fn walked(alloc: Global, plan: &Plan) -> Result<Outcome, AllocError> {
+    if plan.pair_count() > 0 {
+        Ok(walk(alloc, plan, 0)?.outcome)
+    } else {
+        Ok(Outcome::Safe(Cert::Short))
+    }
+}
+
+// The first fault of pair 0.
+struct FirstFault;
+
+impl<R: Threads + Sync> Row<R> for FirstFault {
+    fn name(&self) -> &str {
+        "first_fault"
+    }
+
+    fn is_given(&self, text: &str) -> bool {
+        text == FLAW
+    }
+
+    fn run(&self, _rt: &R, scarce: &mut Scarcity) -> Result<String, Fail> {
+        let alloc = scarce.alloc;
+        let plan = plan(alloc, CLASH)?;
+        let Some(fault) = scarcely!(scarce, AllocError, found(alloc, &plan))? else {
+            return Err(Fail::from("no fault"));
+        };
+        shown_cert(alloc, &CertText::Flaw(0, fault))
+    }
+}
+
+fn found(alloc: Global, plan: &Plan) -> Result<Option<Fault>, AllocError> {
+    if plan.pair_count() > 0 {
+        first_fault(alloc, plan, 0)
+    } else {
+        Ok(None)
+    }
+}
+
+const ANSWERS: [(&str, &str, &str, &str); 10] = [
+    ("accept, two equal writes", TWO, EQUAL, "Safe"),
+    ("accept, three proofs", OPEN, THREE, "Safe"),
+    ("accept, a fault", CLASH, FLAW, "Unsafe"),
+    (
+        "accept, a fault of other kinds",
+        CLASH,
+        "cert 1\nfault 0 10010000l data stop\n",
+        "Wrong(Pair(0))",
+    ),
+    (
+        "accept, a fault elsewhere",
+        CLASH,
+        "cert 1\nfault 0 10010000h stop data\n",
+        "Wrong(Pair(0))",
+    ),
+    (
+        "accept, a proof cut off",
+        TWO,
+        "cert 1\npairs 1\nB B . .\n",
+        "Wrong(Format(3))",
+    ),
+    (
+        "accept, a proof too few",
+        TWO,
+        "cert 1\npairs 1\n",
+        "Wrong(Count)",
+    ),
+    (
+        "accept, no proofs",
+        TWO,
+        "cert 1\npairs 0\n",
+        "Wrong(Count)",
+    ),
+    (
+        "accept, two proofs exchanged",
+        OPEN,
+        "cert 1\npairs 3\nB P2 .\nB B . . .\nB P2 .\n",
+        "Wrong(Pair(2))",
+    ),
+    ("accept, no plan", "plan 3", EQUAL, "Plan(Version(1))"),
+];
+
+// What a certificate is worth.
+#[derive(Drop)]
+struct Accept {
+    name: &'static str,
+    plan: &'static str,
+    cert: &'static str,
+    given: &'static str,
+}
+
+impl<R: Threads + Sync> Row<R> for Accept {
+    fn name(&self) -> &str {
+        self.name
+    }
+
+    fn memory(&self) -> Memory {
+        if self.plan == "plan 3" {
+            Memory::May
+        } else {
+            Memory::Asks
+        }
+    }
+
+    fn is_given(&self, text: &str) -> bool {
+        text == self.given
+    }
+
+    fn run(&self, _rt: &R, scarce: &mut Scarcity) -> Result<String, Fail> {
+        let alloc = scarce.alloc;
+        match scarcely!(
+            scarce,
+            AcceptError::NoMemory,
+            accept(alloc, self.plan.as_bytes(), self.cert.as_bytes())
+        ) {
+            Ok(answer) => Ok(format!(in alloc; "{answer:?}")?),
+            Err(refusal) => Ok(format!(in alloc; "{refusal:?}")?),
+        }
+    }
+}
+
+// A proof and a fault beside their pair.
+struct Checks;
+
+impl<R: Threads + Sync> Row<R> for Checks {
+    fn name(&self) -> &str {
+        "check_pair, check_fault"
+    }
+
+    fn memory(&self) -> Memory {
+        Memory::Never
+    }
+
+    fn is_given(&self, text: &str) -> bool {
+        text == "true false true false"
+    }
+
+    fn run(&self, _rt: &R, scarce: &mut Scarcity) -> Result<String, Fail> {
+        let alloc = scarce.alloc;
+        let (two, clash) = (plan(alloc, TWO)?, plan(alloc, CLASH)?);
+        let proofs = proofs(alloc, EQUAL)?;
+        let CertText::Flaw(_, fault) = read_cert(alloc, FLAW.as_bytes())? else {
+            return Err(Fail::from("no fault"));
+        };
+        scarce.begin();
+        let answers = (
+            proves(&two, &proofs),
+            proves(&clash, &proofs),
+            shows(&clash, &fault),
+            shows(&two, &fault),
+        );
+        scarce.end();
+        let (a, b, c, d) = answers;
+        Ok(format!(in alloc; "{a} {b} {c} {d}")?)
+    }
+}
+
+fn proofs(alloc: Global, text: &str) -> Result<Vec<Cert>, Fail> {
+    match read_cert(alloc, text.as_bytes())? {
+        CertText::Proofs(proofs) => Ok(proofs),
+        CertText::Flaw(_, _) => Err(Fail::from("a fault")),
+    }
+}
+
+fn proves(plan: &Plan, proofs: &[Cert]) -> bool {
+    plan.pair_count() > 0 && proofs.iter().all(|proof| check_pair(plan, 0, proof))
+}
+
+fn shows(plan: &Plan, fault: &Fault) -> bool {
+    plan.pair_count() > 0 && check_fault(plan, 0, fault)
+}
+
+// A plan that its proofs make safe, one that they don't, and one that has another number of pairs. A plan that is not
+// accepted is handed back.
+struct AcceptPlan;
+
+impl<R: Threads + Sync> Row<R> for AcceptPlan {
+    fn name(&self) -> &str {
+        "accept_plan, Accepted"
+    }
+
+    fn memory(&self) -> Memory {
+        Memory::Never
+    }
+
+    fn is_given(&self, text: &str) -> bool {
+        text == "3 pairs, Pair(0), Count"
+    }
+
+    fn run(&self, _rt: &R, scarce: &mut Scarcity) -> Result<String, Fail> {
+        let alloc = scarce.alloc;
+        let (safe, clash, other) = (plan(alloc, OPEN)?, plan(alloc, CLASH)?, plan(alloc, TWO)?);
+        let (three, one) = (proofs(alloc, THREE)?, proofs(alloc, EQUAL)?);
+        scarce.begin();
+        let accepted = accept_plan(safe, &three);
+        let pairs = accepted
+            .as_ref()
+            .map_or(0, |accepted| accepted.plan().pair_count());
+        let wrong = accept_plan(clash, &one);
+        let short = accept_plan(other, &three);
+        let whole = accepted.map(|accepted| accepted.into_plan());
+        scarce.end();
+        let (Ok(whole), Err((clash, wrong)), Err((other, short))) = (whole, wrong, short) else {
+            return Err(Fail::from("a plan that is accepted where it should not be"));
+        };
+        for (found, text) in [(whole, OPEN), (clash, CLASH), (other, TWO)] {
+            if shown_plan(alloc, &found)?.as_str() != text {
+                return Err(Fail::from("another plan is handed back"));
+            }
+        }
+        Ok(format!(in alloc; "{pairs} pairs, {wrong:?}, {short:?}")?)
+    }
+}

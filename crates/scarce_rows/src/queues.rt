@@ -1,0 +1,118 @@
+// Calls on the queue of pairs, in one thread.
+ghost use Rattle.std.specs.Prelude.{◌≡◌, [], All};
+
+use crate::harness::{Harness, Memory, Row};
+use crate::scarcity::Scarcity;
+use pair_queue::{Owner, SettleFault, Take, Thief, open_queue, settle};
+use std::alloc::{AllocError, Global};
+use std::test::Fail;
+use std::thread::Threads;
+
+pub fn try_all<R: Threads + Sync + Print>(rt: &R, harness: &mut Harness) -> Result<(), Fail> {
+    harness.try_row(rt, &OpenQueue)?;
+    harness.try_row(rt, &Takes)
+}
+
+// What an owner and a thief take of three numbers.
+#[derive(Debug, Drop)]
+struct Taken {
+    first: Option<u32>,
+    second: Take,
+    left: Option<SettleFault>,
+    third: Option<u32>,
+    end: Option<u32>,
+    missing: Option<SettleFault>,
+    is_settled: bool,
+}
+
+const TAKEN: &str =
+    "Some(Taken { first: Some(0), second: Pair(1), left: Some(Left), third: Some(2), end: None, missing: Some(Missing), is_settled: true })";
+
+/// How often a thief may answer Busy.
+const MOST_ASKS: u32 = 1_000_000;
+
+// What the thief answers, asked again where it is busy.
+fn ask(thief: &mut Thief) -> Take
+    ensures { thief.new.queue ≡ thief.old.queue }
+{
+    for _ in 0..MOST_ASKS {
+        let answer = thief.take();
+        if answer != Take::Busy {
+            return answer;
+        }
+    }
+    Take::Busy
+}
+
+// The owner takes the first number, the thief the second; a number is left; the owner takes it and finds the end; a seat is
+// missing; all are back. The seats take no memory, and `none` has no room.
+fn play(mut owner: Owner, mut thieves: Vec<Thief>, none: Vec<Thief>) -> Option<Taken>
+    requires queue { All (λ thief. thief.queue ≡ owner.queue) thieves.items }
+    requires none { none.items ≡ [] }
+{
+    let first = owner.take();
+    let mut thief = thieves.pop()?;
+    let second = ask(&mut thief);
+    thieves.push(thief).ok()?;
+    let left = settle(owner, thieves).err()?;
+    let why = left.why;
+    let mut owner = left.owner;
+    let third = owner.take();
+    let end = owner.take();
+    let missing = settle(owner, none).err()?;
+    Some(Taken {
+        first,
+        second,
+        left: Some(why),
+        third,
+        end,
+        missing: Some(missing.why),
+        is_settled: settle(missing.owner, left.thieves).is_ok(),
+    })
+}
+
+// A queue of three numbers and one thief.
+struct OpenQueue;
+
+impl<R: Threads + Sync> Row<R> for OpenQueue {
+    fn name(&self) -> &str {
+        "open_queue"
+    }
+
+    fn is_given(&self, text: &str) -> bool {
+        text == TAKEN
+    }
+
+    fn run(&self, _rt: &R, scarce: &mut Scarcity) -> Result<String, Fail> {
+        let alloc = scarce.alloc;
+        let (owner, thieves) = scarcely!(scarce, AllocError, open_queue(alloc, 3, 1))?;
+        let taken = play(owner, thieves, Vec::new(alloc));
+        Ok(format!(in alloc; "{taken:?}")?)
+    }
+}
+
+// All calls on its seats.
+struct Takes;
+
+impl<R: Threads + Sync> Row<R> for Takes {
+    fn name(&self) -> &str {
+        "Owner::take, Thief::take, settle"
+    }
+
+    fn memory(&self) -> Memory {
+        Memory::Never
+    }
+
+    fn is_given(&self, text: &str) -> bool {
+        text == TAKEN
+    }
+
+    fn run(&self, _rt: &R, scarce: &mut Scarcity) -> Result<String, Fail> {
+        let alloc = scarce.alloc;
+        let (owner, thieves) = open_queue(alloc, 3, 1)?;
+        scarce.begin();
+        let taken = play(owner, thieves, Vec::new(alloc));
+        scarce.end();
+        Ok(format!(in alloc; "{taken:?}")?)
+    }
+}
