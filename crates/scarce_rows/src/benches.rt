@@ -1,7 +1,7 @@
 // Calls on a bench of three writes, in one thread.
 
 use crate::certs::THREE;
-use crate::harness::{Harness, Memory, Row};
+use crate::harness::{Case, Harness, Row};
 use crate::pairs::OPEN;
 use crate::scarcity::Scarcity;
 use crate::shown::plan;
@@ -12,16 +12,33 @@ use certificate::{CertText, read_cert};
 use plan_core::Plan;
 use std::alloc::{AllocError, Global};
 use std::test::Fail;
-use std::thread::Threads;
 
-pub fn try_all<R: Threads + Sync + Print>(rt: &R, harness: &mut Harness) -> Result<(), Fail> {
+pub fn try_all<R: Print>(rt: &R, harness: &mut Harness) -> Result<(), Fail> {
     for run in RUNS {
-        harness.try_row(rt, &OpenBench { run })?;
-        harness.try_row(rt, &Plays { run })?;
-        harness.try_row(rt, &Finish { run })?;
+        harness.try_row(rt, Case::asks("open_bench", run.given), &OpenBench { run })?;
+        harness.try_row(
+            rt,
+            Case::never_asks("Seat::offered, put, see", run.given),
+            &Plays { run },
+        )?;
+        harness.try_row(rt, Case::asks("finish", run.given), &Finish { run })?;
     }
-    harness.try_row(rt, &Refused)?;
-    harness.try_row(rt, &FinishRefused)
+    harness.try_row(
+        rt,
+        Case::never_asks(
+            "open_bench, refused",
+            "Some(NoStarter) Some(Unknown) Some(SameController) Some(SameController)",
+        ),
+        &Refused,
+    )?;
+    harness.try_row(
+        rt,
+        Case::never_asks(
+            "finish, too early",
+            "NotEnded, wire 10010000hs won a/m b/n c/o",
+        ),
+        &FinishRefused,
+    )
 }
 
 // How many slots the targets acknowledge, what is sent for open bits, and what comes of it.
@@ -113,16 +130,8 @@ struct OpenBench {
     run: Run,
 }
 
-impl<R: Threads + Sync> Row<R> for OpenBench {
-    fn name(&self) -> &str {
-        "open_bench"
-    }
-
-    fn is_given(&self, text: &str) -> bool {
-        text == self.run.given
-    }
-
-    fn run(&self, _rt: &R, scarce: &mut Scarcity) -> Result<String, Fail> {
+impl Row for OpenBench {
+    fn run(&self, scarce: &mut Scarcity) -> Result<String, Fail> {
         let alloc = scarce.alloc;
         let accepted = accepted(alloc)?;
         scarce.begin();
@@ -145,20 +154,8 @@ struct Plays {
     run: Run,
 }
 
-impl<R: Threads + Sync> Row<R> for Plays {
-    fn name(&self) -> &str {
-        "Seat::offered, put, see"
-    }
-
-    fn memory(&self) -> Memory {
-        Memory::Never
-    }
-
-    fn is_given(&self, text: &str) -> bool {
-        text == self.run.given
-    }
-
-    fn run(&self, _rt: &R, scarce: &mut Scarcity) -> Result<String, Fail> {
+impl Row for Plays {
+    fn run(&self, scarce: &mut Scarcity) -> Result<String, Fail> {
         let alloc = scarce.alloc;
         let accepted = accepted(alloc)?;
         let mut sitting = Sitting::open(alloc, &accepted, &[0, 1, 2], answers(self.run))?;
@@ -175,16 +172,8 @@ struct Finish {
     run: Run,
 }
 
-impl<R: Threads + Sync> Row<R> for Finish {
-    fn name(&self) -> &str {
-        "finish"
-    }
-
-    fn is_given(&self, text: &str) -> bool {
-        text == self.run.given
-    }
-
-    fn run(&self, _rt: &R, scarce: &mut Scarcity) -> Result<String, Fail> {
+impl Row for Finish {
+    fn run(&self, scarce: &mut Scarcity) -> Result<String, Fail> {
         let alloc = scarce.alloc;
         let accepted = accepted(alloc)?;
         let mut sitting = Sitting::open(alloc, &accepted, &[0, 1, 2], answers(self.run))?;
@@ -206,20 +195,8 @@ impl<R: Threads + Sync> Row<R> for Finish {
 // Starters that are refused, which is told before want of memory.
 struct Refused;
 
-impl<R: Threads + Sync> Row<R> for Refused {
-    fn name(&self) -> &str {
-        "open_bench, refused"
-    }
-
-    fn memory(&self) -> Memory {
-        Memory::Never
-    }
-
-    fn is_given(&self, text: &str) -> bool {
-        text == "Some(NoStarter) Some(Unknown) Some(SameController) Some(SameController)"
-    }
-
-    fn run(&self, _rt: &R, scarce: &mut Scarcity) -> Result<String, Fail> {
+impl Row for Refused {
+    fn run(&self, scarce: &mut Scarcity) -> Result<String, Fail> {
         let alloc = scarce.alloc;
         let accepted = accepted(alloc)?;
         scarce.begin();
@@ -235,20 +212,8 @@ impl<R: Threads + Sync> Row<R> for Refused {
 // A bench that is not at its end is not finished, which is told before want of memory; it plays on.
 struct FinishRefused;
 
-impl<R: Threads + Sync> Row<R> for FinishRefused {
-    fn name(&self) -> &str {
-        "finish, too early"
-    }
-
-    fn memory(&self) -> Memory {
-        Memory::Never
-    }
-
-    fn is_given(&self, text: &str) -> bool {
-        text == "NotEnded, wire 10010000hs won a/m b/n c/o"
-    }
-
-    fn run(&self, _rt: &R, scarce: &mut Scarcity) -> Result<String, Fail> {
+impl Row for FinishRefused {
+    fn run(&self, scarce: &mut Scarcity) -> Result<String, Fail> {
         let alloc = scarce.alloc;
         let accepted = accepted(alloc)?;
         let sitting = Sitting::open(alloc, &accepted, &[0, 1, 2], &[])?;

@@ -1,52 +1,56 @@
 // Calls on builders. A builder that wanted memory takes the same item again.
 
-use crate::harness::{Harness, Memory, Row};
+use crate::harness::{Case, Harness, Row};
 use crate::scarcity::Scarcity;
 use crate::shown::{first_message, name, plan, shown_plan};
 use message_tree::{Address, Frame, Pattern, Payload, Tail};
 use plan_core::{BuildError, Builder, Name};
 use std::alloc::{AllocError, Global};
 use std::test::Fail;
-use std::thread::Threads;
 
 // How many others stand before what is added: the tables of a builder grow in different places.
 const BEFORE: [u32; 10] = [0, 1, 2, 3, 6, 7, 13, 14, 27, 28];
 
-pub fn try_all<R: Threads + Sync + Print>(rt: &R, harness: &mut Harness) -> Result<(), Fail> {
+pub fn try_all<R: Print>(rt: &R, harness: &mut Harness) -> Result<(), Fail> {
     for before in BEFORE {
-        harness.try_row(
-            rt,
-            &Add {
-                kind: Kind::Message,
-                before,
-            },
-        )?;
-        harness.try_row(
-            rt,
-            &Add {
-                kind: Kind::Controller,
-                before,
-            },
-        )?;
-        harness.try_row(
-            rt,
-            &Add {
-                kind: Kind::Interrupt,
-                before,
-            },
-        )?;
-        harness.try_row(
-            rt,
-            &Add {
-                kind: Kind::Never,
-                before,
-            },
-        )?;
+        for kind in KINDS {
+            harness.try_row(rt, kind.case(), &Add { kind, before })?;
+        }
     }
-    harness.try_row(rt, &FirstMessage)?;
-    harness.try_row(rt, &Refusals)?;
-    harness.try_row(rt, &Finished)
+    harness.try_row(
+        rt,
+        Case::asks("Builder::message, the first", WRITE),
+        &FirstMessage,
+    )?;
+    harness.try_row(
+        rt,
+        Case::never_asks(
+            "Builder, items that are refused",
+            "Some(Twice) Some(TooLong) Some(Twice) Some(Unknown) Some(Twice) Some(Twice) Some(Unknown) Some(Twice) Some(Twice)",
+        ),
+        &Refusals,
+    )?;
+    harness.try_row(
+        rt,
+        Case::never_asks(
+            "Builder, more than a plan has",
+            "Some(TooMany) Some(TooMany) Some(TooMany)",
+        ),
+        &TooMany,
+    )?;
+    harness.try_row(
+        rt,
+        Case::never_asks("Builder::new, finish", "0 participants, 2 with memory"),
+        &Finished,
+    )
 }
+
+const KINDS: [Kind; 4] = [
+    Kind::Message,
+    Kind::Controller,
+    Kind::Interrupt,
+    Kind::Never,
+];
 
 #[derive(Clone, Copy, Drop)]
 enum Kind {
@@ -56,6 +60,20 @@ enum Kind {
     Never,
 }
 
+impl Kind {
+    // For a message there is mostly room for one more.
+    fn case(self) -> Case<'static> {
+        match self {
+            Kind::Message => Case::may_ask("Builder::message", ADDED),
+            Kind::Controller => Case::asks("Builder::controller", ADDED),
+            Kind::Interrupt => Case::asks("Builder::interrupt", ADDED),
+            Kind::Never => Case::asks("Builder::never", ADDED),
+        }
+    }
+}
+
+const ADDED: &str = "one more";
+
 // One more item of this kind, behind as many of each kind. The plan is then that of the text with one more line.
 #[derive(Drop)]
 struct Add {
@@ -63,29 +81,8 @@ struct Add {
     before: u32,
 }
 
-impl<R: Threads + Sync> Row<R> for Add {
-    fn name(&self) -> &str {
-        match self.kind {
-            Kind::Message => "Builder::message",
-            Kind::Controller => "Builder::controller",
-            Kind::Interrupt => "Builder::interrupt",
-            Kind::Never => "Builder::never",
-        }
-    }
-
-    fn memory(&self) -> Memory {
-        match self.kind {
-            // Mostly there is room for one more.
-            Kind::Message => Memory::May,
-            _ => Memory::Asks,
-        }
-    }
-
-    fn is_given(&self, text: &str) -> bool {
-        text == "one more"
-    }
-
-    fn run(&self, _rt: &R, scarce: &mut Scarcity) -> Result<String, Fail> {
+impl Row for Add {
+    fn run(&self, scarce: &mut Scarcity) -> Result<String, Fail> {
         let alloc = scarce.alloc;
         let mut builder = filled(alloc, self.before)?;
         let item = Item::new(alloc, self.kind)?;
@@ -103,7 +100,7 @@ impl<R: Threads + Sync> Row<R> for Add {
         let found = shown_plan(alloc, &builder.finish())?;
         let wanted = text_of(alloc, self.before, Some(self.kind))?;
         if found.as_str() == wanted.as_str() {
-            return Ok(String::from_str(alloc, "one more")?);
+            return Ok(String::from_str(alloc, ADDED)?);
         }
         Ok(found)
     }
@@ -212,16 +209,8 @@ fn numbered(alloc: Global, letter: char, k: u32) -> Result<Name, Fail> {
 // The first message of a plan.
 struct FirstMessage;
 
-impl<R: Threads + Sync> Row<R> for FirstMessage {
-    fn name(&self) -> &str {
-        "Builder::message, the first"
-    }
-
-    fn is_given(&self, text: &str) -> bool {
-        text == WRITE
-    }
-
-    fn run(&self, _rt: &R, scarce: &mut Scarcity) -> Result<String, Fail> {
+impl Row for FirstMessage {
+    fn run(&self, scarce: &mut Scarcity) -> Result<String, Fail> {
         let alloc = scarce.alloc;
         let mut builder = Builder::new(alloc);
         let (first, again) = (name(alloc, "m")?, name(alloc, "m")?);
@@ -243,20 +232,8 @@ impl<R: Threads + Sync> Row<R> for FirstMessage {
 // What an item is refused for otherwise is told before want of memory.
 struct Refusals;
 
-impl<R: Threads + Sync> Row<R> for Refusals {
-    fn name(&self) -> &str {
-        "Builder, items that are refused"
-    }
-
-    fn memory(&self) -> Memory {
-        Memory::Never
-    }
-
-    fn is_given(&self, text: &str) -> bool {
-        text == "Some(Twice) Some(TooLong) Some(Twice) Some(Unknown) Some(Twice) Some(Twice) Some(Unknown) Some(Twice) Some(Twice)"
-    }
-
-    fn run(&self, _rt: &R, scarce: &mut Scarcity) -> Result<String, Fail> {
+impl Row for Refusals {
+    fn run(&self, scarce: &mut Scarcity) -> Result<String, Fail> {
         let alloc = scarce.alloc;
         let mut builder = filled(alloc, 2)?;
         let (m, long) = (name(alloc, "m")?, name(alloc, "long")?);
@@ -292,6 +269,30 @@ impl<R: Threads + Sync> Row<R> for Refusals {
     }
 }
 
+// One more than a plan may have of messages, of controllers and of interrupts.
+struct TooMany;
+
+impl Row for TooMany {
+    fn run(&self, scarce: &mut Scarcity) -> Result<String, Fail> {
+        let alloc = scarce.alloc;
+        let mut builder = filled(alloc, 30)?;
+        for k in 31..256 {
+            builder.message(numbered(alloc, 'n', k)?, write(alloc)?)?;
+        }
+        for k in 30..32 {
+            builder.interrupt(numbered(alloc, 'i', k)?, 0)?;
+        }
+        let (message, frame) = (name(alloc, "new")?, write(alloc)?);
+        let (controller, interrupt) = (name(alloc, "new")?, name(alloc, "new")?);
+        scarce.begin();
+        let message = builder.message(message, frame).err();
+        let controller = builder.controller(controller, &[]).err();
+        let interrupt = builder.interrupt(interrupt, 0).err();
+        scarce.end();
+        Ok(format!(in alloc; "{message:?} {controller:?} {interrupt:?}")?)
+    }
+}
+
 // A message of one header and 256 bytes.
 fn too_long(alloc: Global) -> Result<Frame, AllocError> {
     let mut acked = Payload::Last(Tail::Stop);
@@ -312,20 +313,8 @@ fn too_long(alloc: Global) -> Result<Frame, AllocError> {
 // A builder opens and ends without memory.
 struct Finished;
 
-impl<R: Threads + Sync> Row<R> for Finished {
-    fn name(&self) -> &str {
-        "Builder::new, finish"
-    }
-
-    fn memory(&self) -> Memory {
-        Memory::Never
-    }
-
-    fn is_given(&self, text: &str) -> bool {
-        text == "0 participants, 2 with memory"
-    }
-
-    fn run(&self, _rt: &R, scarce: &mut Scarcity) -> Result<String, Fail> {
+impl Row for Finished {
+    fn run(&self, scarce: &mut Scarcity) -> Result<String, Fail> {
         let alloc = scarce.alloc;
         let builder = filled(alloc, 0)?;
         scarce.begin();

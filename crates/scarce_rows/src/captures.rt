@@ -1,6 +1,8 @@
 // Calls on captures.
 
-use crate::harness::{Harness, Memory, Row};
+ghost use denote.Param.Send.{IsSync};
+
+use crate::harness::{Case, Harness, Row};
 use crate::pairs::CLASH;
 use crate::scarcity::Scarcity;
 use crate::shown::plan;
@@ -13,41 +15,76 @@ use std::thread::Threads;
 use vcd_read::{Level, Reader, Sample, VcdError};
 
 pub fn try_all<R: Threads + Sync + Print>(rt: &R, harness: &mut Harness) -> Result<(), Fail> {
-    harness.try_row(rt, &NewReader)?;
-    for (dump, given) in DUMPS {
-        for size in [7, 40, 1000] {
-            for at in [0, 1, 2, 3, 8] {
-                harness.try_row(
-                    rt,
-                    &Feed {
-                        dump,
-                        size,
-                        at,
-                        given,
-                    },
-                )?;
-            }
-        }
-        harness.try_row(rt, &End { dump, given })?;
+    harness.try_row(rt, Case::asks("Reader::new", DUMPS[0].1), &NewReader)?;
+    for (changes, given) in DUMPS {
+        try_pieces(rt, harness, changes, given)?;
+        harness.try_row(rt, Case::never_asks("Reader::end", given), &End { changes })?;
     }
-    for (dump, marks, explained) in TRANSACTIONS {
-        harness.try_row(rt, &Events { dump })?;
-        harness.try_row(rt, &Transactions { dump, marks })?;
-        harness.try_row(rt, &Explain { dump, explained })?;
-        harness.try_row(rt, &ExplainAll { dump, explained })?;
+    for (changes, marks) in TRANSACTIONS {
+        harness.try_row(rt, Case::asks("events", ALL_EVENTS), &Events { changes })?;
+        let case = if marks.is_empty() {
+            Case::may_ask("transactions", marks)
+        } else {
+            Case::asks("transactions", marks)
+        };
+        harness.try_row(rt, case, &Transactions { changes })?;
+    }
+    for (changes, explained) in EXPLAINED {
+        harness.try_row(rt, Case::asks("explain", explained), &Explain { changes })?;
+        harness.try_row(
+            rt,
+            Case::asks("explain_all", explained),
+            &ExplainAll {
+                rt,
+                changes,
+                explained,
+            },
+        )?;
     }
     Ok(())
 }
 
-/// A header of 1001000 for a write that is acknowledged, and a STOP.
-pub const ACKNOWLEDGED: &str = "\
+// A dump in pieces of three sizes, and in each the first pieces and a later one while memory is scarce.
+fn try_pieces<R: Print>(
+    rt: &R,
+    harness: &mut Harness,
+    changes: &'static str,
+    given: &'static str,
+) -> Result<(), Fail> {
+    for size in [7, 40, 1000] {
+        for at in [0, 1, 2, 3, 8] {
+            let case = if at == 0 && !changes.is_empty() {
+                Case::asks("Reader::feed", given)
+            } else {
+                Case::may_ask("Reader::feed", given)
+            };
+            harness.try_row(rt, case, &Feed { changes, size, at })?;
+        }
+    }
+    Ok(())
+}
+
+const DEFINITIONS: &str = "\
 $timescale
 1 us $end
 $scope module top $end
 $var wire 1 ! scl $end
 $var wire 1 \" sda $end
 $upscope $end
-$enddefinitions $end
+$enddefinitions $end ";
+
+/// The dump of these changes. Without a change it is the empty text.
+pub fn dump_of(alloc: Global, changes: &str) -> Result<String, AllocError> {
+    if changes.is_empty() {
+        return Ok(String::new(alloc));
+    }
+    let mut dump = String::from_str(alloc, DEFINITIONS)?;
+    dump.push_str(changes)?;
+    Ok(dump)
+}
+
+/// A header of 1001000 for a write that is acknowledged, and a STOP.
+pub const ACKNOWLEDGED: &str = "\
 #0 1! 1\"
 #10 0\" #15 0!
 #16 1\" #20 1! #25 0!
@@ -64,13 +101,6 @@ $enddefinitions $end
 
 /// The same header, which nobody acknowledges, and a STOP.
 pub const REFUSED: &str = "\
-$timescale
-1 us $end
-$scope module top $end
-$var wire 1 ! scl $end
-$var wire 1 \" sda $end
-$upscope $end
-$enddefinitions $end
 #0 1! 1\"
 #10 0\" #15 0!
 #16 1\" #20 1! #25 0!
@@ -85,22 +115,41 @@ $enddefinitions $end
 #106 0\" #110 1! #115 1\"
 ";
 
+/// The first of these headers, of which the dump has three bits.
+pub const UNFINISHED: &str = "\
+#0 1! 1\"
+#10 0\" #15 0!
+#16 1\" #20 1! #25 0!
+#26 0\" #30 1! #35 0!
+#40 1! #45 0!
+";
+
+/// A START and a STOP with nothing between them.
+pub const EMPTY: &str = "#0 1! 1\" #5 0\" #9 1\"";
+
+/// A STOP without a START.
+pub const STOP_ALONE: &str = "#0 1! 1\" #5 0! 0\" #7 1! #9 1\"";
+
+/// A START, then an unknown level, and then an empty transaction.
+pub const CUT: &str = "#0 1! 1\" #5 0\" #7 x\" #9 1\" #12 0\" #14 1\"";
+
 const BACKWARDS: &str = "\
-$timescale
-1 us $end
-$scope module top $end
-$var wire 1 ! scl $end
-$var wire 1 \" sda $end
-$upscope $end
-$enddefinitions $end #5
+#5
 #4
 ";
 
-const DUMPS: [(&str, &str); 3] = [
+const DUMPS: [(&str, &str); 7] = [
     (
         ACKNOWLEDGED,
         "0HH 10HL 15LL 16LH 20HH 25LH 26LL 30HL 35LL 40HL 45LL 46LH 50HH 55LH 56LL 60HL 65LL 70HL 75LL 80HL 85LL 90HL 95LL 100HL 105LL 110HL 115HH ",
     ),
+    (
+        UNFINISHED,
+        "0HH 10HL 15LL 16LH 20HH 25LH 26LL 30HL 35LL 40HL 45LL ",
+    ),
+    (EMPTY, "0HH 5HL 9HH "),
+    (STOP_ALONE, "0HH 5LL 7HL 9HH "),
+    (CUT, "0HH 5HL 7HU 9HH 12HL 14HH "),
     (BACKWARDS, "V3 line 8"),
     ("", "V1 scl"),
 ];
@@ -136,19 +185,11 @@ fn letter(level: Level) -> char {
 // A reader of two lines.
 struct NewReader;
 
-impl<R: Threads + Sync> Row<R> for NewReader {
-    fn name(&self) -> &str {
-        "Reader::new"
-    }
-
-    fn is_given(&self, text: &str) -> bool {
-        text == DUMPS[0].1
-    }
-
-    fn run(&self, _rt: &R, scarce: &mut Scarcity) -> Result<String, Fail> {
+impl Row for NewReader {
+    fn run(&self, scarce: &mut Scarcity) -> Result<String, Fail> {
         let alloc = scarce.alloc;
         let mut reader = scarcely!(scarce, AllocError, Reader::new(alloc, "scl", "sda"))?;
-        reader.feed(ACKNOWLEDGED.as_bytes())?;
+        reader.feed(dump_of(alloc, ACKNOWLEDGED)?.as_bytes())?;
         shown(alloc, reader.end())
     }
 }
@@ -156,33 +197,17 @@ impl<R: Threads + Sync> Row<R> for NewReader {
 // A dump in pieces: memory is scarce while the one with this number is fed, which is fed again where it was wanted.
 #[derive(Drop)]
 struct Feed {
-    dump: &'static str,
+    changes: &'static str,
     size: usize,
     at: usize,
-    given: &'static str,
 }
 
-impl<R: Threads + Sync> Row<R> for Feed {
-    fn name(&self) -> &str {
-        "Reader::feed"
-    }
-
-    fn memory(&self) -> Memory {
-        if self.at == 0 && !self.dump.is_empty() {
-            Memory::Asks
-        } else {
-            Memory::May
-        }
-    }
-
-    fn is_given(&self, text: &str) -> bool {
-        text == self.given
-    }
-
-    fn run(&self, _rt: &R, scarce: &mut Scarcity) -> Result<String, Fail> {
+impl Row for Feed {
+    fn run(&self, scarce: &mut Scarcity) -> Result<String, Fail> {
         let alloc = scarce.alloc;
+        let dump = dump_of(alloc, self.changes)?;
         let mut reader = Reader::new(alloc, "scl", "sda")?;
-        for (k, piece) in self.dump.as_bytes().chunks(self.size.max(1)).enumerate() {
+        for (k, piece) in dump.as_bytes().chunks(self.size.max(1)).enumerate() {
             let answer = if k == self.at {
                 scarcely!(scarce, VcdError::NoMemory, reader.feed(piece))
             } else {
@@ -199,27 +224,15 @@ impl<R: Threads + Sync> Row<R> for Feed {
 // The end of a dump.
 #[derive(Drop)]
 struct End {
-    dump: &'static str,
-    given: &'static str,
+    changes: &'static str,
 }
 
-impl<R: Threads + Sync> Row<R> for End {
-    fn name(&self) -> &str {
-        "Reader::end"
-    }
-
-    fn memory(&self) -> Memory {
-        Memory::Never
-    }
-
-    fn is_given(&self, text: &str) -> bool {
-        text == self.given
-    }
-
-    fn run(&self, _rt: &R, scarce: &mut Scarcity) -> Result<String, Fail> {
+impl Row for End {
+    fn run(&self, scarce: &mut Scarcity) -> Result<String, Fail> {
         let alloc = scarce.alloc;
+        let dump = dump_of(alloc, self.changes)?;
         let mut reader = Reader::new(alloc, "scl", "sda")?;
-        for piece in self.dump.as_bytes().chunks(40) {
+        for piece in dump.as_bytes().chunks(40) {
             if reader.feed(piece).is_err() {
                 break;
             }
@@ -231,41 +244,42 @@ impl<R: Threads + Sync> Row<R> for End {
     }
 }
 
-// The levels of each transaction's marks, and who explains it.
-const TRANSACTIONS: [(&str, &str, &str); 2] = [
-    (ACKNOWLEDGED, "10-115 100100000s ", "0 "),
-    (REFUSED, "10-115 100100001s ", "0 1 "),
+// The marks of each transaction.
+const TRANSACTIONS: [(&str, &str); 6] = [
+    (ACKNOWLEDGED, "10-115 100100000s "),
+    (REFUSED, "10-115 100100001s "),
+    (UNFINISHED, "10- 100 "),
+    (EMPTY, "5-9 s "),
+    (STOP_ALONE, ""),
+    (CUT, "5-7 cut  12-14 s "),
 ];
 
-// The samples of a dump.
-fn samples(alloc: Global, dump: &str) -> Result<Vec<Sample>, Fail> {
+// Who explains each transaction.
+const EXPLAINED: [(&str, &str); 2] = [(ACKNOWLEDGED, "0 "), (REFUSED, "0 1 ")];
+
+// The samples of the dump of these changes.
+fn samples(alloc: Global, changes: &str) -> Result<Vec<Sample>, Fail> {
     let mut reader = Reader::new(alloc, "scl", "sda")?;
-    reader.feed(dump.as_bytes())?;
+    reader.feed(dump_of(alloc, changes)?.as_bytes())?;
     Ok(reader.end()?)
 }
 
-fn heard(alloc: Global, dump: &str) -> Result<Vec<Transaction>, Fail> {
-    Ok(transactions(alloc, &events(alloc, &samples(alloc, dump)?)?)?)
+fn heard(alloc: Global, changes: &str) -> Result<Vec<Transaction>, Fail> {
+    Ok(transactions(alloc, &events(alloc, &samples(alloc, changes)?)?)?)
 }
+
+const ALL_EVENTS: &str = "those of each sample";
 
 // The events of samples: those that one sample after the other gives.
 #[derive(Drop)]
 struct Events {
-    dump: &'static str,
+    changes: &'static str,
 }
 
-impl<R: Threads + Sync> Row<R> for Events {
-    fn name(&self) -> &str {
-        "events"
-    }
-
-    fn is_given(&self, text: &str) -> bool {
-        text == "those of each sample"
-    }
-
-    fn run(&self, _rt: &R, scarce: &mut Scarcity) -> Result<String, Fail> {
+impl Row for Events {
+    fn run(&self, scarce: &mut Scarcity) -> Result<String, Fail> {
         let alloc = scarce.alloc;
-        let samples = samples(alloc, self.dump)?;
+        let samples = samples(alloc, self.changes)?;
         let found = scarcely!(scarce, AllocError, events(alloc, &samples))?;
         let mut each: Vec<Event> = Vec::new(alloc);
         let mut watch = Watch::new();
@@ -273,7 +287,7 @@ impl<R: Threads + Sync> Row<R> for Events {
             each.extend(watch.next(sample))?;
         }
         if found.as_slice() == each.as_slice() {
-            return Ok(String::from_str(alloc, "those of each sample")?);
+            return Ok(String::from_str(alloc, ALL_EVENTS)?);
         }
         Ok(format!(in alloc; "{found:?}")?)
     }
@@ -281,22 +295,13 @@ impl<R: Threads + Sync> Row<R> for Events {
 
 #[derive(Drop)]
 struct Transactions {
-    dump: &'static str,
-    marks: &'static str,
+    changes: &'static str,
 }
 
-impl<R: Threads + Sync> Row<R> for Transactions {
-    fn name(&self) -> &str {
-        "transactions"
-    }
-
-    fn is_given(&self, text: &str) -> bool {
-        text == self.marks
-    }
-
-    fn run(&self, _rt: &R, scarce: &mut Scarcity) -> Result<String, Fail> {
+impl Row for Transactions {
+    fn run(&self, scarce: &mut Scarcity) -> Result<String, Fail> {
         let alloc = scarce.alloc;
-        let events = events(alloc, &samples(alloc, self.dump)?)?;
+        let events = events(alloc, &samples(alloc, self.changes)?)?;
         let found = scarcely!(scarce, AllocError, transactions(alloc, &events))?;
         let mut text = String::new(alloc);
         for transaction in &found {
@@ -326,24 +331,15 @@ fn put_transaction(text: &mut String, transaction: &Transaction) -> Result<(), A
 // Who explains the transactions of a dump.
 #[derive(Drop)]
 struct Explain {
-    dump: &'static str,
-    explained: &'static str,
+    changes: &'static str,
 }
 
-impl<R: Threads + Sync> Row<R> for Explain {
-    fn name(&self) -> &str {
-        "explain"
-    }
-
-    fn is_given(&self, text: &str) -> bool {
-        text == self.explained
-    }
-
-    fn run(&self, _rt: &R, scarce: &mut Scarcity) -> Result<String, Fail> {
+impl Row for Explain {
+    fn run(&self, scarce: &mut Scarcity) -> Result<String, Fail> {
         let alloc = scarce.alloc;
         let plan = plan(alloc, CLASH)?;
         let mut text = String::new(alloc);
-        for transaction in &heard(alloc, self.dump)? {
+        for transaction in &heard(alloc, self.changes)? {
             let found = scarcely!(scarce, AllocError, explain(alloc, &plan, transaction))?;
             put_numbers(&mut text, &found)?;
         }
@@ -360,28 +356,23 @@ fn put_numbers(text: &mut String, numbers: &[u32]) -> Result<(), AllocError> {
 
 // Who explains twenty such transactions, by several threads.
 #[derive(Drop)]
-struct ExplainAll {
-    dump: &'static str,
+struct ExplainAll<'a, R> {
+    rt: &'a R,
+    changes: &'static str,
     explained: &'static str,
 }
 
-impl<R: Threads + Sync> Row<R> for ExplainAll {
-    fn name(&self) -> &str {
-        "explain_all"
-    }
+impl<R: Threads + Sync> Row for ExplainAll<'_, R> {
+    ghost ready = { IsSync R.row };
 
-    fn is_given(&self, text: &str) -> bool {
-        text == self.explained
-    }
-
-    fn run(&self, rt: &R, scarce: &mut Scarcity) -> Result<String, Fail> {
+    fn run(&self, scarce: &mut Scarcity) -> Result<String, Fail> {
         let alloc = scarce.alloc;
         let plan = plan(alloc, CLASH)?;
         let mut all = Vec::new(alloc);
         for _ in 0..20 {
-            all.extend(heard(alloc, self.dump)?)?;
+            all.extend(heard(alloc, self.changes)?)?;
         }
-        let lists = scarcely!(scarce, AllocError, explain_all(rt, alloc, &plan, &all))?;
+        let lists = scarcely!(scarce, AllocError, explain_all(self.rt, alloc, &plan, &all))?;
         let mut found = String::new(alloc);
         for list in &lists {
             found.clear();

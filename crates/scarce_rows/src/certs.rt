@@ -1,26 +1,52 @@
 // Calls on the texts of certificates.
 
-use crate::harness::{Harness, Memory, Row};
+use crate::harness::{Case, Harness, Row};
 use crate::scarcity::Scarcity;
 use crate::shown::{shown_cert, text};
 use certificate::{Cert, CertError, CertText, Head, ProofLines, print_cert, read_cert, read_head};
 use std::alloc::{AllocError, Global};
 use std::test::Fail;
-use std::thread::Threads;
 
-pub fn try_all<R: Threads + Sync + Print>(rt: &R, harness: &mut Harness) -> Result<(), Fail> {
+pub fn try_all<R: Print>(rt: &R, harness: &mut Harness) -> Result<(), Fail> {
     for (name, text, given) in TEXTS {
-        harness.try_row(rt, &ReadCert { name, text, given })?;
+        let case = if text == NO_PAIRS {
+            Case::may_ask(name, given)
+        } else {
+            Case::asks(name, given)
+        };
+        harness.try_row(rt, case, &ReadCert { text })?;
     }
-    harness.try_row(rt, &ReadDeep)?;
+    harness.try_row(
+        rt,
+        Case::asks("read_cert, 512 nodes on a path", "the same, and C3 line 3"),
+        &ReadDeep,
+    )?;
     for text in [EQUAL, FLAW, THREE] {
-        harness.try_row(rt, &PrintCert { text })?;
-        harness.try_row(rt, &ReadHead { text })?;
+        harness.try_row(rt, Case::asks("print_cert", text), &PrintCert { text })?;
     }
-    for at in 0..4 {
-        harness.try_row(rt, &NextProof { at })?;
+    harness.try_row(
+        rt,
+        Case::asks("print_cert, 512 nodes on a path", "the same"),
+        &PrintDeep,
+    )?;
+    harness.try_row(rt, Case::asks("read_head", FLAW), &ReadHead { text: FLAW })?;
+    harness.try_row(
+        rt,
+        Case::never_asks("read_head, of proofs", THREE),
+        &ReadHead { text: THREE },
+    )?;
+    for at in 0..3 {
+        harness.try_row(
+            rt,
+            Case::asks("ProofLines::next_proof", THREE),
+            &NextProof { at },
+        )?;
     }
-    Ok(())
+    harness.try_row(
+        rt,
+        Case::never_asks("ProofLines::next_proof, the end", THREE),
+        &NextProof { at: 3 },
+    )
 }
 
 /// The certificate of two equal writes of one byte.
@@ -32,15 +58,13 @@ pub const FLAW: &str = "cert 1\nfault 0 10010000l stop data\n";
 /// The certificate of three writes, of which the third leaves bits open.
 pub const THREE: &str = "cert 1\npairs 3\nB P2 .\nB P2 .\nB B . . .\n";
 
+const NO_PAIRS: &str = "cert 1\npairs 0\n";
+
 const TEXTS: [(&str, &str, &str); 7] = [
     ("read_cert, two equal writes", EQUAL, EQUAL),
     ("read_cert, a fault", FLAW, FLAW),
     ("read_cert, three proofs", THREE, THREE),
-    (
-        "read_cert, no pairs",
-        "cert 1\npairs 0\n",
-        "cert 1\npairs 0\n",
-    ),
+    ("read_cert, no pairs", NO_PAIRS, NO_PAIRS),
     (
         "read_cert, a proof cut off",
         "cert 1\npairs 1\nB B . .\n",
@@ -61,29 +85,11 @@ const TEXTS: [(&str, &str, &str); 7] = [
 // The certificate of a text, or its first refusal.
 #[derive(Drop)]
 struct ReadCert {
-    name: &'static str,
     text: &'static str,
-    given: &'static str,
 }
 
-impl<R: Threads + Sync> Row<R> for ReadCert {
-    fn name(&self) -> &str {
-        self.name
-    }
-
-    fn memory(&self) -> Memory {
-        if self.given.starts_with("cert 1\npairs 0") {
-            Memory::May
-        } else {
-            Memory::Asks
-        }
-    }
-
-    fn is_given(&self, text: &str) -> bool {
-        text == self.given
-    }
-
-    fn run(&self, _rt: &R, scarce: &mut Scarcity) -> Result<String, Fail> {
+impl Row for ReadCert {
+    fn run(&self, scarce: &mut Scarcity) -> Result<String, Fail> {
         let alloc = scarce.alloc;
         match scarcely!(
             scarce,
@@ -99,38 +105,46 @@ impl<R: Threads + Sync> Row<R> for ReadCert {
 // A proof as deep as one may be, and one node deeper.
 struct ReadDeep;
 
-impl<R: Threads + Sync> Row<R> for ReadDeep {
-    fn name(&self) -> &str {
-        "read_cert, 512 nodes on a path"
-    }
-
-    fn is_given(&self, text: &str) -> bool {
-        text == "the same, and C3 line 3"
-    }
-
-    fn run(&self, _rt: &R, scarce: &mut Scarcity) -> Result<String, Fail> {
+impl Row for ReadDeep {
+    fn run(&self, scarce: &mut Scarcity) -> Result<String, Fail> {
         let alloc = scarce.alloc;
-        let deep = deep(alloc, 511)?;
+        let whole = deep(alloc, 511)?;
         let cert = scarcely!(
             scarce,
             CertError::NoMemory,
-            read_cert(alloc, deep.as_bytes())
+            read_cert(alloc, whole.as_bytes())
         )?;
-        let same = if shown_cert(alloc, &cert)?.as_str() == deep.as_str() {
-            "same"
-        } else {
-            "other"
-        };
-        let deeper = crate::certs::deep(alloc, 512)?;
-        let refusal = scarcely!(
+        let same = is_same(&shown_cert(alloc, &cert)?, &whole);
+        let deeper = deep(alloc, 512)?;
+        match scarcely!(
             scarce,
             CertError::NoMemory,
             read_cert(alloc, deeper.as_bytes())
-        );
-        match refusal {
-            Ok(_) => Ok(format!(in alloc; "the {same}, and a certificate")?),
-            Err(refusal) => Ok(format!(in alloc; "the {same}, and {refusal}")?),
+        ) {
+            Ok(_) => Ok(format!(in alloc; "{same}, and a certificate")?),
+            Err(refusal) => Ok(format!(in alloc; "{same}, and {refusal}")?),
         }
+    }
+}
+
+// The text of a proof as deep as one may be.
+struct PrintDeep;
+
+impl Row for PrintDeep {
+    fn run(&self, scarce: &mut Scarcity) -> Result<String, Fail> {
+        let alloc = scarce.alloc;
+        let whole = deep(alloc, 511)?;
+        let cert = read_cert(alloc, whole.as_bytes())?;
+        let found = text(scarcely!(scarce, AllocError, print_cert(alloc, &cert))?)?;
+        Ok(String::from_str(alloc, is_same(&found, &whole))?)
+    }
+}
+
+fn is_same(found: &String, wanted: &String) -> &'static str {
+    if found.as_str() == wanted.as_str() {
+        "the same"
+    } else {
+        "another"
     }
 }
 
@@ -150,16 +164,8 @@ struct PrintCert {
     text: &'static str,
 }
 
-impl<R: Threads + Sync> Row<R> for PrintCert {
-    fn name(&self) -> &str {
-        "print_cert"
-    }
-
-    fn is_given(&self, text: &str) -> bool {
-        text == self.text
-    }
-
-    fn run(&self, _rt: &R, scarce: &mut Scarcity) -> Result<String, Fail> {
+impl Row for PrintCert {
+    fn run(&self, scarce: &mut Scarcity) -> Result<String, Fail> {
         let alloc = scarce.alloc;
         let cert = read_cert(alloc, self.text.as_bytes())?;
         text(scarcely!(scarce, AllocError, print_cert(alloc, &cert))?)
@@ -172,24 +178,8 @@ struct ReadHead {
     text: &'static str,
 }
 
-impl<R: Threads + Sync> Row<R> for ReadHead {
-    fn name(&self) -> &str {
-        "read_head"
-    }
-
-    fn memory(&self) -> Memory {
-        if self.text == FLAW {
-            Memory::Asks
-        } else {
-            Memory::Never
-        }
-    }
-
-    fn is_given(&self, text: &str) -> bool {
-        text == self.text
-    }
-
-    fn run(&self, _rt: &R, scarce: &mut Scarcity) -> Result<String, Fail> {
+impl Row for ReadHead {
+    fn run(&self, scarce: &mut Scarcity) -> Result<String, Fail> {
         let alloc = scarce.alloc;
         match scarcely!(
             scarce,
@@ -231,24 +221,8 @@ struct NextProof {
     at: u32,
 }
 
-impl<R: Threads + Sync> Row<R> for NextProof {
-    fn name(&self) -> &str {
-        "ProofLines::next_proof"
-    }
-
-    fn memory(&self) -> Memory {
-        if self.at < 3 {
-            Memory::Asks
-        } else {
-            Memory::Never
-        }
-    }
-
-    fn is_given(&self, text: &str) -> bool {
-        text == THREE
-    }
-
-    fn run(&self, _rt: &R, scarce: &mut Scarcity) -> Result<String, Fail> {
+impl Row for NextProof {
+    fn run(&self, scarce: &mut Scarcity) -> Result<String, Fail> {
         let alloc = scarce.alloc;
         let Head::Proofs(mut lines) = read_head(alloc, THREE.as_bytes())? else {
             return Err(Fail::from("a fault"));

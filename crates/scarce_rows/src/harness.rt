@@ -1,14 +1,13 @@
 // Tries each call once for each of its allocations.
 
-use crate::scarcity::{Refused, Scarcity, is_there};
+use crate::scarcity::{Refused, Scarcity, is_there, obeys};
 use std::alloc::Global;
 use std::process::ExitCode;
 use std::test::Fail;
-use std::thread::Threads;
 
 /// Whether a call asks for memory.
 #[derive(Clone, Copy, Debug, Drop, PartialEq, Eq)]
-pub enum Memory {
+enum Memory {
     /// It does.
     Asks,
     /// It may do so, and on what it is called here perhaps not.
@@ -17,30 +16,79 @@ pub enum Memory {
     Never,
 }
 
-/// A call on something worked.
-pub trait Row<R: Threads + Sync> {
-    /// The call, and on what.
-    fn name(&self) -> &str;
+/// A call, and what it gives on what it is called here.
+#[derive(Clone, Copy, Drop)]
+pub struct Case<'a> {
+    name: &'a str,
+    given: &'a str,
+    memory: Memory,
+}
 
-    /// Whether the call asks for memory.
-    fn memory(&self) -> Memory {
-        Memory::Asks
+impl<'a> Case<'a> {
+    /// A call that asks for memory.
+    pub fn asks(name: &'a str, given: &'a str) -> Case<'a> {
+        Case {
+            name,
+            given,
+            memory: Memory::Asks,
+        }
     }
 
-    /// Whether this is what the call gives.
-    fn is_given(&self, text: &str) -> bool;
+    /// A call that may ask for memory, and here perhaps does not.
+    pub fn may_ask(name: &'a str, given: &'a str) -> Case<'a> {
+        Case {
+            name,
+            given,
+            memory: Memory::May,
+        }
+    }
+
+    /// A call that never asks for memory.
+    pub fn never_asks(name: &'a str, given: &'a str) -> Case<'a> {
+        Case {
+            name,
+            given,
+            memory: Memory::Never,
+        }
+    }
+
+    // One run, which gives what the call gives.
+    fn run_once<R: Print, W: Row>(&self, rt: &R, row: &W, scarce: &mut Scarcity) -> Result<(), Fail>
+        requires { W.ready }
+    {
+        let text = row.run(scarce)?;
+        if text.as_str() == self.given {
+            return Ok(());
+        }
+        println!(rt; "{}", text.as_str())?;
+        Err(Fail::from("a row that gives something else"))
+    }
+}
+
+/// A call on something worked.
+pub trait Row {
+    /// What a run needs beforehand: of a call in threads, that they may share the runtime.
+    ghost ready: { Type 0 } = { Unit {0} };
 
     /// Makes what the call needs, then the call while memory is scarce, and tells what it gave. Where it wanted memory: what
     /// the same call gives once memory is there.
-    fn run(&self, rt: &R, scarce: &mut Scarcity) -> Result<String, Fail>;
+    fn run(&self, scarce: &mut Scarcity) -> Result<String, Fail>
+        requires { ready };
 }
 
 /// What was tried.
 #[derive(Drop)]
 pub struct Harness {
-    alloc: Global,
+    pub alloc: Global,
     is_scarce: bool,
     rows: u32,
+    refused: u64,
+    wanted: u64,
+}
+
+// In how many runs an allocation was refused, and in how many of them the call answered want of memory.
+#[derive(Clone, Copy, Drop)]
+struct Tried {
     refused: u64,
     wanted: u64,
 }
@@ -49,78 +97,92 @@ pub struct Harness {
 const MOST: u32 = 1_000_000;
 
 impl Harness {
-    pub fn new(alloc: Global) -> Harness {
-        Harness {
+    /// A harness that has tried nothing. It is refused where memory is refused otherwise than it is told.
+    pub fn new(alloc: Global) -> Result<Harness, Fail> {
+        let is_scarce = is_there(alloc);
+        if is_scarce && !obeys(alloc) {
+            return Err(Fail::from("other allocations are refused than are named"));
+        }
+        Ok(Harness {
             alloc,
-            is_scarce: is_there(alloc),
+            is_scarce,
             rows: 0,
             refused: 0,
             wanted: 0,
-        }
+        })
     }
 
-    /// Tries a row.
-    pub fn try_row<R: Threads + Sync + Print, W: Row<R>>(
-        &mut self,
-        rt: &R,
-        row: &W,
-    ) -> Result<(), Fail> {
-        print!(rt; "{}: ", row.name())?;
+    /// Tries a call with the memory that is there, and where memory can be refused: with each allocation refused in turn,
+    /// once alone and once with all behind it, or a call that never asks for memory with all of them refused.
+    pub fn try_row<R: Print, W: Row>(&mut self, rt: &R, case: Case<'_>, row: &W) -> Result<(), Fail>
+        requires { W.ready }
+    {
+        print!(rt; "{}: ", case.name)?;
         self.rows = self.rows.saturating_add(1);
-        run_once(rt, row, &mut Scarcity::new(self.alloc, Refused::None))?;
+        case.run_once(rt, row, &mut Scarcity::new(self.alloc, Refused::None))?;
         if !self.is_scarce {
             return Ok(println!(rt; "given")?);
         }
-        match row.memory() {
-            Memory::Asks | Memory::May => self.refuse_each(rt, row),
-            Memory::Never => self.refuse_all(rt, row),
+        if case.memory == Memory::Never {
+            return self.refuse_all(rt, case, row);
         }
+        let alone = self.refuse_each(rt, case, row, true)?;
+        let behind = self.refuse_each(rt, case, row, false)?;
+        let tried = Tried {
+            refused: alone.refused.saturating_add(behind.refused),
+            wanted: alone.wanted.saturating_add(behind.wanted),
+        };
+        self.refused = self.refused.saturating_add(tried.refused);
+        self.wanted = self.wanted.saturating_add(tried.wanted);
+        Ok(println!(rt;
+            "{} refused, {} wants of memory",
+            tried.refused, tried.wanted
+        )?)
     }
 
-    // Refuses one allocation after the other, and then each and all after it.
-    fn refuse_each<R: Threads + Sync + Print, W: Row<R>>(
-        &mut self,
+    // Refuses one allocation after the other, alone or with all behind it, until a run meets no refusal.
+    fn refuse_each<R: Print, W: Row>(
+        &self,
         rt: &R,
+        case: Case<'_>,
         row: &W,
-    ) -> Result<(), Fail> {
-        let mut refused = 0u64;
-        let mut wanted = 0u64;
-        for (first, way) in [(true, "one"), (false, "all behind one")] {
-            let before = refused;
-            for n in 1..MOST {
-                let which = if first {
-                    Refused::One(n)
+        is_alone: bool,
+    ) -> Result<Tried, Fail>
+        requires { W.ready }
+    {
+        let mut tried = Tried {
+            refused: 0,
+            wanted: 0,
+        };
+        for n in 1..MOST {
+            let which = if is_alone {
+                Refused::One(n)
+            } else {
+                Refused::From(n)
+            };
+            let mut scarce = Scarcity::new(self.alloc, which);
+            case.run_once(rt, row, &mut scarce)?;
+            if !scarce.has_met() {
+                return if tried.refused == 0 && case.memory == Memory::Asks {
+                    Err(Fail::from("a row that tried nothing"))
                 } else {
-                    Refused::From(n)
+                    Ok(tried)
                 };
-                let mut scarce = Scarcity::new(self.alloc, which);
-                run_once(rt, row, &mut scarce)?;
-                if !scarce.has_met() {
-                    break;
-                }
-                refused = refused.saturating_add(1);
-                wanted = wanted.saturating_add(u64::from(scarce.has_wanted()));
             }
-            if refused == before && row.memory() == Memory::Asks {
-                println!(rt; "no allocation was refused, trying {way}")?;
-                return Err(Fail::from("a row that tried nothing"));
-            }
+            tried.refused = tried.refused.saturating_add(1);
+            tried.wanted = tried.wanted.saturating_add(u64::from(scarce.has_wanted()));
         }
-        self.refused = self.refused.saturating_add(refused);
-        self.wanted = self.wanted.saturating_add(wanted);
-        Ok(println!(rt; "{refused} tried, {wanted} wants of memory")?)
+        Err(Fail::from("a call that asks for memory without an end"))
     }
 
     // Refuses every allocation of a call that makes none.
-    fn refuse_all<R: Threads + Sync + Print, W: Row<R>>(
-        &mut self,
-        rt: &R,
-        row: &W,
-    ) -> Result<(), Fail> {
+    fn refuse_all<R: Print, W: Row>(&self, rt: &R, case: Case<'_>, row: &W) -> Result<(), Fail>
+        requires { W.ready }
+    {
         let mut scarce = Scarcity::new(self.alloc, Refused::From(1));
-        run_once(rt, row, &mut scarce)?;
+        case.run_once(rt, row, &mut scarce)?;
         if scarce.has_met() {
-            return Err(Fail::from("it asked for memory"));
+            return Err(Fail::from("a call that asked for memory"));
         }
         Ok(println!(rt; "asks for none")?)
     }
@@ -137,18 +199,4 @@ impl Harness {
         println!(rt; "nothing refuses memory here")?;
         Ok(ExitCode::from(2))
     }
-}
-
-// One run, which gives what the row says.
-fn run_once<R: Threads + Sync + Print, W: Row<R>>(
-    rt: &R,
-    row: &W,
-    scarce: &mut Scarcity,
-) -> Result<(), Fail> {
-    let text = row.run(rt, scarce)?;
-    if row.is_given(text.as_str()) {
-        return Ok(());
-    }
-    println!(rt; "{text}")?;
-    Err(Fail::from("a row that gives something else"))
 }

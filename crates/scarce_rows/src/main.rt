@@ -26,6 +26,7 @@ mod harness;
 mod pairs;
 mod plans;
 mod queues;
+mod rehearsals;
 mod reports;
 mod scarcity;
 mod shown;
@@ -38,7 +39,7 @@ use std::process::ExitCode;
 use std::test::Fail;
 
 fn main(rt: HostRuntime) -> Result<ExitCode, Fail> {
-    let mut harness = Harness::new(rt.alloc());
+    let mut harness = Harness::new(rt.alloc())?;
     trees::try_all(&rt, &mut harness)?;
     builders::try_all(&rt, &mut harness)?;
     plans::try_all(&rt, &mut harness)?;
@@ -49,5 +50,6 @@ fn main(rt: HostRuntime) -> Result<ExitCode, Fail> {
     benches::try_all(&rt, &mut harness)?;
     captures::try_all(&rt, &mut harness)?;
     reports::try_all(&rt, &mut harness)?;
+    rehearsals::try_all(&rt, &mut harness)?;
     harness.end(&rt)
 }

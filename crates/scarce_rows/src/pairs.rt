@@ -1,7 +1,7 @@
 // Calls on pairs, and the checker of certificates.
 
 use crate::certs::{EQUAL, FLAW, THREE};
-use crate::harness::{Harness, Memory, Row};
+use crate::harness::{Case, Harness, Row};
 use crate::scarcity::Scarcity;
 use crate::shown::{plan, shown_cert, shown_plan};
 use cert_check::{AcceptError, accept, accept_plan, check_fault, check_pair};
@@ -10,27 +10,38 @@ use pair_walk::{Outcome, first_fault, walk};
 use plan_core::Plan;
 use std::alloc::{AllocError, Global};
 use std::test::Fail;
-use std::thread::Threads;
 
-pub fn try_all<R: Threads + Sync + Print>(rt: &R, harness: &mut Harness) -> Result<(), Fail> {
+pub fn try_all<R: Print>(rt: &R, harness: &mut Harness) -> Result<(), Fail> {
     for (name, text, given) in PAIRS {
-        harness.try_row(rt, &Walk { name, text, given })?;
+        let case = if given.ends_with("P6\n") {
+            Case::may_ask(name, given)
+        } else {
+            Case::asks(name, given)
+        };
+        harness.try_row(rt, case, &Walk { text })?;
     }
-    harness.try_row(rt, &FirstFault)?;
+    harness.try_row(rt, Case::asks("first_fault", FLAW), &FirstFault)?;
     for (name, plan, cert, given) in ANSWERS {
-        harness.try_row(
-            rt,
-            &Accept {
-                name,
-                plan,
-                cert,
-                given,
-            },
-        )?;
+        let case = if plan == NO_PLAN {
+            Case::may_ask(name, given)
+        } else {
+            Case::asks(name, given)
+        };
+        harness.try_row(rt, case, &Accept { plan, cert })?;
     }
-    harness.try_row(rt, &Checks)?;
-    harness.try_row(rt, &AcceptPlan)
+    harness.try_row(
+        rt,
+        Case::never_asks("check_pair, check_fault", "true false true false"),
+        &Checks,
+    )?;
+    harness.try_row(
+        rt,
+        Case::never_asks("accept_plan, Accepted", "3 pairs, Pair(0), Count"),
+        &AcceptPlan,
+    )
 }
+
+const NO_PLAN: &str = "plan 3";
 
 /// Two equal writes of one byte.
 pub const TWO: &str =
@@ -67,31 +78,13 @@ const PAIRS: [(&str, &str, &str); 5] = [
 // The verdict of pair 0 as a certificate.
 #[derive(Drop)]
 struct Walk {
-    name: &'static str,
     text: &'static str,
-    given: &'static str,
 }
 
-impl<R: Threads + Sync> Row<R> for Walk {
-    fn name(&self) -> &str {
-        self.name
-    }
-
-    fn memory(&self) -> Memory {
-        if self.given.ends_with("P6\n") {
-            Memory::May
-        } else {
-            Memory::Asks
-        }
-    }
-
-    fn is_given(&self, text: &str) -> bool {
-        text == self.given
-    }
-
-    fn run(&self, _rt: &R, scarce: &mut Scarcity) -> Result<String, Fail> {
+impl Row for Walk {
+    fn run(&self, scarce: &mut Scarcity) -> Result<String, Fail> {
         let alloc = scarce.alloc;
-        let plan = plan_with_pairs(alloc, self.text)?;
+        let plan = plan(alloc, self.text)?;
         let verdict = scarcely!(scarce, AllocError, walked(alloc, &plan))?;
         let cert = match verdict {
             Outcome::Safe(proof) => CertText::Proofs(vec![in alloc; proof]?),
@@ -99,10 +92,6 @@ impl<R: Threads + Sync> Row<R> for Walk {
         };
         shown_cert(alloc, &cert)
     }
-}
-
-fn plan_with_pairs(alloc: Global, text: &str) -> Result<Plan, Fail> {
-    plan(alloc, text)
 }
 
 fn walked(alloc: Global, plan: &Plan) -> Result<Outcome, AllocError> {
@@ -116,16 +105,8 @@ fn walked(alloc: Global, plan: &Plan) -> Result<Outcome, AllocError> {
 // The first fault of pair 0.
 struct FirstFault;
 
-impl<R: Threads + Sync> Row<R> for FirstFault {
-    fn name(&self) -> &str {
-        "first_fault"
-    }
-
-    fn is_given(&self, text: &str) -> bool {
-        text == FLAW
-    }
-
-    fn run(&self, _rt: &R, scarce: &mut Scarcity) -> Result<String, Fail> {
+impl Row for FirstFault {
+    fn run(&self, scarce: &mut Scarcity) -> Result<String, Fail> {
         let alloc = scarce.alloc;
         let plan = plan(alloc, CLASH)?;
         let Some(fault) = scarcely!(scarce, AllocError, found(alloc, &plan))? else {
@@ -183,36 +164,18 @@ const ANSWERS: [(&str, &str, &str, &str); 10] = [
         "cert 1\npairs 3\nB P2 .\nB B . . .\nB P2 .\n",
         "Wrong(Pair(2))",
     ),
-    ("accept, no plan", "plan 3", EQUAL, "Plan(Version(1))"),
+    ("accept, no plan", NO_PLAN, EQUAL, "Plan(Version(1))"),
 ];
 
 // What a certificate is worth.
 #[derive(Drop)]
 struct Accept {
-    name: &'static str,
     plan: &'static str,
     cert: &'static str,
-    given: &'static str,
 }
 
-impl<R: Threads + Sync> Row<R> for Accept {
-    fn name(&self) -> &str {
-        self.name
-    }
-
-    fn memory(&self) -> Memory {
-        if self.plan == "plan 3" {
-            Memory::May
-        } else {
-            Memory::Asks
-        }
-    }
-
-    fn is_given(&self, text: &str) -> bool {
-        text == self.given
-    }
-
-    fn run(&self, _rt: &R, scarce: &mut Scarcity) -> Result<String, Fail> {
+impl Row for Accept {
+    fn run(&self, scarce: &mut Scarcity) -> Result<String, Fail> {
         let alloc = scarce.alloc;
         match scarcely!(
             scarce,
@@ -228,20 +191,8 @@ impl<R: Threads + Sync> Row<R> for Accept {
 // A proof and a fault beside their pair.
 struct Checks;
 
-impl<R: Threads + Sync> Row<R> for Checks {
-    fn name(&self) -> &str {
-        "check_pair, check_fault"
-    }
-
-    fn memory(&self) -> Memory {
-        Memory::Never
-    }
-
-    fn is_given(&self, text: &str) -> bool {
-        text == "true false true false"
-    }
-
-    fn run(&self, _rt: &R, scarce: &mut Scarcity) -> Result<String, Fail> {
+impl Row for Checks {
+    fn run(&self, scarce: &mut Scarcity) -> Result<String, Fail> {
         let alloc = scarce.alloc;
         let (two, clash) = (plan(alloc, TWO)?, plan(alloc, CLASH)?);
         let proofs = proofs(alloc, EQUAL)?;
@@ -280,20 +231,8 @@ fn shows(plan: &Plan, fault: &Fault) -> bool {
 // accepted is handed back.
 struct AcceptPlan;
 
-impl<R: Threads + Sync> Row<R> for AcceptPlan {
-    fn name(&self) -> &str {
-        "accept_plan, Accepted"
-    }
-
-    fn memory(&self) -> Memory {
-        Memory::Never
-    }
-
-    fn is_given(&self, text: &str) -> bool {
-        text == "3 pairs, Pair(0), Count"
-    }
-
-    fn run(&self, _rt: &R, scarce: &mut Scarcity) -> Result<String, Fail> {
+impl Row for AcceptPlan {
+    fn run(&self, scarce: &mut Scarcity) -> Result<String, Fail> {
         let alloc = scarce.alloc;
         let (safe, clash, other) = (plan(alloc, OPEN)?, plan(alloc, CLASH)?, plan(alloc, TWO)?);
         let (three, one) = (proofs(alloc, THREE)?, proofs(alloc, EQUAL)?);

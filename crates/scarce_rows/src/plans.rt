@@ -1,6 +1,6 @@
 // Calls on names, plans and their texts.
 
-use crate::harness::{Harness, Memory, Row};
+use crate::harness::{Case, Harness, Row};
 use crate::scarcity::Scarcity;
 use crate::shown::{plan, shown_plan, text};
 use crate::trees::RESTART;
@@ -8,18 +8,39 @@ use plan_core::{Name, NameError, Participant, Plan, Sends};
 use plan_text::{PlanError, print_plan, read_plan};
 use std::alloc::{AllocError, Global};
 use std::test::Fail;
-use std::thread::Threads;
 
-pub fn try_all<R: Threads + Sync + Print>(rt: &R, harness: &mut Harness) -> Result<(), Fail> {
+pub fn try_all<R: Print>(rt: &R, harness: &mut Harness) -> Result<(), Fail> {
     for (name, text, given) in NAMES {
-        harness.try_row(rt, &NewName { name, text, given })?;
+        let case = if given == "BadName" {
+            Case::never_asks(name, given)
+        } else {
+            Case::asks(name, given)
+        };
+        harness.try_row(rt, case, &NewName { text })?;
     }
-    harness.try_row(rt, &Labels)?;
-    harness.try_row(rt, &Numbers)?;
+    harness.try_row(rt, Case::asks("Plan::label", "a/m !t"), &Labels)?;
+    harness.try_row(
+        rt,
+        Case::never_asks("Plan, without label", NUMBERS_GIVEN),
+        &Numbers,
+    )?;
     for (name, text, given) in TEXTS {
-        harness.try_row(rt, &ReadPlan { name, text, given })?;
+        let case = if given.starts_with('P') || given == "plan 1\n" {
+            Case::may_ask(name, given)
+        } else {
+            Case::asks(name, given)
+        };
+        harness.try_row(rt, case, &ReadPlan { text })?;
     }
-    harness.try_row(rt, &PrintPlan)
+    harness.try_row(
+        rt,
+        Case::asks("read_plan, 33 controllers", "P6 line 34"),
+        &ReadControllers { count: 33 },
+    )?;
+    for text in [NUMBERED, SPREAD_GIVEN] {
+        harness.try_row(rt, Case::asks("print_plan", text), &PrintPlan { text })?;
+    }
+    Ok(())
 }
 
 const NAMES: [(&str, &str, &str); 4] = [
@@ -36,29 +57,11 @@ const NAMES: [(&str, &str, &str); 4] = [
 // A name of this text.
 #[derive(Drop)]
 struct NewName {
-    name: &'static str,
     text: &'static str,
-    given: &'static str,
 }
 
-impl<R: Threads + Sync> Row<R> for NewName {
-    fn name(&self) -> &str {
-        self.name
-    }
-
-    fn memory(&self) -> Memory {
-        if self.given == "BadName" {
-            Memory::Never
-        } else {
-            Memory::Asks
-        }
-    }
-
-    fn is_given(&self, text: &str) -> bool {
-        text == self.given
-    }
-
-    fn run(&self, _rt: &R, scarce: &mut Scarcity) -> Result<String, Fail> {
+impl Row for NewName {
+    fn run(&self, scarce: &mut Scarcity) -> Result<String, Fail> {
         let alloc = scarce.alloc;
         match scarcely!(scarce, NameError::NoMemory, Name::new(alloc, self.text)) {
             Ok(name) => Ok(String::from_str(alloc, name.as_str())?),
@@ -70,16 +73,8 @@ impl<R: Threads + Sync> Row<R> for NewName {
 // The label of a participant.
 struct Labels;
 
-impl<R: Threads + Sync> Row<R> for Labels {
-    fn name(&self) -> &str {
-        "Plan::label"
-    }
-
-    fn is_given(&self, text: &str) -> bool {
-        text == "a/m !t"
-    }
-
-    fn run(&self, _rt: &R, scarce: &mut Scarcity) -> Result<String, Fail> {
+impl Row for Labels {
+    fn run(&self, scarce: &mut Scarcity) -> Result<String, Fail> {
         let alloc = scarce.alloc;
         let plan = plan(alloc, INTERRUPTED)?;
         let sending = scarcely!(scarce, AllocError, label_of(alloc, &plan, 0))?;
@@ -103,20 +98,8 @@ const INTERRUPTED: &str =
 // All that a plan tells without memory, one sum for each call over all that it may be asked.
 struct Numbers;
 
-impl<R: Threads + Sync> Row<R> for Numbers {
-    fn name(&self) -> &str {
-        "Plan, without label"
-    }
-
-    fn memory(&self) -> Memory {
-        Memory::Never
-    }
-
-    fn is_given(&self, text: &str) -> bool {
-        text == NUMBERS_GIVEN
-    }
-
-    fn run(&self, _rt: &R, scarce: &mut Scarcity) -> Result<String, Fail> {
+impl Row for Numbers {
+    fn run(&self, scarce: &mut Scarcity) -> Result<String, Fail> {
         let alloc = scarce.alloc;
         let plan = plan(alloc, NUMBERED)?;
         scarce.begin();
@@ -271,7 +254,7 @@ const TEXTS: [(&str, &str, &str); 26] = [
     (
         "read_plan, on one line with a comment",
         SPREAD,
-        "plan 1\nmessage m write 1001000 stop else stop ;\ncontroller a m ;\n",
+        SPREAD_GIVEN,
     ),
     ("read_plan, each kind of item", NUMBERED, NUMBERED),
     ("read_plan, a repeated START", RESTART, RESTART),
@@ -373,59 +356,59 @@ const TEXTS: [(&str, &str, &str); 26] = [
 
 const SPREAD: &str = "plan 1 message m write 1001000 stop else stop ; controller a m ; # one line";
 
+const SPREAD_GIVEN: &str = "plan 1\nmessage m write 1001000 stop else stop ;\ncontroller a m ;\n";
+
 // The plan of a text, or its first refusal.
 #[derive(Drop)]
 struct ReadPlan {
-    name: &'static str,
     text: &'static str,
-    given: &'static str,
 }
 
-impl<R: Threads + Sync> Row<R> for ReadPlan {
-    fn name(&self) -> &str {
-        self.name
-    }
-
-    fn memory(&self) -> Memory {
-        if self.given.starts_with('P') || self.given == "plan 1\n" {
-            Memory::May
-        } else {
-            Memory::Asks
-        }
-    }
-
-    fn is_given(&self, text: &str) -> bool {
-        text == self.given
-    }
-
-    fn run(&self, _rt: &R, scarce: &mut Scarcity) -> Result<String, Fail> {
-        let alloc = scarce.alloc;
-        match scarcely!(
-            scarce,
-            PlanError::NoMemory,
-            read_plan(alloc, self.text.as_bytes())
-        ) {
-            Ok(plan) => shown_plan(alloc, &plan),
-            Err(refusal) => Ok(format!(in alloc; "{refusal}")?),
-        }
+impl Row for ReadPlan {
+    fn run(&self, scarce: &mut Scarcity) -> Result<String, Fail> {
+        plan_of(scarce, self.text)
     }
 }
 
-// The canonical text of a plan.
-struct PrintPlan;
-
-impl<R: Threads + Sync> Row<R> for PrintPlan {
-    fn name(&self) -> &str {
-        "print_plan"
+// The canonical text of the plan that is read while memory is scarce, or the refusal.
+fn plan_of(scarce: &mut Scarcity, text: &str) -> Result<String, Fail> {
+    let alloc = scarce.alloc;
+    match scarcely!(
+        scarce,
+        PlanError::NoMemory,
+        read_plan(alloc, text.as_bytes())
+    ) {
+        Ok(plan) => shown_plan(alloc, &plan),
+        Err(refusal) => Ok(format!(in alloc; "{refusal}")?),
     }
+}
 
-    fn is_given(&self, text: &str) -> bool {
-        text == NUMBERED
+// The plan of so many controllers that send nothing, each on a line of its own.
+#[derive(Drop)]
+struct ReadControllers {
+    count: u32,
+}
+
+impl Row for ReadControllers {
+    fn run(&self, scarce: &mut Scarcity) -> Result<String, Fail> {
+        let mut text = String::from_str(scarce.alloc, "plan 1\n")?;
+        for k in 0..self.count {
+            writeln!(text, "controller c{k} ;")?;
+        }
+        plan_of(scarce, text.as_str())
     }
+}
 
-    fn run(&self, _rt: &R, scarce: &mut Scarcity) -> Result<String, Fail> {
+// The canonical text of the plan of a text.
+#[derive(Drop)]
+struct PrintPlan {
+    text: &'static str,
+}
+
+impl Row for PrintPlan {
+    fn run(&self, scarce: &mut Scarcity) -> Result<String, Fail> {
         let alloc = scarce.alloc;
-        let plan = plan(alloc, NUMBERED)?;
+        let plan = plan(alloc, self.text)?;
         text(scarcely!(scarce, AllocError, print_plan(alloc, &plan))?)
     }
 }

@@ -1,16 +1,19 @@
 // Calls on the queue of pairs, in one thread.
 ghost use Rattle.std.specs.Prelude.{◌≡◌, [], All};
 
-use crate::harness::{Harness, Memory, Row};
+use crate::harness::{Case, Harness, Row};
 use crate::scarcity::Scarcity;
 use pair_queue::{Owner, SettleFault, Take, Thief, open_queue, settle};
 use std::alloc::{AllocError, Global};
 use std::test::Fail;
-use std::thread::Threads;
 
-pub fn try_all<R: Threads + Sync + Print>(rt: &R, harness: &mut Harness) -> Result<(), Fail> {
-    harness.try_row(rt, &OpenQueue)?;
-    harness.try_row(rt, &Takes)
+pub fn try_all<R: Print>(rt: &R, harness: &mut Harness) -> Result<(), Fail> {
+    harness.try_row(rt, Case::asks("open_queue", TAKEN), &OpenQueue)?;
+    harness.try_row(
+        rt,
+        Case::never_asks("Owner::take, Thief::take, settle", TAKEN),
+        &Takes,
+    )
 }
 
 // What an owner and a thief take of three numbers.
@@ -74,16 +77,8 @@ fn play(mut owner: Owner, mut thieves: Vec<Thief>, none: Vec<Thief>) -> Option<T
 // A queue of three numbers and one thief.
 struct OpenQueue;
 
-impl<R: Threads + Sync> Row<R> for OpenQueue {
-    fn name(&self) -> &str {
-        "open_queue"
-    }
-
-    fn is_given(&self, text: &str) -> bool {
-        text == TAKEN
-    }
-
-    fn run(&self, _rt: &R, scarce: &mut Scarcity) -> Result<String, Fail> {
+impl Row for OpenQueue {
+    fn run(&self, scarce: &mut Scarcity) -> Result<String, Fail> {
         let alloc = scarce.alloc;
         let (owner, thieves) = scarcely!(scarce, AllocError, open_queue(alloc, 3, 1))?;
         let taken = play(owner, thieves, Vec::new(alloc));
@@ -94,20 +89,8 @@ impl<R: Threads + Sync> Row<R> for OpenQueue {
 // All calls on its seats.
 struct Takes;
 
-impl<R: Threads + Sync> Row<R> for Takes {
-    fn name(&self) -> &str {
-        "Owner::take, Thief::take, settle"
-    }
-
-    fn memory(&self) -> Memory {
-        Memory::Never
-    }
-
-    fn is_given(&self, text: &str) -> bool {
-        text == TAKEN
-    }
-
-    fn run(&self, _rt: &R, scarce: &mut Scarcity) -> Result<String, Fail> {
+impl Row for Takes {
+    fn run(&self, scarce: &mut Scarcity) -> Result<String, Fail> {
         let alloc = scarce.alloc;
         let (owner, thieves) = open_queue(alloc, 3, 1)?;
         scarce.begin();

@@ -30,6 +30,26 @@ pub fn is_there(alloc: Global) -> bool {
     is_given(alloc, ASK)
 }
 
+/// Whether the second of three allocations is refused where it is named, and then the third too where all behind it are; and
+/// none is refused, and none told as refused, where there is no word.
+pub fn obeys(alloc: Global) -> bool {
+    three_given(alloc, Refused::None) == (true, true, true, false)
+        && three_given(alloc, Refused::One(2)) == (true, false, true, true)
+        && three_given(alloc, Refused::From(2)) == (true, false, false, true)
+        && three_given(alloc, Refused::One(4)) == (true, true, true, false)
+}
+
+// Whether each of three allocations is given, and whether one is told as refused.
+fn three_given(alloc: Global, refused: Refused) -> (bool, bool, bool, bool) {
+    let mut scarce = Scarcity::new(alloc, refused);
+    scarce.begin();
+    let first = is_given(alloc, 8);
+    let second = is_given(alloc, 8);
+    let third = is_given(alloc, 8);
+    scarce.end();
+    (first, second, third, scarce.has_met())
+}
+
 // Whether a block of so many bytes is given.
 fn is_given(alloc: Global, bytes: usize) -> bool {
     Vec::<u8>::with_capacity(alloc, bytes).is_ok()

@@ -1,7 +1,9 @@
 // Calls on tables of verdicts, by one thread and by several.
 
+ghost use denote.Param.Send.{IsSync};
+
 use crate::certs::{EQUAL, FLAW};
-use crate::harness::{Harness, Memory, Row};
+use crate::harness::{Case, Harness, Row};
 use crate::pairs::{CLASH, TWO};
 use crate::scarcity::Scarcity;
 use crate::shown::{plan, shown_cert, text};
@@ -14,19 +16,45 @@ use verdicts::{
 };
 
 pub fn try_all<R: Threads + Sync + Print>(rt: &R, harness: &mut Harness) -> Result<(), Fail> {
-    harness.try_row(rt, &MakeTable)?;
-    harness.try_row(rt, &FindFaults)?;
+    harness.try_row(rt, Case::asks("table, 700 pairs", ALL_PROOFS), &MakeTable)?;
+    harness.try_row(rt, Case::asks("faults, 112 pairs", ALL_FAULTS), &FindFaults)?;
     for workers in [1, 2, 8] {
-        harness.try_row(rt, &MakeTableWith { workers })?;
-        harness.try_row(rt, &FindFaultsWith { workers })?;
+        harness.try_row(
+            rt,
+            Case::asks("table_with, 700 pairs", ALL_PROOFS),
+            &MakeTableWith { rt, workers },
+        )?;
+        harness.try_row(
+            rt,
+            Case::asks("faults_with, 112 pairs", ALL_FAULTS),
+            &FindFaultsWith { rt, workers },
+        )?;
     }
-    harness.try_row(rt, &NoWorkers)?;
+    harness.try_row(
+        rt,
+        Case::never_asks(
+            "table_with, faults_with, by 0 and 9 workers",
+            "Some(Workers) Some(Workers) Some(Workers) Some(Workers)",
+        ),
+        &NoWorkers { rt },
+    )?;
     for (plan, given) in [(TWO, EQUAL), (CLASH, FLAW)] {
-        harness.try_row(rt, &Certify { plan, given })?;
-        harness.try_row(rt, &Written { plan, given })?;
+        harness.try_row(rt, Case::asks("Table::certify", given), &Certify { plan })?;
+        harness.try_row(rt, Case::asks("certificate_text", given), &Written { plan })?;
     }
-    harness.try_row(rt, &Looks)
+    harness.try_row(
+        rt,
+        Case::never_asks(
+            "Table::verdicts, is_safe; Faults::len, get, is_safe",
+            "1 verdicts, safe true; 1 faults, the first of Some(0), safe false",
+        ),
+        &Looks,
+    )
 }
+
+const ALL_PROOFS: &str = "700 proofs";
+
+const ALL_FAULTS: &str = "56 faults of 112 pairs";
 
 /// Eight controllers that each send the same five messages.
 pub fn forty_sendings(alloc: Global) -> Result<String, AllocError> {
@@ -80,23 +108,15 @@ fn shown_table(alloc: Global, table: Table) -> Result<String, Fail> {
 
 fn same_or(alloc: Global, found: String) -> Result<String, Fail> {
     if found.as_str() == forty_proofs(alloc)?.as_str() {
-        return Ok(String::from_str(alloc, "700 proofs")?);
+        return Ok(String::from_str(alloc, ALL_PROOFS)?);
     }
     Ok(found)
 }
 
 struct MakeTable;
 
-impl<R: Threads + Sync> Row<R> for MakeTable {
-    fn name(&self) -> &str {
-        "table, 700 pairs"
-    }
-
-    fn is_given(&self, text: &str) -> bool {
-        text == "700 proofs"
-    }
-
-    fn run(&self, _rt: &R, scarce: &mut Scarcity) -> Result<String, Fail> {
+impl Row for MakeTable {
+    fn run(&self, scarce: &mut Scarcity) -> Result<String, Fail> {
         let alloc = scarce.alloc;
         let plan = plan(alloc, forty_sendings(alloc)?.as_str())?;
         let table = scarcely!(scarce, AllocError, table(alloc, &plan))?;
@@ -106,26 +126,21 @@ impl<R: Threads + Sync> Row<R> for MakeTable {
 
 // The same by several workers. Where memory for a thread was refused, the others do its work.
 #[derive(Drop)]
-struct MakeTableWith {
+struct MakeTableWith<'a, R> {
+    rt: &'a R,
     workers: u32,
 }
 
-impl<R: Threads + Sync> Row<R> for MakeTableWith {
-    fn name(&self) -> &str {
-        "table_with, 700 pairs"
-    }
+impl<R: Threads + Sync> Row for MakeTableWith<'_, R> {
+    ghost ready = { IsSync R.row };
 
-    fn is_given(&self, text: &str) -> bool {
-        text == "700 proofs"
-    }
-
-    fn run(&self, rt: &R, scarce: &mut Scarcity) -> Result<String, Fail> {
+    fn run(&self, scarce: &mut Scarcity) -> Result<String, Fail> {
         let alloc = scarce.alloc;
         let plan = plan(alloc, forty_sendings(alloc)?.as_str())?;
         let table = scarcely!(
             scarce,
             TableError::NoMemory,
-            table_with(rt, alloc, &plan, self.workers, &NoGate)
+            table_with(self.rt, alloc, &plan, self.workers, &NoGate)
         )?;
         shown_table(alloc, table)
     }
@@ -134,16 +149,8 @@ impl<R: Threads + Sync> Row<R> for MakeTableWith {
 // The faults of eight controllers that each send two messages, of which the first stops where the second goes on.
 struct FindFaults;
 
-impl<R: Threads + Sync> Row<R> for FindFaults {
-    fn name(&self) -> &str {
-        "faults, 112 pairs"
-    }
-
-    fn is_given(&self, text: &str) -> bool {
-        text == "56 faults of 112 pairs"
-    }
-
-    fn run(&self, _rt: &R, scarce: &mut Scarcity) -> Result<String, Fail> {
+impl Row for FindFaults {
+    fn run(&self, scarce: &mut Scarcity) -> Result<String, Fail> {
         let alloc = scarce.alloc;
         let plan = plan(alloc, clashing_sendings(alloc)?.as_str())?;
         let found = scarcely!(scarce, AllocError, faults(alloc, &plan))?;
@@ -152,26 +159,21 @@ impl<R: Threads + Sync> Row<R> for FindFaults {
 }
 
 #[derive(Drop)]
-struct FindFaultsWith {
+struct FindFaultsWith<'a, R> {
+    rt: &'a R,
     workers: u32,
 }
 
-impl<R: Threads + Sync> Row<R> for FindFaultsWith {
-    fn name(&self) -> &str {
-        "faults_with, 112 pairs"
-    }
+impl<R: Threads + Sync> Row for FindFaultsWith<'_, R> {
+    ghost ready = { IsSync R.row };
 
-    fn is_given(&self, text: &str) -> bool {
-        text == "56 faults of 112 pairs"
-    }
-
-    fn run(&self, rt: &R, scarce: &mut Scarcity) -> Result<String, Fail> {
+    fn run(&self, scarce: &mut Scarcity) -> Result<String, Fail> {
         let alloc = scarce.alloc;
         let plan = plan(alloc, clashing_sendings(alloc)?.as_str())?;
         let found = scarcely!(
             scarce,
             TableError::NoMemory,
-            faults_with(rt, alloc, &plan, self.workers, &NoGate)
+            faults_with(self.rt, alloc, &plan, self.workers, &NoGate)
         )?;
         counted_faults(alloc, &plan, &found)
     }
@@ -201,29 +203,22 @@ fn counted_faults(alloc: Global, plan: &Plan, faults: &Faults) -> Result<String,
 }
 
 // No worker and nine workers are refused before anything asks for memory.
-struct NoWorkers;
+#[derive(Drop)]
+struct NoWorkers<'a, R> {
+    rt: &'a R,
+}
 
-impl<R: Threads + Sync> Row<R> for NoWorkers {
-    fn name(&self) -> &str {
-        "table_with, faults_with, by 0 and 9 workers"
-    }
+impl<R: Threads + Sync> Row for NoWorkers<'_, R> {
+    ghost ready = { IsSync R.row };
 
-    fn memory(&self) -> Memory {
-        Memory::Never
-    }
-
-    fn is_given(&self, text: &str) -> bool {
-        text == "Some(Workers) Some(Workers) Some(Workers) Some(Workers)"
-    }
-
-    fn run(&self, rt: &R, scarce: &mut Scarcity) -> Result<String, Fail> {
+    fn run(&self, scarce: &mut Scarcity) -> Result<String, Fail> {
         let alloc = scarce.alloc;
         let plan = plan(alloc, TWO)?;
         scarce.begin();
-        let none = table_with(rt, alloc, &plan, 0, &NoGate).err();
-        let nine = table_with(rt, alloc, &plan, 9, &NoGate).err();
-        let nobody = faults_with(rt, alloc, &plan, 0, &NoGate).err();
-        let many = faults_with(rt, alloc, &plan, 9, &NoGate).err();
+        let none = table_with(self.rt, alloc, &plan, 0, &NoGate).err();
+        let nine = table_with(self.rt, alloc, &plan, 9, &NoGate).err();
+        let nobody = faults_with(self.rt, alloc, &plan, 0, &NoGate).err();
+        let many = faults_with(self.rt, alloc, &plan, 9, &NoGate).err();
         scarce.end();
         Ok(format!(in alloc; "{none:?} {nine:?} {nobody:?} {many:?}")?)
     }
@@ -233,19 +228,10 @@ impl<R: Threads + Sync> Row<R> for NoWorkers {
 #[derive(Drop)]
 struct Certify {
     plan: &'static str,
-    given: &'static str,
 }
 
-impl<R: Threads + Sync> Row<R> for Certify {
-    fn name(&self) -> &str {
-        "Table::certify"
-    }
-
-    fn is_given(&self, text: &str) -> bool {
-        text == self.given
-    }
-
-    fn run(&self, _rt: &R, scarce: &mut Scarcity) -> Result<String, Fail> {
+impl Row for Certify {
+    fn run(&self, scarce: &mut Scarcity) -> Result<String, Fail> {
         let alloc = scarce.alloc;
         let plan = plan(alloc, self.plan)?;
         let whole = table(alloc, &plan)?;
@@ -274,19 +260,10 @@ impl<R: Threads + Sync> Row<R> for Certify {
 #[derive(Drop)]
 struct Written {
     plan: &'static str,
-    given: &'static str,
 }
 
-impl<R: Threads + Sync> Row<R> for Written {
-    fn name(&self) -> &str {
-        "certificate_text"
-    }
-
-    fn is_given(&self, text: &str) -> bool {
-        text == self.given
-    }
-
-    fn run(&self, _rt: &R, scarce: &mut Scarcity) -> Result<String, Fail> {
+impl Row for Written {
+    fn run(&self, scarce: &mut Scarcity) -> Result<String, Fail> {
         let alloc = scarce.alloc;
         let plan = plan(alloc, self.plan)?;
         let found = faults(alloc, &plan)?;
@@ -297,20 +274,8 @@ impl<R: Threads + Sync> Row<R> for Written {
 // What a table and a list of faults tell.
 struct Looks;
 
-impl<R: Threads + Sync> Row<R> for Looks {
-    fn name(&self) -> &str {
-        "Table::verdicts, is_safe; Faults::len, get, is_safe"
-    }
-
-    fn memory(&self) -> Memory {
-        Memory::Never
-    }
-
-    fn is_given(&self, text: &str) -> bool {
-        text == "1 verdicts, safe true; 1 faults, the first of Some(0), safe false"
-    }
-
-    fn run(&self, _rt: &R, scarce: &mut Scarcity) -> Result<String, Fail> {
+impl Row for Looks {
+    fn run(&self, scarce: &mut Scarcity) -> Result<String, Fail> {
         let alloc = scarce.alloc;
         let table = table(alloc, &plan(alloc, TWO)?)?;
         let found = faults(alloc, &plan(alloc, CLASH)?)?;

@@ -1,17 +1,30 @@
 // Calls on messages, and on the plan that keeps them.
 
-use crate::harness::{Harness, Memory, Row};
+use crate::harness::{Case, Harness, Row};
 use crate::scarcity::Scarcity;
 use crate::shown::{first_message, plan, shown_message};
-use message_tree::{Address, Bit, Count, Item, Kind, Pattern};
+use message_tree::{Address, Bit, Count, Item, Pattern};
 use std::alloc::AllocError;
 use std::test::Fail;
-use std::thread::Threads;
 
-pub fn try_all<R: Threads + Sync + Print>(rt: &R, harness: &mut Harness) -> Result<(), Fail> {
-    harness.try_row(rt, &Copied)?;
-    harness.try_row(rt, &Measured)?;
-    harness.try_row(rt, &Bits)
+pub fn try_all<R: Print>(rt: &R, harness: &mut Harness) -> Result<(), Fail> {
+    harness.try_row(rt, Case::asks("Frame::copy", RESTART), &Copied)?;
+    harness.try_row(
+        rt,
+        Case::never_asks(
+            "Frame::nodes, longest, slots, room_left",
+            "3 4 38 Some(0) None",
+        ),
+        &Measured,
+    )?;
+    harness.try_row(
+        rt,
+        Case::never_asks(
+            "Pattern, Address, Count, Item, Kind",
+            "split Some(2), Some(6), counts 2 4 true false true, bits One Zero Either, Heard h answer",
+        ),
+        &Bits,
+    )
 }
 
 /// A message with a repeated START.
@@ -21,16 +34,8 @@ pub const RESTART: &str =
 // The copy of a message is the message.
 struct Copied;
 
-impl<R: Threads + Sync> Row<R> for Copied {
-    fn name(&self) -> &str {
-        "Frame::copy"
-    }
-
-    fn is_given(&self, text: &str) -> bool {
-        text == RESTART
-    }
-
-    fn run(&self, _rt: &R, scarce: &mut Scarcity) -> Result<String, Fail> {
+impl Row for Copied {
+    fn run(&self, scarce: &mut Scarcity) -> Result<String, Fail> {
         let alloc = scarce.alloc;
         let plan = plan(alloc, RESTART)?;
         let frame = first_message(&plan)?;
@@ -42,47 +47,24 @@ impl<R: Threads + Sync> Row<R> for Copied {
 // The sizes of a message.
 struct Measured;
 
-impl<R: Threads + Sync> Row<R> for Measured {
-    fn name(&self) -> &str {
-        "Frame::nodes, longest, slots"
-    }
-
-    fn memory(&self) -> Memory {
-        Memory::Never
-    }
-
-    fn is_given(&self, text: &str) -> bool {
-        text == "3 4 38"
-    }
-
-    fn run(&self, _rt: &R, scarce: &mut Scarcity) -> Result<String, Fail> {
+impl Row for Measured {
+    fn run(&self, scarce: &mut Scarcity) -> Result<String, Fail> {
         let alloc = scarce.alloc;
         let plan = plan(alloc, RESTART)?;
         let frame = first_message(&plan)?;
         scarce.begin();
         let (nodes, longest, slots) = (frame.nodes(), frame.longest(), frame.slots());
+        let (left, over) = (frame.room_left(nodes), frame.room_left(0));
         scarce.end();
-        Ok(format!(in alloc; "{nodes} {longest} {slots}")?)
+        Ok(format!(in alloc; "{nodes} {longest} {slots} {left:?} {over:?}")?)
     }
 }
 
 // Bits, counts and items.
 struct Bits;
 
-impl<R: Threads + Sync> Row<R> for Bits {
-    fn name(&self) -> &str {
-        "Pattern, Address, Count, Item"
-    }
-
-    fn memory(&self) -> Memory {
-        Memory::Never
-    }
-
-    fn is_given(&self, text: &str) -> bool {
-        text == "split Some(2), Some(6), counts 2 4 true false true, first One, kind Heard"
-    }
-
-    fn run(&self, _rt: &R, scarce: &mut Scarcity) -> Result<String, Fail> {
+impl Row for Bits {
+    fn run(&self, scarce: &mut Scarcity) -> Result<String, Fail> {
         let alloc = scarce.alloc;
         scarce.begin();
         let split = Pattern::new(0b1111_1111, 0b1111_0000).first_split(&Pattern::new(
@@ -98,12 +80,15 @@ impl<R: Threads + Sync> Row<R> for Bits {
             &range,
         )));
         let none = Count::new(0).is_none();
-        let first: Bit = Pattern::new(0xff, 0x80).bit(0);
-        let kind: Kind = Item::Heard(true).kind();
-        scarce.end();
         let (least, greatest) = between.map_or((0, 0), |range| (range.least(), range.greatest()));
+        let one: Bit = Pattern::new(0xff, 0x80).bit(0);
+        let zero: Bit = Address::new(0x7f, 0x3f).bit(0);
+        let either: Bit = Address::new(0x3f, 0x7f).bit(0);
+        let heard = Item::Heard(true);
+        let (kind, symbol, word) = (heard.kind(), heard.symbol(), heard.kind().word());
+        scarce.end();
         Ok(format!(in alloc;
-            "split {split:?}, {headers:?}, counts {least} {greatest} {meets} {misses} {none}, first {first:?}, kind {kind:?}"
+            "split {split:?}, {headers:?}, counts {least} {greatest} {meets} {misses} {none}, bits {one:?} {zero:?} {either:?}, {kind:?} {symbol} {word}"
         )?)
     }
 }
