@@ -8,13 +8,15 @@ use plan_core::{BuildError, Builder, Name};
 use std::alloc::{AllocError, Global};
 use std::test::Fail;
 
-// How many others stand before what is added: the tables of a builder grow in different places.
-const BEFORE: [u32; 10] = [0, 1, 2, 3, 6, 7, 13, 14, 27, 28];
+// How many others stand before what is added. A builder begins with one message and two controllers, and a table of names
+// has room for 9, then for 18: with 8 and 17 others the table of messages is full, with 7 and 16 that of controllers, and
+// with 9 and 18 that of interrupts. The list of nevers doubles its room.
+const BEFORE: [u32; 8] = [0, 4, 7, 8, 9, 16, 17, 18];
 
 pub fn try_all<R: Print>(rt: &R, harness: &mut Harness) -> Result<(), Fail> {
     for before in BEFORE {
         for kind in KINDS {
-            harness.try_row(rt, kind.case(), &Add { kind, before })?;
+            harness.try_row(rt, kind.case(before), &Add { kind, before })?;
         }
     }
     harness.try_row(
@@ -22,22 +24,14 @@ pub fn try_all<R: Print>(rt: &R, harness: &mut Harness) -> Result<(), Fail> {
         Case::asks("Builder::message, the first", WRITE),
         &FirstMessage,
     )?;
-    harness.try_row(
-        rt,
-        Case::never_asks(
-            "Builder, items that are refused",
-            "Some(Twice) Some(TooLong) Some(Twice) Some(Unknown) Some(Twice) Some(Twice) Some(Unknown) Some(Twice) Some(Twice)",
-        ),
-        &Refusals,
-    )?;
-    harness.try_row(
-        rt,
-        Case::never_asks(
-            "Builder, more than a plan has",
-            "Some(TooMany) Some(TooMany) Some(TooMany)",
-        ),
-        &TooMany,
-    )?;
+    for (kind, first, other, given) in REFUSALS {
+        let item = Refused { kind, first, other };
+        harness.try_row(rt, Case::never_asks("Builder, refused", given), &item)?;
+    }
+    for kind in [Kind::Message, Kind::Controller, Kind::Interrupt] {
+        let case = Case::never_asks("Builder, more than a plan has", "TooMany");
+        harness.try_row(rt, case, &TooMany { kind })?;
+    }
     harness.try_row(
         rt,
         Case::never_asks("Builder::new, finish", "0 participants, 2 with memory"),
@@ -61,9 +55,10 @@ enum Kind {
 }
 
 impl Kind {
-    // For a message there is mostly room for one more.
-    fn case(self) -> Case<'static> {
+    // A message asks for memory where the table is full.
+    fn case(self, before: u32) -> Case<'static> {
         match self {
+            Kind::Message if before == 8 || before == 17 => Case::asks("Builder::message", ADDED),
             Kind::Message => Case::may_ask("Builder::message", ADDED),
             Kind::Controller => Case::asks("Builder::controller", ADDED),
             Kind::Interrupt => Case::asks("Builder::interrupt", ADDED),
@@ -116,15 +111,24 @@ enum Item {
 }
 
 impl Item {
+    // An item that nothing here stands in the way of.
     fn new(alloc: Global, kind: Kind) -> Result<Item, Fail> {
+        match kind {
+            Kind::Never => Item::of(alloc, kind, "a", "b"),
+            _ => Item::of(alloc, kind, "new", ""),
+        }
+    }
+
+    // A message of one header, or one that is too long where the other text is `long`; a controller that sends `m`, and the
+    // other message where there is one; an interrupt; or that these two controllers never start together.
+    fn of(alloc: Global, kind: Kind, first: &str, other: &str) -> Result<Item, Fail> {
+        let first = name(alloc, first)?;
         Ok(match kind {
-            Kind::Message => Item::Message(name(alloc, "new")?, write(alloc)?),
-            Kind::Controller => Item::Controller(
-                name(alloc, "new")?,
-                vec![in alloc; name(alloc, "m")?]?,
-            ),
-            Kind::Interrupt => Item::Interrupt(name(alloc, "new")?),
-            Kind::Never => Item::Never(name(alloc, "a")?, name(alloc, "b")?),
+            Kind::Message if other == "long" => Item::Message(first, too_long(alloc)?),
+            Kind::Message => Item::Message(first, write(alloc)?),
+            Kind::Controller => Item::Controller(first, sent(alloc, other)?),
+            Kind::Interrupt => Item::Interrupt(first),
+            Kind::Never => Item::Never(first, name(alloc, other)?),
         })
     }
 
@@ -136,6 +140,14 @@ impl Item {
             Item::Never(first, second) => builder.never(&first, &second),
         }
     }
+}
+
+fn sent(alloc: Global, other: &str) -> Result<Vec<Name>, Fail> {
+    let mut sent = vec![in alloc; name(alloc, "m")?]?;
+    if !other.is_empty() {
+        sent.push(name(alloc, other)?)?;
+    }
+    Ok(sent)
 }
 
 const WRITE: &str = "plan 1\nmessage m write 1001000 stop else stop ;\n";
@@ -229,68 +241,70 @@ impl Row for FirstMessage {
     }
 }
 
-// What an item is refused for otherwise is told before want of memory.
-struct Refusals;
+// What is refused otherwise than for want of memory, behind two others of each kind.
+const REFUSALS: [(Kind, &str, &str, &str); 9] = [
+    (Kind::Message, "m", "", "Twice"),
+    (Kind::Message, "new", "long", "TooLong"),
+    (Kind::Controller, "a", "q", "Twice"),
+    (Kind::Controller, "new", "q", "Unknown"),
+    (Kind::Controller, "new", "m", "Twice"),
+    (Kind::Interrupt, "i1", "", "Twice"),
+    (Kind::Never, "b", "q", "Unknown"),
+    (Kind::Never, "b", "b", "Twice"),
+    (Kind::Never, "c0", "a", "Twice"),
+];
 
-impl Row for Refusals {
+// That is told before want of memory.
+#[derive(Drop)]
+struct Refused {
+    kind: Kind,
+    first: &'static str,
+    other: &'static str,
+}
+
+impl Row for Refused {
     fn run(&self, scarce: &mut Scarcity) -> Result<String, Fail> {
         let alloc = scarce.alloc;
-        let mut builder = filled(alloc, 2)?;
-        let (m, long) = (name(alloc, "m")?, name(alloc, "long")?);
-        let (a, b, c0, q) = (
-            name(alloc, "a")?,
-            name(alloc, "b")?,
-            name(alloc, "c0")?,
-            name(alloc, "q")?,
-        );
-        let first = name(alloc, "a")?;
-        let (fresh, other, t) = (
-            name(alloc, "fresh")?,
-            name(alloc, "other")?,
-            name(alloc, "i1")?,
-        );
-        let (short, too_long) = (write(alloc)?, too_long(alloc)?);
-        let sends_unknown = vec![in alloc; name(alloc, "m")?, name(alloc, "q")?]?;
-        let sends_twice = vec![in alloc; name(alloc, "m")?, name(alloc, "m")?]?;
-        scarce.begin();
-        let twice = builder.message(m, short).err();
-        let long = builder.message(long, too_long).err();
-        let controller = builder.controller(a, &sends_unknown).err();
-        let unknown = builder.controller(fresh, &sends_unknown).err();
-        let repeated = builder.controller(other, &sends_twice).err();
-        let interrupt = builder.interrupt(t, 0).err();
-        let nobody = builder.never(&b, &q).err();
-        let itself = builder.never(&b, &b).err();
-        let stands = builder.never(&c0, &first).err();
-        scarce.end();
-        Ok(format!(in alloc;
-            "{twice:?} {long:?} {controller:?} {unknown:?} {repeated:?} {interrupt:?} {nobody:?} {itself:?} {stands:?}"
-        )?)
+        let item = Item::of(alloc, self.kind, self.first, self.other)?;
+        refusal(scarce, filled(alloc, 2)?, item)
     }
 }
 
-// One more than a plan may have of messages, of controllers and of interrupts.
-struct TooMany;
+// Why the builder refuses the item.
+fn refusal(scarce: &mut Scarcity, mut builder: Builder, item: Item) -> Result<String, Fail> {
+    scarce.begin();
+    let answer = item.add_to(&mut builder);
+    scarce.end();
+    match answer {
+        Ok(()) => Err(Fail::from("an item that should be refused")),
+        Err(refusal) => Ok(format!(in scarce.alloc; "{refusal:?}")?),
+    }
+}
+
+// One more message, controller or interrupt than a plan may have.
+#[derive(Drop)]
+struct TooMany {
+    kind: Kind,
+}
 
 impl Row for TooMany {
     fn run(&self, scarce: &mut Scarcity) -> Result<String, Fail> {
         let alloc = scarce.alloc;
-        let mut builder = filled(alloc, 30)?;
-        for k in 31..256 {
-            builder.message(numbered(alloc, 'n', k)?, write(alloc)?)?;
-        }
-        for k in 30..32 {
-            builder.interrupt(numbered(alloc, 'i', k)?, 0)?;
-        }
-        let (message, frame) = (name(alloc, "new")?, write(alloc)?);
-        let (controller, interrupt) = (name(alloc, "new")?, name(alloc, "new")?);
-        scarce.begin();
-        let message = builder.message(message, frame).err();
-        let controller = builder.controller(controller, &[]).err();
-        let interrupt = builder.interrupt(interrupt, 0).err();
-        scarce.end();
-        Ok(format!(in alloc; "{message:?} {controller:?} {interrupt:?}")?)
+        let item = Item::new(alloc, self.kind)?;
+        refusal(scarce, full(alloc)?, item)
     }
+}
+
+// A builder with as many of each as a plan may have.
+fn full(alloc: Global) -> Result<Builder, Fail> {
+    let mut builder = filled(alloc, 30)?;
+    for k in 31..256 {
+        builder.message(numbered(alloc, 'n', k)?, write(alloc)?)?;
+    }
+    for k in 30..32 {
+        builder.interrupt(numbered(alloc, 'i', k)?, 0)?;
+    }
+    Ok(builder)
 }
 
 // A message of one header and 256 bytes.

@@ -9,6 +9,7 @@ use crate::shown::plan;
 use capture_check::{
     Event, Mark, Transaction, Until, Watch, events, explain, explain_all, transactions,
 };
+use plan_core::Plan;
 use std::alloc::{AllocError, Global};
 use std::test::Fail;
 use std::thread::Threads;
@@ -340,11 +341,20 @@ impl Row for Explain {
         let plan = plan(alloc, CLASH)?;
         let mut text = String::new(alloc);
         for transaction in &heard(alloc, self.changes)? {
-            let found = scarcely!(scarce, AllocError, explain(alloc, &plan, transaction))?;
+            let found = explained(scarce, &plan, transaction)?;
             put_numbers(&mut text, &found)?;
         }
         Ok(text)
     }
+}
+
+fn explained(
+    scarce: &mut Scarcity,
+    plan: &Plan,
+    transaction: &Transaction,
+) -> Result<Vec<u32>, Fail> {
+    let alloc = scarce.alloc;
+    Ok(scarcely!(scarce, AllocError, explain(alloc, plan, transaction))?)
 }
 
 fn put_numbers(text: &mut String, numbers: &[u32]) -> Result<(), AllocError> {

@@ -5,7 +5,7 @@ use crate::harness::{Case, Harness, Row};
 use crate::scarcity::Scarcity;
 use crate::shown::{plan, shown_cert, shown_plan};
 use cert_check::{AcceptError, accept, accept_plan, check_fault, check_pair};
-use certificate::{Cert, CertText, Fault, read_cert};
+use certificate::{Cert, CertFault, CertText, Fault, read_cert};
 use pair_walk::{Outcome, first_fault, walk};
 use plan_core::Plan;
 use std::alloc::{AllocError, Global};
@@ -34,11 +34,11 @@ pub fn try_all<R: Print>(rt: &R, harness: &mut Harness) -> Result<(), Fail> {
         Case::never_asks("check_pair, check_fault", "true false true false"),
         &Checks,
     )?;
-    harness.try_row(
-        rt,
-        Case::never_asks("accept_plan, Accepted", "3 pairs, Pair(0), Count"),
-        &AcceptPlan,
-    )
+    for (plan, cert, given) in ACCEPTED {
+        let case = Case::never_asks("accept_plan, Accepted", given);
+        harness.try_row(rt, case, &AcceptPlan { plan, cert })?;
+    }
+    Ok(())
 }
 
 const NO_PLAN: &str = "plan 3";
@@ -227,32 +227,45 @@ fn shows(plan: &Plan, fault: &Fault) -> bool {
     plan.pair_count() > 0 && check_fault(plan, 0, fault)
 }
 
-// A plan that its proofs make safe, one that they don't, and one that has another number of pairs. A plan that is not
-// accepted is handed back.
-struct AcceptPlan;
+// A plan that its proofs make safe, one that they don't, and one that has another number of pairs.
+const ACCEPTED: [(&str, &str, &str); 3] = [
+    (OPEN, THREE, "3 pairs"),
+    (CLASH, EQUAL, "Pair(0)"),
+    (TWO, THREE, "Count"),
+];
+
+// Whether a plan is accepted. Where it is not it is handed back.
+#[derive(Drop)]
+struct AcceptPlan {
+    plan: &'static str,
+    cert: &'static str,
+}
 
 impl Row for AcceptPlan {
     fn run(&self, scarce: &mut Scarcity) -> Result<String, Fail> {
         let alloc = scarce.alloc;
-        let (safe, clash, other) = (plan(alloc, OPEN)?, plan(alloc, CLASH)?, plan(alloc, TWO)?);
-        let (three, one) = (proofs(alloc, THREE)?, proofs(alloc, EQUAL)?);
+        let proofs = proofs(alloc, self.cert)?;
+        let plan = plan(alloc, self.plan)?;
         scarce.begin();
-        let accepted = accept_plan(safe, &three);
-        let pairs = accepted
-            .as_ref()
-            .map_or(0, |accepted| accepted.plan().pair_count());
-        let wrong = accept_plan(clash, &one);
-        let short = accept_plan(other, &three);
-        let whole = accepted.map(|accepted| accepted.into_plan());
+        let (back, pairs, why) = accepted(plan, &proofs);
         scarce.end();
-        let (Ok(whole), Err((clash, wrong)), Err((other, short))) = (whole, wrong, short) else {
-            return Err(Fail::from("a plan that is accepted where it should not be"));
-        };
-        for (found, text) in [(whole, OPEN), (clash, CLASH), (other, TWO)] {
-            if shown_plan(alloc, &found)?.as_str() != text {
-                return Err(Fail::from("another plan is handed back"));
-            }
+        if shown_plan(alloc, &back)?.as_str() != self.plan {
+            return Err(Fail::from("another plan is handed back"));
         }
-        Ok(format!(in alloc; "{pairs} pairs, {wrong:?}, {short:?}")?)
+        match why {
+            None => Ok(format!(in alloc; "{pairs} pairs")?),
+            Some(why) => Ok(format!(in alloc; "{why:?}")?),
+        }
+    }
+}
+
+// The plan again, how many pairs it was accepted with, and why it was not.
+fn accepted(plan: Plan, proofs: &[Cert]) -> (Plan, u32, Option<CertFault>) {
+    match accept_plan(plan, proofs) {
+        Ok(accepted) => {
+            let pairs = accepted.plan().pair_count();
+            (accepted.into_plan(), pairs, None)
+        }
+        Err((plan, why)) => (plan, 0, Some(why)),
     }
 }

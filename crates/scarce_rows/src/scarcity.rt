@@ -30,24 +30,30 @@ pub fn is_there(alloc: Global) -> bool {
     is_given(alloc, ASK)
 }
 
-/// Whether the second of three allocations is refused where it is named, and then the third too where all behind it are; and
-/// none is refused, and none told as refused, where there is no word.
+/// Whether those allocations are refused that are named: of three the second alone, or the second and the third, or none
+/// where the fourth is named.
 pub fn obeys(alloc: Global) -> bool {
-    three_given(alloc, Refused::None) == (true, true, true, false)
-        && three_given(alloc, Refused::One(2)) == (true, false, true, true)
-        && three_given(alloc, Refused::From(2)) == (true, false, false, true)
-        && three_given(alloc, Refused::One(4)) == (true, true, true, false)
+    given_of_three(alloc, Refused::One(2)) == 2
+        && given_of_three(alloc, Refused::From(2)) == 1
+        && given_of_three(alloc, Refused::One(4)) == 4
 }
 
-// Whether each of three allocations is given, and whether one is told as refused.
-fn three_given(alloc: Global, refused: Refused) -> (bool, bool, bool, bool) {
+// How many of three allocations are given, and one more where none is told as refused.
+fn given_of_three(alloc: Global, refused: Refused) -> u32 {
     let mut scarce = Scarcity::new(alloc, refused);
+    let mut given = 0u32;
     scarce.begin();
-    let first = is_given(alloc, 8);
-    let second = is_given(alloc, 8);
-    let third = is_given(alloc, 8);
+    for _ in 0..3 {
+        if is_given(alloc, 8) {
+            given = given.saturating_add(1);
+        }
+    }
     scarce.end();
-    (first, second, third, scarce.has_met())
+    if scarce.has_met() {
+        given
+    } else {
+        given.saturating_add(1)
+    }
 }
 
 // Whether a block of so many bytes is given.

@@ -73,14 +73,13 @@ impl Row for Bits {
         ));
         let headers = Address::new(0x7f, 0b100_1000).first_split(&Address::new(0x7f, 0b100_1001));
         let between = Count::between(2, 4);
-        let meets = between.is_some_and(|range| Count::new(3).is_some_and(|count| count.meets(
-            &range,
-        )));
-        let misses = between.is_some_and(|range| Count::new(5).is_some_and(|count| count.meets(
-            &range,
-        )));
+        let meets = do_meet(between, Count::new(3));
+        let misses = do_meet(between, Count::new(5));
         let none = Count::new(0).is_none();
-        let (least, greatest) = between.map_or((0, 0), |range| (range.least(), range.greatest()));
+        let (least, greatest) = match between {
+            Some(range) => (range.least(), range.greatest()),
+            None => (0, 0),
+        };
         let one: Bit = Pattern::new(0xff, 0x80).bit(0);
         let zero: Bit = Address::new(0x7f, 0x3f).bit(0);
         let either: Bit = Address::new(0x3f, 0x7f).bit(0);
@@ -90,5 +89,12 @@ impl Row for Bits {
         Ok(format!(in alloc;
             "split {split:?}, {headers:?}, counts {least} {greatest} {meets} {misses} {none}, bits {one:?} {zero:?} {either:?}, {kind:?} {symbol} {word}"
         )?)
+    }
+}
+
+fn do_meet(some: Option<Count>, others: Option<Count>) -> bool {
+    match (some, others) {
+        (Some(some), Some(others)) => some.meets(&others),
+        _ => false,
     }
 }
