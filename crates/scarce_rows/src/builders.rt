@@ -21,7 +21,7 @@ pub fn try_all<R: Print>(rt: &R, harness: &mut Harness) -> Result<(), Fail> {
     }
     harness.try_row(
         rt,
-        Case::asks("Builder::message, the first", WRITE),
+        Case::asks("Builder::message, the first", FIRST),
         &FirstMessage,
     )?;
     for (kind, first, other, given) in REFUSALS {
@@ -80,18 +80,7 @@ impl Row for Add {
     fn run(&self, scarce: &mut Scarcity) -> Result<String, Fail> {
         let alloc = scarce.alloc;
         let mut builder = filled(alloc, self.before)?;
-        let item = Item::new(alloc, self.kind)?;
-        let again = Item::new(alloc, self.kind)?;
-        scarce.begin();
-        let answer = item.add_to(&mut builder);
-        scarce.end();
-        match answer {
-            Err(BuildError::NoMemory) => {
-                scarce.note_want()?;
-                again.add_to(&mut builder)?;
-            }
-            answer => answer?,
-        }
+        add_new(scarce, &mut builder, self.kind)?;
         let found = shown_plan(alloc, &builder.finish())?;
         let wanted = text_of(alloc, self.before, Some(self.kind))?;
         if found.as_str() == wanted.as_str() {
@@ -99,6 +88,20 @@ impl Row for Add {
         }
         Ok(found)
     }
+}
+
+// Adds a new item of this kind while memory is scarce, and where that wanted memory, its like with memory.
+fn add_new(scarce: &mut Scarcity, builder: &mut Builder, kind: Kind) -> Result<(), Fail> {
+    let item = Item::new(scarce.alloc, kind)?;
+    scarce.begin();
+    let answer = item.add_to(builder);
+    scarce.end();
+    if answer == Err(BuildError::NoMemory) {
+        scarce.note_want()?;
+        Item::new(scarce.alloc, kind)?.add_to(builder)?;
+        return Ok(());
+    }
+    Ok(answer?)
 }
 
 // An item that no plan here has.
@@ -193,30 +196,44 @@ fn text_of(alloc: Global, count: u32, added: Option<Kind>) -> Result<String, Fai
 // The builder of that plan.
 fn filled(alloc: Global, count: u32) -> Result<Builder, Fail> {
     let mut builder = Builder::new(alloc);
+    add_messages(alloc, &mut builder, count)?;
+    add_controllers(alloc, &mut builder, count)?;
+    for k in 0..count {
+        builder.interrupt(numbered(alloc, 'i', k)?, 0)?;
+    }
+    let first = name(alloc, "a")?;
+    for k in 0..count {
+        builder.never(&first, &numbered(alloc, 'c', k)?)?;
+    }
+    Ok(builder)
+}
+
+fn add_messages(alloc: Global, builder: &mut Builder, count: u32) -> Result<(), Fail> {
     builder.message(name(alloc, "m")?, write(alloc)?)?;
     for k in 0..count {
         builder.message(numbered(alloc, 'm', k)?, write(alloc)?)?;
     }
-    let sent = vec![in alloc; name(alloc, "m")?]?;
-    builder.controller(name(alloc, "a")?, &sent)?;
-    builder.controller(name(alloc, "b")?, &sent)?;
+    Ok(())
+}
+
+fn add_controllers(alloc: Global, builder: &mut Builder, count: u32) -> Result<(), Fail> {
+    let first = sent(alloc, "")?;
+    builder.controller(name(alloc, "a")?, &first)?;
+    builder.controller(name(alloc, "b")?, &first)?;
     for k in 0..count {
-        let sent = vec![in alloc; name(alloc, "m")?, numbered(alloc, 'm', k)?]?;
-        builder.controller(numbered(alloc, 'c', k)?, &sent)?;
+        let text = format!(in alloc; "m{k}")?;
+        let both = sent(alloc, text.as_str())?;
+        builder.controller(numbered(alloc, 'c', k)?, &both)?;
     }
-    for k in 0..count {
-        builder.interrupt(numbered(alloc, 'i', k)?, 0)?;
-    }
-    for k in 0..count {
-        builder.never(&name(alloc, "a")?, &numbered(alloc, 'c', k)?)?;
-    }
-    Ok(builder)
+    Ok(())
 }
 
 fn numbered(alloc: Global, letter: char, k: u32) -> Result<Name, Fail> {
     let text = format!(in alloc; "{letter}{k}")?;
     name(alloc, text.as_str())
 }
+
+const FIRST: &str = "plan 1\nmessage new write 1001000 stop else stop ;\n";
 
 // The first message of a plan.
 struct FirstMessage;
@@ -225,18 +242,7 @@ impl Row for FirstMessage {
     fn run(&self, scarce: &mut Scarcity) -> Result<String, Fail> {
         let alloc = scarce.alloc;
         let mut builder = Builder::new(alloc);
-        let (first, again) = (name(alloc, "m")?, name(alloc, "m")?);
-        let (frame, copy) = (write(alloc)?, write(alloc)?);
-        scarce.begin();
-        let answer = builder.message(first, frame);
-        scarce.end();
-        match answer {
-            Err(BuildError::NoMemory) => {
-                scarce.note_want()?;
-                builder.message(again, copy)?;
-            }
-            answer => answer?,
-        }
+        add_new(scarce, &mut builder, Kind::Message)?;
         shown_plan(alloc, &builder.finish())
     }
 }
