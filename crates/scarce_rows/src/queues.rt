@@ -1,5 +1,5 @@
 // Calls on the queue of pairs, in one thread.
-ghost use Rattle.std.specs.Prelude.{◌≡◌, [], All};
+ghost use Rattle.std.specs.Prelude.{◌≡◌, All};
 
 use crate::harness::{Case, Harness, Row};
 use crate::scarcity::Scarcity;
@@ -48,21 +48,28 @@ fn ask(thief: &mut Thief) -> Take
 }
 
 // The owner takes the first number, the thief the second; a number is left; the owner takes it and finds the end; a seat is
-// missing; all are back. The seats take no memory, and `none` has no room.
-fn play(mut owner: Owner, mut thieves: Vec<Thief>, none: Vec<Thief>) -> Option<Taken>
-    requires queue { All (λ thief. thief.queue ≡ owner.queue) thieves.items }
-    requires none { none.items ≡ [] }
+// missing; all are back. It takes no memory.
+fn play(alloc: Global, mut owner: Owner, mut thieves: Vec<Thief>) -> Option<Taken>
+    requires { All (λ thief. thief.queue ≡ owner.queue) thieves.items }
 {
     let first = owner.take();
-    let mut thief = thieves.pop()?;
+    let Some(mut thief) = thieves.pop() else {
+        return None;
+    };
     let second = ask(&mut thief);
-    thieves.push(thief).ok()?;
-    let left = settle(owner, thieves).err()?;
+    let Ok(()) = thieves.push(thief) else {
+        return None;
+    };
+    let Err(left) = settle(owner, thieves) else {
+        return None;
+    };
     let why = left.why;
     let mut owner = left.owner;
     let third = owner.take();
     let end = owner.take();
-    let missing = settle(owner, none).err()?;
+    let Err(missing) = settle(owner, Vec::new(alloc)) else {
+        return None;
+    };
     Some(Taken {
         first,
         second,
@@ -81,7 +88,7 @@ impl Row for OpenQueue {
     fn run(&self, scarce: &mut Scarcity) -> Result<String, Fail> {
         let alloc = scarce.alloc;
         let (owner, thieves) = scarcely!(scarce, AllocError, open_queue(alloc, 3, 1))?;
-        let taken = play(owner, thieves, Vec::new(alloc));
+        let taken = play(alloc, owner, thieves);
         Ok(format!(in alloc; "{taken:?}")?)
     }
 }
@@ -94,7 +101,7 @@ impl Row for Takes {
         let alloc = scarce.alloc;
         let (owner, thieves) = open_queue(alloc, 3, 1)?;
         scarce.begin();
-        let taken = play(owner, thieves, Vec::new(alloc));
+        let taken = play(alloc, owner, thieves);
         scarce.end();
         Ok(format!(in alloc; "{taken:?}")?)
     }
