@@ -47,37 +47,75 @@ fn ask(thief: &mut Thief) -> Take
     Take::Busy
 }
 
+// The owner and the thieves of one queue.
+#[derive(Drop)]
+struct Hands {
+    owner: Owner,
+    thieves: Vec<Thief>,
+    ghost seated: { All (λ thief. thief.queue ≡ owner.queue) thieves.items },
+}
+
+impl Hands {
+    fn take(&mut self) -> Option<u32> {
+        self.owner.take()
+    }
+
+    // What the first thief answers.
+    fn steal(&mut self) -> Take {
+        if self.thieves.is_empty() {
+            return Take::Empty;
+        }
+        ask(&mut self.thieves[0])
+    }
+
+    // Why they are not settled, and all of them again.
+    fn settled(self) -> Option<(SettleFault, Hands)> {
+        let Hands { owner, thieves } = self;
+        match settle(owner, thieves) {
+            Ok(_) => None,
+            Err(back) => Some((
+                back.why,
+                Hands {
+                    owner: back.owner,
+                    thieves: back.thieves,
+                },
+            )),
+        }
+    }
+
+    // The same without the thieves, who stay.
+    fn settled_without(self, alloc: Global) -> Option<(SettleFault, Hands)> {
+        let Hands { owner, thieves } = self;
+        match settle(owner, Vec::new(alloc)) {
+            Ok(_) => None,
+            Err(back) => Some((
+                back.why,
+                Hands {
+                    owner: back.owner,
+                    thieves,
+                },
+            )),
+        }
+    }
+}
+
 // The owner takes the first number, the thief the second; a number is left; the owner takes it and finds the end; a seat is
 // missing; all are back. It takes no memory.
-fn play(alloc: Global, mut owner: Owner, mut thieves: Vec<Thief>) -> Option<Taken>
-    requires { All (λ thief. thief.queue ≡ owner.queue) thieves.items }
-{
-    let first = owner.take();
-    let Some(mut thief) = thieves.pop() else {
-        return None;
-    };
-    let second = ask(&mut thief);
-    let Ok(()) = thieves.push(thief) else {
-        return None;
-    };
-    let Err(left) = settle(owner, thieves) else {
-        return None;
-    };
-    let why = left.why;
-    let mut owner = left.owner;
-    let third = owner.take();
-    let end = owner.take();
-    let Err(missing) = settle(owner, Vec::new(alloc)) else {
-        return None;
-    };
+fn play(alloc: Global, mut hands: Hands) -> Option<Taken> {
+    let first = hands.take();
+    let second = hands.steal();
+    let (left, mut hands) = hands.settled()?;
+    let third = hands.take();
+    let end = hands.take();
+    let (missing, hands) = hands.settled_without(alloc)?;
     Some(Taken {
         first,
         second,
-        left: Some(why),
+        left: Some(left),
         third,
         end,
-        missing: Some(missing.why),
-        is_settled: settle(missing.owner, left.thieves).is_ok(),
+        missing: Some(missing),
+        is_settled: hands.settled().is_none(),
     })
 }
 
@@ -88,7 +126,7 @@ impl Row for OpenQueue {
     fn run(&self, scarce: &mut Scarcity) -> Result<String, Fail> {
         let alloc = scarce.alloc;
         let (owner, thieves) = scarcely!(scarce, AllocError, open_queue(alloc, 3, 1))?;
-        let taken = play(alloc, owner, thieves);
+        let taken = play(alloc, Hands { owner, thieves });
         Ok(format!(in alloc; "{taken:?}")?)
     }
 }
@@ -101,7 +139,7 @@ impl Row for Takes {
         let alloc = scarce.alloc;
         let (owner, thieves) = open_queue(alloc, 3, 1)?;
         scarce.begin();
-        let taken = play(alloc, owner, thieves);
+        let taken = play(alloc, Hands { owner, thieves });
         scarce.end();
         Ok(format!(in alloc; "{taken:?}")?)
     }
