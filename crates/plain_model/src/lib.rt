@@ -1,7 +1,7 @@
 //! The rules of the bus as plain and slow programs: all texts of a participant, all runs of a set, a walk of a pair slot by
 //! slot, one play of a set, and what a recorded wire shows. `commands` has the five commands from the bytes of their files to
-//! what they write, over lists of words alone. Tests compare the other crates with them. They are for small plans, and nothing
-//! is made fast.
+//! what they write, over lists of words alone. The crates `plain_rows`, `bench_rows` and `mutants` compare the other crates
+//! with them. They are for small plans, and nothing is made fast.
 #![tactic(auto)]
 
 pub mod benches;
@@ -23,6 +23,3 @@ pub use dumps::words_of as dump_words_of;
 pub use plays::{Ending, play_out};
 pub use runs::{Meeting, first_meeting, lawful_sets, play};
 pub use texts::texts_of;
-
-#[cfg(test)]
-mod tests;

@@ -1,7 +1,7 @@
 // Messages at the limits: their verdicts are made and let go without running out of stack.
 
-use super::plans::twice;
-use super::words::{NO_FAULT, slot_words, walk_words};
+use crate::plans::twice;
+use crate::words::{NO_FAULT, slot_words, walk_words};
 use plan_core::Plan;
 use std::alloc::{AllocError, Global};
 use std::process::Abort;

@@ -1,9 +1,9 @@
 // Verdicts in words, as certificates and reports write them.
 
-use crate::{first_fault, first_meeting, play};
 use certificate::{Cert, Fault};
 use message_tree::{Item, Kind};
 use pair_walk::{Outcome, walk};
+use plain_model::{first_fault, first_meeting, play};
 use plan_core::Plan;
 use std::alloc::{AllocError, Global};
 use std::process::Abort;

@@ -1,7 +1,7 @@
 // Worked examples of the rules, each written out by hand.
 
-use super::plans::{plan, twice, two, with_interrupt};
-use super::words::{assert_only, assert_verdict};
+use crate::plans::{plan, twice, two, with_interrupt};
+use crate::words::{assert_only, assert_verdict};
 use std::test::Fail;
 
 #[test]

@@ -1,7 +1,7 @@
 // Sets of more than two participants: what faults they have are those of two of them alone.
 
-use super::plans::plan;
-use crate::{Meeting, lawful_sets, play};
+use crate::plans::plan;
+use plain_model::{Meeting, lawful_sets, play};
 use plan_core::Plan;
 use std::alloc::Global;
 use std::process::Abort;

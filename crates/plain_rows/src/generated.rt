@@ -1,7 +1,7 @@
 // Small messages made from a seed, on which `walk`, the slot-by-slot walk and the runs of the pair agree.
 
-use super::plans::plan;
-use super::words::assert_agreement;
+use crate::plans::plan;
+use crate::words::assert_agreement;
 use std::alloc::{AllocError, Global};
 use std::test::Fail;
 

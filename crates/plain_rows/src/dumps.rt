@@ -1,10 +1,10 @@
 // Dumps made from a seed, in which tokens are put in, taken out or changed: the reader gives the samples or the refusal, with
 // its line, that the plain program gives.
 
-use super::captures::{level_text, wire_words};
-use super::generated::{Dice, plan_words};
-use super::plans::plan;
-use crate::{Word, dump_words_of, samples_of};
+use crate::captures::{level_text, wire_words};
+use crate::generated::{Dice, plan_words};
+use crate::plans::plan;
+use plain_model::{Word, dump_words_of, samples_of};
 use std::alloc::{AllocError, Global};
 use std::process::Abort;
 use std::test::Fail;

@@ -1,11 +1,11 @@
 // Dumps made from a seed, most of them of texts of a generated plan: what is read, heard and explained of them is what the
 // plain programs find.
 
-use super::generated::{Dice, plan_words};
-use super::plans::plan;
-use crate::{Word, events_of, explainers_of, samples_of, texts_of, transactions_of};
+use crate::generated::{Dice, plan_words};
+use crate::plans::plan;
 use capture_check::{Event, Transaction, Until, events, explain, transactions};
 use message_tree::Item;
+use plain_model::{Word, events_of, explainers_of, samples_of, texts_of, transactions_of};
 use plan_core::Plan;
 use std::alloc::{AllocError, Global};
 use std::process::Abort;

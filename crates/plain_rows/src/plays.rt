@@ -1,8 +1,8 @@
 // What the plain play says of worked plans.
 
-use super::plans::plan;
-use crate::play_out;
+use crate::plans::plan;
 use message_tree::Item;
+use plain_model::play_out;
 use plan_core::Plan;
 use std::alloc::{AllocError, Global};
 use std::test::Fail;

@@ -1,9 +1,0 @@
-mod captures;
-mod depth;
-mod dumps;
-mod generated;
-mod plans;
-mod plays;
-mod rows;
-mod sets;
-mod words;
