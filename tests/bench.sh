@@ -167,6 +167,33 @@ examples=$tests/../examples
 expect "the example" 0 "wire 10010000l00000001l00100000ls
 won guard/write_alarm" "" "$examples/two_writers.plan" "$examples/two_writers.cert" main/write_limit,guard/write_alarm --answers 000000000000000000000000000
 
+# As many starters as there may be, and the longest run. 32 controllers send 256 headers, all acknowledged; 32 interrupts lose
+# to them in bit 1.
+times() {
+    local k text=
+    for ((k = 0; k < $2; k++)); do
+        text+=$1
+    done
+    echo "$text"
+}
+longest="write 1001000$(times ' again write 1001000' 255) stop$(times ' else stop' 256)"
+write_plan longest.plan "plan 1" "message m $longest ;"
+starters=
+for ((k = 0; k < 32; k++)); do
+    echo "controller c$k m ;" >>longest.plan
+    starters+="c$k/m "
+done
+winners=${starters% }
+for ((k = 0; k < 32; k++)); do
+    echo "interrupt t$k 11$((k / 16 % 2))$((k / 8 % 2))$((k / 4 % 2))$((k / 2 % 2))$((k % 2)) ;" >>longest.plan
+    starters+="!t$k "
+done
+starters=${starters% }
+"$twire" certify longest.plan >longest.cert
+wire="$(times 10010000lr 255)10010000ls"
+expect "all starters, and the longest run" 0 "wire $wire
+won $winners" "" longest.plan longest.cert "${starters// /,}" --answers "$(times 0 2560)"
+
 # A hundred rehearsals write the same, whatever the schedule of the threads.
 for _ in {1..100}; do
     expect "one of many" 0 "wire 10010000l11001111ls

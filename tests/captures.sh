@@ -167,5 +167,39 @@ fi
     [[ $found == $'5-160 a/m\n1 transactions, 0 unexplained' ]]
 } && passed=$((passed + 1)) || { failed=$((failed + 1)); echo "FAILED: a dump from a pipe"; }
 
+# A long dump: 72,000 transactions, of which every tenth is a header that is not acknowledged, and each other one a START and
+# a STOP with nothing between. The report that is due is written beside it.
+dump long
+awk '
+function at(changes) { print "#" time " " changes; time++ }
+BEGIN {
+    time = 0
+    at("1! 1\"")
+    for (n = 0; n < 72000; n++) {
+        from = time
+        at("0\"")
+        who = "unexplained"
+        if (n % 10 == 0) {
+            at("0!")
+            for (bit = 1; bit <= 9; bit++) { at(substr("100100001", bit, 1) "\""); at("1!"); at("0!") }
+            at("0\""); at("1!")
+            who = "a/m b/n"
+        }
+        at("1\"")
+        print (from "-" (time - 1) " " who) >"due"
+        counts[who]++
+    }
+    print (n " transactions, " counts["unexplained"] " unexplained") >"due"
+}' >>long
+"$twire" capture plan long >report 2>err
+status=$?
+if [[ $status == 1 && ! -s err ]] && cmp report due; then
+    passed=$((passed + 1))
+else
+    failed=$((failed + 1))
+    echo "FAILED: a long dump: wanted status 1 and '$(tail -n 1 due)', found status $status and '$(tail -n 1 report)'"
+    cat err
+fi
+
 echo "$passed passed, $failed failed"
 ((failed == 0))

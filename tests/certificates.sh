@@ -24,6 +24,13 @@ expect() {
     fi
 }
 
+# answer ARG..: what one call writes, and its status.
+answer() {
+    local text
+    text=$("$twire" "$@" 2>&1)
+    echo "$text, status $?"
+}
+
 "$twire" --version >/dev/null 2>&1
 
 # Plans of two controllers with one or two messages each, and an interrupt, from a list of parts. A plan that is safe by
@@ -114,6 +121,44 @@ changed "the first of two splits" "accepted safe at B P7 ."
 # a fault
 write "write 1001000 stop else stop" "write 1001000 0000000x stop else stop else stop"
 changed "a fault" "nothing"
+
+# A plan at every limit. Its last pair is that of the last two interrupts, whose addresses differ in bit 6 alone. The three
+# certificates are verified side by side, since a trial build takes its time for 143,856 proofs.
+"$tests/../tools/fullest_plan" >plan
+"$twire" certify plan >cert
+expect "certify: the fullest plan" "0, lines 143858, last P6" "$?, lines $(wc -l <cert), last $(tail -n 1 cert)"
+sed '$s/.*/P5/' cert >wrong
+sed '$d' cert >short
+for name in cert wrong short; do
+    answer verify plan "$name" >"$name.answer" &
+done
+wait
+expect "verify: the fullest plan" "accepted safe, status 0" "$(cat cert.answer)"
+expect "verify: another last proof" "wrong C5 pair 143855, status 2" "$(cat wrong.answer)"
+expect "verify: no last proof" "wrong C2, status 2" "$(cat short.answer)"
+
+# The longest wire of a fault. Two senders of headers alone go on together for 255 headers, and then one stops and the other
+# has the last header that a message has room for: 255 times nine slots, and the repeated STARTs between them.
+times() {
+    local k text=
+    for ((k = 0; k < $2; k++)); do
+        text+=$1
+    done
+    echo "$text"
+}
+headers() {
+    echo "write 1001000$(times ' again write 1001000' $(($1 - 1))) stop$(times ' else stop' "$1")"
+}
+write "$(headers 255)" "$(headers 256)"
+wire="$(times 10010000lr 254)10010000l"
+expect "the longest wire has 2,549 slots" 2549 "${#wire}"
+expect "check: the longest wire" "pair 0 a/m b/n: stop against restart after $wire
+unsafe: 1 of 1 pairs, status 1" "$(answer check plan)"
+expect "certify: the longest wire" "cert 1
+fault 0 $wire stop restart" "$(cat cert)"
+expect "verify: the longest wire" "accepted unsafe, status 1" "$(answer verify plan cert)"
+sed "2s/ stop/r10010000l stop/" cert >other
+expect "verify: a wire with one header more" "wrong C5 pair 0, status 2" "$(answer verify plan other)"
 
 echo "$passed passed, $failed failed"
 ((failed == 0))

@@ -44,9 +44,13 @@ run() {
     compare "$name"
 }
 
-# The first call may build the program, and says so on standard error.
+# The first call may build the program, and says so on standard error. To the program's line the launcher adds which program
+# it runs, and the first digits of the hash of its sources.
 "$twire" --version >out 2>err
 echo "$?" >status
+if [[ $twire -ef $tests/../twire ]]; then
+    sed -i -E 's/^(.*) \((proved|trial), sources [0-9a-f]{12}\)$/\1/; t; s/$/ without its sources/' out
+fi
 want 0 "twire 0.1.0" ""
 : >err
 compare "version"
@@ -130,16 +134,28 @@ want 0 "safe: 1 pairs" ""
 run "seven workers, with leading zeros" check safe.plan --workers 007
 run "three workers, with a sign" check safe.plan --workers +3
 
-# Any number of workers writes what one writes.
-"$tests/../tools/widest_plan" 3 >wide.plan
-for plan in unsafe.plan wide.plan; do
-    "$twire" check "$plan" --workers 1 >one 2>&1
-    status=$?
-    for workers in 2 3 4 5 6 7 8; do
-        want "$status" "$(cat one)" ""
-        run "$(basename "$plan") by $workers workers" check "$plan" --workers "$workers"
-    done
+# Any number of workers writes the same, also of a plan at every limit.
+"$tests/../tools/fullest_plan" >fullest.plan
+for workers in 1 2 3 4 5 6 7 8; do
+    want 1 "$unsafe_report" ""
+    run "unsafe plan by $workers workers" check unsafe.plan --workers "$workers"
+    want 0 "safe: 143856 pairs" ""
+    run "fullest plan by $workers workers" check fullest.plan --workers "$workers"
 done
+
+# And of a plan with one of something more.
+"$tests/../tools/fullest_plan" 1 >over.plan
+want 2 "" "refused P5 line 2"
+run "one node more" check over.plan
+"$tests/../tools/fullest_plan" 0 1 >over.plan
+want 2 "" "refused P5 line 3"
+run "one byte more on a path" check over.plan
+sed '258i message more write 1001000 stop else stop ;' fullest.plan >over.plan
+want 2 "" "refused P6 line 258"
+run "one message more" check over.plan
+sed '289s/;/m0 ;/' fullest.plan >over.plan
+want 2 "" "refused P6 line 289"
+run "one sending more" check over.plan
 
 # Certificates.
 
@@ -283,7 +299,7 @@ want 2 "" "error: invalid value '' for '--workers <N>': cannot parse integer fro
 For more information, try '--help'."
 run "empty number of workers" check safe.plan --workers ""
 
-# Hints are further lines on standard error, behind the line of a refusal. The option stands before or behind the command.
+# Hints are further lines on standard error, after the line of a refusal. The option stands before or after the command.
 
 write_plan again.plan "plan 1" "message m write again stop else stop ;"
 want 2 "" "refused P3 line 2

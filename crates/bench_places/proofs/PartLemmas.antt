@@ -1,4 +1,4 @@
--- What comes next in a part of what a participant sends, and what is left behind it.
+-- What comes next in a part of what a participant sends, and what is left after it.
 use Rattle.std.proofs.Common.{◌≡◌, ℕ, zero, suc, ◌+◌, ◌-◌, ◌<◌, ◌≤◌, true, false, Some, List, [], ◌∷◌, length, drop, slice_get, refl, ap, sym, ◌∙◌, subst, arith, inl, inr, ◌↔◌}
 use Rattle.std.proofs.lemmas.Bool.{cases_lt}
 use Rattle.std.proofs.lemmas.List.{drop_more, drop_all}
@@ -111,7 +111,7 @@ outgoing_after s x u h =
     subst (λ (cs : List Bit). SentThen (drop (s.sent + 1) bs) (ThenText s.then) u ↔ SentThen cs (ThenText s.then) (x ∷ u)) (sym e)
     (sent_after _ (drop (s.sent + 1) bs) (ThenText s.then) x u (subst (λ (cs : List Bit). Begins (SentThen cs (ThenText s.then)) x) e h))
 
--- behind the last bit
+-- after the last bit
 pub no_bit_left : (b : Byte) (k : ℕ) → 8 ≤ k → drop k (bits_of b) ≡ []
 no_bit_left b k h = drop_all k (bits_of b) (omega (arith, bit_count b))
 
@@ -133,7 +133,7 @@ begins_heard zero P x lt t = absurd (omega arith)
 begins_heard (suc n) P (Heard s) lt t = (λ h. tt, λ m. some_heard n P t)
 begins_heard (suc n) P _ lt t = (λ h. h.1, λ m. absurd m)
 
--- what is left of a read behind the bits of a byte, where so many bytes come after this one
+-- what is left of a read after the bits of a byte, where so many bytes come after this one
 AckText : ℕ → Language → Language
 AckText zero P = SentThen (One ∷ []) P
 AckText (suc more) P = SentThen (Zero ∷ []) (BytesThen more (ByteThen One P))
@@ -212,7 +212,7 @@ incoming_acknowledges r b x e more end =
     subst (λ (n : ℕ). Begins (HeardThen n (AcknowledgeThen r.count r.done P)) x ↔ MayPut (offer.Bit b) x) (sym e)
     (begins_acknowledge r.count r.done P b x r.wanted (some_incoming r) more end)
 
--- behind an acknowledge that asks for a further byte
+-- after an acknowledge that asks for a further byte
 pub incoming_after_zero : (r : Incoming) (u : List Item) → r.left ≡ 0 →
     HeardThen 8 (AcknowledgeThen r.count (r.done + 1) (TailText (tail_tree r.after.now))) u ↔ IncomingText r (Sent false ∷ u)
 incoming_after_zero r u e =

@@ -168,7 +168,7 @@ impl<'a> Part<'a> {
         }
     }
 
-    /// What comes behind this item.
+    /// What comes after this item.
     pub(crate) fn after(&self, item: Item) -> Part<'a>
         requires { Begins (PartText self.now) item }
         ensures { (u : List Item) → PartText result u ↔ PartText self.now (item ∷ u) }
@@ -203,7 +203,7 @@ impl<'a> Outgoing<'a> {
         self.byte.bit(self.sent)
     }
 
-    // What comes behind this bit.
+    // What comes after this bit.
     fn after(&self) -> Part<'a>
         ensures { (u : List Item) → PartText result u ↔
             SentThen (drop (self.now.sent + 1) (bits_of self.now.byte)) (ThenText self.now.then) u }
@@ -225,7 +225,7 @@ impl<'a> Acked<'a> {
     ghost use Rattle.message_tree.specs.declared.items.Item.{Item};
     ghost use Rattle.bench_places.specs.Parts.{AckedText, PartText};
 
-    // What comes behind the acknowledge.
+    // What comes after the acknowledge.
     fn start(&self) -> Part<'a>
         ensures { (u : List Item) → PartText result u ↔ AckedText self.now u }
     {
@@ -277,7 +277,7 @@ impl<'a> Incoming<'a> {
         }
     }
 
-    // What comes behind this item.
+    // What comes after this item.
     fn after(&self, item: Item) -> Part<'a>
         requires { Begins (IncomingText self.now) item }
         ensures { (u : List Item) → PartText result u ↔ IncomingText self.now (item ∷ u) }

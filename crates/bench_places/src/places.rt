@@ -20,7 +20,7 @@ impl<'a> Place<'a> {
     ghost use Rattle.bench_places.specs.Offers.{Begins, MayPut};
     ghost use Rattle.bench_places.specs.Places.{rest_of};
 
-    /// The place behind the START, where nothing has been sent.
+    /// The place after the START, where nothing has been sent.
     pub fn start(sends: Sends<'a>) -> Place<'a>
         ensures { (u : List Item) → rest_of result u ↔ SenderText (what_is_sent sends.entry) u }
     {
@@ -37,7 +37,7 @@ impl<'a> Place<'a> {
         self.part.offered()
     }
 
-    /// The place behind an item that may come next.
+    /// The place after an item that may come next.
     pub fn after(&self, item: Item) -> Place<'a>
         requires { Begins (rest_of self.now) item }
         ensures { (u : List Item) → rest_of result u ↔ rest_of self.now (item ∷ u) }

@@ -57,7 +57,7 @@ was_in game puts v u among live p g h = live_before game puts v among g p h
 pub is_prefix : (game : Game) (puts : Puts) (v u : List Item) (among live : Set) → Goes game puts v among u live → (rest : List Item) × (u ≡ v ++ rest)
 is_prefix game puts v u among live g = goes_from game puts v among g
 
--- a live participant that has put in no slot behind the state (v, among): the play has led no further
+-- a live participant that has put in no slot after the state (v, among): the play has led no further
 pub not_further : (game : Game) (puts : Puts) (v u : List Item) (among live : Set) (p : ℕ) →
     Goes game puts v among u live → In p among → length (puts p) ≡ length v → (u ≡ v) × (live ≡ among)
 not_further game puts v u among live p g i e = stays_there game puts v among p i e g
@@ -202,7 +202,7 @@ record PutsAt (game : Game) (puts : Puts) (u : List Item) (live : Set) : Type 0 
   keeps_up : (q : ℕ) → In q live → KeepsUp puts u q
   others : (q : ℕ) → those game.starters q ≡ false → puts q ≡ []
 
--- nobody has put behind the slot that follows
+-- nobody has put after the slot that follows
 few_puts : (game : Game) (puts : Puts) (u : List Item) (live : Set) → PutsAt game puts u live → (q : ℕ) → In q (those game.starters) → length (puts q) ≤ length u + 1
 few_puts game puts u live m q i = elim (either (live q)) [
   | inl there ↦ elim (m.keeps_up q there) [ inl e ↦ omega arith | inr e ↦ let k : length (puts q) ≡ length u + 1 = e.0 in omega arith ]

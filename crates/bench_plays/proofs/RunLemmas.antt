@@ -71,7 +71,7 @@ somebody_may_put game puts u live is play n =
 
 -- ---- where all have put
 
--- then the slot is complete, since somebody who is live has not put behind the play's wire
+-- then the slot is complete, since somebody who is live has not put after the play's wire
 pub all_put_is_complete : (game : Game) (puts : Puts) (v u : List Item) (among live : Set) → IsGame game → Passes game puts v among u live → HavePut puts among (length v) → Complete game puts v u among live
 all_put_is_complete game puts v u among live is p all = elim (slot_tells game puts v u among live is p.0 p.1 p.2) [
   | inl o ↦

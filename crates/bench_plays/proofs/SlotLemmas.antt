@@ -19,7 +19,7 @@ use Rattle.bench_plays.specs.Words.{word_of, arrivals_in, zeros_in, shown_in, le
 use Rattle.bench_plays.proofs.PlayLemmas.{either, was_in, is_prefix, heard_is_the_answer}
 use Rattle.bench_plays.proofs.FieldLemmas.{count_same, count_none, count_some, count_less, any_put, zero_put, again_put, stop_put, listen_put, claim_put, passes, counted, fields}
 
--- ---- the first slot behind a state
+-- ---- the first slot after a state
 
 pub record First (game : Game) (puts : Puts) (v : List Item) (among : Set) (u : List Item) (live : Set) : Type 0 where
   pub shown : Item
@@ -73,7 +73,7 @@ module _ (game : Game) (puts : Puts) where
       ∙ ap (λ (w : List Item). get_or w k item.Stop) (sym e ∙ d)
       ∙ get_or-append v more item.Stop k lt)
 
--- ---- who has put in the slot behind a state
+-- ---- who has put in the slot after a state
 
 module _ (game : Game) (puts : Puts) (v u : List Item) (among live : Set) (play : IsPlay game puts u live) (led : Leads game puts v among) (goes : Goes game puts v among u live) where
   -- who dropped out before has not put there

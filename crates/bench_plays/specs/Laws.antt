@@ -7,7 +7,7 @@ use Rattle.bench_plays.specs.declared.puts.Put.{Put}
 use Rattle.bench_plays.specs.Games.{Game}
 use Rattle.bench_plays.specs.Plays.{Puts, item_of, Goes, Leads, IsPlay}
 
--- p may put x: it is live, has put in no slot behind the wire u, and offers there what x stands for
+-- p may put x: it is live, has put in no slot after the wire u, and offers there what x stands for
 abbrev pub MayPut : Game → Puts → List Item → Set → ℕ → Put → Type 0
 MayPut game puts u live p x = In p live × (length (puts p) ≡ length u) × Offers game.plan p u (item_of game.answers (length u) x)
 

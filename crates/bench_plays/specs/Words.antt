@@ -51,6 +51,6 @@ shown_in n b =
     else item.Again
     else item.Sent false
 
--- how many stay live behind such a slot, of so many before it: where somebody put a 0, those who did
+-- how many stay live after such a slot, of so many before it: where somebody put a 0, those who did
 abbrev pub left_in : ℕ → ℕ → ℕ
 left_in n live = if zeros_in n == 0 then live else zeros_in n

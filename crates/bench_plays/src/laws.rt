@@ -32,7 +32,7 @@ pub fn plays_go_on()
         IsGame game → IsPlay game puts u live → (HasEnded u → ⊥) → (p : ℕ) × (x : Put) × MayPut game puts u live p x }
 {}
 
-/// What the word of a slot tells behind a state that a play has passed: it counts no more than are live there, and just
+/// What the word of a slot tells after a state that a play has passed: it counts no more than are live there, and just
 /// as many exactly where all of them have put; then it shows the item of the wire, and how many stay live.
 pub fn words_tell_slots()
     ensures bound { (game : Game) (puts : Puts) (v u : List Item) (among live : Set) →

@@ -80,7 +80,7 @@ impl Tally {
         }
     }
 
-    /// How many of `live` stay live behind the slot, where all of them have put: those who put a 0, if somebody did.
+    /// How many of `live` stay live after the slot, where all of them have put: those who put a 0, if somebody did.
     pub fn left(&self, live: u32) -> u32
         ensures { result ≡ left_in (word_in self.now) live }
     {

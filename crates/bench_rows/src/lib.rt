@@ -5,8 +5,6 @@
 #[cfg(test)]
 mod agreement;
 #[cfg(test)]
-mod devices;
-#[cfg(test)]
 mod dice;
 #[cfg(test)]
 mod ends;

@@ -31,7 +31,7 @@ of_one_kind (Some s) u v w x y p q = offers_one_kind s u v w x y p q
 one_kind_offered : (plan : Contents) (p : ℕ) (u : List Item) (x y : Item) → Offers plan p u x → Offers plan p u y → kind_of x ≡ kind_of y
 one_kind_offered plan p u x y a b = of_one_kind (sender_at plan p) u a.0 b.0 x y a.1 b.1
 
--- two filled puts behind one wire stand for one item
+-- two filled puts after one wire stand for one item
 same_item : (plan : Contents) (p : ℕ) (v : List Item) (fill b : Bool) (x y : Put) →
     Offers plan p v (item_with b x) → Offers plan p v (item_with b y) →
     (MaySendEither plan p v → x ≡ Drive fill) → (MaySendEither plan p v → y ≡ Drive fill) →
@@ -63,7 +63,7 @@ module _ (game : Game) (fill : Bool) (is : IsGame game) (mine yours : Puts) (u t
     (play : IsPlay game mine u live) (other : IsPlay game yours t left)
     (filled : IsFilled game fill mine u) (filled_too : IsFilled game fill yours t)
     (ended : HasEnded u) (ended_too : HasEnded t) where
-  -- a starter that has put in the slot behind a wire that both pass has put the same
+  -- a starter that has put in the slot after a wire that both pass has put the same
   same_put : (v rest more : List Item) → u ≡ v ++ rest → t ≡ v ++ more → (p : ℕ) → In p (those game.starters) →
       length v < length (mine p) → length v < length (yours p) → put_in game mine (length v) p ≡ put_in game yours (length v) p
   same_put v rest more e d p i l m =
@@ -75,7 +75,7 @@ module _ (game : Game) (fill : Bool) (is : IsGame game) (mine yours : Puts) (u t
       (λ may. filled p i (length v) l (subst (MaySendEither game.plan p) (sym here_mine) may))
       (λ may. filled_too p i (length v) m (subst (MaySendEither game.plan p) (sym here_yours) may))
 
-  -- the run goes on behind a wire that is not the whole of it
+  -- the run goes on after a wire that is not the whole of it
   goes_on_there : (v : List Item) (w : Item) (on s : Set) → Goes game mine v on (v ++ w ∷ []) s → Goes game mine (v ++ w ∷ []) s u live → HasEnded v → ⊥
   goes_on_there v w on s step goes e =
       let all = ended_goes_no_further game mine v u on live is e (joined game mine v (v ++ w ∷ []) on s step goes) in

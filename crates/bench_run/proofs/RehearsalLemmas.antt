@@ -8,7 +8,8 @@ use Rattle.plan_core.specs.PlanContents.{plan_contents}
 use Rattle.plan_core.proofs.PlanLemmas.{limits_of}
 use Rattle.plan_core.specs.declared.plans.Plan.{Plan}
 use Rattle.plan_text.specs.Grammar.{Spells}
-use Rattle.cert_check.specs.Accepts.{AnswersPlan}
+use Rattle.cert_check.specs.Accepts.{IsAnswer}
+use Rattle.cert_check.proofs.AnswerLemmas.{answers_texts}
 use Rattle.cert_check.specs.declared.answers.Answer.{Answer}
 use Rattle.cert_check.specs.declared.answers.Answer.TheVariants.{Safe}
 use Rattle.bench_plays.specs.Games.{Game}
@@ -78,36 +79,36 @@ refuses_starters plan text numbers slice e named same h = by_case e (subst (λ (
     by_case Never k = (numbers, named, due_is (starters_refusal plan numbers) Never k (λ e. cc))
 
 -- the certificate proves the plan, and the bench was played
-pub rehearses : (plan accepted : Plan) (starters answers cert report : List ℕ) (fill : Bool) (status : Status) → accepted ≡ plan → AnswersPlan (plan_contents plan) cert Safe →
+pub rehearses : (plan accepted : Plan) (starters answers cert report : List ℕ) (fill : Bool) (status : Status) → accepted ≡ plan → IsAnswer (plan_contents plan) cert Safe →
     IsPlayedOut (plan_contents accepted) starters answers fill report → status ≡ Good →
     (text : List ℕ) → Spells text (plan_contents plan) → Rehearsed starters answers fill (text, cert) report status
 rehearses plan accepted starters answers cert report fill status same safe played ended text spelled = inr (record {
   plan = plan_contents plan;
   spelled = spelled;
-  certified = safe text spelled;
+  certified = answers_texts (plan_contents plan) cert Safe safe text spelled;
   played = subst (λ (p : Plan). IsPlayedOut (plan_contents p) starters answers fill report) same played;
   ended = ended;
 })
 
 -- the certificate has another answer
-pub not_accepted : (plan : Plan) (starters answers cert report : List ℕ) (fill : Bool) (answer : Answer) (status : Status) → (answer ≢ Safe) × AnswersPlan (plan_contents plan) cert answer →
+pub not_accepted : (plan : Plan) (starters answers cert report : List ℕ) (fill : Bool) (answer : Answer) (status : Status) → (answer ≢ Safe) × IsAnswer (plan_contents plan) cert answer →
     report ≡ verify_line answer → status ≡ answer_status answer →
     (text : List ℕ) → Spells text (plan_contents plan) → Rehearsed starters answers fill (text, cert) report status
 not_accepted plan starters answers cert report fill answer status right line ended text spelled = inl (record {
   answer = answer;
   other = right.0;
-  right = right.1 text spelled;
+  right = answers_texts (plan_contents plan) cert answer right.1 text spelled;
   line = line;
   ended = ended;
 })
 
-pub not_opened : (plan accepted : Plan) (starters cert : List ℕ) (error : RunError) → accepted ≡ plan → AnswersPlan (plan_contents plan) cert Safe →
+pub not_opened : (plan accepted : Plan) (starters cert : List ℕ) (error : RunError) → accepted ≡ plan → IsAnswer (plan_contents plan) cert Safe →
     RefusesStarters (plan_contents accepted) starters error →
     (text : List ℕ) → Spells text (plan_contents plan) → (error ≡ memory.NoMemory) ⊎ IsNotOpened starters (text, cert) error
 not_opened plan accepted starters cert error same safe refused text spelled = inr (record {
   plan = plan_contents plan;
   spelled = spelled;
-  certified = safe text spelled;
+  certified = answers_texts (plan_contents plan) cert Safe safe text spelled;
   refused = subst (λ (p : Plan). RefusesStarters (plan_contents p) starters error) same refused;
 })
 

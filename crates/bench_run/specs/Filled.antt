@@ -20,11 +20,11 @@ IsFilling offered fill x =
     ((b : Bool) → MayPut offered (item_with b x))
     × (MayPut offered (Sent false) → MayPut offered (Sent true) → x ≡ Drive fill)
 
--- behind the wire u, p may send a 0 and may send a 1
+-- after the wire u, p may send a 0 and may send a 1
 abbrev pub MaySendEither : Contents → ℕ → List Item → Type 0
 MaySendEither plan p u = Offers plan p u (Sent false) × Offers plan p u (Sent true)
 
--- of these puts of p, behind the wire u as far as it goes, each is `fill` where p may send either bit
+-- of these puts of p, after the wire u as far as it goes, each is `fill` where p may send either bit
 abbrev pub AreFilled : Contents → ℕ → Bool → List Put → List Item → Type 0
 AreFilled plan p fill puts u =
     (k : ℕ) → k < length puts → MaySendEither plan p (take k u) → slice_index_or puts k Listen ≡ Drive fill

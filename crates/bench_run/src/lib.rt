@@ -7,6 +7,7 @@ pub mod filling;
 pub mod gates;
 pub mod laws;
 mod lines;
+mod patience;
 mod players;
 pub mod rounds;
 pub mod runs;

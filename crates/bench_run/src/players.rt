@@ -7,14 +7,10 @@ ghost use Rattle.bench_run.specs.Players.{IsInStep};
 
 use crate::filling::filled;
 use crate::gates::Gate;
+use crate::patience::{MOST_LOOKS, Patience};
 use bus_bench::{Bench, Seat, Sight};
 use message_tree::Item;
-use std::thread;
-
-/// How often in a row a player is told to wait, and yields its thread, before it gives its seat back. The others may be
-/// threads that have not begun yet, or that a gate holds up, so this is a few hundredths of a second; where they can
-/// have no threads, each seat costs as much once.
-const MOST_WAITS: u32 = 65_536;
+use std::time::Clock;
 
 /// What a player does next.
 #[derive(Clone, Copy, Debug, Drop, PartialEq, Eq)]
@@ -61,13 +57,19 @@ impl<'a> Player<'a> {
     }
 
     /// Plays until it is through, or has waited in vain.
-    pub(crate) fn play<G: Gate>(&mut self, bench: &Bench<'a>, manner: &Manner<'_, G>)
+    pub(crate) fn play<R: Clock, G: Gate>(
+        &mut self,
+        rt: &R,
+        bench: &Bench<'a>,
+        manner: &Manner<'_, G>,
+        mut patience: Patience<'_>,
+    )
         requires { PlaysOn bench.now manner.now.fill self.old }
         ensures { PlaysOn bench.now manner.now.fill self.new }
     {
         for _ in 0..MOST_SLOTS {
             self.put(bench, manner);
-            self.wait(bench, manner);
+            self.wait(rt, bench, manner, &mut patience);
             if self.stage != Stage::Puts {
                 return;
             }
@@ -92,17 +94,22 @@ impl<'a> Player<'a> {
         self.stage = Stage::Looks;
     }
 
-    // Looks until the slot is complete, or too often in a row.
-    fn wait<G: Gate>(&mut self, bench: &Bench<'a>, manner: &Manner<'_, G>)
+    // Looks until the slot is complete, or its patience ends.
+    fn wait<R: Clock, G: Gate>(
+        &mut self,
+        rt: &R,
+        bench: &Bench<'a>,
+        manner: &Manner<'_, G>,
+        patience: &mut Patience<'_>,
+    )
         requires { PlaysOn bench.now manner.now.fill self.old }
         ensures { PlaysOn bench.now manner.now.fill self.new }
     {
-        for _ in 0..MOST_WAITS {
+        for looks in 0..MOST_LOOKS {
             self.look(bench, manner);
-            if self.stage != Stage::Looks {
+            if self.stage != Stage::Looks || !patience.waits(rt, looks) {
                 return;
             }
-            thread::yield_now();
         }
     }
 

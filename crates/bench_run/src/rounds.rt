@@ -10,12 +10,15 @@ ghost use Rattle.bench_run.specs.Players.{PlaysOn, IsReady, IsPart};
 ghost use Rattle.bench_run.specs.declared.players.Stage.TheVariants.{Over};
 
 use crate::gates::Gate;
+use crate::patience::Patience;
 use crate::players::{Manner, Player, Stage};
 use bus_bench::{Bench, FinishFault, Host, Played, Seat, Unfinished, finish};
 use std::alloc::{AllocError, Global};
 use std::sync::Wait;
+use std::sync::atomic::AtomicBool;
 use std::thread;
 use std::thread::Threads;
+use std::time::Clock;
 
 // What one thread plays: this player, on this bench.
 #[derive(Drop)]
@@ -26,7 +29,7 @@ pub(crate) struct Part<'b, 'a> {
 }
 
 /// Plays the bench to its end: each seat in a thread of its own, where one can be made, and what is then left by turns.
-pub fn play_all<'a, R: Threads + Wait + Sync, G: Gate + Sync>(
+pub fn play_all<'a, R: Threads + Wait + Clock + Sync, G: Gate + Sync>(
     rt: &R,
     alloc: Global,
     bench: Bench<'a>,
@@ -88,7 +91,7 @@ fn seats_of<'a>(alloc: Global, players: Vec<Player<'a>>) -> Result<Vec<Seat<'a>>
 }
 
 // Each part in a thread of its own, where one can be made, until its player is through or has waited in vain.
-fn play_in_threads<'b, 'a, R: Threads + Sync, G: Gate + Sync>(
+fn play_in_threads<'b, 'a, R: Threads + Clock + Sync, G: Gate + Sync>(
     rt: &R,
     parts: Vec<Part<'b, 'a>>,
     gate: &G,
@@ -98,18 +101,24 @@ fn play_in_threads<'b, 'a, R: Threads + Sync, G: Gate + Sync>(
     ensures each { (bench : BenchName) (fill : Bool) → All (IsPart bench fill) parts.entry.items →
         IfOk result (λ v. All (PlaysOn bench fill) v.items) }
 {
+    let given_up = AtomicBool::new(false);
     thread::map_vec(
         rt,
         parts,
         &|part|
             requires { PlaysOn part.bench.now part.fill part.player }
             ensures { (bench : BenchName) (fill : Bool) → IsPart bench fill part.entry → PlaysOn bench fill result }
-        { played(part, gate) },
+        { played(rt, part, gate, Patience::new(&given_up)) },
     )
 }
 
 // The player, when it has played.
-fn played<'b, 'a, G: Gate>(part: Part<'b, 'a>, gate: &G) -> Player<'a>
+fn played<'b, 'a, R: Clock, G: Gate>(
+    rt: &R,
+    part: Part<'b, 'a>,
+    gate: &G,
+    patience: Patience<'_>,
+) -> Player<'a>
     requires { PlaysOn part.bench.now part.fill part.player }
     ensures { (bench : BenchName) (fill : Bool) → IsPart bench fill part.entry → PlaysOn bench fill result }
 {
@@ -118,7 +127,7 @@ fn played<'b, 'a, G: Gate>(part: Part<'b, 'a>, gate: &G) -> Player<'a>
         bench,
         fill,
     } = part;
-    player.play(bench, &Manner { fill, gate });
+    player.play(rt, bench, &Manner { fill, gate }, patience);
     player
 }
 

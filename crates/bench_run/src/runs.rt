@@ -22,6 +22,7 @@ use report::{
 use std::alloc::Global;
 use std::sync::Wait;
 use std::thread::Threads;
+use std::time::Clock;
 
 /// Plays the starters of an accepted plan on a bench, each in a thread of its own, and writes the wire and who was live
 /// at its end. `starters` has their labels, which commas part; `fill` is what they send for a bit that is open; `answers`
@@ -34,7 +35,7 @@ use std::thread::Threads;
 /// is called, `Bench` with the refusal of the starters, and `Write` where the writer failed or took no bytes. `NoMemory`
 /// where memory is refused. Only after `Write` has a part of the report been written: its first bytes. After every other
 /// error the writer was not called.
-pub fn run_bench<R: Threads + Wait + Sync, I: Input, J: Input, O: Output, G: Gate + Sync>(
+pub fn run_bench<R: Threads + Wait + Clock + Sync, I: Input, J: Input, O: Output, G: Gate + Sync>(
     rt: &R,
     alloc: Global,
     plan: &mut I,
@@ -70,7 +71,7 @@ pub fn run_bench<R: Threads + Wait + Sync, I: Input, J: Input, O: Output, G: Gat
 }
 
 // The report on a plan that was read, and on the bytes of a certificate.
-fn rehearse<R: Threads + Wait + Sync, G: Gate + Sync>(
+fn rehearse<R: Threads + Wait + Clock + Sync, G: Gate + Sync>(
     rt: &R,
     alloc: Global,
     plan: Plan,
@@ -95,7 +96,7 @@ fn rehearse<R: Threads + Wait + Sync, G: Gate + Sync>(
 }
 
 // The report on a bench of an accepted plan.
-fn bench_report<R: Threads + Wait + Sync, G: Gate + Sync>(
+fn bench_report<R: Threads + Wait + Clock + Sync, G: Gate + Sync>(
     rt: &R,
     alloc: Global,
     accepted: &Accepted,

@@ -147,7 +147,7 @@ own_offered v x number played own =
     let put : put_in (hand_game v) played.all k p ≡ own_item v = ap (λ (xs : List Put). item_of v.answers k (slice_index_or xs k Listen)) played.own in
     subst (λ (y : List Item × Item). Offers (hand_game v).plan p y.0 y.1) (λ i. (wire i, put i)) offered
 
--- ---- behind a slot
+-- ---- after a slot
 
 differ : (x y : Item) → x ≢ y → is_item x y ≡ false
 differ x y n = elim (one_or_other (is_item x y)) [ inl e ↦ absurd (n (same_item x y e)) | inr e ↦ e ]

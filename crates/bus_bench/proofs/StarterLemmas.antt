@@ -26,9 +26,9 @@ use Rattle.bus_bench.specs.declared.errors.OpenError.{OpenError}
 use Rattle.bus_bench.specs.declared.errors.OpenError.TheVariants.{Unknown, SameController, Never}
 use Rattle.bus_bench.specs.Starters.{shares_controller, refusal_behind, first_refusal, starters_refusal}
 
--- ---- one starter behind others
+-- ---- one starter after others
 
--- nothing refuses x behind these
+-- nothing refuses x after these
 record IsFree (plan : Contents) (before : List ℕ) (x : ℕ) : Type 0 where
   known : x < participant_count plan
   alone : list_any (λ y. shares_controller plan y x) before ≡ false

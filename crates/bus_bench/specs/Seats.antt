@@ -45,7 +45,7 @@ participant seat = starter (game_of seat.bench) seat.number
 abbrev pub fresh : BenchName → ℕ → Player
 fresh bench number = record { bench = bench; number = number; puts = []; seen = []; standing = Playing }
 
--- the seat is live and the run goes on, and its participant may send x behind what the seat has seen
+-- the seat is live and the run goes on, and its participant may send x after what the seat has seen
 abbrev pub MayOffer : Player → Item → Type 0
 MayOffer seat x = (seat.standing ≡ Playing) × Offers (game_of seat.bench).plan (participant seat) seat.seen x
 
@@ -89,7 +89,7 @@ own_item seat = put_item seat (slice_index_or seat.puts (length seat.seen) Liste
 abbrev pub after_slot : Item → Standing → Player → Player
 after_slot w standing seat = record seat { seen = seat.seen ++ w ∷ []; standing = standing }
 
--- how a live seat stands behind this item: a STOP and a claim end the run
+-- how a live seat stands after this item: a STOP and a claim end the run
 abbrev pub standing_behind : Item → Standing
 standing_behind item.Stop = Ended
 standing_behind item.Claim = Ended

@@ -19,7 +19,7 @@ refusal_behind plan before x =
     else if list_any (λ y. forbidden plan y x) before then Some Never
     else None
 
--- the first refusal of these, in order, behind those before them
+-- the first refusal of these, in order, after those before them
 abbrev pub first_refusal : Contents → List ℕ → List ℕ → Option OpenError
 first_refusal plan before [] = None
 first_refusal plan before (x ∷ xs) = option_or (refusal_behind plan before x) (first_refusal plan (before ++ x ∷ []) xs)

@@ -44,7 +44,7 @@ pub enum Sight {
     NotPut,
     /// Another seat that is live has not put in this slot: ask again.
     Waiting,
-    /// The slot is complete with this wire, and the seat is live. It goes to the next slot; behind a STOP and a claim
+    /// The slot is complete with this wire, and the seat is live. It goes to the next slot; after a STOP and a claim
     /// there is none.
     On(Item),
     /// The slot is complete with this wire, and the seat has lost arbitration (UM10204, 3.1.8).

@@ -41,7 +41,7 @@ pub struct Told {
     pub seen: LinkedList<Item>,
     /// It has lost arbitration.
     pub out: bool,
-    /// How many were live behind what it has seen.
+    /// How many were live after what it has seen.
     pub live: u64,
 }
 

@@ -31,7 +31,7 @@ impl<'a> Seat<'a> {
     ghost use Rattle.bench_places.specs.Offers.{MayPut};
     ghost use Rattle.bus_bench.specs.Seats.{MayOffer, CanPut, IsPutRefusal, after_put, HasPlay};
 
-    /// What the seat may put in its slot: exactly what the participant may send behind what the seat has seen, and
+    /// What the seat may put in its slot: exactly what the participant may send after what the seat has seen, and
     /// nothing once it has lost or ended.
     pub fn offered(&self) -> Offered
         ensures { (x : Item) → MayPut result x ↔ MayOffer self.now x }

@@ -60,7 +60,7 @@ fn are_one(own: Item, shown: Item) -> bool
     own == shown
 }
 
-// How a live seat stands behind this item of the wire: a STOP and a claim end the run.
+// How a live seat stands after this item of the wire: a STOP and a claim end the run.
 fn standing_on(item: Item) -> Standing
     ensures { result ≡ standing_behind item }
 {

@@ -109,7 +109,7 @@ fn follow<I: Read>(rt: &impl Clock, alloc: Global, plan: &str, dump: &mut I) -> 
     Ok(capture)
 }
 
-// The steps behind the samples of one block.
+// The steps after the samples of one block.
 fn hear(
     rt: &impl Clock,
     alloc: Global,

@@ -1,4 +1,4 @@
--- A capture that comes in parts: what has been seen and heard so far, and the transactions that the samples behind it add.
+-- A capture that comes in parts: what has been seen and heard so far, and the transactions that the samples after it add.
 use Rattle.std.specs.Prelude.{List}
 use Rattle.vcd_read.specs.declared.samples.Sample.{Sample}
 use Rattle.capture_check.specs.Events.{Seen, nothing_seen, events_from, events_of}

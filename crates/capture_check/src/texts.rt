@@ -1,130 +1,66 @@
 // The marks of a transaction followed through what a participant sends.
 
-ghost use Rattle.std.specs.Prelude.{◌≡◌, ◌<◌, ◌↔◌, [], ◌∷◌, ◌++◌, IsTrue, option_map};
+ghost use Rattle.std.specs.Prelude.{◌≡◌, ◌↔◌, [], ◌∷◌, ◌++◌, IfSome, IsTrue, Some, option_map};
 ghost use Rattle.message_tree.specs.declared.bits.Bit.TheVariants.{One};
-ghost use Rattle.message_tree.specs.Counts.{greatest_of};
+ghost use Rattle.message_tree.specs.declared.items.Item.{Item};
 ghost use Rattle.message_tree.specs.Patterns.{address_bits};
-ghost use Rattle.message_tree.specs.Texts.{FrameText, PayloadText, SentThen, TailText};
-ghost use Rattle.message_tree.specs.Trees.{TailTree, frame_tree, payload_tree, tail_tree};
-ghost use Rattle.capture_check.specs.Along.{FitsAfter, ReadOn, after_answer, after_bits, after_levels, answered};
-ghost use Rattle.capture_check.specs.Along.{after_again, may_be, only_stop};
+ghost use Rattle.message_tree.specs.Texts.{FrameText, SentThen};
+ghost use Rattle.message_tree.specs.Trees.{frame_tree};
+ghost use Rattle.bench_places.specs.Offers.{MayPut};
+ghost use Rattle.capture_check.specs.Along.{after_bits, may_be};
 ghost use Rattle.capture_check.specs.Explained.{Whatever};
-ghost use Rattle.capture_check.specs.Marks.{Fits};
+ghost use Rattle.capture_check.specs.Marks.{Fits, Leaves};
 
-use crate::bits::{byte_bits, header_bits};
+use crate::bits::header_bits;
 use crate::listening::Mark;
-use message_tree::{Address, Bit, Count, Frame, Payload, Tail};
+use bench_places::{Offered, Place};
+use message_tree::{Address, Bit, Frame, Item};
+use plan_core::Sends;
 
 /// Whether a text of the message has these marks.
-#[cycle(fits)]
 pub(crate) fn frame_fits(frame: &Frame, marks: &[Mark]) -> bool
     ensures { IsTrue result ↔ Fits (FrameText (frame_tree frame.now)) marks.now }
 {
-    match frame {
-        Frame::Write {
-            address,
-            acked,
-            refused,
-        } => match along_byte(&header_bits(address, Bit::Zero), marks) {
-            Answer::Missing => false,
-            Answer::Acked(marks) => payload_fits(acked, marks),
-            Answer::Refused(marks) => tail_fits(refused, marks),
-        },
-        Frame::Read {
-            address,
-            count,
-            after,
-            refused,
-        } => match along_byte(&header_bits(address, Bit::One), marks) {
-            Answer::Missing => false,
-            Answer::Acked(marks) => match along_read(count, 0, marks) {
-                Some(marks) => tail_fits(after, marks),
-                None => false,
-            },
-            Answer::Refused(marks) => tail_fits(refused, marks),
-        },
+    let mut place = Place::start(Sends::Message(frame));
+    for mark in marks {
+        let Some(item) = item_leaving(place.offered(), *mark) else {
+            return false;
+        };
+        place = place.after(item);
     }
+    is_over(place.offered())
 }
 
-// After an acknowledge of a written byte.
-#[cycle(fits)]
-fn payload_fits(payload: &Payload, marks: &[Mark]) -> bool
-    ensures { IsTrue result ↔ Fits (PayloadText (payload_tree payload.now)) marks.now }
+// The item that may come next and leaves this mark, if there is one.
+fn item_leaving(offered: Offered, mark: Mark) -> Option<Item>
+    ensures some { IfSome result (λ x. MayPut offered x × Leaves x mark) }
+    ensures only { (x : Item) → MayPut offered x → Leaves x mark → result ≡ Some x }
 {
-    match payload {
-        Payload::Byte {
-            bits,
-            acked,
-            refused,
-        } => match along_byte(&byte_bits(bits), marks) {
-            Answer::Missing => false,
-            Answer::Acked(marks) => payload_fits(acked, marks),
-            Answer::Refused(marks) => tail_fits(refused, marks),
-        },
-        Payload::Last(tail) => tail_fits(tail, marks),
-    }
-}
-
-// After the last byte, or after a refusal.
-#[cycle(fits)]
-fn tail_fits(tail: &Tail, marks: &[Mark]) -> bool
-    ensures { IsTrue result ↔ Fits (TailText (tail_tree tail.now)) marks.now }
-{
-    match tail {
-        Tail::Stop => are_stop(marks),
-        Tail::Again(frame) => match behind_again(marks) {
-            Some(marks) => frame_fits(frame, marks),
-            None => false,
-        },
-    }
-}
-
-// Whether these marks are a STOP alone.
-fn are_stop(marks: &[Mark]) -> bool
-    ensures { result ≡ only_stop marks.now }
-{
-    match marks {
-        [Mark::Stop] => true,
-        _ => false,
-    }
-}
-
-// What follows a repeated START.
-fn behind_again(marks: &[Mark]) -> Option<&[Mark]>
-    ensures { option_map (λ rest. rest.now) result ≡ after_again marks.now }
-{
-    match marks {
-        [Mark::Again, marks @ ..] => Some(marks),
+    match (offered, mark) {
+        (Offered::Bit(Bit::Zero), Mark::Level(false)) => Some(Item::Sent(false)),
+        (Offered::Bit(Bit::One), Mark::Level(true)) => Some(Item::Sent(true)),
+        (Offered::Bit(Bit::Either), Mark::Level(level)) => Some(Item::Sent(level)),
+        (Offered::Listen, Mark::Level(level)) => Some(Item::Heard(level)),
+        (Offered::Again, Mark::Again) => Some(Item::Again),
+        (Offered::Stop, Mark::Stop) => Some(Item::Stop),
         _ => None,
     }
 }
 
-/// Where marks lead along a byte and the level that answers it (UM10204, 3.1.6).
-#[derive(Drop)]
-pub(crate) enum Answer<'a> {
-    /// They are no such byte.
-    Missing,
-    /// The byte is acknowledged, by a 0, and these marks follow.
-    Acked(&'a [Mark]),
-    /// It is not, by a 1, and these marks follow.
-    Refused(&'a [Mark]),
+// Whether all has been sent.
+fn is_over(offered: Offered) -> bool
+    ensures { IsTrue result ↔ (offered ≡ Offered.Nothing) }
+{
+    matches!(offered, Offered::Nothing)
 }
 
-// Along eight bits that the participant sends, and the answer to them.
-fn along_byte<'a>(bits: &[Bit; 8], marks: &'a [Mark]) -> Answer<'a>
-    ensures { answered result ≡ after_answer (after_bits bits.now marks.now) }
+/// Whether the marks begin with the header of an interrupt with this address.
+pub(crate) fn interrupt_fits(address: &Address, marks: &[Mark]) -> bool
+    ensures { IsTrue result ↔ Fits (SentThen (address_bits address.now ++ One ∷ []) Whatever) marks.now }
 {
-    answer_of(along_bits(bits, marks))
-}
-
-// The level that answers a byte, at the front of what follows its bits.
-fn answer_of(marks: Option<&[Mark]>) -> Answer<'_>
-    ensures { answered result ≡ after_answer (option_map (λ rest. rest.now) marks.entry) }
-{
-    match marks {
-        Some([Mark::Level(false), marks @ ..]) => Answer::Acked(marks),
-        Some([Mark::Level(true), marks @ ..]) => Answer::Refused(marks),
-        _ => Answer::Missing,
+    match along_bits(&header_bits(address, Bit::One), marks) {
+        Some(_) => true,
+        None => false,
     }
 }
 
@@ -155,62 +91,5 @@ fn may_send(bit: Bit, level: bool) -> bool
         Bit::Zero => !level,
         Bit::One => level,
         Bit::Either => true,
-    }
-}
-
-// What follows this many levels.
-fn along_levels(levels: u8, marks: &[Mark]) -> Option<&[Mark]>
-    ensures { option_map (λ rest. rest.now) result ≡ after_levels levels marks.now }
-{
-    if levels == 0 {
-        return Some(marks);
-    }
-    match marks {
-        [Mark::Level(_), marks @ ..] => along_levels(levels - 1, marks),
-        _ => None,
-    }
-}
-
-// Along eight bits that a target sends, and the participant's answer to them.
-fn along_read_byte(marks: &[Mark]) -> Answer<'_>
-    ensures { answered result ≡ after_answer (after_levels 8 marks.now) }
-{
-    answer_of(along_levels(8, marks))
-}
-
-// What follows the bytes of a read of which `done` have been read and acknowledged, since more are wanted. A participant
-// acknowledges a byte only where it may read a further one, and ends the read only after a number of bytes in the range
-// (UM10204, 3.1.6).
-fn along_read<'a>(count: &Count, done: u8, marks: &'a [Mark]) -> Option<&'a [Mark]>
-    requires { done < greatest_of count.now }
-    ensures { (after : TailTree) →
-        FitsAfter (option_map (λ rest. rest.now) result) (TailText after) ↔ Fits (ReadOn done count.now (TailText after)) marks.now }
-{
-    match along_read_byte(marks) {
-        Answer::Missing => None,
-        Answer::Acked(marks) => {
-            if done + 1 < count.greatest() {
-                along_read(count, done + 1, marks)
-            } else {
-                None
-            }
-        }
-        Answer::Refused(marks) => {
-            if count.least() <= done + 1 {
-                Some(marks)
-            } else {
-                None
-            }
-        }
-    }
-}
-
-/// Whether the marks begin with the header of an interrupt with this address.
-pub(crate) fn interrupt_fits(address: &Address, marks: &[Mark]) -> bool
-    ensures { IsTrue result ↔ Fits (SentThen (address_bits address.now ++ One ∷ []) Whatever) marks.now }
-{
-    match along_bits(&header_bits(address, Bit::One), marks) {
-        Some(_) => true,
-        None => false,
     }
 }

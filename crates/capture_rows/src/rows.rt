@@ -10,7 +10,7 @@ use std::process::Abort;
 use std::test::Fail;
 use vcd_read::{Reader, VcdError};
 
-// The dump has these changes behind the definitions.
+// The dump has these changes after the definitions.
 fn expect_changes(rt: &impl Abort, alloc: Global, changes: &str, answer: &str) -> Result<(), Fail> {
     let dump = format!(in alloc; "{DEFINITIONS}{changes}")?;
     expect(rt, alloc, dump.as_bytes(), answer)

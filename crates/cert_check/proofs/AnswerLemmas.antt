@@ -21,17 +21,12 @@ use Rattle.cert_check.specs.declared.answers.Answer.{Answer}
 use Rattle.cert_check.specs.declared.answers.Answer.TheVariants.{Safe, Unsafe, Wrong}
 use Rattle.cert_check.specs.declared.answers.AcceptError.{AcceptError}
 use Rattle.cert_check.specs.declared.answers.AcceptError.TheVariants.{Plan, NoMemory}
-use Rattle.cert_check.specs.Accepts.{IsCertified, IsRefuted, IsMistaken, Contradicts, Answers, AnswersPlan, FoundSafe}
-use Rattle.cert_check.specs.Judged.{Judges, IsJudged, IsAnswer, IsAnswered, IsRight}
+use Rattle.cert_check.specs.Accepts.{IsCertified, IsRefuted, IsMistaken, Contradicts, Judges, IsJudged, IsAnswer, Answers, AnswersBytes, FoundSafe}
+use Rattle.cert_check.specs.Judged.{IsAnswered, IsRight}
 use Rattle.cert_check.specs.Refused.{refused_with}
 use Rattle.cert_check.proofs.Checked.{at_get, certified_is_safe, not_wrong, wrong_once}
 
 -- ---- what the parts answer is right
-
-pub is_answer : (plan : Contents) (bytes : List ℕ) (answer : Answer) → IsJudged plan bytes answer → IsAnswer plan bytes answer
-is_answer plan bytes Safe h = h
-is_answer plan bytes Unsafe h = h
-is_answer plan bytes (Wrong fault) h = inr h
 
 refusal_right : (p q : List ℕ) (e : PlanError) → (e ≡ plan_error.NoMemory) ⊎ refusals.First p e → IsRight p q (Err (refused_with e))
 refusal_right p q plan_error.NoMemory h = tt
@@ -56,11 +51,12 @@ refusal_right p q (plan_error.Unknown line) (inr f) = (f, λ e. cc)
 pub refused_right : (p q : List ℕ) (e : PlanError) (r : Result Answer AcceptError) → r ≡ Err (refused_with e) → (e ≡ plan_error.NoMemory) ⊎ refusals.First p e → IsRight p q r
 refused_right p q e r is h = subst (IsRight p q) (sym is) (refusal_right p q e h)
 
-pub answers_plan : (plan : Contents) (bytes : List ℕ) (answer : Answer) → IsJudged plan bytes answer → AnswersPlan plan bytes answer
-answers_plan plan bytes Safe (proofs trees, spelled, certified) text s = record { plan = plan; plan_spelled = s; trees = trees; proofs_spelled = spelled; certified = certified }
-answers_plan plan bytes Safe (flaw pair wire first second, spelled, none) text s = absurd none
-answers_plan plan bytes Unsafe (proofs trees, spelled, none) text s = absurd none
-answers_plan plan bytes Unsafe (flaw pair wire first second, spelled, fault) text s = record {
+-- what is the answer for a plan is the answer for each text that spells it
+pub answers_texts : (plan : Contents) (bytes : List ℕ) (answer : Answer) → IsAnswer plan bytes answer → (text : List ℕ) → plans.Spells text plan → AnswersBytes text bytes answer
+answers_texts plan bytes Safe (proofs trees, spelled, certified) text s = record { plan = plan; plan_spelled = s; trees = trees; proofs_spelled = spelled; certified = certified }
+answers_texts plan bytes Safe (flaw pair wire first second, spelled, none) text s = absurd none
+answers_texts plan bytes Unsafe (proofs trees, spelled, none) text s = absurd none
+answers_texts plan bytes Unsafe (flaw pair wire first second, spelled, fault) text s = record {
   plan = plan;
   plan_spelled = s;
   pair = pair;
@@ -70,11 +66,9 @@ answers_plan plan bytes Unsafe (flaw pair wire first second, spelled, fault) tex
   flaw_spelled = spelled;
   fault = fault;
 }
-answers_plan plan bytes (Wrong fault) (proofs trees, spelled, wrong) text s = record { plan = plan; plan_spelled = s; why = inr (proofs trees, spelled, wrong) }
-answers_plan plan bytes (Wrong fault) (flaw pair wire first second, spelled, wrong) text s = record { plan = plan; plan_spelled = s; why = inr (flaw pair wire first second, spelled, wrong) }
-
-pub answers_refused : (plan : Contents) (bytes : List ℕ) (fault : CertFault) → First bytes fault → AnswersPlan plan bytes (Wrong fault)
-answers_refused plan bytes fault first text s = record { plan = plan; plan_spelled = s; why = inl first }
+answers_texts plan bytes (Wrong fault) (inl first) text s = record { plan = plan; plan_spelled = s; why = inl first }
+answers_texts plan bytes (Wrong fault) (inr (proofs trees, spelled, wrong)) text s = record { plan = plan; plan_spelled = s; why = inr (proofs trees, spelled, wrong) }
+answers_texts plan bytes (Wrong fault) (inr (flaw pair wire first second, spelled, wrong)) text s = record { plan = plan; plan_spelled = s; why = inr (flaw pair wire first second, spelled, wrong) }
 
 -- ---- what is right is answered
 

@@ -21,7 +21,7 @@ use Rattle.plan_core.specs.Participants.{Text, TextOf, sender_at, participant_co
 use Rattle.plan_core.proofs.Model.{safe_by_pairs, in_pair, still_in, fault_of_pair, may_clash}
 use Rattle.plan_core.proofs.PairLaws.{to_pairs, from_pairs, parts_of_IsPair}
 use Rattle.cert_check.specs.PairFaults.{IsPairFault}
-use Rattle.cert_check.specs.Wires.{MayPut, ClashAfter}
+use Rattle.cert_check.specs.Wires.{GoesOnWith, ClashAfter}
 use Rattle.cert_check.specs.Proved.{ProvesPair, Certifies, IsWrong}
 
 module _ {X : Type 0} where
@@ -104,7 +104,7 @@ pair_proved plan i x y s t p listed e f = (
       subst (λ (w : Sender). Proves p s w) second (subst (λ (v : Sender). Proves p v r.t) first r.proved),
 )
 
-may_offer : (plan : Contents) (p : ℕ) (s : Sender) (u : List Item) (k : Kind) → sender_at plan p ≡ Some s → MayPut (SenderText s) u k ↔ OffersKind plan p u k
+may_offer : (plan : Contents) (p : ℕ) (s : Sender) (u : List Item) (k : Kind) → sender_at plan p ≡ Some s → GoesOnWith (SenderText s) u k ↔ OffersKind plan p u k
 may_offer plan p s u k e = (
   λ m. (m.0, (m.1.0, subst (λ (o : Option Sender). TextOf o (u ++ m.0 ∷ m.1.0)) (sym e) m.1.1), m.2),
   λ m. (m.0, (m.1.0, offered_text plan p s (u ++ m.0 ∷ m.1.0) e m.1.1), m.2),
@@ -129,58 +129,6 @@ pair_faulty plan i x y s t u j k listed e f = (
 )
 
 -- ---- the proofs of a plan
-
-module _ (certs : List Cert) where
-  -- the tree at a place is that of the proof there
-  pub tree_at : (i : ℕ) (p : ProofTree) → slice_get (map proof_tree certs) i ≡ Some p → (cert : Cert) × (slice_get certs i ≡ Some cert) × (proof_tree cert ≡ p)
-  tree_at i p e = tree_in certs i p e
-    where
-      tree_in : (cs : List Cert) (i : ℕ) (p : ProofTree) → slice_get (map proof_tree cs) i ≡ Some p → (cert : Cert) × (slice_get cs i ≡ Some cert) × (proof_tree cert ≡ p)
-      tree_in [] i p e = cc
-      tree_in (c ∷ cs) zero p e = (c, refl, cc)
-      tree_in (c ∷ cs) (suc i) p e = tree_in cs i p e
-
-  pub here_is : (i : ℕ) (cert : Cert) → slice_get certs i ≡ Some cert → slice_get (map proof_tree certs) i ≡ Some (proof_tree cert)
-  here_is i cert e = here_in certs i cert e
-    where
-      here_in : (cs : List Cert) (i : ℕ) (cert : Cert) → slice_get cs i ≡ Some cert → slice_get (map proof_tree cs) i ≡ Some (proof_tree cert)
-      here_in [] i cert e = cc
-      here_in (c ∷ cs) zero cert e = let same : c ≡ cert = cc in ap (λ (d : Cert). Some (proof_tree d)) same
-      here_in (c ∷ cs) (suc i) cert e = here_in cs i cert e
-
--- the first n prove their pairs
-abbrev pub ProvedBelow : Contents → List Cert → ℕ → Type 0
-ProvedBelow plan certs n = (k : ℕ) (cert : Cert) → k < n → slice_get certs k ≡ Some cert → ProvesPair plan k (proof_tree cert)
-
-pub one_more_proved : (plan : Contents) (certs : List Cert) (i : ℕ) (cert : Cert) → ProvedBelow plan certs i → slice_get certs i ≡ Some cert → ProvesPair plan i (proof_tree cert) → ProvedBelow plan certs (i + 1)
-one_more_proved plan certs i cert below here proves k c lt e =
-    elim (cases_lt k i) [
-      | inl less ↦ below k c less e
-      | inr more ↦
-          let same : k ≡ i = omega arith in
-          let is : Some cert ≡ Some c = sym here ∙ ap (slice_get certs) (sym same) ∙ e in
-          let one : cert ≡ c = cc in
-          subst (λ (n : ℕ). ProvesPair plan n (proof_tree c)) (sym same) (subst (λ (d : Cert). ProvesPair plan i (proof_tree d)) one proves)
-    ]
-
-pub all_proved : (plan : Contents) (certs : List Cert) → length certs ≡ length (pairs_of plan) → ProvedBelow plan certs (length certs) → Certifies plan (map proof_tree certs)
-all_proved plan certs count below = record {
-  count = omega (arith, length-map certs proof_tree, count);
-  each = λ i p e.
-      let cert = tree_at certs i p e in
-      subst (ProvesPair plan i) cert.2 (below i cert.0 (at_get certs i cert.0 cert.1).0 cert.1);
-}
-
-pub first_unproved : (plan : Contents) (certs : List Cert) (i : ℕ) (cert : Cert) → length certs ≡ length (pairs_of plan) → ProvedBelow plan certs i → slice_get certs i ≡ Some cert → (ProvesPair plan i (proof_tree cert) → ⊥) → IsWrong plan (map proof_tree certs) (Pair i)
-first_unproved plan certs i cert count below here not_proved = (
-  omega (arith, length-map certs proof_tree, count),
-  record {
-    proof = proof_tree cert;
-    here = here_is certs i cert here;
-    unproved = not_proved;
-    before = λ j p lt e. let c = tree_at certs j p e in subst (ProvesPair plan j) c.2 (below j c.0 lt c.1);
-  },
-)
 
 -- what is right is not wrong, and nothing is wrong in two ways
 pub not_wrong : (plan : Contents) (proofs : List ProofTree) (fault : CertFault) → Certifies plan proofs → IsWrong plan proofs fault → ⊥

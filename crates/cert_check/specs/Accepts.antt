@@ -60,9 +60,25 @@ AnswersBytes plan cert Safe = IsCertified plan cert
 AnswersBytes plan cert Unsafe = IsRefuted plan cert
 AnswersBytes plan cert (Wrong fault) = IsMistaken plan cert fault
 
--- it is right for these bytes of a certificate, and for all that spell this plan
-abbrev pub AnswersPlan : Contents → List ℕ → Answer → Type 0
-AnswersPlan plan cert answer = (text : List ℕ) → plans.Spells text plan → AnswersBytes text cert answer
+-- ---- of a plan that was read
+
+-- the answer for this plan and this certificate
+abbrev pub Judges : Contents → Certificate → Answer → Type 0
+Judges plan (proofs trees) Safe = Certifies plan trees
+Judges plan (flaw pair wire first second) Unsafe = IsPairFault plan pair wire first second
+Judges plan value (Wrong fault) = Contradicts plan value fault
+Judges plan value _ = ⊥
+
+-- the bytes spell a certificate that is answered so
+abbrev pub IsJudged : Contents → List ℕ → Answer → Type 0
+IsJudged plan bytes answer = (value : Certificate) × certificates.Spells bytes value × Judges plan value answer
+
+-- the answer for this plan and the bytes of a certificate, which are refused by themselves, or spell one
+abbrev pub IsAnswer : Contents → List ℕ → Answer → Type 0
+IsAnswer plan bytes (Wrong fault) = First bytes fault ⊎ IsJudged plan bytes (Wrong fault)
+IsAnswer plan bytes answer = IsJudged plan bytes answer
+
+-- ---- what is given
 
 -- this is the answer, unless memory was refused
 abbrev pub Answers : Result Answer AcceptError → Result Answer AcceptError → Type 0

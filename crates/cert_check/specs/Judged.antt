@@ -1,10 +1,7 @@
 -- What the parts of `accept` answer. Only private contracts and proofs use this.
-use Rattle.std.specs.Prelude.{◌≡◌, ◌≢◌, ◌⊎◌, ℕ, ◌-◌, ◌<◌, ◌^◌, min, List, length, Option, Some, None, Result, Ok, Err}
+use Rattle.std.specs.Prelude.{◌≡◌, ◌≢◌, ℕ, ◌-◌, ◌<◌, ◌^◌, min, List, length, Option, Some, None, Result, Ok, Err}
 use Rattle.std.specs.Prelude.{slice_get}
-use Rattle.certificate.specs.Certificates.{Certificate, proofs, flaw}
 use Rattle.certificate.specs.Proofs.{ProofTree}
-use Rattle.certificate.specs.Refusals.{First}
-use Rattle.certificate.specs.Texts as certificates
 use Rattle.plan_core.specs.Contents.{Contents}
 use Rattle.plan_core.specs.Limits.{IsWithinLimits}
 use Rattle.plan_core.specs.Pairs.{pairs_of}
@@ -12,13 +9,11 @@ use Rattle.plan_text.specs.declared.errors.PlanError.TheVariants as plan_error
 use Rattle.plan_text.specs.Grammar as plans
 use Rattle.plan_text.specs.Refusals as refusals
 use Rattle.cert_check.specs.declared.answers.Answer.{Answer}
-use Rattle.cert_check.specs.declared.answers.Answer.TheVariants.{Safe, Unsafe, Wrong}
 use Rattle.cert_check.specs.declared.answers.AcceptError.{AcceptError}
 use Rattle.cert_check.specs.declared.answers.AcceptError.TheVariants.{Plan, NoMemory}
 use Rattle.cert_check.specs.declared.tallies.Tally.{Tally}
-use Rattle.cert_check.specs.Accepts.{Contradicts}
-use Rattle.cert_check.specs.PairFaults.{IsPairFault}
-use Rattle.cert_check.specs.Proved.{ProvesPair, Certifies, FirstUnproved}
+use Rattle.cert_check.specs.Accepts.{IsAnswer}
+use Rattle.cert_check.specs.Proved.{ProvesPair, FirstUnproved}
 
 -- the first of these that does not prove its pair, among those that have a pair
 abbrev pub FirstOf : Contents → List ProofTree → Option ℕ → Type 0
@@ -30,21 +25,6 @@ FirstOf plan trees (Some i) = (i < length (pairs_of plan)) × FirstUnproved plan
 pub record Tallies (plan : Contents) (trees : List ProofTree) (tally : Tally) : Type 0 where
   pub count : tally.proofs ≡ min (length trees) (2 ^ 64 - 1)
   pub unproved : FirstOf plan trees tally.unproved
-
--- the answer for this plan and this certificate
-abbrev pub Judges : Contents → Certificate → Answer → Type 0
-Judges plan (proofs trees) Safe = Certifies plan trees
-Judges plan (flaw pair wire first second) Unsafe = IsPairFault plan pair wire first second
-Judges plan value (Wrong fault) = Contradicts plan value fault
-Judges plan value _ = ⊥
-
--- the bytes spell a certificate that is answered so
-abbrev pub IsJudged : Contents → List ℕ → Answer → Type 0
-IsJudged plan bytes answer = (value : Certificate) × certificates.Spells bytes value × Judges plan value answer
-
-abbrev pub IsAnswer : Contents → List ℕ → Answer → Type 0
-IsAnswer plan bytes (Wrong fault) = First bytes fault ⊎ IsJudged plan bytes (Wrong fault)
-IsAnswer plan bytes answer = IsJudged plan bytes answer
 
 -- the bytes spell a plan, and the certificate is answered so
 pub record IsAnswered (plan_bytes cert_bytes : List ℕ) (answer : Answer) : Type 0 where

@@ -11,14 +11,15 @@ ghost use Rattle.plan_core.specs.PlanContents.{plan_contents};
 ghost use Rattle.plan_core.specs.Faults.{IsSafe};
 ghost use Rattle.plan_core.specs.Lawful.{Set, In};
 ghost use Rattle.plan_core.specs.Laws.{HasNext};
+ghost use Rattle.plan_core.specs.Participants.{IsInterrupt};
 ghost use Rattle.plan_core.specs.Rounds.{Offers, IsRound, NoClash};
 ghost use Rattle.plan_core.specs.Runs.{IsReached, HasEnded, Whole};
 ghost use Rattle.plan_text.specs.declared.errors.PlanError.{PlanError};
 ghost use Rattle.plan_text.specs.Grammar.{Spells};
 ghost use Rattle.plan_text.specs.Refusals.{First};
-ghost use Rattle.cert_check.specs.Accepts.{IsCertified, IsRefuted, IsMistaken, Answers, AnswersPlan, FoundSafe};
+ghost use Rattle.cert_check.specs.Accepts.{IsCertified, IsRefuted, IsMistaken, IsJudged, IsAnswer, Judges, Answers, FoundSafe};
 ghost use Rattle.cert_check.specs.Holds.{accepted_plan};
-ghost use Rattle.cert_check.specs.Judged.{Judges, IsJudged, IsRight};
+ghost use Rattle.cert_check.specs.Judged.{IsRight};
 
 use crate::accepted::Accepted;
 use crate::answers::{AcceptError, Answer};
@@ -80,28 +81,43 @@ pub fn accept(alloc: Global, plan: &[u8], cert: &[u8]) -> Result<Answer, AcceptE
     // Where a run has ended, each live participant stands whole on the wire.
     ensures whole { (P : Contents) (s live : Set) (u : List Item) (p : ℕ) →
         FoundSafe plan.now P result → IsReached P s u live → HasEnded u → In p live → Whole P p u }
+    // An interrupt that has sent its whole header, eight bits, is live alone: no controller shares it, and no other
+    // interrupt.
+    ensures header { (P : Contents) (s live : Set) (u : List Item) (p q : ℕ) →
+        FoundSafe plan.now P result → IsReached P s u live → length u ≡ 8 → IsInterrupt P p →
+        In p live → In q live → q ≡ p }
     // What is found unsafe is not safe.
     ensures faulty { (P : Contents) → Spells plan.now P → result ≡ Ok Answer.Unsafe → IsSafe P → ⊥ }
 {
     judge(alloc, plan, cert)
 }
 
-/// The same for a plan that was read: it comes back accepted where `accept` answers `Safe`, and else there is the answer.
-/// It takes memory for one proof.
+/// The same for a plan that was read: it comes back accepted where `accept` answers `Safe`, and else the answer comes
+/// back. It takes memory for one proof.
 pub fn accept_certificate(
     alloc: Global,
     plan: Plan,
     cert: &[u8],
 ) -> Result<Result<Accepted, Answer>, AllocError>
     ensures plan { IfOk result (λ r. IfOk r (λ it. accepted_plan it ≡ plan)) }
-    ensures safe { IfOk result (λ r. OnOk r (AnswersPlan (plan_contents plan) cert.now Answer.Safe)) }
+    ensures safe { IfOk result (λ r. OnOk r (IsAnswer (plan_contents plan) cert.now Answer.Safe)) }
     ensures not_safe { IfOk result (λ r. IfErr r (λ answer.
-        (answer ≢ Answer.Safe) × AnswersPlan (plan_contents plan) cert.now answer)) }
+        (answer ≢ Answer.Safe) × IsAnswer (plan_contents plan) cert.now answer)) }
 {
-    match judge_cert(alloc, &plan, cert) {
-        Ok(Answer::Safe) => Ok(Ok(Accepted { plan })),
-        Ok(Answer::Unsafe) => Ok(Err(Answer::Unsafe)),
-        Ok(Answer::Wrong(fault)) | Err(CertError::Wrong(fault)) => Ok(Err(Answer::Wrong(fault))),
+    match check_certificate(alloc, &plan, cert)? {
+        Answer::Safe => Ok(Ok(Accepted { plan })),
+        Answer::Unsafe => Ok(Err(Answer::Unsafe)),
+        Answer::Wrong(fault) => Ok(Err(Answer::Wrong(fault))),
+    }
+}
+
+/// The answer of `accept` for a plan that was read. It takes memory for one proof.
+pub fn check_certificate(alloc: Global, plan: &Plan, cert: &[u8]) -> Result<Answer, AllocError>
+    ensures { IfOk result (IsAnswer (plan_contents plan.now) cert.now) }
+{
+    match judge_cert(alloc, plan, cert) {
+        Ok(answer) => Ok(answer),
+        Err(CertError::Wrong(fault)) => Ok(Answer::Wrong(fault)),
         Err(CertError::NoMemory) => Err(AllocError),
     }
 }
@@ -111,11 +127,8 @@ fn judge(alloc: Global, plan: &[u8], cert: &[u8]) -> Result<Answer, AcceptError>
     ensures { IsRight plan.now cert.now result }
 {
     let plan = read_plan(alloc, plan)?;
-    match judge_cert(alloc, &plan, cert) {
-        Ok(answer) => Ok(answer),
-        Err(CertError::Wrong(fault)) => Ok(Answer::Wrong(fault)),
-        Err(CertError::NoMemory) => Err(AcceptError::NoMemory),
-    }
+    let answer = check_certificate(alloc, &plan, cert)?;
+    Ok(answer)
 }
 
 // A certificate of this plan, from its first byte on.
@@ -137,7 +150,10 @@ fn judge_proofs(alloc: Global, plan: &Plan, mut lines: ProofLines<'_>) -> Result
     while let Some(proof) = lines.next_proof(alloc)? {
         tally.add(plan, &proof);
     }
-    Ok(tally.answer(plan))
+    Ok(match tally.fault(plan) {
+        None => Answer::Safe,
+        Some(fault) => Answer::Wrong(fault),
+    })
 }
 
 // A fault that is said to be that of this pair.

@@ -5,7 +5,8 @@ ghost use Rattle.plan_core.specs.Faults.{IsSafe};
 
 use plan_core::Plan;
 
-/// A plan that is safe, since a certificate proves each of its pairs. `accept_plan` makes it, and nothing else.
+/// A plan that is safe, since a certificate proves each of its pairs. `accept_plan` makes it of proofs, and
+/// `accept_certificate` of the text of a certificate; nothing else does.
 #[derive(Drop)]
 pub struct Accepted {
     pub(crate) plan: Plan,

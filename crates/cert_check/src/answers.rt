@@ -2,9 +2,11 @@
 
 ghost use Rattle.std.specs.Prelude.{◌≡◌};
 ghost use Rattle.cert_check.specs.Refused.{refused_with};
+ghost use Rattle.cert_check.specs.declared.answers.AcceptError.TheVariants.{NoMemory};
 
 use certificate::CertFault;
 use plan_text::PlanError;
+use std::alloc::AllocError;
 use thiserror::Error;
 
 /// What a certificate says of a plan, where the plan's text has no refusal.
@@ -37,5 +39,13 @@ impl From<PlanError> for AcceptError {
             PlanError::NoMemory => AcceptError::NoMemory,
             _ => AcceptError::Plan(error),
         }
+    }
+}
+
+impl From<AllocError> for AcceptError {
+    ghost from_gives = { λ _ f. f ≡ NoMemory };
+
+    fn from(_error: AllocError) -> AcceptError {
+        AcceptError::NoMemory
     }
 }

@@ -8,7 +8,7 @@ ghost use Rattle.cert_check.specs.Holds.{accepted_plan};
 ghost use Rattle.cert_check.specs.Proved.{Certifies, IsWrong};
 
 use crate::accepted::Accepted;
-use crate::pairs::check_pair;
+use crate::tallies::Tally;
 use certificate::{Cert, CertFault};
 use plan_core::Plan;
 
@@ -30,26 +30,21 @@ pub fn accept_plan(plan: Plan, certs: &[Cert]) -> Result<Accepted, (Plan, CertFa
     ensures wrong { (fault : CertFault) →
         IsWrong (plan_contents plan) (map proof_tree certs.now) fault → result ≡ Err (plan, fault) }
 {
-    match first_wrong(&plan, certs) {
+    match fault_of(&plan, certs) {
         Some(fault) => Err((plan, fault)),
         None => Ok(Accepted { plan }),
     }
 }
 
 // What is wrong with these proofs, if anything is.
-fn first_wrong(plan: &Plan, certs: &[Cert]) -> Option<CertFault>
+fn fault_of(plan: &Plan, certs: &[Cert]) -> Option<CertFault>
     ensures { MatchOption result
         (Certifies (plan_contents plan.now) (map proof_tree certs.now))
         (IsWrong (plan_contents plan.now) (map proof_tree certs.now)) }
 {
-    let pairs = plan.pair_count();
-    if certs.len() != pairs as usize {
-        return Some(CertFault::Count);
+    let mut tally = Tally::new();
+    for cert in certs {
+        tally.add(plan, cert);
     }
-    for i in 0..pairs {
-        if !check_pair(plan, i, &certs[i as usize]) {
-            return Some(CertFault::Pair(i));
-        }
-    }
-    None
+    tally.fault(plan)
 }

@@ -2,18 +2,16 @@
 
 ghost use Rattle.std.specs.Prelude.{◌≡◌, ◌<◌, ◌↔◌, IsTrue, length};
 ghost use Rattle.message_tree.specs.Items.{KindsClash};
-ghost use Rattle.message_tree.specs.Texts.{FrameText, PayloadText, TailText, SenderText};
-ghost use Rattle.message_tree.specs.Trees.{frame_tree, payload_tree, tail_tree};
+ghost use Rattle.message_tree.specs.Texts.{SenderText};
 ghost use Rattle.plan_core.specs.PlanContents.{plan_contents};
 ghost use Rattle.plan_core.specs.Pairs.{pairs_of};
 ghost use Rattle.cert_check.specs.PairFaults.{IsPairFault};
 ghost use Rattle.plan_core.specs.Senders.{what_is_sent};
-ghost use Rattle.cert_check.specs.Wires.{MayPut, ClashAfter};
+ghost use Rattle.cert_check.specs.Wires.{GoesOnWith, ClashAfter, is_offered};
 
-use crate::bits::{byte_bits, first_header, frame_bits};
-use crate::wires::{Along, Answered, along_bits, along_byte, along_read};
+use bench_places::{Offered, Place};
 use certificate::Fault;
-use message_tree::{Frame, Item, Kind, Payload, Tail};
+use message_tree::{Item, Kind};
 use plan_core::{Plan, Sends};
 
 /// Whether the pair with number `i` has this fault when it starts alone. Any of its faults will do, not only the first.
@@ -46,72 +44,29 @@ fn kinds_clash(j: Kind, k: Kind) -> bool
 }
 
 // Whether the participant may put an item of this kind after this wire.
-fn may_put(start: &Sends<'_>, wire: &[Item], kind: Kind) -> bool
-    ensures { IsTrue result ↔ MayPut (SenderText (what_is_sent start.now)) wire.now kind }
+fn may_put(sends: &Sends<'_>, wire: &[Item], kind: Kind) -> bool
+    ensures { IsTrue result ↔ GoesOnWith (SenderText (what_is_sent sends.now)) wire.now kind }
 {
-    match start {
-        Sends::Message(frame) => frame_may_put(frame, wire, kind),
-        Sends::Interrupt(_) => match along_bits(&first_header(start), wire) {
-            Along::Off => false,
-            Along::Within(offered) => offered == kind,
-            Along::Behind(wire) => wire.is_empty() && kind == Kind::Claim,
-        },
+    let mut place = Place::start(*sends);
+    for item in wire {
+        if !place.offered().allows(*item) {
+            return false;
+        }
+        place = place.after(*item);
     }
+    is_offered(place.offered(), kind)
 }
 
-#[cycle(put)]
-fn frame_may_put(frame: &Frame, wire: &[Item], kind: Kind) -> bool
-    ensures { IsTrue result ↔ MayPut (FrameText (frame_tree frame.now)) wire.now kind }
+// Whether an item of this kind may come next.
+fn is_offered(offered: Offered, kind: Kind) -> bool
+    ensures { result ≡ is_offered offered kind }
 {
-    match along_byte(&frame_bits(frame), wire) {
-        Answered::Off => false,
-        Answered::Within(offered) => offered == kind,
-        Answered::Acked(wire) => match frame {
-            Frame::Write { acked, .. } => payload_may_put(acked, wire, kind),
-            Frame::Read { count, after, .. } => match along_read(count, 0, wire) {
-                Along::Off => false,
-                Along::Within(offered) => offered == kind,
-                Along::Behind(wire) => tail_may_put(after, wire, kind),
-            },
-        },
-        Answered::Refused(wire) => match frame {
-            Frame::Write { refused, .. } => tail_may_put(refused, wire, kind),
-            Frame::Read { refused, .. } => tail_may_put(refused, wire, kind),
-        },
-    }
-}
-
-// After an acknowledge of a written byte.
-#[cycle(put)]
-fn payload_may_put(payload: &Payload, wire: &[Item], kind: Kind) -> bool
-    ensures { IsTrue result ↔ MayPut (PayloadText (payload_tree payload.now)) wire.now kind }
-{
-    match payload {
-        Payload::Byte {
-            bits,
-            acked,
-            refused,
-        } => match along_byte(&byte_bits(bits), wire) {
-            Answered::Off => false,
-            Answered::Within(offered) => offered == kind,
-            Answered::Acked(wire) => payload_may_put(acked, wire, kind),
-            Answered::Refused(wire) => tail_may_put(refused, wire, kind),
-        },
-        Payload::Last(tail) => tail_may_put(tail, wire, kind),
-    }
-}
-
-// After the last byte, or after a refusal.
-#[cycle(put)]
-fn tail_may_put(tail: &Tail, wire: &[Item], kind: Kind) -> bool
-    ensures { IsTrue result ↔ MayPut (TailText (tail_tree tail.now)) wire.now kind }
-{
-    match tail {
-        Tail::Stop => wire.is_empty() && kind == Kind::Stop,
-        Tail::Again(frame) => match wire {
-            [] => kind == Kind::Again,
-            [Item::Again, wire @ ..] => frame_may_put(frame, wire, kind),
-            _ => false,
-        },
-    }
+    matches!(
+        (offered, kind),
+        (Offered::Bit(_), Kind::Sent)
+            | (Offered::Listen, Kind::Heard)
+            | (Offered::Again, Kind::Again)
+            | (Offered::Stop, Kind::Stop)
+            | (Offered::Claim, Kind::Claim)
+    )
 }

@@ -2,7 +2,7 @@
 //! is safe, as the contract of `accept` says.
 //!
 //! `pairs` lays a proof beside the two messages of its pair, node by node (`nodes`, `bits`). `faults` follows the wire of
-//! a fault through one participant at a time (`wires`). `certified` checks the proofs of a whole plan, and `accepted`
+//! a fault through one participant at a time, place by place. `certified` checks the proofs of a whole plan, and `accepted`
 //! keeps a plan that they made safe. `acceptance` reads a plan and its certificate, and checks each proof as it comes
 //! (`tallies`). `laws` says what proofs of all pairs are worth.
 #![tactic(auto)]
@@ -17,9 +17,8 @@ pub mod laws;
 mod nodes;
 pub mod pairs;
 mod tallies;
-mod wires;
 
-pub use acceptance::{accept, accept_certificate};
+pub use acceptance::{accept, accept_certificate, check_certificate};
 pub use accepted::Accepted;
 pub use answers::{AcceptError, Answer};
 pub use certified::accept_plan;

@@ -1,11 +1,9 @@
 // The proofs of a certificate, counted and checked as they come.
 
-ghost use Rattle.std.specs.Prelude.{◌≡◌, ◌∷◌, [], ◌++◌, List};
-ghost use Rattle.certificate.specs.Certificates.{proofs};
+ghost use Rattle.std.specs.Prelude.{◌≡◌, ◌∷◌, [], ◌++◌, List, MatchOption};
 ghost use Rattle.certificate.specs.Proofs.{ProofTree, proof_tree};
 ghost use Rattle.plan_core.specs.PlanContents.{plan_contents};
 
-use crate::answers::Answer;
 use crate::pairs::check_pair;
 use certificate::{Cert, CertFault};
 use plan_core::Plan;
@@ -20,7 +18,8 @@ pub(crate) struct Tally {
 }
 
 impl Tally {
-    ghost use Rattle.cert_check.specs.Judged.{Tallies, FirstOf, Judges};
+    ghost use Rattle.cert_check.specs.Judged.{Tallies, FirstOf};
+    ghost use Rattle.cert_check.specs.Proved.{Certifies, IsWrong};
 
     /// The tally of no proofs.
     pub(crate) fn new() -> Tally
@@ -61,17 +60,16 @@ impl Tally {
         }
     }
 
-    /// What these proofs are worth, where no more come.
-    pub(crate) fn answer(&self, plan: &Plan) -> Answer
+    /// What is wrong with these proofs, where no more come.
+    pub(crate) fn fault(&self, plan: &Plan) -> Option<CertFault>
         ensures { (trees : List ProofTree) → Tallies (plan_contents plan.now) trees self.now →
-            Judges (plan_contents plan.now) (proofs trees) result }
+            MatchOption result (Certifies (plan_contents plan.now) trees) (IsWrong (plan_contents plan.now) trees) }
     {
-        if self.proofs != u64::from(plan.pair_count()) {
-            return Answer::Wrong(CertFault::Count);
-        }
-        match self.unproved {
-            Some(i) => Answer::Wrong(CertFault::Pair(i)),
-            None => Answer::Safe,
+        let all_came = self.proofs == u64::from(plan.pair_count());
+        match (all_came, self.unproved) {
+            (false, _) => Some(CertFault::Count),
+            (true, Some(i)) => Some(CertFault::Pair(i)),
+            (true, None) => None,
         }
     }
 }

@@ -93,7 +93,7 @@ never_answer P Q R S m n (_ ∷ u) v w x y p q c = absurd p
 never_byte : (a b : Bit) (P Q : Language) → NeverClash (SentThen (a ∷ []) P) (SentThen (b ∷ []) Q) → NeverClash (ByteThen a P) (ByteThen b Q)
 never_byte a b P Q n = never_heard 8 (SentThen (a ∷ []) P) (SentThen (b ∷ []) Q) n
 
--- reads of m + 1 and of n + 1 bytes clash only behind the last, where they are of one length
+-- reads of m + 1 and of n + 1 bytes clash only after the last, where they are of one length
 pub never_bytes : (m n : ℕ) (P Q : Language) → (m ≡ n → NeverClash P Q) → NeverClash (BytesThen m (ByteThen One P)) (BytesThen n (ByteThen One Q))
 never_bytes zero zero P Q h = never_byte One One P Q (never_sent (One ∷ []) (One ∷ []) P Q refl (h refl))
 never_bytes zero (suc n) P Q h =

@@ -92,7 +92,7 @@ pub record TokenRead (token : Token) (old new : Place) : Type 0 where
   pub reads : (room : ℕ) → Reads (token_text token) old (proof (suc room) ∷ []) new (below (branches token) room)
   pub deep : Refuses old (proof 0 ∷ []) (Wrong (TooDeep new.line))
 
--- the place of a bit behind `P`
+-- the place of a bit after `P`
 pub record PlaceRead (k : ℕ) (old new : Place) : Type 0 where
   pub small : k < 8
   pub line_is : new.line ≡ old.line

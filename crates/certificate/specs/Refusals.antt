@@ -24,12 +24,12 @@ pub data Expected : Type 0 where
   -- the first digit of a number which this byte ends, and what follows the digits of this number
   number : (end : ℕ) → Expected
   digits : (so_far end : ℕ) → Expected
-  -- the first symbol of a wire, and a further one or the space behind it
+  -- the first symbol of a wire, and a further one or the space after it
   wire : Expected
   symbols : Expected
   -- the first letter of a kind
   kind : Expected
-  -- the first letter of a proof with room for so many nodes on a path, and the place of a bit behind `P`
+  -- the first letter of a proof with room for so many nodes on a path, and the place of a bit after `P`
   proof : (room : ℕ) → Expected
   place_digit : (room : ℕ) → Expected
   -- a further proof, or the end of the text
@@ -43,7 +43,7 @@ Step = Result (List Expected) CertFault
 abbrev pub each : List ℕ → List Expected
 each bytes = map this bytes
 
--- behind `p`: a number of proofs, and the proofs
+-- after `p`: a number of proofs, and the proofs
 abbrev pub proofs_expected : List Expected
 proofs_expected = each (codes "airs ") ++ (number (code "\n") ∷ (lines ∷ []))
 
@@ -51,7 +51,7 @@ proofs_expected = each (codes "airs ") ++ (number (code "\n") ∷ (lines ∷ [])
 abbrev pub fault_expected : List Expected
 fault_expected = wire ∷ (kind ∷ (this (code " ") ∷ (kind ∷ (this (code "\n") ∷ []))))
 
--- behind `f`: the number of a pair, and where it clashes
+-- after `f`: the number of a pair, and where it clashes
 abbrev pub flaw_expected : List Expected
 flaw_expected = each (codes "ault ") ++ (number (code " ") ∷ fault_expected)
 

@@ -22,7 +22,7 @@ impl<'a> ProofLines<'a> {
     ghost use Rattle.certificate.specs.Places.{place};
     ghost use Rattle.certificate.specs.Reading.{AddsProof, EndsHere, RefusedHere, bytes_left};
 
-    /// What is left behind the first two lines, which announce this number of proofs.
+    /// What is left after the first two lines, which announce this number of proofs.
     pub(crate) fn new(source: Source<'a>, number: u32) -> Self
         ensures source { result.source ≡ source.entry }
         ensures number { result.number ≡ number }

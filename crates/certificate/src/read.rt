@@ -69,7 +69,7 @@ pub enum Head<'a> {
 ///
 /// # Errors
 ///
-/// C1 at the line where these two lines break the form, or at the line after a fault where the text goes on behind it.
+/// C1 at the line where these two lines break the form, or at the line after a fault where the text goes on after it.
 /// `NoMemory` where memory is refused for the wire of a fault before that.
 pub fn read_head(alloc: Global, text: &[u8]) -> Result<Head<'_>, CertError>
     ensures read { IfOk result (λ head. HeadRead text.now head) }

@@ -21,7 +21,7 @@ pub enum Cert {
     /// Two read headers: a proof for what follows the last byte, or `Short`, and one for what follows where the header
     /// is not acknowledged.
     Read(Box<Cert>, Box<Cert>),
-    /// Two repeated STARTs: a proof for the frames behind them.
+    /// Two repeated STARTs: a proof for the frames after them.
     Again(Box<Cert>),
     /// Two STOPs.
     Alike,

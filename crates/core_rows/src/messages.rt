@@ -344,7 +344,7 @@ fn sizes_of_the_largest_tree(rt: HostRuntime) -> Result<(), Fail> {
 
 // ---- messages of any depth
 
-// A message of `n` repeated STARTs, each behind the refusal of the header before it.
+// A message of `n` repeated STARTs, each after the refusal of the header before it.
 fn behind_refusals(alloc: Global, n: u32) -> Result<Frame, AllocError> {
     let mut tail = Tail::Stop;
     for _ in 0..n {
@@ -353,7 +353,7 @@ fn behind_refusals(alloc: Global, n: u32) -> Result<Frame, AllocError> {
     write(alloc, Payload::Last(Tail::Stop), tail)
 }
 
-// The same, each behind what is written after the acknowledge of the header before it.
+// The same, each after what is written after the acknowledge of the header before it.
 fn behind_acknowledges(alloc: Global, n: u32) -> Result<Frame, AllocError> {
     let mut tail = Tail::Stop;
     for _ in 0..n {
@@ -362,7 +362,7 @@ fn behind_acknowledges(alloc: Global, n: u32) -> Result<Frame, AllocError> {
     write(alloc, Payload::Last(tail), Tail::Stop)
 }
 
-// The same, each behind the refusal of a data byte.
+// The same, each after the refusal of a data byte.
 fn behind_bytes(alloc: Global, n: u32) -> Result<Frame, AllocError> {
     let mut tail = Tail::Stop;
     for _ in 0..n {
@@ -377,7 +377,7 @@ fn behind_bytes(alloc: Global, n: u32) -> Result<Frame, AllocError> {
     write(alloc, Payload::Last(tail), Tail::Stop)
 }
 
-// `n` data bytes, one behind the acknowledge of the other.
+// `n` data bytes, one after the acknowledge of the other.
 fn in_bytes(alloc: Global, n: u32) -> Result<Frame, AllocError> {
     let mut payload = Payload::Last(Tail::Stop);
     for _ in 0..n {
@@ -386,7 +386,7 @@ fn in_bytes(alloc: Global, n: u32) -> Result<Frame, AllocError> {
     write(alloc, payload, Tail::Stop)
 }
 
-// `n` repeated STARTs, each behind the last byte of the read before it.
+// `n` repeated STARTs, each after the last byte of the read before it.
 fn behind_reads(alloc: Global, n: u32) -> Result<Frame, Fail> {
     let one = Count::new(1).ok_or("no count")?;
     let mut frame = read(one, Tail::Stop);
@@ -447,7 +447,7 @@ fn messages_of_4096_levels_have_sizes_and_copies(rt: HostRuntime) -> Result<(), 
     assert_sizes(&rt, alloc, &deep(alloc, 2, 2048)?, 4097, 4097, 38_922)?;
     // a header and 4,095 bytes: 4,096 * 9 + 1
     assert_sizes(&rt, alloc, &deep(alloc, 3, 4095)?, 4096, 4096, 36_865)?;
-    // 4,096 headers, and a byte read behind each: 8,192 * 9 + 4,095 + 1
+    // 4,096 headers, and a byte read after each: 8,192 * 9 + 4,095 + 1
     assert_sizes(&rt, alloc, &deep(alloc, 4, 4095)?, 4096, 8192, 77_824)?;
     Ok(())
 }

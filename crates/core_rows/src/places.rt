@@ -19,7 +19,7 @@ fn write(alloc: Global, acked: Payload, refused: Tail) -> Result<Frame, AllocErr
     })
 }
 
-// A byte with a STOP behind either answer of the target, unless it is acknowledged and `acked` goes on.
+// A byte with a STOP after either answer of the target, unless it is acknowledged and `acked` goes on.
 fn byte(alloc: Global, bits: Pattern, acked: Tail) -> Result<Payload, AllocError> {
     Ok(Payload::Byte {
         bits,
@@ -63,7 +63,7 @@ fn item(symbol: char) -> Option<Item> {
     }
 }
 
-// The symbol of what is offered before each item of the wire, and behind the last.
+// The symbol of what is offered before each item of the wire, and after the last.
 fn offers_along(
     rt: &impl Abort,
     alloc: Global,

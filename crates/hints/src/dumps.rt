@@ -1,4 +1,4 @@
-// Behind the refusal of a dump.
+// After the refusal of a dump.
 
 use crate::judging::{Judge, Said, Wrong};
 use crate::lines::Lines;
@@ -11,7 +11,7 @@ use std::alloc::{AllocError, Global};
 use std::io::{self, Read, Seek};
 use vcd_read::VcdError;
 
-/// What to say behind the refusal of a dump. The file is the one that was refused, where it can be read once more.
+/// What to say after the refusal of a dump. The file is the one that was refused, where it can be read once more.
 pub fn on_dump<F: Read + Seek + Drop>(
     alloc: Global,
     file: Option<F>,

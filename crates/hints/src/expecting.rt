@@ -23,7 +23,7 @@ const WORDS: [(&str, &str); 12] = [
     ("0000000x", "a data byte (eight of '0', '1' and 'x')"),
 ];
 
-/// What can stand behind these beginnings of a plan, in words. There are none where they are no beginning of a plan.
+/// What can stand after these beginnings of a plan, in words. There are none where they are no beginning of a plan.
 pub(crate) fn expected(alloc: Global, before: &[u8]) -> Result<Option<String>, AllocError> {
     let mut names = Vec::new(alloc);
     for (word, name) in WORDS {
@@ -52,7 +52,7 @@ fn expected_bits(alloc: Global, before: &[u8]) -> Result<Option<&'static str>, A
     })
 }
 
-// Whether this word can stand on a line of its own behind the beginning of a plan.
+// Whether this word can stand on a line of its own after the beginning of a plan.
 fn allows(alloc: Global, before: &[u8], word: &str) -> Result<bool, AllocError> {
     let mut text = before.to_vec(alloc)?;
     text.push(b'\n')?;

@@ -178,7 +178,7 @@ impl Judge {
         Said::Nothing
     }
 
-    // A token behind the definitions, outside commands.
+    // A token after the definitions, outside commands.
     fn change(&mut self, token: &[u8], place: Place) -> Said {
         let Some((first, rest)) = token.split_first() else {
             return Said::Wrong(Wrong::Stray);

@@ -1,4 +1,4 @@
-//! What is said to people behind a refusal, or behind a report that tells of nothing: where the cause stands, and what
+//! What is said to people after a refusal, or after a report that tells of nothing: where the cause stands, and what
 //! would stand there instead.
 //!
 //! Nothing here decides anything. A refusal is the caller's, and the file is read once more, in blocks, to find its place:
@@ -11,7 +11,7 @@
 mod dumps;
 mod expecting;
 mod judging;
-mod likeness;
+pub mod likeness;
 mod lines;
 mod marking;
 mod naming;
@@ -26,6 +26,3 @@ pub use dumps::on_dump;
 pub use naming::Names;
 pub use plans::on_plan;
 pub use silence::on_silence;
-
-#[cfg(test)]
-mod tests;

@@ -62,7 +62,7 @@ impl Nearest {
 
 /// How far a name is from the wanted one: by how many bytes it is longer where it has the wanted name in it, in letters of
 /// either case, and else by how many bytes would have to be put in, taken out or changed.
-pub(crate) fn distance(alloc: Global, wanted: &[u8], name: &[u8]) -> Result<usize, AllocError> {
+pub fn distance(alloc: Global, wanted: &[u8], name: &[u8]) -> Result<usize, AllocError> {
     if has_within(wanted, name) {
         return Ok(name.len().saturating_sub(wanted.len()).min(OTHERS));
     }

@@ -3,14 +3,14 @@
 use crate::lines::Lines;
 use std::alloc::{AllocError, Global};
 
-// How many bytes are shown of a line before the place, of the place itself, and behind it.
+// How many bytes are shown of a line before the place, of the place itself, and after it.
 const BEFORE: usize = 40;
 
 const PLACE: usize = 32;
 
 const BEHIND: usize = 32;
 
-/// How many bytes before and behind the beginning of a place are enough to show it.
+/// How many bytes before and after the beginning of a place are enough to show it.
 pub(crate) const MARGIN: usize = 128;
 
 // What stands where bytes are left out.

@@ -1,4 +1,4 @@
-// Behind the refusal of a plan.
+// After the refusal of a plan.
 
 use crate::expecting::expected;
 use crate::lines::Lines;
@@ -13,7 +13,7 @@ use std::io::{Read, Seek};
 // The longest plan that is read once more: 1 MiB.
 const MOST: usize = 1 << 20;
 
-/// What to say behind the refusal of a plan. The file is the one that was refused, where it can be read once more.
+/// What to say after the refusal of a plan. The file is the one that was refused, where it can be read once more.
 pub fn on_plan<F: Read + Seek + Drop>(
     alloc: Global,
     file: Option<F>,

@@ -1,4 +1,4 @@
-// Behind a report on a capture that has no transaction.
+// After a report on a capture that has no transaction.
 
 use crate::judging::{Judge, Said};
 use crate::lines::Lines;
@@ -11,7 +11,7 @@ use std::alloc::{AllocError, Global};
 use std::io::{self, Read, Seek};
 use vcd_read::{Level, Reader, Sample};
 
-/// What to say behind a report that tells of no transaction. The file is the dump, where it can be read once more.
+/// What to say after a report that tells of no transaction. The file is the dump, where it can be read once more.
 pub fn on_silence<F: Read + Seek + Drop>(
     alloc: Global,
     file: Option<F>,

@@ -29,7 +29,7 @@ abbrev pub IsBare : FrameTree → Type 0
 IsBare (write address acked refused) = acked ≡ last stop
 IsBare (read address count after refused) = after ≡ stop
 
--- a byte has nothing behind its refusal
+-- a byte has nothing after its refusal
 abbrev pub HasNoRefused : PayloadTree → Type 0
 HasNoRefused (byte bits acked refused) = refused ≡ stop
 HasNoRefused (last tail) = Unit {0}

@@ -60,7 +60,7 @@ pub enum Payload {
 
 // A message is let go in loops that take no memory, however deep its tree is: a derived drop would call itself once for
 // each level. The first frame in what follows the acknowledge becomes the outer one, and the frame that was outer hangs
-// behind its refusal, until nothing follows the acknowledge.
+// after its refusal, until nothing follows the acknowledge.
 
 impl Drop for Tail {
     #[cycle(drops)]
@@ -101,7 +101,7 @@ fn less(mut outer: Box<Frame>) -> Tail
     }
 }
 
-// What follows the refusal of a frame that has nothing behind its acknowledge.
+// What follows the refusal of a frame that has nothing after its acknowledge.
 #[cycle(drops)]
 fn outer_refused(outer: Box<Frame>) -> Tail
     requires { IsBare (frame_tree outer.value) }
@@ -133,7 +133,7 @@ impl Frame {
         }
     }
 
-    // Hangs this behind the refusal, and gives what hung there.
+    // Hangs this after the refusal, and gives what hung there.
     fn hang(&mut self, refused: Tail) -> Tail
         ensures new { frame_tree self.new ≡ with_refused (frame_tree self.old) (tail_tree refused) }
         ensures old { tail_tree result ≡ refused_of (frame_tree self.old) }
@@ -170,7 +170,7 @@ impl Payload {
         }
     }
 
-    // What follows the acknowledge of a byte that has nothing behind its refusal.
+    // What follows the acknowledge of a byte that has nothing after its refusal.
     #[cycle(drops)]
     fn rest(self) -> Payload
         requires { HasNoRefused (payload_tree self) }

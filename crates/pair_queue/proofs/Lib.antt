@@ -4,3 +4,4 @@ pub mod OrderLemmas
 pub mod ReturnLemmas
 pub mod SeatLemmas
 pub mod StepLemmas
+pub mod TakenLemmas

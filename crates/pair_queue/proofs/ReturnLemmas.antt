@@ -11,7 +11,7 @@ use Rattle.pair_queue.specs.Seats.{Seat}
 use Rattle.pair_queue.specs.Settling.{TookEachOnce}
 use Rattle.pair_queue.specs.Steps.{TookAll}
 
-times_cons : (i x : ℕ) (xs : List ℕ) → times i (x ∷ xs) ≡ cond (eqb x i) 1 0 + times i xs
+pub times_cons : (i x : ℕ) (xs : List ℕ) → times i (x ∷ xs) ≡ cond (eqb x i) 1 0 + times i xs
 times_cons i x xs = sum_by-cons (λ j. cond (eqb j i) 1 0) x xs
 
 times_append : (i : ℕ) (xs ys : List ℕ) → times i (xs ++ ys) ≡ times i xs + times i ys

@@ -1,5 +1,5 @@
 -- A seat in use may take, and stays in use.
-use Rattle.std.proofs.Common.{◌≡◌, ℕ, ◌<◌, Bool, true, false, cond, [], ◌∷◌, ◌++◌, sym, refl, ap, ◌∙◌, subst, arith}
+use Rattle.std.proofs.Common.{◌≡◌, ℕ, ◌<◌, Bool, true, false, true≢false, cond, [], ◌∷◌, ◌++◌, sym, refl, ap, ◌∙◌, subst, arith}
 use Rattle.std.proofs.lemmas.List.Elements.{All-push, All-nil}
 use Rattle.crossbeam_deque.specs.Tasks.{Takes}
 use Rattle.pair_queue.specs.declared.tickets.Ticket.{Ticket}
@@ -24,10 +24,10 @@ took_number v w t i is told = subst (λ (x : Ticket). Took v (x ∷ []) w) is to
 pub same_seats : (v w : Hand) (t : Ticket) (i : ℕ) → t ≡ Number i → Took v (t ∷ []) w → w.seats ≡ v.seats
 same_seats v w t i is told = ap (λ (x : Hand). x.seats) (took_number v w t i is told).0
 
-pub seated_took : (v w : Hand) (t : Ticket) (i : ℕ) (ended : Bool) → IsSeated v ended → t ≡ Number i → Took v (t ∷ []) w → IsSeated w ended
-seated_took v w t i ended s is told_of =
+pub seated_took : (v w : Hand) (t : Ticket) (i : ℕ) (ended : Bool) → ended ≡ false → IsSeated v ended → t ≡ Number i → Took v (t ∷ []) w → IsSeated w ended
+seated_took v w t i ended not_yet s is told_of =
     let told = took_number v w t i is told_of in
-    let rising = rising_push v.taken i s.rising told.2 in
+    let rising = rising_push v.taken i s.rising told.3 in
     let below = All-push (λ j. j < v.made) v.taken i s.below told.1 in
     subst (λ (x : Hand). IsSeated x ended) (sym told.0)
     (record {
@@ -38,6 +38,7 @@ seated_took v w t i ended s is told_of =
       rising = rising;
       below = below;
       count = rising_length (v.taken ++ i ∷ []) v.made rising below;
+      over = λ yes_. absurd (true≢false (sym yes_ ∙ not_yet));
     })
 
 pub seated_cut : (v w : Hand) → w ≡ cut v → v.live ≡ true → IsSeated w false
@@ -51,4 +52,5 @@ seated_cut v w is live =
       rising = λ k lt. absurd (omega arith);
       below = All-nil (λ i. i < v.made);
       count = omega arith;
+      over = λ e. absurd (true≢false (sym e));
     })

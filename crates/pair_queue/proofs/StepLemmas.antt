@@ -3,6 +3,7 @@ use Rattle.std.proofs.Common.{◌≡◌, ◌≢◌, ℕ, zero, suc, ◌+◌, ◌
 use native.Mathlib.Decide.{dec_le}
 use Rattle.std.specs.List.{range_with_len}
 use Rattle.std.proofs.lemmas.List.{append-nil, length-append}
+use Rattle.std.proofs.lemmas.List.FromFn.{length-range_with_len}
 use Rattle.std.proofs.lemmas.List.Sums.{sum_by-append}
 use Rattle.std.proofs.Math.ListN.{length-set}
 use Rattle.crossbeam_deque.specs.Tasks.{Pushes, Takes, Finds, FindsFew, Forks, Merges, Learns}
@@ -10,7 +11,7 @@ use Rattle.crossbeam_deque.proofs.Lists.{at_set}
 use Rattle.pair_queue.specs.declared.tickets.Ticket.{Ticket}
 use Rattle.pair_queue.specs.declared.tickets.Ticket.TheVariants.{Number, End}
 use Rattle.pair_queue.specs.declared.tickets.Hand.{Hand}
-use Rattle.pair_queue.specs.Dispatch.{Event, Push, Take, Empty, pushed, taken, taken_by, first_numbers}
+use Rattle.pair_queue.specs.Dispatch.{Event, Push, Take, Empty, pushed, taken, taken_by, first_numbers, IsPushed}
 use Rattle.pair_queue.specs.Rule.{tickets, total, times, parts_of, ended_of, Fits, IsDispatched}
 use Rattle.pair_queue.specs.Steps.{opening, spent, Pushed, Took, kept, cut, joined, TookAll}
 use Rattle.pair_queue.proofs.Logs.{taken_then_left, handed_out}
@@ -61,7 +62,7 @@ begins = record {
   played = record { legal = refl; pushes = refl };
   takes = λ i. refl;
   marks = refl;
-  fits = at_only (Fits 0 [] [] (opening ∷ [])) opening (record { alone = λ _. refl; made = λ _. refl; seats = λ _. refl; ended = omega arith; idle = λ _. refl; last = λ h. absurd (omega arith); own = λ _. refl });
+  fits = at_only (Fits 0 [] [] (opening ∷ [])) opening (record { alone = λ _. refl; made = λ _. refl; seats = λ _. refl; ended = omega arith; idle = λ _. refl; last = λ h. absurd (omega arith); own = λ _. refl; past = omega arith });
   later = λ seat far. refl;
 }
 
@@ -85,7 +86,7 @@ push_number items v i live bare next h =
       takes = h.takes;
       marks = omega arith;
       fits = at_only (Fits (suc h.n) (Push i ∷ h.log) (h.left ++ i ∷ []) (w ∷ [])) w
-          (record { alone = λ _. refl; made = λ _. omega arith; seats = fit.seats; ended = fit.ended; idle = fit.idle; last = λ some_ended. absurd (omega arith); own = fit.own });
+          (record { alone = λ _. refl; made = λ _. omega arith; seats = fit.seats; ended = fit.ended; idle = fit.idle; last = λ some_ended. absurd (omega arith); own = fit.own; past = fit.past });
       later = h.later;
     }
 
@@ -106,7 +107,7 @@ push_end items v live h =
       takes = h.takes;
       marks = omega arith;
       fits = at_only (Fits h.n h.log h.left (w ∷ [])) w
-          (record { alone = λ _. refl; made = fit.made; seats = λ _. omega arith; ended = omega arith; idle = λ none. absurd (omega arith); last = fit.last; own = fit.own });
+          (record { alone = λ _. refl; made = fit.made; seats = λ _. omega arith; ended = omega arith; idle = λ none. absurd (omega arith); last = fit.last; own = fit.own; past = fit.past });
       later = h.later;
     }
 
@@ -128,11 +129,16 @@ pushes_end seat v alone live =
 
 -- Taking
 
+-- where none is left, all numbers were taken
+all_taken : (log : List Event) (left : List ℕ) (n : ℕ) → IsPushed n log left → left ≡ [] → taken log ≡ first_numbers n
+all_taken log left n played none =
+    sym (append-nil (taken log)) ∙ ap (λ (xs : List ℕ). taken log ++ xs) (sym none) ∙ sym (taken_then_left log left played.legal) ∙ played.pushes
+
 -- what others know stays, where the log grows by an event of another seat
 refit : (n : ℕ) (log log' : List Event) (left left' : List ℕ) (views views' : List Hand) (seat : ℕ) (v : Hand)
-    → length views' ≡ length views → parts_of views' ≡ parts_of views → (left ≡ [] → left' ≡ []) → taken_by seat log' ≡ taken_by seat log
+    → length views' ≡ length views → parts_of views' ≡ parts_of views → (left ≡ [] → left' ≡ []) → taken_by seat log' ≡ taken_by seat log → length (taken log) ≤ length (taken log')
     → Fits n log left views seat v → Fits n log' left' views' seat v
-refit n log log' left left' views views' seat v many parts less same fit = record {
+refit n log log' left left' views views' seat v many parts less same more fit = record {
   alone = λ a. many ∙ fit.alone a;
   made = fit.made;
   seats = λ l. fit.seats l ∙ sym parts;
@@ -140,13 +146,14 @@ refit n log log' left left' views views' seat v many parts less same fit = recor
   idle = fit.idle;
   last = λ e. less (fit.last e);
   own = λ o. fit.own o ∙ sym same;
+  past = let p = fit.past in omega arith;
 }
 
 take_number : (seat : ℕ) (v : Hand) (i : ℕ) (items : List Ticket) (views : List Hand) → v.live ≡ true → v.own ≡ true → 0 < v.parts
     → IsDispatched (Number i ∷ items) views → At views seat v
     → (w : Hand) × IsDispatched items (set views seat w) × Took v (Number i ∷ []) w
 take_number seat v i items views live own may h at =
-    let w : Hand = record v { taken = v.taken ++ i ∷ [] } in
+    let w : Hand = record v { taken = v.taken ++ i ∷ []; past = i + 1 } in
     let front = front_number i items h.left h.ends h.holds in
     let rest : List ℕ = front.0 in
     let was : h.left ≡ i ∷ rest = front.1 in
@@ -161,7 +168,10 @@ take_number seat v i items views live own may h at =
     let next : i ≡ out.k = at_front.0 in
     let mine : v.taken ≡ taken_by seat h.log = fit.own own in
     let below : All (λ j. j < i) v.taken = subst (λ (xs : List ℕ). All (λ j. j < i) xs) (sym mine) (subst (λ (k : ℕ). All (λ j. j < k) (taken_by seat h.log)) (sym next) (out.below seat)) in
-    let made : v.made ≡ h.n = fit.made live in (
+    let made : v.made ≡ h.n = fit.made live in
+    let so_far : length (taken h.log) ≡ out.k = ap length out.takes ∙ length-range_with_len 0 out.k in
+    let one_more : length (taken log) ≡ length (taken h.log) + 1 = length-append (taken h.log) (i ∷ []) in
+    let past : v.past ≤ length (taken h.log) = fit.past in (
       w,
       record {
         n = h.n;
@@ -187,16 +197,17 @@ take_number seat v i items views live own may h at =
               idle = λ none. absurd (omega arith);
               last = λ e. let none : h.left ≡ [] = fit.last e in absurd cc;
               own = λ o. rw (eq-eqb seat seat refl) (ap (λ (xs : List ℕ). xs ++ i ∷ []) mine);
+              past = omega arith;
             }))
             (λ (is : (other ≢ seat) × At views other u). refit h.n h.log log h.left rest views views' other u (length-set views seat w) parts still
-            (rw (ne_eqb seat other (λ e. is.0 (sym e))) refl) (h.fits other u is.1))
+            (rw (ne_eqb seat other (λ e. is.0 (sym e))) refl) (omega arith) (h.fits other u is.1))
             (at_set views seat other w u there);
         later = λ other far.
             let long : length views ≤ other = subst (λ n. n ≤ other) (length-set views seat w) far in
             let there = at_below views seat v at in
             rw (ne_eqb seat other (λ e. absurd (omega arith))) (h.later other long);
       },
-      (refl, omega arith, below),
+      (refl, omega arith, omega arith, below),
     )
   where
     first_left : (i : ℕ) (rest : List ℕ) (k left n : ℕ) → k + left ≡ n → i ∷ rest ≡ range_with_len k left → (i ≡ k) × (k < n)
@@ -207,7 +218,7 @@ take_end : (seat : ℕ) (v : Hand) (items : List Ticket) (views : List Hand) →
     → IsDispatched (End ∷ items) views → At views seat v
     → (w : Hand) × IsDispatched items (set views seat w) × Took v (End ∷ []) w
 take_end seat v items views live may h at =
-    let w : Hand = record v { ended = v.ended + 1 } in
+    let w : Hand = record v { ended = v.ended + 1; past = v.made } in
     let front = front_end items h.left h.ends h.holds in
     let none : h.left ≡ [] = front.2 in
     let ends : h.ends ≡ suc front.0 = front.1 in
@@ -215,7 +226,9 @@ take_end seat v items views live may h at =
     let views' : List Hand = set views seat w in
     let fit = h.fits seat v at in
     let parts : parts_of views' ≡ parts_of views = let e = total_set (λ u. u.parts) views seat v w at in omega arith in
-    let ended : ended_of views' ≡ ended_of views + 1 = let e = total_set (λ u. u.ended) views seat v w at in omega arith in (
+    let ended : ended_of views' ≡ ended_of views + 1 = let e = total_set (λ u. u.ended) views seat v w at in omega arith in
+    let made : v.made ≡ h.n = fit.made live in
+    let all : length (taken h.log) ≡ h.n = ap length (all_taken h.log h.left h.n h.played none) ∙ length-range_with_len 0 h.n in (
       w,
       record {
         n = h.n;
@@ -236,8 +249,9 @@ take_end seat v items views live may h at =
               idle = fit.idle;
               last = λ e. refl;
               own = fit.own;
+              past = omega arith;
             }))
-            (λ (is : (other ≢ seat) × At views other u). refit h.n h.log log h.left [] views views' other u (length-set views seat w) parts (λ e. refl) refl (h.fits other u is.1))
+            (λ (is : (other ≢ seat) × At views other u). refit h.n h.log log h.left [] views views' other u (length-set views seat w) parts (λ e. refl) refl (omega arith) (h.fits other u is.1))
             (at_set views seat other w u there);
         later = λ other far. h.later other (subst (λ n. n ≤ other) (length-set views seat w) far);
       },
@@ -308,6 +322,7 @@ cuts seat v live parts none items views h at =
             idle = λ e. absurd (omega arith);
             last = fit.last;
             own = fit.own;
+            past = fit.past;
           }))
           (λ (is : (other ≢ seat) × At views other u).
           let old = h.fits other u is.1 in
@@ -320,6 +335,7 @@ cuts seat v live parts none items views h at =
             idle = old.idle;
             last = old.last;
             own = old.own;
+            past = old.past;
           })
           (at_set views seat other l u was))
           (λ (new : (other ≡ length vs) × (r ≡ u)). subst (λ (y : ℕ × Hand). Fits h.n h.log h.left views' y.0 y.1) (λ k. (sym new.0 k, new.1 k))
@@ -331,6 +347,7 @@ cuts seat v live parts none items views h at =
             idle = λ e. refl;
             last = λ e. absurd (omega arith);
             own = λ e. sym (h.later (length vs) (omega arith));
+            past = fit.past;
           }))
           (at_push vs r u other there);
       later = λ other far. h.later other (let e = length-append vs (r ∷ []) in omega arith);
@@ -373,6 +390,7 @@ joins seat v other w live some_parts items views h at apart at_other =
             idle = λ e. refl;
             last = λ e. absurd (omega arith);
             own = λ a. absurd (true≢false (sym a));
+            past = omega arith;
           }))
           (λ (not_other : (k ≢ other) × At vs k u). ⊎_elim
           (λ (is : (k ≡ seat) × (both ≡ u)). subst (λ (y : ℕ × Hand). Fits h.n h.log h.left views' y.0 y.1) (λ i. (sym is.0 i, is.1 i))
@@ -384,8 +402,9 @@ joins seat v other w live some_parts items views h at apart at_other =
             idle = λ e. absurd (omega arith);
             last = λ e. either_ended v.ended w.ended h.left e fit.last fit_other.last;
             own = λ a. absurd (true≢false (sym a));
+            past = fit.past;
           }))
-          (λ (is : (k ≢ seat) × At views k u). refit h.n h.log h.log h.left h.left views views' k u many all_parts (λ e. e) refl (h.fits k u is.1))
+          (λ (is : (k ≢ seat) × At views k u). refit h.n h.log h.log h.left h.left views views' k u many all_parts (λ e. e) refl (omega arith) (h.fits k u is.1))
           (at_set views seat k both u not_other.1))
           (at_set vs other k spent u there);
       later = λ k far. h.later k (omega arith);
@@ -404,6 +423,5 @@ counts seat v live all some_end items views h at i =
     let idle : (other : ℕ) (u : Hand) → At views other u → u.parts ≡ 0 → times i u.taken ≡ 0 = λ other u there none. ap (times i) ((h.fits other u there).idle none) in
     let mine : total (λ u. times i u.taken) views ≡ times i v.taken = everything (λ u. times i u.taken) views seat v at whole idle in
     let none : h.left ≡ [] = fit.last some_end in
-    let log : taken h.log ≡ first_numbers v.made =
-    sym (append-nil (taken h.log)) ∙ ap (λ (xs : List ℕ). taken h.log ++ xs) (sym none) ∙ sym (taken_then_left h.log h.left h.played.legal) ∙ h.played.pushes ∙ ap first_numbers (sym (fit.made live)) in
+    let log : taken h.log ≡ first_numbers v.made = all_taken h.log h.left h.n h.played none ∙ ap first_numbers (sym (fit.made live)) in
     sym mine ∙ h.takes i ∙ ap (times i) log

@@ -9,7 +9,8 @@ use Rattle.pair_queue.specs.declared.tickets.Ticket.{Ticket}
 use Rattle.pair_queue.specs.declared.tickets.Hand.{Hand}
 use Rattle.pair_queue.specs.Seats.{Queue, Seat}
 
--- its view has one part, which was used where the seat has ended, and it took in order what it took
+-- its view has one part, it took in order what it took, and where it has ended its part was used and it knows that all
+-- numbers were taken
 pub record IsSeated (v : Hand) (ended : Bool) : Type 0 where
   pub live : v.live ≡ true
   pub own : v.own ≡ true
@@ -18,13 +19,14 @@ pub record IsSeated (v : Hand) (ended : Bool) : Type 0 where
   pub rising : IsStrictlyIncreasing v.taken
   pub below : All (λ i. i < v.made) v.taken
   pub count : length v.taken ≤ v.made
+  pub over : ended ≡ true → v.past ≡ v.made
 
 -- the queue that a view knows, and the seat that callers see
 abbrev pub queue_of : ℕ × ℕ → Hand → Queue
 queue_of name v = record { name = name; numbers = v.made; thieves = v.seats - 1 }
 
 abbrev pub seat_of : ℕ × ℕ → Hand → Bool → Seat
-seat_of name v ended = record { queue = queue_of name v; taken = v.taken; ended = ended }
+seat_of name v ended = record { queue = queue_of name v; taken = v.taken; ended = ended; past = v.past }
 
 module _ {A P : Type 0} where
   abbrev pub owner_seat : Worker Ticket A Hand P → Bool → Seat

@@ -19,6 +19,7 @@ pub record IsUntouched (numbers seats parts : ℕ) (v : Hand) : Type 0 where
   pub mine : v.parts ≡ parts
   pub none_ended : v.ended ≡ 0
   pub none_taken : v.taken ≡ []
+  pub none_past : v.past ≡ 0
 
 module _ {A P : Type 0} where
   pub record IsFilled (numbers ends : ℕ) (w : Worker Ticket A Hand P) : Type 0 where

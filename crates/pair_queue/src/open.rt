@@ -71,7 +71,7 @@ fn push_number(deque: &mut Deque, i: u32)
     }
 }
 
-// There is room for one more end mark, behind n numbers and so many end marks.
+// There is room for one more end mark, after n numbers and so many end marks.
 fn push_end(deque: &mut Deque, n: u32, ends: u32)
     requires room { n + ends < worker_capacity deque.old }
     requires filled { IsFilled n ends deque.old }

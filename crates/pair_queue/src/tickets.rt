@@ -7,7 +7,7 @@ use std::collections::LinkedList;
 pub enum Ticket {
     /// The number of a pair.
     Number(u32),
-    /// Behind all numbers, one for each seat: who takes it has found the numbers used up.
+    /// After all numbers, one for each seat: who takes it has found the numbers used up.
     End,
 }
 
@@ -29,4 +29,6 @@ pub struct Hand {
     pub ended: u64,
     /// The numbers that it took, in the order in which it took them.
     pub taken: LinkedList<u32>,
+    /// It knows that all numbers below this one were taken, by whichever seat.
+    pub past: u64,
 }

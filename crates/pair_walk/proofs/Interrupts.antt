@@ -1,4 +1,4 @@
--- Two headers that read, one of them perhaps an interrupt's, and what meets behind them.
+-- Two headers that read, one of them perhaps an interrupt's, and what meets after them.
 use Rattle.std.proofs.Common.{◌≡◌, Result, Ok, Err, true, false, List, [], ◌∷◌, ◌++◌, take, length, reverse, refl, ap, sym, ◌∙◌, subst, inl, inr}
 use Rattle.message_tree.specs.declared.bits.Bit.TheVariants.{One}
 use Rattle.message_tree.specs.declared.bits.Address.{Address}
@@ -37,7 +37,7 @@ unfolding address_bits
 length_of_read a b = refl
 
 module _ {M : Type 0} (shown : M → ProofTree → Type 0) where
-  -- a clash at once, put behind the two headers
+  -- a clash at once, put after the two headers
   pub meets_behind : (a b : Address) (j k : Kind) (items : List Item) (h m : Halt) → NeverSplit (address_bits a) (address_bits b) → items ≡ take 8 (agreed (address_bits a) (address_bits b) ++ (Sent true ∷ Heard false ∷ [])) → ClashesAtOnce j k h → HaltsBehind items h m → MeetsBehindReads shown a b j k (Err m)
   meets_behind a b j k items (halt.Clash c) (halt.Clash d) n i e f =
       (n, f.0 ∙ (ap (λ (u : List Item). items ++ reverse u) e.0 ∙ (ap (λ (u : List Item). u ++ []) i ∙ header_wire a b)), f.1 ∙ e.1, f.2 ∙ e.2)

@@ -34,7 +34,7 @@ use Rattle.pair_walk.proofs.HeaderLemmas.{never_in_header, first_in_header, firs
 
 -- ---- what a comparison answers
 
--- a first clash of the parts is, behind these items, one of the whole
+-- a first clash of the parts is, after these items, one of the whole
 pub halts_behind : (P Q R S : Language) (items : List Item) (h r : Halt) → ((u : List Item) (j k : Kind) → IsFirstClash P Q u j k → IsFirstClash R S (items ++ u) j k) → Halts P Q h → HaltsBehind items h r → Halts R S r
 halts_behind P Q R S items (halt.Clash c) (halt.Clash d) f p b =
     let whole = f (reverse c.back.items) c.first c.second p in
@@ -105,7 +105,7 @@ byte_wire : (p q : Pattern) (answer : Bool) (u : List Item) → agreed (pattern_
 unfolding pattern_bits
 byte_wire p q answer u = refl
 
--- ---- a clash behind two headers or two bytes
+-- ---- a clash after two headers or two bytes
 
 module _ (a b : Address) (x : PayloadTree) (r : TailTree) (y : PayloadTree) (s : TailTree) (n : NeverSplit (address_bits a) (address_bits b)) where
   write_headers : NeverSplit (write_header a) (write_header b)

@@ -69,7 +69,7 @@ module _ {M : Type 0} (shown : M → ProofTree → Type 0) where
   ComparesSenders s t result =
       MatchResult result (Shows shown (λ p. IsCanonical p s t)) (Halts (SenderText s) (SenderText t))
 
-  -- two read headers part, or these kinds meet behind them
+  -- two read headers part, or these kinds meet after them
   abbrev pub MeetsBehindReads : Address → Address → Kind → Kind → Result M Halt → Type 0
   MeetsBehindReads a b j k (Ok made) = Shows shown (λ p. CanonicalHeaders p (read_header a) (read_header b)) made
   MeetsBehindReads a b j k (Err (Clash c)) =

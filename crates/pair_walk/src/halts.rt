@@ -83,7 +83,7 @@ const MORE: [Item; 9] = [
     Item::Sent(false),
 ];
 
-// The same clash behind `more` bytes that are acknowledged and a last one.
+// The same clash after `more` bytes that are acknowledged and a last one.
 pub(crate) fn behind_read(halt: Halt, more: u8) -> Halt
     ensures { HaltsBehind (read_wire more) halt result }
 {

@@ -34,7 +34,7 @@ pub(crate) trait Makes: Drop {
         ensures { IfOk result (λ made. (p q : ProofTree) → shows after p → shows refused q →
             shows made (proof.read p q)) };
 
-    /// Two repeated STARTs, by the frames behind them.
+    /// Two repeated STARTs, by the frames after them.
     fn again(alloc: Global, frames: Self) -> Result<Self, AllocError>
         ensures { IfOk result (λ made. (p : ProofTree) → shows frames p → shows made (proof.again p)) };
 }

@@ -7,14 +7,14 @@ use plan_core::Plan;
 use std::alloc::{AllocError, Global};
 use vcd_read::{Level, Sample, Signal};
 
-/// One word of a dump behind its definitions: a time, or that a line takes a level.
+/// One word of a dump after its definitions: a time, or that a line takes a level.
 #[derive(Clone, Copy, Debug, PartialEq, Eq)]
 pub enum Word {
     At(u64),
     Takes(Signal, Level),
 }
 
-/// The samples of a dump: one for each time stamp behind which a line has another level than behind the one before.
+/// The samples of a dump: one for each time stamp after which a line has another level than after the one before.
 pub fn samples_of(alloc: Global, words: &[Word]) -> Result<Vec<Sample>, AllocError> {
     let mut samples = Vec::new(alloc);
     let mut before = (Level::Unknown, Level::Unknown);
@@ -184,7 +184,7 @@ fn has(text: &[Item], marks: &[Mark]) -> bool {
 }
 
 // The first marks are those of these items. Of the bits that are read only 0 is listed, and any may come; a bit that is
-// heard behind eight others is an answer.
+// heard after eight others is an answer.
 fn begins(items: &[Item], marks: &[Mark]) -> bool {
     let mut place: u32 = 0;
     for (item, mark) in items.iter().zip(marks) {

@@ -100,7 +100,7 @@ fn line<'a>(lines: &[&'a [u8]], k: usize) -> &'a [u8] {
     }
 }
 
-// What stands before each line feed, and behind the last.
+// What stands before each line feed, and after the last.
 fn lines_of<'a>(alloc: Global, text: &'a [u8]) -> Result<Vec<&'a [u8]>, AllocError> {
     let mut lines = Vec::new(alloc);
     let mut left = text;
@@ -120,7 +120,7 @@ fn is_line_feed(byte: &u8) -> bool {
     *byte == b'\n'
 }
 
-// One proof, and nothing behind it. `cut` is set where the text ends behind the line without a line feed, which is wrong too.
+// One proof, and nothing after it. `cut` is set where the text ends after the line without a line feed, which is wrong too.
 fn judge_proof(alloc: Global, line: &[u8], cut: bool) -> Result<Option<Wrong>, AllocError> {
     // How deep the nodes stand that are still to come.
     let mut due: Vec<u32> = Vec::new(alloc);
@@ -165,7 +165,7 @@ fn node(text: &[u8]) -> Option<(usize, u32)> {
     }
 }
 
-// The number behind these characters, to the end of the text.
+// The number after these characters, to the end of the text.
 fn number_behind(text: &[u8], before: &[u8]) -> Option<u64> {
     if !text.starts_with(before) {
         return None;

@@ -454,7 +454,7 @@ fn clash_of(
 
 // ---- transactions
 
-// The labels of those who explain a transaction, each behind a space.
+// The labels of those who explain a transaction, each after a space.
 fn who_explains(
     alloc: Global,
     items: &Items<'_>,

@@ -42,7 +42,7 @@ impl Codes {
     }
 }
 
-/// The words of a dump behind its definitions, in which the two lines have these names; or its first refusal.
+/// The words of a dump after its definitions, in which the two lines have these names; or its first refusal.
 pub fn words_of(alloc: Global, dump: &[u8], scl: &str, sda: &str) -> Result<Vec<Word>, VcdError> {
     let tokens = tokens_of(alloc, dump)?;
     let mut codes = Codes {
@@ -82,7 +82,7 @@ fn tokens_of<'a>(alloc: Global, text: &'a [u8]) -> Result<Vec<Token<'a>>, AllocE
     Ok(tokens)
 }
 
-// The place of the first `$end` behind a token.
+// The place of the first `$end` after a token.
 fn end_behind(tokens: &[Token<'_>], at: usize) -> Option<usize> {
     for (k, token) in tokens.iter().enumerate() {
         if at < k && token.is("$end") {
@@ -92,7 +92,7 @@ fn end_behind(tokens: &[Token<'_>], at: usize) -> Option<usize> {
     None
 }
 
-// Reads the definitions. The place behind them is given back, and none where they go on to the end of the text.
+// Reads the definitions. The place after them is given back, and none where they go on to the end of the text.
 fn read_definitions(
     tokens: &[Token<'_>],
     codes: &mut Codes,

@@ -49,7 +49,7 @@ pub fn first_clash(alloc: Global, x: &[&[u8]], y: &[&[u8]]) -> Result<Option<Cla
     Ok(None)
 }
 
-// Two that do not clash put items of one kind. Where both may put either bit and stand alike behind each, 0 alone is taken.
+// Two that do not clash put items of one kind. Where both may put either bit and stand alike after each, 0 alone is taken.
 fn push_next(
     open: &mut Vec<Both>,
     both: &Both,

@@ -139,7 +139,7 @@ pub fn items_of<'a>(alloc: Global, text: &'a [u8]) -> Result<Items<'a>, Refusal>
     }
 }
 
-// Only in a text of version 2 a dot may stand, in the words behind the second.
+// Only in a text of version 2 a dot may stand, in the words after the second.
 fn read_version<'a>(alloc: Global, text: &'a [u8]) -> Result<Reading<'a>, Refusal> {
     let mut reading = words_of(alloc, text, false)?;
     for versions in [["plan", "plan"], ["1", "2"]] {

@@ -31,7 +31,7 @@ const SLOTS: u32 = 2560;
 /// The play of these starters, or None where two of them put items that clash, or a starter has nothing to put.
 ///
 /// In slot k the targets answer `answers[k]`, and 1 past its end. A starter sends for an open bit in slot k the bit of its
-/// `choices` with value 2^k, where k counts anew from 0 behind 63; a starter with no choices sends 0.
+/// `choices` with value 2^k, where k counts anew from 0 after 63; a starter with no choices sends 0.
 pub fn play_out(
     alloc: Global,
     plan: &Plan,

@@ -177,7 +177,7 @@ fn offers(alloc: Global, players: &[Player], state: &State) -> Result<Vec<Vec<It
     Ok(offers)
 }
 
-// The item behind the wire, where the text begins with the wire.
+// The item after the wire, where the text begins with the wire.
 fn goes_on_with(text: &[Item], wire: &[Item]) -> Option<Item> {
     if text.starts_with(wire) {
         text.get(wire.len()).copied()

@@ -2,8 +2,8 @@
 
 use message_tree::Item;
 
-/// A place in the words of a sender: which word, how many of its slots lie behind, and of a count how many bytes were read.
-/// Behind the last word all is over.
+/// A place in the words of a sender: which word, how many of its slots lie after, and of a count how many bytes were read.
+/// After the last word all is over.
 #[derive(Clone, Copy, Debug, PartialEq, Eq)]
 pub struct Place {
     pub word: usize,
@@ -121,7 +121,7 @@ pub fn bit(words: &[&[u8]], k: usize, slot: usize) -> u8 {
     }
 }
 
-/// The word at which a sender goes on where a header or a byte is not acknowledged: the one behind its `else`.
+/// The word at which a sender goes on where a header or a byte is not acknowledged: the one after its `else`.
 pub fn refused(words: &[&[u8]], k: usize) -> usize {
     let mut open = 0usize;
     for (j, text) in words.iter().enumerate() {
@@ -208,7 +208,7 @@ pub fn after(words: &[&[u8]], place: Place, item: Item) -> Place {
             bytes: bytes.saturating_add(1),
         },
         (Form::Count, _) => next,
-        // the words behind `again` are `write` or `read`, and a header
+        // the words after `again` are `write` or `read`, and a header
         (Form::Again, _) => at(word.saturating_add(2)),
         _ => at(words.len()),
     }

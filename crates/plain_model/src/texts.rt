@@ -158,7 +158,7 @@ fn answered(
     joined(alloc, starts, &ends)
 }
 
-// Each start with each end behind it.
+// Each start with each end after it.
 fn joined(
     alloc: Global,
     starts: &[Vec<Item>],

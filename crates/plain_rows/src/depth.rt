@@ -83,7 +83,7 @@ fn push_second_proof(words: &mut String, n: u32) -> Result<(), AllocError> {
     words.push_str(" .")
 }
 
-// A write of 17 bytes: behind each that is refused a write of 237 bytes, and behind its refused header one of 31. That is
+// A write of 17 bytes: after each that is refused a write of 237 bytes, and after its refused header one of 31. That is
 // 18 + 17 * 238 + 32 = 4096 nodes, and 18 + 238 = 256 bytes on the longest path.
 #[test]
 fn two_equal_messages_of_most_nodes_are_safe(rt: HostRuntime) -> Result<(), Fail> {

@@ -54,7 +54,7 @@ fn counts(dice: &mut Dice) -> &'static str {
     }
 }
 
-// A header with what is sent behind it, up to two data bytes or a read. Says how many bytes of it a target may refuse.
+// A header with what is sent after it, up to two data bytes or a read. Says how many bytes of it a target may refuse.
 fn push_bytes(text: &mut String, dice: &mut Dice) -> Result<u32, AllocError> {
     let target = address(dice);
     if dice.throw(3) == 0 {
@@ -69,7 +69,7 @@ fn push_bytes(text: &mut String, dice: &mut Dice) -> Result<u32, AllocError> {
     Ok(bytes.wrapping_add(1))
 }
 
-// A frame with no further one behind it.
+// A frame with no further one after it.
 fn push_last_frame(text: &mut String, dice: &mut Dice) -> Result<(), AllocError> {
     let refusals = push_bytes(text, dice)?;
     text.push_str(" stop")?;

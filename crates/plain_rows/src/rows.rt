@@ -109,7 +109,7 @@ fn an_interrupt_has_eight_bits_of_one_header(rt: HostRuntime) -> Result<(), Fail
             "answer against claim after 10100101",
         ),
         ("write 1111110 stop else stop", "0101010", "P0"),
-        // only the read behind the repeated START has the interrupt's header, and there the interrupt has lost
+        // only the read after the repeated START has the interrupt's header, and there the interrupt has lost
         (
             "write 1111110 stop else again read 1001000 1 stop else stop",
             "1001000",

@@ -1,6 +1,7 @@
 pub mod Texts
 pub mod Model
 pub mod Safety
+pub mod Headers
 pub mod PairLemmas
 pub mod EntryLemmas
 pub mod ContentsLemmas

@@ -67,7 +67,7 @@ offered_follows {plan} {u} {before} {put} {w} o p h =
     let t = o.is_round.offered p k.0 in
     (t.0, subst (Text plan p) (ap (λ (x : Item). u ++ x ∷ t.0) k.1 ∙ sym (append_assoc u (w ∷ []) t.0)) t.1)
 
--- behind the first slot it needs no premise that there are texts
+-- after the first slot it needs no premise that there are texts
 pub followed_on : {plan : Contents} {s : Set} {u : List Item} {live : Set} → Reaches plan s u live → (p : ℕ) → In p live → (u ≡ []) ⊎ Follows plan p u
 followed_on start p h = inl refl
 followed_on (slot put w r o) p h = inr (offered_follows o p h)

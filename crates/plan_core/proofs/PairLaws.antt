@@ -196,7 +196,7 @@ IsPair-from_parts plan x y lt within free = (
 pub parts_of_IsPair : (plan : Contents) (x y : ℕ) → IsPair plan x y → (x < y) × (y < participant_count plan) × (apart plan x y ≡ false)
 parts_of_IsPair plan x y is = (is.0, is.1.participants y (second_in x y), is.1.together x y (λ e. omega (arith, e, is.0)) (first_in x y) (second_in x y))
 
--- lists in order, one behind the other
+-- lists in order, one after the other
 AllPairs-first : {X : Type 0} (R : X → X → Type 0) (x : X) (xs : List X) → AllPairs R (x ∷ xs) → All (R x) xs
 AllPairs-first R x xs pairs k d h = pairs 0 (suc k) d (omega arith) (omega (arith, h))
 

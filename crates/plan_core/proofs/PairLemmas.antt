@@ -131,7 +131,7 @@ IsRow-next nevers participants all x row next is same first len partners = recor
   partners = λ j h. ap (λ k. get_or all (k + j) 0) partners ∙ is.partners j (omega (arith, len, h)) ∙ ap (λ xs. get_or xs j 0) same;
 }
 
--- the row of a participant whose partners have just been put behind the others
+-- the row of a participant whose partners have just been put after the others
 pub IsRow-pushed : (nevers : List (ℕ × ℕ)) (participants : List Participant) (all new : List ℕ) (x : ℕ) (row : Row) → new ≡ all ++ partners_in nevers participants x → row.first ≡ length (pairs_below nevers participants x) → row.len ≡ length (partners_in nevers participants x) → row.partners ≡ length all → IsRow nevers participants new x row
 IsRow-pushed nevers participants all new x row grown first len partners =
     let own = partners_in nevers participants x in

@@ -45,7 +45,7 @@ heard_bit _ h = cc
 -- ---- what a live participant puts
 
 -- one who has not come to the end of its text offers an item
-offers_some : (plan : Contents) (p : ℕ) (u : List Item) → (HasEnded u → ⊥) → Follows plan p u → (x : Item) × Offers plan p u x
+pub offers_some : (plan : Contents) (p : ℕ) (u : List Item) → (HasEnded u → ⊥) → Follows plan p u → (x : Item) × Offers plan p u x
 offers_some plan p u n ([], t) =
     let e = (fair_text plan p).ends (u ++ []) t in
     let w : u ≡ e.before ++ e.end ∷ [] = sym (append-nil u) ∙ e.whole in
@@ -65,7 +65,7 @@ unfolding chosen
 chosen_passes true f h = (f refl).1
 chosen_passes false f h = cc
 
-either : (b : Bool) → (b ≡ true) ⊎ (b ≡ false)
+pub either : (b : Bool) → (b ≡ true) ⊎ (b ≡ false)
 either true = inl refl
 either false = inr refl
 
@@ -159,7 +159,7 @@ not_ended plan p u x o (v, inr e) =
 
 module _ (plan : Contents) (s : Set) (u : List Item) (live : Set) (safe : IsSafe plan) (reached : IsReached plan s u live) where
   -- no two who are live may put items that clash
-  never_clash : (x y : Item) (p q : ℕ) → p ≢ q → In p live → In q live → Offers plan p u x → Offers plan q u y → Clash x y → ⊥
+  pub never_clash : (x y : Item) (p q : ℕ) → p ≢ q → In p live → In q live → Offers plan p u x → Offers plan q u y → Clash x y → ⊥
   never_clash x y p q n i j f g c =
       elim (cases_lt p q) [
         | inl lt ↦ safe s reached.0 (u, p, q, kind_of x, kind_of y, record { live = live; reached = reached.1; in_order = lt; first = i; second = j; first_offers = (x, f, refl); second_offers = (y, g, refl); clash = c })

@@ -1,6 +1,6 @@
 -- Who may take part: each controller with each of its messages, controller by controller, and then the interrupts, which
 -- are our profile's.
-use Rattle.std.specs.Prelude.{ℕ, ◌+◌, Bool, false, ◌&&◌, ◌||◌, ◌==◌, List, [], ◌∷◌, ◌++◌, length, map, Option, Some}
+use Rattle.std.specs.Prelude.{◌≡◌, ℕ, ◌+◌, Bool, false, ◌&&◌, ◌||◌, ◌==◌, List, [], ◌∷◌, ◌++◌, length, map, Option, Some}
 use Rattle.std.specs.Prelude.{None, slice_get}
 use Rattle.std.specs.List.{range_with_len, list_any}
 use Rattle.message_tree.specs.declared.bits.Bit.{Bit}
@@ -52,6 +52,10 @@ TextOf None u = ⊥
 -- u is a text of participant p: what it can go through from the START to the end of its transmission
 abbrev pub Text : Contents → ℕ → Language
 Text plan p u = TextOf (sender_at plan p) u
+
+-- participant p is an interrupt
+abbrev pub IsInterrupt : Contents → ℕ → Type 0
+IsInterrupt plan p = (k : ℕ) × (slice_get (participants_of plan) p ≡ Some (Interrupt k))
 
 -- a `never` names these two controllers, in either order
 abbrev pub names_both : ℕ → ℕ → ℕ × ℕ → Bool

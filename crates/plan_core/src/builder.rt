@@ -530,7 +530,7 @@ fn index_of<V>(entries: &IndexMap<Name, V>, name: &Name) -> Option<u32>
     }
 }
 
-// The entry goes behind the others.
+// The entry goes after the others.
 fn push_entry<V: Drop>(
     entries: &mut IndexMap<Name, V>,
     name: Name,
@@ -544,7 +544,7 @@ fn push_entry<V: Drop>(
     Ok(())
 }
 
-// The controller's sendings go behind the others.
+// The controller's sendings go after the others.
 fn push_sendings(
     participants: &mut Vec<Participant>,
     controller: u32,
@@ -561,7 +561,7 @@ fn push_sendings(
     Ok(())
 }
 
-// The first `n` interrupts go behind the others.
+// The first `n` interrupts go after the others.
 fn push_interrupts(participants: &mut Vec<Participant>, n: u32) -> Result<(), AllocError>
     ensures { OnOk result (participants.new.items ≡ participants.old.items ++ map Interrupt (range_with_len 0 n)) }
 {

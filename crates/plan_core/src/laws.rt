@@ -6,6 +6,7 @@ ghost use Rattle.message_tree.specs.declared.items.Item.TheVariants.{Heard};
 ghost use Rattle.message_tree.specs.declared.items.Kind.{Kind};
 ghost use Rattle.plan_core.specs.Contents.{Contents};
 ghost use Rattle.plan_core.specs.Lawful.{Set, In, IsLawful, pair, IsPair};
+ghost use Rattle.plan_core.specs.Participants.{IsInterrupt};
 ghost use Rattle.plan_core.specs.Rounds.{Follows, Offers, IsRound, NoClash};
 ghost use Rattle.plan_core.specs.Runs.{Reaches, IsReached, HasEnded, Whole};
 ghost use Rattle.plan_core.specs.Faults.{Fault, IsFaulty, IsSafe};
@@ -48,7 +49,8 @@ pub fn runs_are_sound()
 {}
 
 /// In a safe plan each run goes on until it has ended: no round of the live participants clashes, there is a next slot,
-/// and where one of them may hear a bit, all may, and the targets may send either.
+/// and where one of them may hear a bit, all may, and the targets may send either. An interrupt that has sent its whole
+/// header is live alone: neither a controller nor another interrupt shares it.
 pub fn safe_plans_go_on()
     ensures clash { (plan : Contents) (s live : Set) (u : List Item) (put : ℕ → Item) →
         IsSafe plan → IsReached plan s u live → IsRound plan u live put → NoClash live put }
@@ -56,4 +58,6 @@ pub fn safe_plans_go_on()
         SendsItsMessages plan → IsSafe plan → IsReached plan s u live → (HasEnded u → ⊥) → HasNext plan u live }
     ensures answers { (plan : Contents) (s live : Set) (u : List Item) (p : ℕ) (b c : Bool) →
         SendsItsMessages plan → IsSafe plan → IsReached plan s u live → In p live → Offers plan p u (Heard b) → IsRound plan u live (λ _. Heard c) }
+    ensures header { (plan : Contents) (s live : Set) (u : List Item) (p q : ℕ) →
+        IsSafe plan → IsReached plan s u live → length u ≡ 8 → IsInterrupt plan p → In p live → In q live → q ≡ p }
 {}

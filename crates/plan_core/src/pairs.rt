@@ -62,7 +62,7 @@ impl PairTable {
         Ok(table)
     }
 
-    // The row of x goes behind those of the participants before it.
+    // The row of x goes after those of the participants before it.
     fn push_row(
         &mut self,
         participants: &[Participant],
@@ -80,7 +80,7 @@ impl PairTable {
         Ok(())
     }
 
-    // The row of x. Its partners go behind the others, unless they are those of the sending before it.
+    // The row of x. Its partners go after the others, unless they are those of the sending before it.
     fn make_row(
         &mut self,
         participants: &[Participant],
@@ -126,7 +126,7 @@ pub fn last_begun(rows: &[Row], i: u32) -> usize
     rows.partition_point(|row| row.first <= i) - 1
 }
 
-// Puts those after x that may start together with x behind the others.
+// Puts those after x that may start together with x after the others.
 fn push_partners(
     all: &mut Vec<u32>,
     participants: &[Participant],

@@ -1,6 +1,7 @@
 // How fast a bench is played: by turns on one thread, and with one thread for each of two, four and eight starters, who all
-// send the same message of 10 bytes, once each way. It writes how many slots a run has. With the argument `--time` the
-// message has 250 bytes and there are ten runs each way, in turn, and it also writes how many slots a second were played.
+// send the same message of 10 bytes, once each way; and with as many starters as there may be, 32 controllers that send the
+// longest message and 32 interrupts. It writes how many slots a run has. With the argument `--time` the message of the first
+// has 250 bytes and there are ten runs each way, in turn, and it also writes how many slots a second were played.
 #![tactic(auto)]
 
 ghost use Rattle.std.specs.Prelude.{◌≡◌, All, length};
@@ -21,6 +22,12 @@ use std::{env, io};
 use verdicts::{certificate_text, faults};
 
 const STARTERS: [u32; 3] = [2, 4, 8];
+
+// The most starters: half of them controllers, and half interrupts.
+const ALL: u32 = 64;
+
+// The most headers of a message.
+const HEADERS: u32 = 256;
 
 // The data bytes of the message, and how often it is sent each way.
 #[derive(Clone, Copy)]
@@ -53,13 +60,24 @@ fn main(rt: HostRuntime) -> Result<()> {
         SHORT
     };
     for starters in STARTERS {
-        let Some(accepted) = accepted(alloc, starters, load.bytes)? else {
-            println!(&rt; "{starters} starters: not accepted")?;
-            continue;
-        };
-        compare(&rt, alloc, &accepted, starters, load)?;
+        let text = plan(alloc, starters, load.bytes)?;
+        compare_on(&rt, alloc, text.as_bytes(), starters, load)?;
     }
-    Ok(())
+    let text = fullest_plan(alloc)?;
+    compare_on(&rt, alloc, text.as_bytes(), ALL, load)
+}
+
+fn compare_on<R: Clock + Print + Threads + Wait + Sync>(
+    rt: &R,
+    alloc: Global,
+    plan: &[u8],
+    starters: u32,
+    load: Load,
+) -> Result<()> {
+    match accepted(alloc, plan)? {
+        Some(accepted) => compare(rt, alloc, &accepted, starters, load),
+        None => Ok(println!(rt; "{starters} starters: not accepted")?),
+    }
 }
 
 fn has_argument(rt: &(impl Env + Alloc), wanted: &str) -> io::Result<bool> {
@@ -71,10 +89,9 @@ fn has_argument(rt: &(impl Env + Alloc), wanted: &str) -> io::Result<bool> {
     Ok(false)
 }
 
-// A plan of so many controllers that may each send the same message, with its certificate accepted.
-fn accepted(alloc: Global, controllers: u32, bytes: u32) -> Result<Option<Accepted>, AllocError> {
-    let text = plan(alloc, controllers, bytes)?;
-    let Ok(plan) = read_plan(alloc, text.as_bytes()) else {
+// The plan of this text, with its certificate accepted.
+fn accepted(alloc: Global, plan: &[u8]) -> Result<Option<Accepted>, AllocError> {
+    let Ok(plan) = read_plan(alloc, plan) else {
         return Ok(None);
     };
     let faults = faults(alloc, &plan)?;
@@ -82,6 +99,7 @@ fn accepted(alloc: Global, controllers: u32, bytes: u32) -> Result<Option<Accept
     Ok(accept_certificate(alloc, plan, cert.as_slice())?.ok())
 }
 
+// Controllers that may each send the same message of so many data bytes.
 fn plan(alloc: Global, controllers: u32, bytes: u32) -> Result<String, AllocError> {
     let mut text = String::from_str(alloc, "plan 1\nmessage m write 1001000")?;
     for _ in 0..bytes {
@@ -94,6 +112,26 @@ fn plan(alloc: Global, controllers: u32, bytes: u32) -> Result<String, AllocErro
     text.push_str(" ;\n")?;
     for controller in 0..controllers {
         writeln!(text, "controller c{controller} m ;")?;
+    }
+    Ok(text)
+}
+
+// 32 controllers that may each send the longest message, 256 headers with repeated STARTs between them, and 32 interrupts.
+fn fullest_plan(alloc: Global) -> Result<String, AllocError> {
+    let mut text = String::from_str(alloc, "plan 1\nmessage m")?;
+    for _ in 1..HEADERS {
+        text.push_str(" write 1001000 again")?;
+    }
+    text.push_str(" write 1001000 stop")?;
+    for _ in 0..HEADERS {
+        text.push_str(" else stop")?;
+    }
+    text.push_str(" ;\n")?;
+    for controller in 0..ALL / 2 {
+        writeln!(text, "controller c{controller} m ;")?;
+    }
+    for interrupt in 0..ALL / 2 {
+        writeln!(text, "interrupt t{interrupt} 11{interrupt:05b} ;")?;
     }
     Ok(text)
 }

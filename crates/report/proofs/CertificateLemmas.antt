@@ -1,26 +1,25 @@
 -- What the runs of certify and verify know of their texts.
-use Rattle.std.proofs.Common.{◌≡◌, List, ℕ, Result, Ok, Err, refl, subst}
-use Rattle.certificate.specs.declared.errors.CertFault.{CertFault}
+use Rattle.std.proofs.Common.{◌≡◌, List, ℕ, get_or, ap, subst, arith}
+use Rattle.std.specs.Prelude.{codes}
+use Rattle.certificate.specs.declared.errors.CertFault.TheVariants.{Format, Count, TooDeep, Pair}
 use Rattle.certificate.specs.Texts.{cert_text}
-use Rattle.cert_check.specs.Accepts.{IsCertified, IsRefuted, IsMistaken, AnswersBytes}
-use Rattle.cert_check.specs.declared.answers.AcceptError.{AcceptError}
-use Rattle.cert_check.specs.declared.answers.AcceptError.TheVariants as accept
+use Rattle.cert_check.specs.Accepts.{IsCertified, IsAnswer, AnswersBytes}
+use Rattle.cert_check.proofs.AnswerLemmas.{answers_texts}
+use Rattle.cert_check.proofs.Checked.{certified_is_safe}
 use Rattle.cert_check.specs.declared.answers.Answer.{Answer}
 use Rattle.cert_check.specs.declared.answers.Answer.TheVariants.{Safe, Unsafe, Wrong}
 use Rattle.pair_walk.specs.declared.walk_pair.Verdict.{Verdict}
 use Rattle.plan_core.specs.Contents.{Contents}
+use Rattle.plan_core.specs.Faults.{IsSafe}
 use Rattle.plan_core.specs.Limits.{IsWithinLimits}
-use Rattle.plan_text.proofs.RefusedLemmas.{spelled_not_refused}
+use Rattle.plan_text.proofs.ReadLemmas.{one_plan}
 use Rattle.plan_text.specs.Grammar.{Spells}
-use Rattle.plan_text.specs.Refusals.{First}
-use Rattle.plan_text.specs.declared.errors.PlanError.{PlanError}
 use Rattle.verdicts.specs.Certificates.{certificate_for}
 use Rattle.verdicts.specs.Verdicts.{AreVerdicts}
-use Rattle.report.specs.Certificates.{Certified}
+use Rattle.report.specs.Certificates.{Certified, Verified, answer_status, verify_line}
 use Rattle.report.specs.Checks.{Judges, SpellsPlan}
-use Rattle.report.specs.RunErrors.{accept_error}
-use Rattle.report.specs.declared.errors.RunError.TheVariants.{NoMemory}
 use Rattle.report.specs.declared.runs.Status.{Status}
+use Rattle.report.specs.declared.runs.Status.TheVariants.{Good}
 
 pub certifies : (text slice report : List ℕ) (plan : Contents) (verdicts : List Verdict) (status : Status) → slice ≡ text → Spells slice plan → IsWithinLimits plan → AreVerdicts plan verdicts → report ≡ cert_text (certificate_for verdicts) → Judges status plan → Certified text report status
 certifies text slice report plan verdicts status same spelled limits right written judged = record {
@@ -36,24 +35,47 @@ certifies text slice report plan verdicts status same spelled limits right writt
 pub spells_plan : (text slice : List ℕ) (plan : Contents) → slice ≡ text → Spells slice plan → SpellsPlan text
 spells_plan text slice plan same spelled = (plan, subst (λ (t : List ℕ). Spells t plan) same spelled)
 
-abbrev answered : Answer → Result Answer AcceptError
-answered answer = Ok answer
+-- what is answered for a plan that was read is answered for the two texts
+pub answers_both : (text slice cert cert_slice : List ℕ) (plan : Contents) (answer : Answer) → slice ≡ text → cert_slice ≡ cert → Spells slice plan → IsAnswer plan cert_slice answer → AnswersBytes text cert answer
+answers_both text slice cert cert_slice plan answer same same_cert spelled is =
+    subst (λ (t : List ℕ). AnswersBytes text t answer) same_cert
+    (answers_texts plan cert_slice answer is text (subst (λ (t : List ℕ). Spells t plan) same spelled))
 
-abbrev failed : AcceptError → Result Answer AcceptError
-failed e = Err e
+-- ---- what the line of verify and its status say
 
--- a plan text that was read is not refused later
-pub accept_halts : (text slice : List ℕ) (e : AcceptError) → slice ≡ text → SpellsPlan text → ((p : PlanError) → failed e ≡ failed (accept.Plan p) → First slice p) → accept_error e ≡ NoMemory
-accept_halts text slice (accept.Plan p) same spelled first =
-    absurd (spelled_not_refused text spelled.0 p spelled.1 (subst (λ (t : List ℕ). First t p) same (first p refl)))
-accept_halts text slice accept.NoMemory same spelled first = refl
+plan_of : (text cert : List ℕ) (answer : Answer) → AnswersBytes text cert answer → (plan : Contents) × Spells text plan
+plan_of text cert Safe h = (h.plan, h.plan_spelled)
+plan_of text cert Unsafe h = (h.plan, h.plan_spelled)
+plan_of text cert (Wrong fault) h = (h.plan, h.plan_spelled)
 
-pub answers_texts : (plan plan_slice cert cert_slice : List ℕ) (answer : Answer) → plan_slice ≡ plan → cert_slice ≡ cert
-    → (answered answer ≡ answered Safe → IsCertified plan_slice cert_slice) → (answered answer ≡ answered Unsafe → IsRefuted plan_slice cert_slice) → ((fault : CertFault) → answered answer ≡ answered (Wrong fault) → IsMistaken plan_slice cert_slice fault)
-    → AnswersBytes plan cert answer
-answers_texts plan p cert q Safe same_plan same_cert safe unsafe wrong =
-    subst (λ (t : List ℕ). IsCertified t cert) same_plan (subst (λ (t : List ℕ). IsCertified p t) same_cert (safe refl))
-answers_texts plan p cert q Unsafe same_plan same_cert safe unsafe wrong =
-    subst (λ (t : List ℕ). IsRefuted t cert) same_plan (subst (λ (t : List ℕ). IsRefuted p t) same_cert (unsafe refl))
-answers_texts plan p cert q (Wrong fault) same_plan same_cert safe unsafe wrong =
-    subst (λ (t : List ℕ). IsMistaken t cert fault) same_plan (subst (λ (t : List ℕ). IsMistaken p t fault) same_cert (wrong fault refl))
+pub verified_spells : (text cert report : List ℕ) (status : Status) → Verified (text, cert) report status → (plan : Contents) × Spells text plan
+verified_spells text cert report status h = plan_of text cert h.answer h.right
+
+certified_safe : (text cert : List ℕ) (plan : Contents) → IsCertified text cert → Spells text plan → IsSafe plan
+certified_safe text cert plan h spelled =
+    subst IsSafe (one_plan text h.plan plan h.plan_spelled spelled) (certified_is_safe h.plan h.trees h.certified)
+
+-- the line of another answer differs from that of Safe in its first byte, or in the tenth
+line_of_safe : (text cert : List ℕ) (plan : Contents) (answer : Answer) → AnswersBytes text cert answer → codes "accepted safe\n" ≡ verify_line answer → Spells text plan → IsSafe plan
+line_of_safe text cert plan Safe h line spelled = certified_safe text cert plan h spelled
+line_of_safe text cert plan Unsafe h line spelled =
+    let differ : 115 ≡ 117 = ap (λ (xs : List ℕ). get_or xs 9 0) line in absurd (omega (arith, differ))
+line_of_safe text cert plan (Wrong (Format n)) h line spelled =
+    let differ : 97 ≡ 119 = ap (λ (xs : List ℕ). get_or xs 0 0) line in absurd (omega (arith, differ))
+line_of_safe text cert plan (Wrong Count) h line spelled =
+    let differ : 97 ≡ 119 = ap (λ (xs : List ℕ). get_or xs 0 0) line in absurd (omega (arith, differ))
+line_of_safe text cert plan (Wrong (TooDeep n)) h line spelled =
+    let differ : 97 ≡ 119 = ap (λ (xs : List ℕ). get_or xs 0 0) line in absurd (omega (arith, differ))
+line_of_safe text cert plan (Wrong (Pair n)) h line spelled =
+    let differ : 97 ≡ 119 = ap (λ (xs : List ℕ). get_or xs 0 0) line in absurd (omega (arith, differ))
+
+status_of_safe : (text cert : List ℕ) (plan : Contents) (answer : Answer) → AnswersBytes text cert answer → Good ≡ answer_status answer → Spells text plan → IsSafe plan
+status_of_safe text cert plan Safe h status spelled = certified_safe text cert plan h spelled
+status_of_safe text cert plan Unsafe h status spelled = cc
+status_of_safe text cert plan (Wrong fault) h status spelled = cc
+
+pub safe_by_line : (text cert : List ℕ) (status : Status) (plan : Contents) → Verified (text, cert) (codes "accepted safe\n") status → Spells text plan → IsSafe plan
+safe_by_line text cert status plan h spelled = line_of_safe text cert plan h.answer h.right h.line spelled
+
+pub safe_by_status : (text cert report : List ℕ) (plan : Contents) → Verified (text, cert) report Good → Spells text plan → IsSafe plan
+safe_by_status text cert report plan h spelled = status_of_safe text cert plan h.answer h.right h.ended spelled

@@ -1,8 +1,6 @@
--- A refusal of a plan text, of an acceptance, of a bench, and of workers, as that of a run.
+-- A refusal of a plan text, of a bench, and of workers, as that of a run.
 use Rattle.bus_bench.specs.declared.errors.OpenError.{OpenError}
 use Rattle.bus_bench.specs.declared.errors.OpenError.TheVariants as opening
-use Rattle.cert_check.specs.declared.answers.AcceptError.{AcceptError}
-use Rattle.cert_check.specs.declared.answers.AcceptError.TheVariants as accept
 use Rattle.plan_text.specs.declared.errors.PlanError.{PlanError}
 use Rattle.plan_text.specs.declared.errors.PlanError.TheVariants as plan
 use Rattle.report.specs.declared.errors.RunError.{RunError}
@@ -17,11 +15,7 @@ abbrev pub run_error : PlanError → RunError
 run_error plan.NoMemory = NoMemory
 run_error e = Plan e
 
--- where there is no answer to a plan text and a certificate text
-abbrev pub accept_error : AcceptError → RunError
-accept_error (accept.Plan e) = Plan e
-accept_error accept.NoMemory = NoMemory
-
+-- where a dump is refused
 abbrev pub vcd_error : VcdError → RunError
 vcd_error vcd.NoMemory = NoMemory
 vcd_error e = Vcd e

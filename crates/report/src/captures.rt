@@ -19,7 +19,7 @@ use std::thread::Threads;
 /// Explains the capture that the second reader gives, a value change dump, by the plan that the first reader gives: a line
 /// for each transaction, and one that counts those that a STOP ended and those of them that nobody explains. `scl` and
 /// `sda` are the names of the two lines in the dump. The dump is read block by block, and no more of it is kept than what
-/// is open; behind a block in which it is refused nothing is read. The status is `Good` where all is explained, and else
+/// is open; after a block in which it is refused nothing is read. The status is `Good` where all is explained, and else
 /// `Bad`.
 ///
 /// # Errors

@@ -10,7 +10,7 @@ use crate::devices::reading::{READS, read_within};
 use crate::devices::traits::{Input, Output};
 use crate::errors::RunError;
 use crate::runs::{Status, write_lines};
-use cert_check::{Answer, accept};
+use cert_check::{Answer, check_certificate};
 use certificate::CertFault;
 use plan_text::read_plan;
 use std::alloc::{AllocError, Global};
@@ -63,10 +63,10 @@ pub fn run_verify<I: Input, J: Input, O: Output>(
         Stops (ReadsBoth I.reader J.reader) Verified O.writer (HaltsAtBoth I.reader J.reader RefusesPlan SpellsPlan)
         (plan.old, cert.old) out.old error (plan.new, cert.new) out.new) }
 {
-    let plan = read_within(alloc, plan, READS)?;
-    drop(read_plan(alloc, plan.as_slice())?);
-    let cert = read_within(alloc, cert, READS)?;
-    let answer = accept(alloc, plan.as_slice(), cert.as_slice())?;
+    let plan_text = read_within(alloc, plan, READS)?;
+    let plan = read_plan(alloc, plan_text.as_slice())?;
+    let cert_text = read_within(alloc, cert, READS)?;
+    let answer = check_certificate(alloc, &plan, cert_text.as_slice())?;
     let report = answer_line(alloc, answer)?;
     write_lines(out, report.as_bytes(), status_of_answer(answer))
 }

@@ -14,13 +14,14 @@ use crate::runs::{Status, write_lines};
 use plan_text::read_plan;
 use std::alloc::Global;
 use std::thread::Threads;
-use verdicts::{MOST_WORKERS, NoGate, faults_with};
+use verdicts::{Gate, MOST_WORKERS, faults_with};
 
 /// Checks the plan that the reader gives, and writes the verdicts of its unsafe pairs and their number.
 ///
 /// The work is shared among so many workers, each in a thread of its own where one can be made; the report is the same
-/// for each number of them. This number is looked at before the first read. The report is complete before its first byte
-/// is written. The status is `Good` or `Bad`.
+/// for each number of them. A worker calls the gate before and after each two senders that it takes; what the gate does
+/// changes nothing. The number of workers is looked at before the first read. The report is complete before its first
+/// byte is written. The status is `Good` or `Bad`.
 ///
 /// # Errors
 ///
@@ -28,12 +29,13 @@ use verdicts::{MOST_WORKERS, NoGate, faults_with};
 /// refusal of the plan text, and `Write` where the writer failed or took no bytes. `NoMemory` where memory is refused.
 /// Only after `Write` has a part of the report been written: its first bytes. After every other error the writer was not
 /// called.
-pub fn run_check<R: Threads + Sync, I: Input, O: Output>(
+pub fn run_check<R: Threads + Sync, I: Input, O: Output, G: Gate + Sync>(
     rt: &R,
     alloc: Global,
     plan: &mut I,
     out: &mut O,
     workers: u32,
+    gate: &G,
 ) -> Result<Status, RunError>
     ensures report { IfOk result (λ status.
         Reports (ReadsText I.reader) Checked O.writer plan.old out.old status plan.new out.new) }
@@ -48,7 +50,7 @@ pub fn run_check<R: Threads + Sync, I: Input, O: Output>(
     }
     let text = read_within(alloc, plan, READS)?;
     let plan = read_plan(alloc, text.as_slice())?;
-    let faults = faults_with(rt, alloc, &plan, workers, &NoGate)?;
+    let faults = faults_with(rt, alloc, &plan, workers, gate)?;
     let report = check_report(alloc, &plan, &faults)?;
     write_lines(out, report.as_bytes(), status_of(faults.is_safe()))
 }

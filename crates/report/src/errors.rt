@@ -2,10 +2,9 @@
 
 ghost use Rattle.std.specs.Prelude.{◌≡◌};
 ghost use Rattle.report.specs.declared.errors.RunError.TheVariants.{NoMemory};
-ghost use Rattle.report.specs.RunErrors.{run_error, vcd_error, accept_error, open_error, table_error};
+ghost use Rattle.report.specs.RunErrors.{run_error, vcd_error, open_error, table_error};
 
 use bus_bench::OpenError;
-use cert_check::AcceptError;
 use plan_text::PlanError;
 use std::alloc::{AllocError, AllocFailed};
 use thiserror::Error;
@@ -56,17 +55,6 @@ impl From<VcdError> for RunError {
         match error {
             VcdError::NoMemory => RunError::NoMemory,
             _ => RunError::Vcd(error),
-        }
-    }
-}
-
-impl From<AcceptError> for RunError {
-    ghost from_gives = { λ refusal e. e ≡ accept_error refusal };
-
-    fn from(error: AcceptError) -> RunError {
-        match error {
-            AcceptError::Plan(refusal) => RunError::Plan(refusal),
-            AcceptError::NoMemory => RunError::NoMemory,
         }
     }
 }

@@ -25,3 +25,4 @@ pub use errors::RunError;
 pub use lines::push_wire;
 pub use runs::{Status, write_lines};
 pub use telling::push_labels;
+pub use verdicts::{Gate, NoGate};

@@ -1,4 +1,4 @@
-// Further lines for people on standard error, behind a refusal or a report.
+// Further lines for people on standard error, after a refusal or a report.
 
 use hints::{Names, on_dump, on_plan, on_silence};
 use report::{Opened, RunError, Status, Watched};
@@ -8,20 +8,18 @@ use std::io::{self, Read, Seek, Write};
 /// What a path of the command line names: a file, or standard input.
 pub type Source<F, S> = Opened<Watched<F>, Watched<S>>;
 
-/// Behind a run that reads a plan and perhaps a certificate. The source is the plan's.
+/// After a run that reads a plan and perhaps a certificate. The source is the plan's.
 pub fn advise_on_plan<R: Eprint + AllocGlobal, F: Read + Seek + Drop, S: Drop>(
     rt: &R,
     plan: Source<F, S>,
     ended: Result<Status, RunError>,
 ) {
-    match ended {
-        Err(RunError::Plan(refusal)) => say(rt, on_plan(rt.alloc(), file(plan), refusal)),
-        // The refusals of a bench (B1, B2, B3, B8) are to get their words here.
-        _ => {}
+    if let Err(RunError::Plan(refusal)) = ended {
+        say(rt, on_plan(rt.alloc(), file(plan), refusal));
     }
 }
 
-/// Behind a run that explains a capture, whose report tells of no transaction where it is silent.
+/// After a run that explains a capture, whose report tells of no transaction where it is silent.
 pub fn advise_on_capture<R: Eprint + AllocGlobal, F: Read + Seek + Drop, S: Drop>(
     rt: &R,
     plan: Source<F, S>,

@@ -2,8 +2,6 @@
 #![tactic(auto)]
 
 mod advice;
-mod commands;
-mod help;
 mod runs;
 
 use std::io::IsTerminal;

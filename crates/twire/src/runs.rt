@@ -1,21 +1,21 @@
 // What the program does, and the status that it ends with.
 
 use crate::advice::{Counted, Source, advise_on_capture, advise_on_plan};
-use crate::commands::{Request, When, parse_request};
 use bench_run::{NoGate, run_bench};
-use clap::error::ErrorKind;
+use command_words::{Asked, Request, When, read_words};
 use hints::Names;
 use report::{Opened, RunError, Status, Watched, run_capture, run_certify, run_check, run_verify};
 use std::rt::{Env, Files};
 use std::sync::Wait;
 use std::thread::Threads;
+use std::time::Clock;
 use std::{env, fs, io};
 
 const STANDARD_INPUT: &str = "/dev/stdin";
 
 /// Does what the command line asks for, and answers the exit status. Where nothing else is said, hints for people are
 /// given if somebody sees them on a terminal.
-pub fn run<R: Files + Env + Input + Print + Eprint + AllocGlobal + Threads + Wait + Sync>(
+pub fn run<R: Files + Env + Input + Print + Eprint + AllocGlobal + Threads + Wait + Clock + Sync>(
     rt: &R,
     on_terminal: bool,
 ) -> u8 {
@@ -32,7 +32,7 @@ fn refused<R: Eprint>(rt: &R, error: RunError) -> u8 {
     2
 }
 
-fn run_words<R: Files + Env + Input + Print + Eprint + AllocGlobal + Threads + Wait + Sync>(
+fn run_words<R: Files + Env + Input + Print + Eprint + AllocGlobal + Threads + Wait + Clock + Sync>(
     rt: &R,
     on_terminal: bool,
 ) -> Result<u8, RunError> {
@@ -40,10 +40,15 @@ fn run_words<R: Files + Env + Input + Print + Eprint + AllocGlobal + Threads + W
         Ok(words) => words.collect(rt.alloc())?,
         Err(error) => return no_words(rt, &error),
     };
-    match parse_request(rt.alloc(), words.as_slice()) {
-        Ok(Some((request, hints))) => do_request(rt, request, are_wanted(hints, on_terminal)),
-        Ok(None) => Ok(2),
-        Err(error) => no_request(rt, &error),
+    match read_words(rt.alloc(), words.as_slice()) {
+        Ok(Asked::Run { request, hints }) => do_request(
+            rt,
+            request,
+            are_wanted(hints, on_terminal),
+        ),
+        Ok(Asked::Show(text)) => show(rt, text.as_str()),
+        Ok(Asked::Refuse(text)) => Ok(refuse(rt, text.as_str())),
+        Err(_) => Err(RunError::NoMemory),
     }
 }
 
@@ -55,7 +60,7 @@ fn are_wanted(hints: When, on_terminal: bool) -> bool {
     }
 }
 
-fn do_request<R: Files + Input + Print + Eprint + AllocGlobal + Threads + Wait + Sync>(
+fn do_request<R: Files + Input + Print + Eprint + AllocGlobal + Threads + Wait + Clock + Sync>(
     rt: &R,
     request: Request<'_>,
     hints: bool,
@@ -88,7 +93,14 @@ fn check<R: Files + Input + Print + Eprint + AllocGlobal + Threads + Sync>(
 ) -> Result<u8, RunError> {
     let mut plan = open(rt, plan)?;
     let mut out = Watched::new(io::writer(rt));
-    let ended = run_check(rt, rt.alloc(), &mut plan, &mut out, workers);
+    let ended = run_check(
+        rt,
+        rt.alloc(),
+        &mut plan,
+        &mut out,
+        workers,
+        &report::NoGate,
+    );
     let status = status_of(rt, ended);
     if hints {
         advise_on_plan(rt, plan, ended);
@@ -146,7 +158,7 @@ fn capture<R: Files + Input + Print + Eprint + AllocGlobal + Threads + Sync>(
     Ok(status)
 }
 
-fn bench<R: Files + Input + Print + Eprint + AllocGlobal + Threads + Wait + Sync>(
+fn bench<R: Files + Input + Print + Eprint + AllocGlobal + Threads + Wait + Clock + Sync>(
     rt: &R,
     plan: &str,
     cert: &str,
@@ -228,16 +240,18 @@ fn is_input_closed(rt: &impl Files) -> bool {
     }
 }
 
-// Prints the help or the version that was asked for, or why the command line does not parse.
-fn no_request<R: Print + Eprint>(rt: &R, error: &clap::Error) -> Result<u8, RunError> {
-    if error.kind() == ErrorKind::OutOfMemory {
-        return Err(RunError::NoMemory);
+// Prints the help or the version that was asked for.
+fn show<R: Print>(rt: &R, text: &str) -> Result<u8, RunError> {
+    match print!(rt; "{text}") {
+        Ok(()) => Ok(0),
+        Err(_) => Err(RunError::Write),
     }
-    match error.print(rt) {
-        Err(_) if !error.use_stderr() => Err(RunError::Write),
-        _ if error.use_stderr() => Ok(2),
-        _ => Ok(0),
-    }
+}
+
+// Prints why the command line does not parse, and answers its status.
+fn refuse<R: Eprint>(rt: &R, text: &str) -> u8 {
+    let _ = eprint!(rt; "{text}");
+    2
 }
 
 // The words of the command line are not there: memory was refused, or one of them is not UTF-8.

@@ -140,7 +140,7 @@ first_code-var word type size code reference more close declarations [] name som
 first_code-var word type size code reference more close declarations (byte ∷ bytes) name some =
     ap (λ k. first_code k name declarations) (never_again (bytes_eq size.bytes (codes "1")) (bytes_eq reference.bytes name) code.bytes (byte ∷ bytes))
 
-abbrev latest_after : List Declaration → List ℕ → List ℕ
+abbrev pub latest_after : List Declaration → List ℕ → List ℕ
 latest_after [] latest = latest
 latest_after (var word type size code reference more close ∷ declarations) latest = latest_after declarations code.bytes
 latest_after (other command ∷ declarations) latest = latest_after declarations latest
@@ -168,7 +168,7 @@ run_declarations (other command ∷ declarations) rest scl sda k m latest are =
 
 -- ---- their end
 
-step_end_definitions : (scl sda : List ℕ) (began : ℕ) (k m latest token : List ℕ) (line : ℕ) → is_end token ≡ false →
+pub step_end_definitions : (scl sda : List ℕ) (began : ℕ) (k m latest token : List ℕ) (line : ℕ) → is_end token ≡ false →
     step (defining scl sda (inside.EndDefinitions began) k m latest) token line ≡ Ok (defining scl sda (inside.EndDefinitions began) k m latest, None)
 unfolding step
 step_end_definitions scl sda began k m latest token line inner = rw inner refl
@@ -193,7 +193,7 @@ run_end (token ∷ body) close rest scl sda began k m latest none is scl_named s
     run_token s s token ((body ++ (close ∷ [])) ++ rest) (step_end_definitions scl sda began k m latest token.bytes token.line (not_true (is_end token.bytes) parts.0))
     ∙ run_end body close rest scl sda began k m latest parts.1 is scl_named sda_named
 
-run_definitions_end : (command : Skipped) (rest : List Token) (scl sda k m latest : List ℕ) → command_of command.word.bytes ≡ Some EndDefinitions → EndsOnce command →
+pub run_definitions_end : (command : Skipped) (rest : List Token) (scl sda k m latest : List ℕ) → command_of command.word.bytes ≡ Some EndDefinitions → EndsOnce command →
     is_empty k ≡ false → is_empty m ≡ false →
     run (defining scl sda inside.Nothing k m latest) (skipped_tokens command ++ rest)
     ≡ run (state_at (record { scl = scl; sda = sda; scl_code = k; sda_code = m; latest = latest }) 0 Unknown Unknown Unknown Unknown None) rest

@@ -4,8 +4,15 @@ pub mod TokenLemmas
 pub mod PieceLemmas
 pub mod FedLemmas
 pub mod RunLemmas
+pub mod StepLemmas
 pub mod StampLemmas
 pub mod DeclarationLemmas
 pub mod SpelledChanges
+pub mod SpelledDefinitions
 pub mod SpelledDumps
 pub mod RunsLemmas
+pub mod TextLemmas
+pub mod ClosingLemmas
+pub mod ReachLemmas
+pub mod NameLemmas
+pub mod WrongLemmas

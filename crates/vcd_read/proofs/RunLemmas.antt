@@ -31,12 +31,12 @@ and_both false b h = absurd cc
 
 -- ---- skipped commands
 
-step_skipped : (s : State) (began line : ℕ) (token : List ℕ) → is_end token ≡ false →
+pub step_skipped : (s : State) (began line : ℕ) (token : List ℕ) → is_end token ≡ false →
     step (record s { context = inside.Skipped began }) token line ≡ Ok (record s { context = inside.Skipped began }, None)
 unfolding step
 step_skipped s began line token other = rw other refl
 
-step_skipped_end : (s : State) (began line : ℕ) (token : List ℕ) → is_end token ≡ true →
+pub step_skipped_end : (s : State) (began line : ℕ) (token : List ℕ) → is_end token ≡ true →
     step (record s { context = inside.Skipped began }) token line ≡ Ok (record s { context = inside.Nothing }, None)
 unfolding step
 step_skipped_end s began line token is = rw is refl

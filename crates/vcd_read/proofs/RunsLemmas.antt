@@ -1,7 +1,7 @@
 -- The tokens of a text are its runs of other bytes than white space.
 use Rattle.std.proofs.Common.{◌≡◌, ℕ, Bool, true, false, List, [], ◌∷◌, ◌++◌, refl, ap, sym, ◌∙◌, subst}
 use Rattle.std.specs.List.{list_all}
-use Rattle.vcd_read.specs.Runs.{line_behind, AreRuns}
+use Rattle.vcd_read.specs.Runs.{line_after_bytes, AreRuns}
 use Rattle.vcd_read.specs.Tokens.{Token, is_white, line_after, ends_before, put_before, tokens_of}
 use Rattle.vcd_read.proofs.TokenLemmas.{tokens_of-white, tokens_of-put, tokens_of-one}
 
@@ -29,7 +29,7 @@ runs_put : (line first byte : ℕ) (bytes : List ℕ) (tokens : List Token) → 
 runs_put line first byte bytes [] other_first other runs = let h = rw other at runs in absurd cc
 runs_put line first byte bytes (token ∷ tokens) other_first other runs =
     let none : runs.0 ≡ [] = no_gap line byte bytes runs.0 token runs.1 other runs.2 runs.3 in
-    ([], runs.1, ap (λ b. first ∷ b) (runs.2 ∙ ap (λ gap. gap ++ (token.bytes ++ runs.1)) none), refl, refl, rw other_first runs.5, runs.6, runs.7 ∙ ap (line_behind line) none, runs.8)
+    ([], runs.1, ap (λ b. first ∷ b) (runs.2 ∙ ap (λ gap. gap ++ (token.bytes ++ runs.1)) none), refl, refl, rw other_first runs.5, runs.6, runs.7 ∙ ap (line_after_bytes line) none, runs.8)
 
 runs_token_by : (line first byte : ℕ) (bytes : List ℕ) (test : Bool) → is_white byte ≡ test → is_white first ≡ false → AreRuns line (byte ∷ bytes) (tokens_of line (byte ∷ bytes)) →
     AreRuns line (first ∷ (byte ∷ bytes)) (tokens_of line (first ∷ (byte ∷ bytes)))
@@ -46,10 +46,10 @@ runs_token line first (byte ∷ bytes) other runs = runs_token_by line first byt
 
 runs_by : (line byte : ℕ) (bytes : List ℕ) (test : Bool) → is_white byte ≡ test → AreRuns (line_after line byte) bytes (tokens_of (line_after line byte) bytes) → AreRuns line bytes (tokens_of line bytes) →
     AreRuns line (byte ∷ bytes) (tokens_of line (byte ∷ bytes))
-runs_by line byte bytes true white behind here =
+runs_by line byte bytes true white later here =
     let P : List Token → Type 0 = λ t. AreRuns line (byte ∷ bytes) t in
-    subst P (sym (tokens_of-white line byte bytes white)) (runs_white line byte bytes (tokens_of (line_after line byte) bytes) white behind)
-runs_by line byte bytes false other behind here = runs_token line byte bytes other here
+    subst P (sym (tokens_of-white line byte bytes white)) (runs_white line byte bytes (tokens_of (line_after line byte) bytes) white later)
+runs_by line byte bytes false other later here = runs_token line byte bytes other here
 
 pub are_runs : (bytes : List ℕ) (line : ℕ) → AreRuns line bytes (tokens_of line bytes)
 are_runs [] line = refl

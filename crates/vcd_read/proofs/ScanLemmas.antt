@@ -3,9 +3,8 @@ use Rattle.std.proofs.Common.{◌≡◌, ◌<◌, ◌≤◌, ◌+◌, ◌-◌, �
 use Rattle.std.specs.List.{slice_range}
 use Rattle.std.proofs.Math.Seq.{take-suc}
 use Rattle.std.proofs.lemmas.List.{get_or-drop, length-drop, length-take, append-nil}
-use Rattle.vcd_read.specs.declared.errors.Refusal.{Refusal}
 use Rattle.vcd_read.specs.declared.scanner.Scanner.{Scanner}
-use Rattle.vcd_read.specs.Pieces.{Kept, token_ended, bytes_read, RoomForToken, RoomForSamples}
+use Rattle.vcd_read.specs.Pieces.{Kept, Refused, token_ended, bytes_read, RoomForToken, RoomForSamples}
 use Rattle.vcd_read.specs.Tokens.{is_white, line_after}
 
 -- the range with one more element
@@ -23,9 +22,9 @@ pub white_read : (k next : Kept) (bytes : List ℕ) (at : ℕ) → at < length b
     bytes_read k (drop at bytes) ≡ bytes_read (record next { line = line_after next.line (get_or bytes at 0) }) (drop (at + 1) bytes)
 white_read k next bytes at within white ended = rw (drop-cons bytes at 0 within, white, ended) (ap (λ i. bytes_read (record next { line = line_after next.line (get_or bytes at 0) }) (drop i bytes)) (sym (add-one at)))
 
-pub white_refused : (k : Kept) (refusal : Refusal) (bytes : List ℕ) (at : ℕ) → at < length bytes → is_white (get_or bytes at 0) ≡ true → token_ended k ≡ Err refusal →
-    bytes_read k (drop at bytes) ≡ Err refusal
-white_refused k refusal bytes at within white ended = rw (drop-cons bytes at 0 within, white, ended) refl
+pub white_refused : (k : Kept) (refused : Refused) (bytes : List ℕ) (at : ℕ) → at < length bytes → is_white (get_or bytes at 0) ≡ true → token_ended k ≡ Err refused →
+    bytes_read k (drop at bytes) ≡ Err refused
+white_refused k refused bytes at within white ended = rw (drop-cons bytes at 0 within, white, ended) refl
 
 pub other_read : (k : Kept) (bytes : List ℕ) (at : ℕ) → at < length bytes → is_white (get_or bytes at 0) ≡ false →
     bytes_read k (drop at bytes) ≡ bytes_read (record k { held = k.held ++ (get_or bytes at 0 ∷ []) }) (drop (at + 1) bytes)

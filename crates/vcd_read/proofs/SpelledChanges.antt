@@ -1,4 +1,4 @@
--- What is accepted behind the definitions is spelled by the grammar.
+-- What is accepted after the definitions is spelled by the grammar.
 use Rattle.std.proofs.Common.{◌≡◌, ℕ, ◌<◌, ◌⊎◌, inl, inr, Bool, true, false, ◌==◌, nat_lt, List, [], ◌∷◌, ◌++◌, Option, Some, None, is_some, Result, Ok, Err, refl, ap, sym, ◌∙◌, subst, append_assoc, arith}
 use Rattle.std.specs.Prelude.{if◌then◌else◌, option_to_list}
 use Rattle.std.proofs.lemmas.Bool.{eqb-true}
@@ -24,7 +24,7 @@ use Rattle.vcd_read.proofs.StampLemmas.{Names, state_in, state_at, step_changes,
 abbrev pub Accepts : Run → Type 0
 Accepts said = (samples : List Sample) × (ended said ≡ Ok samples)
 
-rest_ok : (front : List Sample) (rest : Result (List Sample) Refusal) (samples : List Sample) → in_front front rest ≡ Ok samples → (more : List Sample) × (rest ≡ Ok more)
+pub rest_ok : (front : List Sample) (rest : Result (List Sample) Refusal) (samples : List Sample) → in_front front rest ≡ Ok samples → (more : List Sample) × (rest ≡ Ok more)
 rest_ok front (Ok more) samples is = (more, refl)
 rest_ok front (Err refusal) samples is = absurd cc
 

@@ -28,7 +28,7 @@ pub record Names : Type 0 where
   pub sda_code : List ℕ
   pub latest : List ℕ
 
--- behind the definitions, in this context, at this time and with these levels before the stamp and now
+-- after the definitions, in this context, at this time and with these levels before the stamp and now
 abbrev pub state_in : Names → Context → ℕ → (x y a b : Level) → Option ℕ → State
 state_in n context time x y a b block = record {
   scl = record { name = n.scl; code = n.scl_code; before = x; level = a };
@@ -156,7 +156,7 @@ runs_closes n time x y a b (Some line) token is_open rest is opened =
 
 -- ---- times
 
-same_time : (s : State) (line : ℕ) → time_reached s s.time line ≡ Ok (s, None)
+pub same_time : (s : State) (line : ℕ) → time_reached s s.time line ≡ Ok (s, None)
 same_time s line =
     let not_less : nat_lt s.time s.time ≡ false = grind (arith, nat_tests) in
     let equal : (s.time == s.time) ≡ true = eq-eqb s.time s.time refl in
@@ -278,7 +278,7 @@ pub ended-front : (samples : List Sample) (said : Run) → ended (with_front sam
 ended-front samples (Ok p) = last_in_front samples p.1 (at_end p.0)
 ended-front samples (Err refusal) = refl
 
--- the end, behind the last stamp
+-- the end, after the last stamp
 ends_closed : (n : Names) (time : ℕ) (x y a b : Level) → at_end (state_at n time x y a b None) ≡ Ok (stamp_sample (state_at n time x y a b None))
 ends_closed n time x y a b = refl
 

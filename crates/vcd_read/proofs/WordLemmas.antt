@@ -1,10 +1,12 @@
 -- Codes and times, from byte to byte.
-use Rattle.std.proofs.Common.{◌≡◌, ◌<◌, ◌≤◌, ◌+◌, ◌-◌, ◌*◌, ◌^◌, ℕ, Bool, true, false, List, [], ◌∷◌, length, drop, get_or, Option, Some, None, refl, ap, sym, ◌∙◌, arith, ◌==◌, drop-cons, add-one}
+use Rattle.std.proofs.Common.{◌≡◌, ◌<◌, ◌≤◌, ◌+◌, ◌-◌, ◌*◌, ◌^◌, ℕ, Bool, true, false, List, [], ◌∷◌, length, drop, get_or, Option, Some, None, refl, ap, sym, ◌∙◌, arith, ◌==◌, nat_le, drop-cons, add-one}
 use Rattle.std.specs.Prelude.{if◌then◌else◌}
 use Rattle.std.specs.List.{list_all}
-use Rattle.std.proofs.lemmas.Bool.{le-leb, and_from, lt-ltb}
+use Rattle.std.proofs.lemmas.Bool.{le-leb, leb-true, and_from, lt-ltb}
 use Rattle.std.proofs.lemmas.Bool.Decides.{nat_tests}
+use Rattle.vcd_read.specs.Tokens.{is_white, has_white}
 use Rattle.vcd_read.specs.Words.{is_empty, is_code, is_code_byte, is_digit, number_from, below_limit, time_of}
+use Rattle.vcd_read.proofs.RunLemmas.{and_both}
 
 pub some_bytes : (bytes : List ℕ) → (length bytes == 0) ≡ false → is_empty bytes ≡ false
 some_bytes [] none = none
@@ -41,3 +43,52 @@ time_too_large digits rest number some large same =
 pub time_is : (digits : List ℕ) (number : ℕ) → (length digits == 0) ≡ false → number < 2 ^ 64 → Some number ≡ number_from 0 digits → Some number ≡ time_of digits
 time_is digits number some small same =
     rw (some_bytes digits some, ← same, lt-ltb number (2 ^ 64) small) refl
+
+-- ---- a time is a code
+
+digit_is_code : (digit : ℕ) → is_digit digit ≡ true → is_code_byte digit ≡ true
+digit_is_code digit is =
+    let parts = and_both (nat_le 48 digit) (nat_le digit 57) is in
+    let low : 48 ≤ digit = leb-true 48 digit parts.0 in
+    let high : digit ≤ 57 = leb-true digit 57 parts.1 in
+    and_from _ _ (le-leb 33 digit (omega arith)) (le-leb digit 126 (omega arith))
+
+digits_by : (digit : ℕ) (digits : List ℕ) (number time : ℕ) (test : Bool) → is_digit digit ≡ test →
+    ((next : ℕ) → number_from next digits ≡ Some time → list_all is_code_byte digits ≡ true) → number_from number (digit ∷ digits) ≡ Some time → list_all is_code_byte (digit ∷ digits) ≡ true
+digits_by digit digits number time true is each of_number =
+    let rest = rw is at of_number in
+    and_from _ _ (digit_is_code digit is) (each (number * 10 + (digit - 48)) rest)
+digits_by digit digits number time false is each of_number = let h = rw is at of_number in absurd cc
+
+digits_are_code : (digits : List ℕ) (number time : ℕ) → number_from number digits ≡ Some time → list_all is_code_byte digits ≡ true
+digits_are_code [] number time of_number = refl
+digits_are_code (digit ∷ digits) number time of_number =
+    digits_by digit digits number time (is_digit digit) refl (λ next. digits_are_code digits next time) of_number
+
+within : (number : Option ℕ) (time : ℕ) → below_limit number ≡ Some time → (found : ℕ) × (number ≡ Some found)
+within None time is = absurd cc
+within (Some found) time is = (found, refl)
+
+pub time_is_code : (digits : List ℕ) (time : ℕ) → time_of digits ≡ Some time → is_code (35 ∷ digits) ≡ true
+time_is_code [] time is = absurd cc
+time_is_code (digit ∷ digits) time is =
+    let number = within (number_from 0 (digit ∷ digits)) time is in
+    digits_are_code (digit ∷ digits) 0 number.0 number.1
+
+-- ---- a code is one token
+
+code_is_not_white : (byte : ℕ) → is_code_byte byte ≡ true → is_white byte ≡ false
+code_is_not_white byte is =
+    let parts = and_both (nat_le 33 byte) (nat_le byte 126) is in
+    let low : 33 ≤ byte = leb-true 33 byte parts.0 in
+    grind (arith, nat_tests)
+
+no_white : (bytes : List ℕ) → list_all is_code_byte bytes ≡ true → has_white bytes ≡ false
+no_white [] are = refl
+no_white (byte ∷ bytes) are =
+    let parts = and_both (is_code_byte byte) (list_all is_code_byte bytes) are in
+    rw (code_is_not_white byte parts.0) (no_white bytes parts.1)
+
+pub code_is_one_token : (bytes : List ℕ) → is_code bytes ≡ true → has_white bytes ≡ false
+code_is_one_token [] is = absurd cc
+code_is_one_token (byte ∷ bytes) is = no_white (byte ∷ bytes) is

@@ -55,7 +55,7 @@ changed code level line = if bytes_eq code line.code then record line { level = 
 abbrev pub both_changed : List ℕ → Level → State → State
 both_changed code level s = record s { scl = changed code level s.scl; sda = changed code level s.sda }
 
--- The code of a change, behind its value: of a real or string change the value says nothing here.
+-- The code of a change, after its value: of a real or string change the value says nothing here.
 abbrev pub change_of_code : State → Option Level → List ℕ → ℕ → Result State Refusal
 change_of_code s None code line = if is_code code then Ok s else Err (BadToken line)
 change_of_code s (Some level) code line = if is_code code then Ok (both_changed code level s) else Err (BadToken line)

@@ -46,7 +46,7 @@ abbrev var_end : Seen → State → ℕ → Result State Refusal
 var_end seen.Reference s line = Ok (record s { context = inside.Nothing })
 var_end _ s line = Err (BadToken line)
 
--- A token inside a `$var`: its `$end` is refused behind fewer than four tokens.
+-- A token inside a `$var`: its `$end` is refused after fewer than four tokens.
 abbrev pub inside_var : ℕ → Seen → State → List ℕ → ℕ → Result State Refusal
 inside_var began so_far s token line =
     if is_end token then var_end so_far s line else Ok (var_token began so_far s token)

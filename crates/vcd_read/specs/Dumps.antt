@@ -53,7 +53,7 @@ context_line (inside.Var line so_far) = Some line
 context_line (inside.EndDefinitions line) = Some line
 context_line (inside.Change line level) = Some line
 
--- where the first of the things that are open began: what stands in a block began behind it
+-- where the first of the things that are open began: what stands in a block began after it
 abbrev pub open_line : State → Option ℕ
 open_line s = elim s.block [ Some line ↦ Some line | None ↦ context_line s.context ]
 
@@ -81,6 +81,19 @@ ended (Err refusal) = Err refusal
 abbrev pub samples_of : List ℕ → List ℕ → List ℕ → Result (List Sample) Refusal
 samples_of scl sda text = ended (run (state_at_first scl sda) (tokens_of 1 text))
 
--- What a dump that goes on has said: each token that has white space behind it, and the samples that these give.
+-- the samples of the time stamps that tokens close, up to a token that is refused
+abbrev pub given_by : Step → (State → List Sample) → List Sample
+given_by (Ok p) rest = option_to_list p.1 ++ rest p.0
+given_by (Err refusal) rest = []
+
+abbrev pub given : State → List Token → List Sample
+given s [] = []
+given s (token ∷ tokens) = given_by (step s token.bytes token.line) (λ next. given next tokens)
+
+-- What a dump that goes on has said: each token that has white space after it, and the samples that these give.
 abbrev pub said_so_far : List ℕ → List ℕ → List ℕ → Run
 said_so_far scl sda text = run (state_at_first scl sda) (tokens_of 1 (up_to_white text))
+
+-- The samples that a dump that goes on has given, up to a token that is refused.
+abbrev pub given_so_far : List ℕ → List ℕ → List ℕ → List Sample
+given_so_far scl sda text = given (state_at_first scl sda) (tokens_of 1 (up_to_white text))

@@ -1,4 +1,6 @@
--- A dump as the standard spells it (IEEE 1364-2005, 18.2.1), and its samples, told by whole time stamps.
+-- A dump as the grammar of docs/FORMATS.md spells it (after IEEE 1364-2005, clause 18, and wider: every token that
+-- begins with `$` is a command, changes of strings are read, times may stand inside blocks, and a code needs no `$var`),
+-- and its samples, told by whole time stamps.
 use Rattle.std.specs.Prelude.{◌≡◌, ℕ, ◌<◌, ◌⊎◌, Bool, true, false, ◌&&◌, not, List, [], ◌∷◌, ◌++◌}
 use Rattle.std.specs.Prelude.{Option, Some, None, codes, if◌then◌else◌}
 use Rattle.std.specs.Str.{bytes_eq}
@@ -26,7 +28,7 @@ abbrev pub without_end : List Token → Bool
 without_end [] = true
 without_end (token ∷ tokens) = not (is_end token.bytes) && without_end tokens
 
--- It ends at the first `$end` behind its word.
+-- It ends at the first `$end` after its word.
 abbrev pub EndsOnce : Skipped → Type 0
 EndsOnce c = (without_end c.body ≡ true) × (is_end c.close.bytes ≡ true)
 
@@ -106,7 +108,7 @@ abbrev pub AreEntries : ℕ → List Entry → Type 0
 AreEntries time [] = Unit {0}
 AreEntries time (entry ∷ entries) = IsEntry time entry × AreEntries time entries
 
--- Whether a block is open behind the entry, where one is open before it or not: blocks don't stand in one another.
+-- Whether a block is open after the entry, where one is open before it or not: blocks don't stand in one another.
 abbrev pub opened_by : Bool → Entry → Option Bool
 opened_by false (opens token) = Some true
 opened_by true (opens token) = None
@@ -151,7 +153,7 @@ AreStamps time (stamp ∷ stamps) =
     × AreEntries stamp.time stamp.entries
     × AreStamps stamp.time stamps
 
--- whether a block is open behind all these, or they break the rule of blocks
+-- whether a block is open after all these, or they break the rule of blocks
 abbrev pub open_after : Option Bool → List Entry → Option Bool
 open_after None entries = None
 open_after (Some is_open) [] = Some is_open

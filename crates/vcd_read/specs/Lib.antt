@@ -10,3 +10,4 @@ pub mod Pieces
 pub mod Readers
 pub mod Grammar
 pub mod Runs
+pub mod Beginnings

@@ -20,8 +20,13 @@ pub record Kept : Type 0 where
   pub state : State
   pub samples : List Sample
 
+-- a refusal, and the samples of the tokens before it
+pub record Refused : Type 0 where
+  pub refusal : Refusal
+  pub samples : List Sample
+
 abbrev pub Scan : Type 0
-Scan = Result Kept Refusal
+Scan = Result Kept Refused
 
 -- before the first byte
 abbrev pub kept_at_first : List ℕ → List ℕ → Kept
@@ -29,7 +34,7 @@ kept_at_first scl sda = record { line = 1; held = []; state = state_at_first scl
 
 abbrev pub kept_after : Kept → Step → Scan
 kept_after k (Ok p) = Ok (record k { held = []; state = p.0; samples = k.samples ++ option_to_list p.1 })
-kept_after k (Err refusal) = Err refusal
+kept_after k (Err refusal) = Err (record { refusal = refusal; samples = k.samples })
 
 -- the token that is held, if any, has come to its end
 abbrev pub token_ended : Kept → Scan
@@ -39,17 +44,17 @@ token_ended k = if is_empty k.held then Ok k else kept_after k (step k.state k.h
 abbrev pub with_held : List ℕ → Kept → Kept
 with_held bytes k = record k { held = k.held ++ bytes }
 
-abbrev pub behind_white : ℕ → Scan → Scan
-behind_white byte (Ok k) = Ok (record k { line = line_after k.line byte })
-behind_white byte (Err refusal) = Err refusal
+abbrev pub after_white : ℕ → Scan → Scan
+after_white byte (Ok k) = Ok (record k { line = line_after k.line byte })
+after_white byte (Err refused) = Err refused
 
 abbrev pub byte_read : Kept → ℕ → Scan
 byte_read k byte =
-    if is_white byte then behind_white byte (token_ended k) else Ok (record k { held = k.held ++ byte ∷ [] })
+    if is_white byte then after_white byte (token_ended k) else Ok (record k { held = k.held ++ byte ∷ [] })
 
 abbrev pub go_on : Scan → (Kept → Scan) → Scan
 go_on (Ok k) rest = rest k
-go_on (Err refusal) rest = Err refusal
+go_on (Err refused) rest = Err refused
 
 abbrev pub bytes_read : Kept → List ℕ → Scan
 bytes_read k [] = Ok k
@@ -58,7 +63,7 @@ bytes_read k (byte ∷ bytes) = go_on (byte_read k byte) (λ next. bytes_read ne
 -- the samples at the end of the text, where the last token ends
 abbrev pub ended_by : Scan → Result (List Sample) Refusal
 ended_by (Ok k) = with_last k.samples (at_end k.state)
-ended_by (Err refusal) = Err refusal
+ended_by (Err refused) = Err refused.refusal
 
 abbrev pub samples_at_end : Kept → Result (List Sample) Refusal
 samples_at_end k = ended_by (token_ended k)
@@ -66,9 +71,10 @@ samples_at_end k = ended_by (token_ended k)
 abbrev pub kept_of : Scanner → Kept
 kept_of s = record { line = s.line; held = s.held.items; state = state_of s.dump; samples = s.samples.items }
 
--- The call returned what the definition gives, with this kept where it is no refusal.
+-- The call returned what the definition gives, with this kept: all of it, or the samples before a refusal.
 abbrev pub Scans : {A : Type 0} → Result A Refusal → Scan → Kept → Type 0
-Scans result given k = MatchResult result (λ _. given ≡ Ok k) (λ refusal. given ≡ Err refusal)
+Scans result given k =
+    MatchResult result (λ _. given ≡ Ok k) (λ refusal. given ≡ Err (record { refusal = refusal; samples = k.samples }))
 
 -- what is held can grow by so many bytes, and end there
 abbrev pub RoomForToken : ℕ → Scanner → Type 0

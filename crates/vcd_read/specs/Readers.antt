@@ -22,7 +22,7 @@ samples_in r = r.kept.samples
 
 abbrev pub StandsFor : Option Refusal → Scan → List Sample → Kept → Type 0
 StandsFor None scan cleared k = scan ≡ Ok (record k { samples = cleared ++ k.samples })
-StandsFor (Some refusal) scan cleared k = scan ≡ Err refusal
+StandsFor (Some refusal) scan cleared k = scan ≡ Err (record { refusal = refusal; samples = cleared ++ k.samples })
 
 -- A reader for these two names that was fed this text, in whatever pieces, and from which these samples were cleared.
 unfoldable pub Fed : (scl sda text : List ℕ) → List Sample → Reading → Type 0

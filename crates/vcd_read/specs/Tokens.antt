@@ -7,7 +7,7 @@ use Rattle.std.specs.Prelude.{if◌then◌else◌}
 abbrev pub is_white : ℕ → Bool
 is_white byte = (nat_le 9 byte && nat_le byte 13) || byte == 32
 
--- the line of what stands behind this byte, where the byte stands on this line; lines are counted up to 2 ^ 64 - 1
+-- the line of what stands after this byte, where the byte stands on this line; lines are counted up to 2 ^ 64 - 1
 abbrev pub line_after : ℕ → ℕ → ℕ
 line_after line byte = if byte == 10 then min (line + 1) (2 ^ 64 - 1) else line
 

@@ -63,7 +63,7 @@ is_code bytes = not (is_empty bytes) && list_all is_code_byte bytes
 abbrev pub is_digit : ℕ → Bool
 is_digit byte = nat_le 48 byte && nat_le byte 57
 
--- The number that the digits write behind a number.
+-- The number that the digits write after a number.
 abbrev pub number_from : ℕ → List ℕ → Option ℕ
 number_from number [] = Some number
 number_from number (digit ∷ digits) =

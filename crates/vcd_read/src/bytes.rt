@@ -11,7 +11,7 @@ pub(crate) fn is_white(byte: u8) -> bool
     (b'\t' <= byte && byte <= b'\r') || byte == b' '
 }
 
-/// The line of what stands behind this byte, where the byte stands on this line.
+/// The line of what stands after this byte, where the byte stands on this line.
 #[inline(always)]
 pub(crate) fn line_after(line: u64, byte: u8) -> u64
     ensures { result ≡ line_after line byte }

@@ -10,7 +10,7 @@ use crate::samples::{Level, Sample};
 use crate::words::{Command, command_of, is_code, level_of, time_of, vector_level};
 
 impl Dump {
-    /// A token outside commands, behind the definitions.
+    /// A token outside commands, after the definitions.
     #[inline(always)]
     pub(crate) fn change(&mut self, token: &[u8], line: u64) -> Result<Option<Sample>, Refusal>
         ensures step { Steps result (change (state_of self.old) token.now line) (state_of self.new) }

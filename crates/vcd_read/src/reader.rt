@@ -24,7 +24,7 @@ impl Reader {
     ghost use Rattle.std.specs.Prelude.{◌≡◌, ℕ, List, [], ◌++◌, IfOk, Err, MatchResult};
     ghost use Rattle.vcd_read.specs.declared.errors.VcdError.TheVariants.{NoMemory};
     ghost use Rattle.vcd_read.specs.declared.samples.Sample.{Sample};
-    ghost use Rattle.vcd_read.specs.Dumps.{samples_of, said_so_far};
+    ghost use Rattle.vcd_read.specs.Dumps.{samples_of, said_so_far, given_so_far};
     ghost use Rattle.vcd_read.specs.Readers.{Fed, UnlessMemory, Answers, IsRefusal, reading_of, samples_in};
     ghost use Rattle.vcd_read.specs.Refusals.{error_of};
 
@@ -75,12 +75,14 @@ impl Reader {
         }
     }
 
-    /// The samples so far, without those that were cleared.
+    /// The samples so far, without those that were cleared. After a refusal: those of the tokens before it.
     pub fn samples(&self) -> &[Sample]
         ensures samples { result.now ≡ samples_in (reading_of self.now) }
         ensures so_far { (scl sda text : List ℕ) (cleared : List Sample) →
             Fed scl sda text cleared (reading_of self.now) →
             IfOk (said_so_far scl sda text) (λ said. said.1 ≡ cleared ++ result.now) }
+        ensures up_to_refusal { (scl sda text : List ℕ) (cleared : List Sample) →
+            Fed scl sda text cleared (reading_of self.now) → given_so_far scl sda text ≡ cleared ++ result.now }
     {
         self.scanner.samples.as_slice()
     }

@@ -75,7 +75,7 @@ impl Scanner {
         Ok(())
     }
 
-    // What is held, with this behind it, has come to its end.
+    // What is held, with this after it, has come to its end.
     #[inline(always)]
     fn end_token(&mut self, rest: &[u8]) -> Result<(), Refusal>
         requires token_room { RoomForToken (length rest.now) self.old }

@@ -124,7 +124,7 @@ drop_front : (front back : List ℕ) → drop (length front) (front ++ back) ≡
 drop_front [] back = refl
 drop_front (c ∷ front) back = drop_front front back
 
--- the text of the certificate of one proof, behind its heading
+-- the text of the certificate of one proof, after its heading
 pub line_behind_head : (proof : Cert) (before pushed : List Cert) (text head : List ℕ) (n : ℕ) → before ≡ [] → pushed ≡ before ++ proof ∷ [] → text ≡ cert_text (proofs (map proof_tree pushed)) → head ≡ codes "cert 1\npairs " ++ (decimal 1 ++ codes "\n") → n ≡ length head → (n < length text) × (drop n text ≡ proof_line (proof_tree proof))
 line_behind_head proof before pushed text head n empty push is_text is_head is_n =
     let t = proof_tree proof in
@@ -136,7 +136,7 @@ line_behind_head proof before pushed text head n empty push is_text is_head is_n
 
 -- ---- the certificate of proofs
 
--- the text has the proofs of the first n pairs, behind its heading
+-- the text has the proofs of the first n pairs, after its heading
 pub record HasProofs (plan : Contents) (head text : List ℕ) (n : ℕ) : Type 0 where
   pub trees : List ProofTree
   pub sized : length trees ≡ n

@@ -1,6 +1,7 @@
 // What is called round each piece of work.
 
-/// Called by a worker before and after it works on a pair. Worker 0 is the thread of the caller, or stands for it.
+/// Called by a worker before and after it works on a pair, or on a place of two senders. Worker 0 is the thread of the
+/// caller, or stands for it.
 pub trait Gate {
     fn before(&self, worker: u32, pair: u32);
 

@@ -60,7 +60,7 @@ fn line_of_pair(alloc: Global, plan: &Plan, i: u32) -> Result<Vec<u8>, AllocErro
     }
 }
 
-// The line of a proof: what the certificate of this proof alone has behind its heading.
+// The line of a proof: what the certificate of this proof alone has after its heading.
 fn line_of(alloc: Global, proof: Cert) -> Result<Vec<u8>, AllocError>
     ensures { IfOk result (λ line. line.items ≡ proof_line (proof_tree proof)) }
 {

@@ -121,7 +121,7 @@ fn push_message(alloc: Global, text: &mut String, shape: Shape, k: u32) -> Resul
     }
 }
 
-// A write of 239 bytes, behind which and behind each refusal of which stands a write of 15 bytes: 240 nodes and 241
+// A write of 239 bytes, after which and after each refusal of which stands a write of 15 bytes: 240 nodes and 241
 // times 16, and 256 bytes on the longest path.
 fn push_many_nodes(alloc: Global, text: &mut String) -> Result<(), AllocError> {
     let mut tail = String::new(alloc);

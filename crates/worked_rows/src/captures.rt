@@ -1,18 +1,14 @@
-// Recorded wires, from a plan and a dump to the lines of the report, and from marks to those who explain them.
+// Recorded wires: what neighbouring samples and events make, and many transactions at once.
 
-use crate::memory::{page, source, written};
 use capture_check::{
-    Event, Listener, Mark, Transaction, Until, Watch, What, events, explain, explain_all,
-    transactions,
+    Event, Listener, Transaction, Until, Watch, What, events, explain_all, transactions,
 };
 use plan_text::read_plan;
-use report::{RunError, Status, run_capture};
 use std::alloc::{AllocError, Global};
 use std::test::Fail;
-use std::thread::Threads;
 use vcd_read::{Level, Reader, Sample};
 
-// A controller stops behind an acknowledged header, and another one writes a byte to the same target.
+// A controller stops after an acknowledged header, and another one writes a byte to the same target.
 const PLAN: &str = "\
 plan 1
 message m write 1001000 stop else stop ;
@@ -45,176 +41,8 @@ const HEADER: &str = "\
 #90 1! #95 0!
 ";
 
-// A target acknowledges it, or none does; then comes a STOP.
+// A target acknowledges it; then comes a STOP.
 const ACKNOWLEDGED: &str = "#100 1! #105 0!\n#110 1! #115 1\"\n";
-
-const REFUSED: &str = "#96 1\" #100 1! #105 0!\n#106 0\" #110 1! #115 1\"\n";
-
-// What the run writes, and its status.
-fn report<R: Threads + Sync>(
-    rt: &R,
-    alloc: Global,
-    dump: &str,
-    sda: &str,
-) -> Result<(Result<Status, RunError>, String), Fail> {
-    let mut page = page(alloc);
-    let answer = run_capture(
-        rt,
-        alloc,
-        &mut source(PLAN.as_bytes()),
-        &mut source(dump.as_bytes()),
-        &mut page,
-        "scl",
-        sda,
-    );
-    Ok((answer, written(page)?))
-}
-
-#[test]
-fn captures_are_told_line_by_line(rt: HostRuntime) -> Result<(), Fail> {
-    let alloc = rt.alloc();
-    let captures = [
-        (
-            HEADER,
-            ACKNOWLEDGED,
-            Status::Good,
-            "10-115 a/m\n1 transactions, 0 unexplained\n",
-        ),
-        (
-            HEADER,
-            REFUSED,
-            Status::Good,
-            "10-115 a/m b/n\n1 transactions, 0 unexplained\n",
-        ),
-        (
-            "#0 1! 1\" #10 0\" #15 0! #16 1\" #20 1! #25 0! #26 0\" #30 1! #35 0! #40 1! #45 0!",
-            "",
-            Status::Good,
-            "10- unfinished\n0 transactions, 0 unexplained\n",
-        ),
-        (
-            "#0 1! 1\" #5 0\" #9 1\"",
-            "",
-            Status::Bad,
-            "5-9 unexplained\n1 transactions, 1 unexplained\n",
-        ),
-        (
-            "#0 1! 1\" #5 0! 0\" #7 1! #9 1\"",
-            "",
-            Status::Good,
-            "0 transactions, 0 unexplained\n",
-        ),
-        (
-            "#0 1! 1\" #5 0\" #7 x\" #9 1\" #12 0\" #14 1\"",
-            "",
-            Status::Bad,
-            "5-7 cut\n12-14 unexplained\n1 transactions, 1 unexplained\n",
-        ),
-        ("", "", Status::Good, "0 transactions, 0 unexplained\n"),
-    ];
-    for (first, then, status, lines) in captures {
-        let dump = format!(in alloc; "{DEFINITIONS}{first}{then}")?;
-        let (answer, found) = report(&rt, alloc, dump.as_str(), "sda")?;
-        assert_eq!(rt; found.as_str(), lines, "{first}{then}");
-        assert_eq!(rt; answer, Ok(status), "{first}{then}");
-    }
-    Ok(())
-}
-
-#[test]
-fn a_refused_capture_writes_nothing(rt: HostRuntime) -> Result<(), Fail> {
-    let alloc = rt.alloc();
-    let captures = [
-        ("#5 #4", "sda", "V3 line 8"),
-        ("#5\n#4", "sda", "V3 line 9"),
-        ("2!", "sda", "V2 line 8"),
-        ("$comment", "sda", "V4 line 8"),
-        ("#0 1! 1\"", "data", "V1 sda"),
-    ];
-    for (changes, sda, refusal) in captures {
-        let dump = format!(in alloc; "{DEFINITIONS}{changes}")?;
-        let (answer, found) = report(&rt, alloc, dump.as_str(), sda)?;
-        let said = match answer {
-            Ok(_) => String::from_str(alloc, "a report")?,
-            Err(error) => format!(in alloc; "{error}")?,
-        };
-        assert_eq!(rt; said.as_str(), refusal, "{changes}");
-        assert_eq!(rt; found.as_str(), "");
-    }
-    Ok(())
-}
-
-// The levels of a word of `0` and `1`, as marks.
-fn push_levels(marks: &mut Vec<Mark>, levels: &str) -> Result<(), AllocError> {
-    for level in levels.as_bytes() {
-        marks.push(Mark::Level(*level == b'1'))?;
-    }
-    Ok(())
-}
-
-// A transaction with these levels, which a STOP ends.
-fn stopped(alloc: Global, levels: &str) -> Result<Transaction, AllocError> {
-    let mut marks = Vec::new(alloc);
-    push_levels(&mut marks, levels)?;
-    marks.push(Mark::Stop)?;
-    Ok(Transaction {
-        from: 10,
-        until: Until::Stopped(115),
-        marks,
-    })
-}
-
-#[test]
-fn a_read_is_explained_by_a_range_with_its_count(rt: HostRuntime) -> Result<(), Fail> {
-    let alloc = rt.alloc();
-    // Three bytes, acknowledged by 0, 0 and 1.
-    let transaction = stopped(alloc, "100100010101010100010101010101010101")?;
-    for (counts, explainers) in [("2..4", [0].as_slice()), ("4..6", [].as_slice())] {
-        let text = format!(in alloc;
-            "plan 2 message m read 1001000 {counts} stop else stop ; controller a m ;"
-        )?;
-        let plan = read_plan(alloc, text.as_bytes())?;
-        let found = explain(alloc, &plan, &transaction)?;
-        assert_eq!(rt; found.as_slice(), explainers, "{counts}");
-    }
-    Ok(())
-}
-
-#[test]
-fn an_interrupt_is_told_by_the_eight_bits_of_its_header(rt: HostRuntime) -> Result<(), Fail> {
-    let alloc = rt.alloc();
-    let plan = read_plan(
-        alloc,
-        b"plan 1 message m read 1001000 1 stop else stop ; controller a m ; interrupt t 1001000 ;",
-    )?;
-    for (levels, explainers) in [
-        ("100100010000000001", [0, 1].as_slice()),
-        ("10010001011", [1].as_slice()),
-        ("1001000100000000", [1].as_slice()),
-        ("100100000", [].as_slice()),
-        ("1001000", [].as_slice()),
-    ] {
-        let found = explain(alloc, &plan, &stopped(alloc, levels)?)?;
-        assert_eq!(rt; found.as_slice(), explainers, "{levels}");
-    }
-    Ok(())
-}
-
-#[test]
-fn nobody_explains_what_was_cut_or_goes_on(rt: HostRuntime) -> Result<(), Fail> {
-    let alloc = rt.alloc();
-    let plan = read_plan(alloc, PLAN.as_bytes())?;
-    for until in [Until::Cut(115), Until::Unfinished] {
-        let mut transaction = stopped(alloc, "100100000")?;
-        assert_eq!(rt;
-            explain(alloc, &plan, &transaction)?.as_slice(),
-            [0].as_slice()
-        );
-        transaction.until = until;
-        assert_eq!(rt; explain(alloc, &plan, &transaction)?.len(), 0);
-    }
-    Ok(())
-}
 
 // The transaction of the acknowledged header, from its dump.
 fn acknowledged(alloc: Global) -> Result<Vec<Transaction>, Fail> {

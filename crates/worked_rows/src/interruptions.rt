@@ -1,8 +1,7 @@
-// Runs over devices whose calls a signal interrupts.
+// Devices whose calls a signal interrupts, up to the last turn.
 
 ghost use Rattle.std.specs.Prelude.{◌≡◌};
 
-use crate::devices::{RUNS, answer, texts};
 use report::devices::watched::TURNS;
 use report::{
     FaultyReader, FaultyWriter, Input, Output, RunError, Watched, read_within, write_report,
@@ -70,23 +69,6 @@ impl<W: Write> Write for Interrupted<W> {
 // A reader of seven bytes a call.
 fn reader(text: &[u8], times: u32) -> Watched<Interrupted<FaultyReader<'_>>> {
     Watched::new(Interrupted::new(FaultyReader::new(text, 7, 0), times))
-}
-
-#[test]
-fn interrupted_devices_give_the_report_of_whole_texts(rt: HostRuntime) {
-    let alloc = rt.alloc();
-    for (run, report, status) in RUNS {
-        let (first, second) = texts(run);
-        for times in [1, 3, 100] {
-            let (mut first, mut second) = (reader(first, times), reader(second, times));
-            let room = FaultyWriter::new(alloc, report.len(), true);
-            let mut page = Watched::new(Interrupted::new(room, times));
-            let found = answer(&rt, alloc, run, &mut first, &mut second, &mut page);
-            assert_eq!(rt; found, Ok(status), "{report} after {times}");
-            assert!(rt; !first.failed() && !second.failed() && !page.failed());
-            assert_eq!(rt; page.into_inner().device.taken(), report.as_bytes());
-        }
-    }
 }
 
 #[test]

@@ -1,6 +1,9 @@
-//! Tests that cross crates: plans from their text to the report.
+//! Tests that cross crates, of what no command shows: single calls and their values, threads, trees of any depth. What is a
+//! command with its files is a case of the crate `trials`.
 #![tactic(auto)]
 
+#[cfg(test)]
+mod acceptance;
 #[cfg(test)]
 mod captures;
 #[cfg(test)]
@@ -8,20 +11,16 @@ mod certificates;
 #[cfg(test)]
 mod devices;
 #[cfg(test)]
-mod faults;
-#[cfg(test)]
 mod interruptions;
 #[cfg(test)]
 mod limits;
 #[cfg(test)]
 mod memory;
 #[cfg(test)]
+mod names;
+#[cfg(test)]
 mod proofs;
 #[cfg(test)]
-mod refusals;
-#[cfg(test)]
 mod runs;
-#[cfg(test)]
-mod spelling;
 #[cfg(test)]
 mod workers;

@@ -3,7 +3,7 @@
 use certificate::Cert;
 use pair_walk::Outcome;
 use plan_text::read_plan;
-use report::{Watched, run_check};
+use report::{NoGate, Watched, run_check};
 use std::alloc::{AllocError, Global};
 use std::test::Fail;
 use std::thread::Threads;
@@ -37,20 +37,15 @@ pub fn two(alloc: Global, version: u8, first: &str, second: &str) -> Result<Stri
 /// What a check of the plan writes.
 pub fn check<R: Threads + Sync>(rt: &R, alloc: Global, plan: &str) -> Result<String, Fail> {
     let mut page = page(alloc);
-    run_check(rt, alloc, &mut source(plan.as_bytes()), &mut page, 1)?;
+    run_check(
+        rt,
+        alloc,
+        &mut source(plan.as_bytes()),
+        &mut page,
+        1,
+        &NoGate,
+    )?;
     written(page)
-}
-
-/// What a check writes of two messages, the first sent by controller `a` and the second by `b`.
-pub fn check_two<R: Threads + Sync>(
-    rt: &R,
-    alloc: Global,
-    version: u8,
-    first: &str,
-    second: &str,
-) -> Result<String, Fail> {
-    let plan = two(alloc, version, first, second)?;
-    check(rt, alloc, plan.as_str())
 }
 
 /// The proof of each pair of a plan, a line for each: the token of a node, then what follows an ACK, then what follows

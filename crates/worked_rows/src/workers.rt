@@ -84,13 +84,20 @@ fn each_number_of_workers_writes_the_same_report(rt: HostRuntime) -> Result<(), 
     let alloc = rt.alloc();
     for text in [forty_sendings(alloc)?, clashing_sendings(alloc)?] {
         let mut alone = page(alloc);
-        let status = run_check(&rt, alloc, &mut source(text.as_bytes()), &mut alone, 1)?;
+        let status = run_check(
+            &rt,
+            alloc,
+            &mut source(text.as_bytes()),
+            &mut alone,
+            1,
+            &NoGate,
+        )?;
         let alone = written(alone)?;
         for workers in 2..=MOST_WORKERS {
             let mut together = page(alloc);
             let mut plan = source(text.as_bytes());
             assert_eq!(rt;
-                run_check(&rt, alloc, &mut plan, &mut together, workers),
+                run_check(&rt, alloc, &mut plan, &mut together, workers, &NoGate),
                 Ok(status)
             );
             assert_eq!(rt;
@@ -103,12 +110,17 @@ fn each_number_of_workers_writes_the_same_report(rt: HostRuntime) -> Result<(), 
     Ok(())
 }
 
-// Each of the first pairs, one for each worker, raises a flag and waits for the flags of the others.
+// Each of the first pieces of work, one for each worker, raises a flag and waits for the flags of the others. All pieces
+// are counted as they begin and as they end.
 #[derive(Drop)]
 struct Flags {
     workers: u64,
     raised: AtomicU64,
     missed: AtomicU64,
+    // The workers that raised a flag, as bits.
+    who: AtomicU64,
+    begun: AtomicU64,
+    ended: AtomicU64,
 }
 
 impl Flags {
@@ -117,23 +129,38 @@ impl Flags {
             workers: u64::from(workers),
             raised: AtomicU64::new(0),
             missed: AtomicU64::new(0),
+            who: AtomicU64::new(0),
+            begun: AtomicU64::new(0),
+            ended: AtomicU64::new(0),
         }
     }
 
-    // How many flags were raised, and how many workers waited in vain.
-    fn told(&self) -> (u64, u64) {
+    // How many flags were raised, how many workers waited in vain, and how many different workers raised one.
+    fn told(&self) -> (u64, u64, u32) {
         (
             self.raised.load(Ordering::SeqCst),
             self.missed.load(Ordering::SeqCst),
+            self.who.load(Ordering::SeqCst).count_ones(),
+        )
+    }
+
+    // How many pieces of work have begun, and how many have ended.
+    fn counted(&self) -> (u64, u64) {
+        (
+            self.begun.load(Ordering::SeqCst),
+            self.ended.load(Ordering::SeqCst),
         )
     }
 }
 
 impl Gate for Flags {
-    fn before(&self, _worker: u32, pair: u32) {
+    fn before(&self, worker: u32, pair: u32) {
+        self.begun.fetch_add(1, Ordering::SeqCst);
         if u64::from(pair) >= self.workers {
             return;
         }
+        let bit = 1u64.checked_shl(worker).unwrap_or(0);
+        self.who.fetch_or(bit, Ordering::SeqCst);
         self.raised.fetch_add(1, Ordering::SeqCst);
         for _ in 0..MOST_TURNS {
             if self.raised.load(Ordering::SeqCst) >= self.workers {
@@ -144,7 +171,9 @@ impl Gate for Flags {
         self.missed.fetch_add(1, Ordering::SeqCst);
     }
 
-    fn after(&self, _worker: u32, _pair: u32) {}
+    fn after(&self, _worker: u32, _pair: u32) {
+        self.ended.fetch_add(1, Ordering::SeqCst);
+    }
 }
 
 #[test]
@@ -153,13 +182,42 @@ fn all_workers_walk_at_the_same_time(rt: HostRuntime) -> Result<(), Fail> {
     let text = forty_sendings(alloc)?;
     let plan = read_plan(alloc, text.as_bytes())?;
     for workers in [2u32, 8] {
-        let all = (u64::from(workers), 0);
         let flags = Flags::new(workers);
         table_with(&rt, alloc, &plan, workers, &flags)?;
-        assert_eq!(rt; flags.told(), all);
+        assert_eq!(rt; flags.told(), (u64::from(workers), 0, workers));
+        // 40 participants of 8 controllers are 700 pairs.
+        assert_eq!(rt; flags.counted(), (700, 700));
+    }
+    Ok(())
+}
+
+#[test]
+fn all_workers_compare_senders_at_the_same_time(rt: HostRuntime) -> Result<(), Fail> {
+    let alloc = rt.alloc();
+    let text = forty_sendings(alloc)?;
+    let plan = read_plan(alloc, text.as_bytes())?;
+    for workers in [2u32, 8] {
         let flags = Flags::new(workers);
         faults_with(&rt, alloc, &plan, workers, &flags)?;
-        assert_eq!(rt; flags.told(), all);
+        assert_eq!(rt; flags.told(), (u64::from(workers), 0, workers));
+        // Five messages have 25 places of two senders.
+        assert_eq!(rt; flags.counted(), (25, 25));
+    }
+    Ok(())
+}
+
+#[test]
+fn a_check_uses_all_its_workers(rt: HostRuntime) -> Result<(), Fail> {
+    let alloc = rt.alloc();
+    let text = forty_sendings(alloc)?;
+    for workers in [2u32, 8] {
+        let flags = Flags::new(workers);
+        let mut page = page(alloc);
+        let mut plan = source(text.as_bytes());
+        run_check(&rt, alloc, &mut plan, &mut page, workers, &flags)?;
+        assert_eq!(rt; written(page)?.as_str(), "safe: 700 pairs\n");
+        assert_eq!(rt; flags.told(), (u64::from(workers), 0, workers));
+        assert_eq!(rt; flags.counted(), (25, 25));
     }
     Ok(())
 }

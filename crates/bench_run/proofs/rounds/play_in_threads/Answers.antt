@@ -9,7 +9,7 @@ use Rattle.bench_run.proofs.rounds.play_in_threads.Goals as goal
 
 pub map_vec-requires-send-J : goal.map_vec-requires-send-J
 map_vec-requires-send-J g c κs _ =
-    param_send 1 (lts.arg-0-1 g.row.R g.row.G g.R.laws g.G.laws g.R.Threads-dict g.G.Gate-dict κs) (search (sendable, part_send) depth 20 fits 20000)
+    param_send 1 (lts.arg-1-1 g.row.R g.row.G g.R.laws g.G.laws g.R.Threads-dict g.R.Clock-dict g.G.Gate-dict κs) (search (sendable, part_send) depth 20 fits 20000)
 
 pub returns-clause-each : goal.returns-clause-each
 returns-clause-each g c bench fill are =

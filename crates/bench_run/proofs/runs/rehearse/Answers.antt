@@ -2,7 +2,7 @@ use Rattle.std.proofs.Common.{◌≡◌, ◌≢◌, ◌⊎◌, refl, subst, List
 use Rattle.std.specs.Prelude.{IfOk, OnOk, IfErr}
 use Rattle.plan_core.specs.PlanContents.{plan_contents}
 use Rattle.plan_text.specs.Grammar.{Spells}
-use Rattle.cert_check.specs.Accepts.{AnswersPlan}
+use Rattle.cert_check.specs.Accepts.{IsAnswer}
 use Rattle.cert_check.specs.Holds.{accepted_plan}
 use Rattle.cert_check.specs.declared.accepted.Accepted.{Accepted}
 use Rattle.cert_check.specs.declared.answers.Answer.{Answer}
@@ -17,7 +17,7 @@ use Rattle.bench_run.proofs.runs.rehearse.Goals as goal
 pub returns-in_err-report-in-Ok-clause-refused : goal.returns-in_err-report-in-Ok-clause-refused
 returns-in_err-report-in-Ok-clause-refused g c =
     let same = subst (λ (r : Result Accepted Answer). IfOk r (λ it. accepted_plan it ≡ c.args.plan)) c.in-Ok.is c.in_ok-accepted.ensures.plan in
-    let safe = subst (λ (r : Result Accepted Answer). OnOk r (AnswersPlan (plan_contents c.args.plan) c.args.cert.now Safe)) c.in-Ok.is c.in_ok-accepted.ensures.safe in
+    let safe = subst (λ (r : Result Accepted Answer). OnOk r (IsAnswer (plan_contents c.args.plan) c.args.cert.now Safe)) c.in-Ok.is c.in_ok-accepted.ensures.safe in
     let e = c.in_err-report-in-Ok.field-0.0 in
     on_error c.from_residual-in_err-report-in-Ok.result e (λ x. (text : List ℕ) → Spells text (plan_contents c.args.plan) → (x ≡ error.NoMemory) ⊎ IsNotOpened c.args.starters.now (text, c.args.cert.now) x) c.from_residual-in_err-report-in-Ok.ensures.1
     (not_opened c.args.plan (accepted_plan c.in-Ok.accepted) c.args.starters.now c.args.cert.now e same safe c.in_err-report-in-Ok.ensures.refused)
@@ -25,10 +25,10 @@ returns-in_err-report-in-Ok-clause-refused g c =
 pub returns-in_ok-report-in-Ok-clause-report : goal.returns-in_ok-report-in-Ok-clause-report
 returns-in_ok-report-in-Ok-clause-report g c =
     let same = subst (λ (r : Result Accepted Answer). IfOk r (λ it. accepted_plan it ≡ c.args.plan)) c.in-Ok.is c.in_ok-accepted.ensures.plan in
-    let safe = subst (λ (r : Result Accepted Answer). OnOk r (AnswersPlan (plan_contents c.args.plan) c.args.cert.now Safe)) c.in-Ok.is c.in_ok-accepted.ensures.safe in
+    let safe = subst (λ (r : Result Accepted Answer). OnOk r (IsAnswer (plan_contents c.args.plan) c.args.cert.now Safe)) c.in-Ok.is c.in_ok-accepted.ensures.safe in
     rehearses c.args.plan (accepted_plan c.in-Ok.accepted) c.args.starters.now c.args.answers.now c.args.cert.now _ c.args.fill Good same safe c.in_ok-report-in-Ok.ensures.report refl
 
 pub returns-in_ok-answer_line-in-Err-clause-report : goal.returns-in_ok-answer_line-in-Err-clause-report
 returns-in_ok-answer_line-in-Err-clause-report g c =
-    let right = subst (λ (r : Result Accepted Answer). IfErr r (λ answer. (answer ≢ Safe) × AnswersPlan (plan_contents c.args.plan) c.args.cert.now answer)) c.in-Err.is c.in_ok-accepted.ensures.not_safe in
+    let right = subst (λ (r : Result Accepted Answer). IfErr r (λ answer. (answer ≢ Safe) × IsAnswer (plan_contents c.args.plan) c.args.cert.now answer)) c.in-Err.is c.in_ok-accepted.ensures.not_safe in
     not_accepted c.args.plan c.args.starters.now c.args.answers.now c.args.cert.now _ c.args.fill c.in-Err.answer c.status_of_answer.result right c.in_ok-answer_line-in-Err.ensures c.status_of_answer.ensures

@@ -1,3 +1,4 @@
+use Rattle.plan_core.proofs.Headers.{alone_after_header}
 use Rattle.plan_core.proofs.Model.{somebody, followed, followed_on}
 use Rattle.plan_core.proofs.Safety.{round_never_clashes, goes_on, all_hear}
 use Rattle.plan_core.proofs.Texts.{some_text, length_bound, end_bound}
@@ -46,6 +47,11 @@ returns-clause-bound c plan s live u found r =
 
 pub returns-clause-whole : goal.returns-clause-whole
 returns-clause-whole c plan s live u p found r e i = end_bound plan p u e (followed_on r.1 p i)
+
+pub returns-clause-header : goal.returns-clause-header
+returns-clause-header c plan s live u p q found r n is i j =
+    let safe = answer.found_safe c.args.plan.now c.args.cert.now c.judge.result plan c.judge.ensures found in
+    alone_after_header plan s u live safe.0 r p q is n i j
 
 pub returns-clause-faulty : goal.returns-clause-faulty
 returns-clause-faulty c plan spelled is safe = answer.found_unsafe c.args.plan.now c.args.cert.now c.judge.result plan c.judge.ensures spelled is safe

@@ -1,32 +1,20 @@
-use Rattle.message_tree.specs.Patterns.{address_bits}
-use Rattle.cert_check.specs.Wires.{off, within, behind}
-use Rattle.cert_check.proofs.WireLemmas.{claim_along, claim_at, claim_is, along, never, same_kind, is_nil, is_not_nil}
+use Rattle.std.proofs.Common.{◌≡◌, ◌↔◌, Bool, true, false, sym, subst}
+use Rattle.message_tree.specs.declared.items.Item.TheVariants.{Sent}
+use Rattle.message_tree.specs.Texts.{SenderText}
+use Rattle.plan_core.specs.Senders.{what_is_sent}
+use Rattle.bench_places.specs.Places.{rest_of}
+use Rattle.cert_check.specs.Wires.{GoesOnWith}
+use Rattle.cert_check.proofs.WireLemmas.{not_along, at_end}
 use Rattle.cert_check.proofs.faults.may_put.Goals as goal
 
-pub returns-in-Off : goal.returns-in-Off
-returns-in-Off c =
-    let bits = rw c.in-Interrupt.is at c.first_header.ensures in
-    rw c.in-Interrupt.is (along never (claim_along (address_bits c.in-Interrupt.field-0) c.first_header.result c.args.wire.now c.args.kind off bits c.in-Off.ensures))
+pub returns-then-not-allows : goal.returns-then-not-allows
+returns-then-not-allows c = (
+  λ h. cc,
+  λ g. absurd (not_along (SenderText (what_is_sent c.args.sends.now)) c.args.wire.now c.loop-item.item-index (Sent false) c.args.kind (rest_of c.loop-item.place) c.loop-item-test.true c.loop-item.invariant (λ b. let allowed = c.allows.ensures.1 ((c.offered.ensures.items _).0 b) in let not = c.if-not-allows.true in cc) g),
+)
 
-pub returns-in-Within : goal.returns-in-Within
-returns-in-Within c =
-    let bits = rw c.in-Interrupt.is at c.first_header.ensures in
-    rw c.in-Interrupt.is
-    (along (same_kind c.eq.result c.in-Within.offered c.args.kind c.eq.ensures)
-    (claim_along (address_bits c.in-Interrupt.field-0) c.first_header.result c.args.wire.now c.args.kind (within c.in-Within.offered) bits c.in-Within.ensures))
-
-pub returns-then-is_empty : goal.returns-then-is_empty
-returns-then-is_empty c =
-    let bits = rw c.in-Interrupt.is at c.first_header.ensures in
-    rw c.in-Interrupt.is
-    (along (same_kind c.eq-then-is_empty.result c.args.kind _ c.eq-then-is_empty.ensures)
-    (along (claim_is c.in-Behind.wire.now c.args.kind (is_nil c.in-Behind.wire.now c.is_empty.result c.is_empty.ensures c.if-is_empty.true))
-    (claim_along (address_bits c.in-Interrupt.field-0) c.first_header.result c.args.wire.now c.args.kind (behind c.in-Behind.wire.now) bits c.in-Behind.ensures)))
-
-pub returns-else-is_empty : goal.returns-else-is_empty
-returns-else-is_empty c =
-    let bits = rw c.in-Interrupt.is at c.first_header.ensures in
-    rw c.in-Interrupt.is
-    (along
-    (λ h. cc, λ m. absurd (is_not_nil c.in-Behind.wire.now c.is_empty.result c.is_empty.ensures c.if-is_empty.false (claim_at c.in-Behind.wire.now c.args.kind m).0))
-    (claim_along (address_bits c.in-Interrupt.field-0) c.first_header.result c.args.wire.now c.args.kind (behind c.in-Behind.wire.now) bits c.in-Behind.ensures))
+pub returns : goal.returns
+returns c =
+    let P = SenderText (what_is_sent c.args.sends.now) in
+    subst (λ (b : Bool). (b ≡ true) ↔ GoesOnWith P c.args.wire.now c.args.kind) (sym c.is_offered.ensures)
+    (at_end P c.args.wire.now c.loop-item.item-index c.args.kind (rest_of c.loop-item.place) c.offered-2.result c.loop-item-test.false c.loop-item.invariant c.offered-2.ensures.items)

@@ -1,3 +1,4 @@
+use Rattle.plan_core.proofs.Headers.{alone_after_header}
 use Rattle.plan_core.proofs.Texts.{some_text}
 use Rattle.plan_core.proofs.Model.{somebody, followed}
 use Rattle.plan_core.proofs.Safety.{round_never_clashes, goes_on, all_hear}
@@ -14,3 +15,6 @@ returns-clause-next c plan s live u m safe r n =
 pub returns-clause-answers : goal.returns-clause-answers
 returns-clause-answers c plan s live u p b d m safe r i o =
     all_hear plan s u live safe r (followed (λ q j. some_text plan m q (r.0.participants q j)) r.1) p b d i o
+
+pub returns-clause-header : goal.returns-clause-header
+returns-clause-header c plan s live u p q safe r n is i j = alone_after_header plan s u live safe r p q is n i j

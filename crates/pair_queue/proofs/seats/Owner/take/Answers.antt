@@ -16,15 +16,15 @@ invariant_of-self c =
     record {
       flavor = c.in-Some-Number.ensures.same.0.1 ∙ c.self.invariant.flavor;
       thieves_made = same_seats _ _ _ c.in-Some-Number.i is told ∙ c.self.invariant.thieves_made;
-      seated = seated_took _ _ _ c.in-Some-Number.i _ c.self.invariant.seated is told;
+      seated = seated_took _ _ _ c.in-Some-Number.i _ c.if-self.false c.self.invariant.seated is told;
     }
 
 pub returns-in-Some-Number-clause-order : goal.returns-in-Some-Number-clause-order
 returns-in-Some-Number-clause-order c =
-    let seated = seated_took _ _ _ c.in-Some-Number.i _ c.self.invariant.seated c.in-Some-Number.field-0-is c.in-Some-Number.ensures.rule in
+    let seated = seated_took _ _ _ c.in-Some-Number.i _ c.if-self.false c.self.invariant.seated c.in-Some-Number.field-0-is c.in-Some-Number.ensures.rule in
     (seated.rising, seated.below)
 
 pub returns-in-Some-Number-clause-count : goal.returns-in-Some-Number-clause-count
 returns-in-Some-Number-clause-count c =
-    let seated = seated_took _ _ _ c.in-Some-Number.i _ c.self.invariant.seated c.in-Some-Number.field-0-is c.in-Some-Number.ensures.rule in
+    let seated = seated_took _ _ _ c.in-Some-Number.i _ c.if-self.false c.self.invariant.seated c.in-Some-Number.field-0-is c.in-Some-Number.ensures.rule in
     seated.count

@@ -16,10 +16,10 @@ invariant_of-self c =
     record {
       flavor = c.self.invariant.flavor;
       pass = (same.0 ∙ was.0, same.1 ∙ was.1, same.3, same.4);
-      seated = seated_took _ _ _ c.in-Success-Number.i _ c.self.invariant.seated c.in-Success-Number.field-0-is c.in-Success-Number.ensures.rule;
+      seated = seated_took _ _ _ c.in-Success-Number.i _ c.if-self.false c.self.invariant.seated c.in-Success-Number.field-0-is c.in-Success-Number.ensures.rule;
     }
 
 pub returns-in-Success-Number-clause-count : goal.returns-in-Success-Number-clause-count
 returns-in-Success-Number-clause-count c =
-    let seated = seated_took _ _ _ c.in-Success-Number.i _ c.self.invariant.seated c.in-Success-Number.field-0-is c.in-Success-Number.ensures.rule in
+    let seated = seated_took _ _ _ c.in-Success-Number.i _ c.if-self.false c.self.invariant.seated c.in-Success-Number.field-0-is c.in-Success-Number.ensures.rule in
     seated.count

@@ -6,7 +6,7 @@ use Rattle.vcd_read.proofs.reader.Reader.end.Goals as goal
 
 pub returns-in-Some : goal.returns-in-Some
 returns-in-Some c = λ scl sda text cleared fed.
-    is_refusal _ c.in-Some.refusal _ (samples_refused scl sda text c.in-Some.refusal (scan_of_refused scl sda text cleared (reading_of c.args.self) c.in-Some.refusal c.in-Some.is fed)) c.from.ensures
+    is_refusal _ c.in-Some.refusal _ (samples_refused scl sda text _ (scan_of_refused scl sda text cleared (reading_of c.args.self) c.in-Some.refusal c.in-Some.is fed)) c.from.ensures
 
 pub returns-in_err-samples : goal.returns-in_err-samples
 returns-in_err-samples c = λ scl sda text cleared fed.

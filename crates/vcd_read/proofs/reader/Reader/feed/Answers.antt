@@ -8,16 +8,16 @@ use Rattle.vcd_read.proofs.reader.Reader.feed.Goals as goal
 pub returns-in-Some-clause-fed : goal.returns-in-Some-clause-fed
 returns-in-Some-clause-fed c = λ scl sda text cleared fed.
     inr (refused_from_scan scl sda _ cleared _ c.in-Some.refusal c.in-Some.is
-    (scan_still_refused scl sda text c.args.piece.now c.in-Some.refusal (scan_of_refused scl sda text cleared (reading_of c.args.self.now) c.in-Some.refusal c.in-Some.is fed)))
+    (scan_still_refused scl sda text c.args.piece.now _ (scan_of_refused scl sda text cleared (reading_of c.args.self.now) c.in-Some.refusal c.in-Some.is fed)))
 
 pub returns-in-Some-clause-told : goal.returns-in-Some-clause-told
 returns-in-Some-clause-told c = λ scl sda text cleared fed.
-    inr (is_refusal _ c.in-Some.refusal _ (said_refused scl sda (text ++ c.args.piece.now) c.in-Some.refusal
-    (scan_still_refused scl sda text c.args.piece.now c.in-Some.refusal (scan_of_refused scl sda text cleared (reading_of c.args.self.now) c.in-Some.refusal c.in-Some.is fed))) c.from.ensures)
+    inr (is_refusal _ c.in-Some.refusal _ (said_refused scl sda (text ++ c.args.piece.now) _
+    (scan_still_refused scl sda text c.args.piece.now _ (scan_of_refused scl sda text cleared (reading_of c.args.self.now) c.in-Some.refusal c.in-Some.is fed))) c.from.ensures)
 
 pub returns-in-Some-clause-again : goal.returns-in-Some-clause-again
 returns-in-Some-clause-again c = λ scl sda text cleared fed.
-    rw (said_refused scl sda text c.in-Some.refusal (scan_of_refused scl sda text cleared (reading_of c.args.self.now) c.in-Some.refusal c.in-Some.is fed)) (ap Err c.from.ensures)
+    rw (said_refused scl sda text _ (scan_of_refused scl sda text cleared (reading_of c.args.self.now) c.in-Some.refusal c.in-Some.is fed)) (ap Err c.from.ensures)
 
 pub returns-in_err-reserve-clause-again : goal.returns-in_err-reserve-clause-again
 returns-in_err-reserve-clause-again c = λ scl sda text cleared fed.
@@ -31,14 +31,14 @@ returns-in_err-reserve-clause-fed c = λ scl sda text cleared fed.
 pub returns-in-Err-clause-fed : goal.returns-in-Err-clause-fed
 returns-in-Err-clause-fed c = λ scl sda text cleared fed.
     inr (refused_from_scan scl sda _ cleared _ c.in-Err.refusal refl
-    (scan_refused scl sda text c.args.piece.now cleared (kept_of c.args.self.now.scanner) c.in-Err.refusal
+    (scan_refused scl sda text c.args.piece.now cleared (kept_of c.args.self.now.scanner) _
     (scan_of_going scl sda text cleared (reading_of c.args.self.now) c.in_default.is fed)
     (ap (λ k. bytes_read k c.args.piece.now) (sym c.in_ok-reserve.ensures.kept) ∙ c.in-Err.ensures.kept)))
 
 pub returns-in-Err-clause-told : goal.returns-in-Err-clause-told
 returns-in-Err-clause-told c = λ scl sda text cleared fed.
-    inr (is_refusal _ c.in-Err.refusal _ (said_refused scl sda (text ++ c.args.piece.now) c.in-Err.refusal
-    (scan_refused scl sda text c.args.piece.now cleared (kept_of c.args.self.now.scanner) c.in-Err.refusal
+    inr (is_refusal _ c.in-Err.refusal _ (said_refused scl sda (text ++ c.args.piece.now) _
+    (scan_refused scl sda text c.args.piece.now cleared (kept_of c.args.self.now.scanner) _
     (scan_of_going scl sda text cleared (reading_of c.args.self.now) c.in_default.is fed)
     (ap (λ k. bytes_read k c.args.piece.now) (sym c.in_ok-reserve.ensures.kept) ∙ c.in-Err.ensures.kept))) c.from-in-Err.ensures)
 

@@ -1,5 +1,0 @@
-use Rattle.std.proofs.Common.{length}
-use Rattle.cert_check.proofs.wires.+along_bits.Given as goal
-
-abbrev pub decreases-along_bits : goal.decreases-along_bits
-decreases-along_bits l = length l.bits.now

@@ -1,0 +1,179 @@
+// What a command line asks for.
+
+use crate::building::program;
+use clap::error::ErrorKind;
+use clap::{ArgMatches, Error};
+use std::alloc::{AllocError, Global};
+
+/// What a command line comes to.
+#[derive(Debug, Drop)]
+pub enum Asked<'a> {
+    /// A run, and whether hints are wanted with it.
+    Run { request: Request<'a>, hints: When },
+    /// The help or the version, for standard output.
+    Show(String),
+    /// Why the line does not parse, for standard error.
+    Refuse(String),
+}
+
+/// A run of the program.
+#[derive(Clone, Copy, Debug)]
+pub enum Request<'a> {
+    /// Whether a plan is safe.
+    Check {
+        plan: &'a str,
+        workers: u32,
+    },
+    /// The certificate of a plan.
+    Certify {
+        plan: &'a str,
+    },
+    /// Whether a certificate is right for a plan.
+    Verify {
+        plan: &'a str,
+        cert: &'a str,
+    },
+    /// Who of a plan explains a recorded bus, on which the two lines have these names.
+    Capture {
+        plan: &'a str,
+        vcd: &'a str,
+        scl: &'a str,
+        sda: &'a str,
+    },
+    /// What these starters of an accepted plan do on a bus. The answers are bits, 0 and 1.
+    Bench {
+        plan: &'a str,
+        cert: &'a str,
+        starters: &'a str,
+        fill: bool,
+        answers: &'a str,
+    },
+}
+
+/// Whether hints for people are wanted on standard error.
+#[derive(Clone, Copy, Debug, PartialEq, Eq)]
+pub enum When {
+    /// Where standard error is a terminal.
+    Auto,
+    Always,
+    Never,
+}
+
+/// What the words of a command line ask for. The first one is the program's name.
+pub fn read_words<'a>(alloc: Global, words: &'a [String]) -> Result<Asked<'a>, AllocError> {
+    match parse(alloc, words) {
+        Ok(Some((request, hints))) if has_bits(request) => Ok(Asked::Run { request, hints }),
+        Ok(Some(_)) => told(alloc, &not_bits(alloc)?),
+        Ok(None) => Ok(Asked::Refuse(String::new(alloc))),
+        Err(error) => told(alloc, &error),
+    }
+}
+
+// What clap says in place of a request, unless it had no memory.
+fn told<'a>(alloc: Global, error: &Error) -> Result<Asked<'a>, AllocError> {
+    if error.kind() == ErrorKind::OutOfMemory {
+        return Err(AllocError);
+    }
+    let text = format!(in alloc; "{error}")?;
+    Ok(if error.use_stderr() {
+        Asked::Refuse(text)
+    } else {
+        Asked::Show(text)
+    })
+}
+
+fn has_bits(request: Request<'_>) -> bool {
+    match request {
+        Request::Bench { answers, .. } => answers.bytes().all(|byte| byte == b'0' || byte == b'1'),
+        _ => true,
+    }
+}
+
+fn not_bits(alloc: Global) -> Result<Error, AllocError> {
+    program(alloc)?.error(
+        ErrorKind::ValueValidation,
+        "the value for '--answers <BITS>' is not of 0 and 1",
+    )
+}
+
+// ---- what clap found
+
+// The words for a command, as far as it takes them.
+#[derive(Clone, Copy)]
+struct Found<'a> {
+    plan: Option<&'a str>,
+    cert: Option<&'a str>,
+    vcd: Option<&'a str>,
+    starters: Option<&'a str>,
+    workers: Option<u32>,
+    scl: Option<&'a str>,
+    sda: Option<&'a str>,
+    fill: Option<&'a str>,
+    answers: Option<&'a str>,
+    hints: Option<&'a str>,
+}
+
+// There is no request where a subcommand or a file is missing, which clap refuses by itself.
+fn parse<'a>(alloc: Global, words: &'a [String]) -> Result<Option<(Request<'a>, When)>, Error> {
+    let matches = program(alloc)?.try_get_matches_from(words)?;
+    Ok(match matches.subcommand() {
+        Some((name, matches)) => asked_of(name, found_in(matches)),
+        None => None,
+    })
+}
+
+fn found_in<'a>(matches: &ArgMatches<'a>) -> Found<'a> {
+    Found {
+        plan: matches.get_str("PLAN"),
+        cert: matches.get_str("CERT"),
+        vcd: matches.get_str("VCD"),
+        starters: matches.get_str("STARTERS"),
+        workers: matches.get_one::<u32>("workers"),
+        scl: matches.get_str("scl"),
+        sda: matches.get_str("sda"),
+        fill: matches.get_str("fill"),
+        answers: matches.get_str("answers"),
+        hints: matches.get_str("hints"),
+    }
+}
+
+fn asked_of<'a>(name: &str, found: Found<'a>) -> Option<(Request<'a>, When)> {
+    Some((request_of(name, found)?, hints_of(found)))
+}
+
+fn request_of<'a>(name: &str, found: Found<'a>) -> Option<Request<'a>> {
+    let plan = found.plan?;
+    Some(match name {
+        "check" => Request::Check {
+            plan,
+            workers: found.workers?,
+        },
+        "certify" => Request::Certify { plan },
+        "verify" => Request::Verify {
+            plan,
+            cert: found.cert?,
+        },
+        "capture" => Request::Capture {
+            plan,
+            vcd: found.vcd?,
+            scl: found.scl?,
+            sda: found.sda?,
+        },
+        "bench" => Request::Bench {
+            plan,
+            cert: found.cert?,
+            starters: found.starters?,
+            fill: found.fill? == "1",
+            answers: found.answers?,
+        },
+        _ => return None,
+    })
+}
+
+fn hints_of(found: Found<'_>) -> When {
+    match found.hints {
+        Some("always") => When::Always,
+        Some("never") => When::Never,
+        _ => When::Auto,
+    }
+}

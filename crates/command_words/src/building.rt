@@ -1,0 +1,111 @@
+// Clap's commands, from the table. A `Command` or an `Arg` that a function holds at a `?` makes its proof long, so few do.
+
+use crate::help::{ABOUT, AFTER_HELP, VERSION};
+use crate::table::{Argument, COMMANDS, Entry, HINTS};
+use clap::{Arg, Command, value_parser};
+use std::alloc::{AllocError, Global};
+
+/// The program with all its commands.
+pub fn program<'a>(alloc: Global) -> Result<Command<'a>, AllocError> {
+    let commands = commands(alloc)?;
+    program_alone(alloc)?.subcommands(commands)
+}
+
+fn program_alone<'a>(alloc: Global) -> Result<Command<'a>, AllocError> {
+    Command::new(alloc, "twire")
+        .version(VERSION)
+        .about(ABOUT)
+        .after_help(AFTER_HELP)
+        .subcommand_required(true)
+        .arg_required_else_help(true)
+        .bin_name("twire")?
+        .arg(argument(alloc, HINTS).global(true))
+}
+
+fn commands<'a>(alloc: Global) -> Result<Vec<Command<'a>>, AllocError> {
+    let mut commands = Vec::new(alloc);
+    for entry in COMMANDS {
+        commands.push(command(alloc, entry)?)?;
+    }
+    Ok(commands)
+}
+
+fn command<'a>(alloc: Global, entry: Entry) -> Result<Command<'a>, AllocError> {
+    let arguments = arguments(alloc, entry.arguments)?;
+    Command::new(alloc, entry.name)
+        .about(entry.about)
+        .after_help(entry.after_help)
+        .args(arguments)
+}
+
+fn arguments<'a>(alloc: Global, list: &[Argument]) -> Result<Vec<Arg<'a>>, AllocError> {
+    let mut arguments = Vec::new(alloc);
+    for one in list {
+        arguments.push(argument(alloc, *one))?;
+    }
+    Ok(arguments)
+}
+
+fn argument<'a>(alloc: Global, argument: Argument) -> Arg<'a> {
+    match argument {
+        Argument::Word { id, help } => word(alloc, id, help),
+        Argument::Text {
+            id,
+            value_name,
+            default,
+            help,
+        } => text(alloc, id, value_name, default, help),
+        Argument::Number {
+            id,
+            value_name,
+            default,
+            help,
+        } => number(alloc, id, value_name, default, help),
+        Argument::Choice {
+            id,
+            value_name,
+            default,
+            values,
+            help,
+        } => choice(alloc, id, value_name, default, values, help),
+    }
+}
+
+fn word<'a>(alloc: Global, id: &'a str, help: &'a str) -> Arg<'a> {
+    Arg::new(alloc, id).required(true).help(help)
+}
+
+fn text<'a>(
+    alloc: Global,
+    id: &'a str,
+    value_name: &'a str,
+    default: &'a str,
+    help: &'a str,
+) -> Arg<'a> {
+    Arg::new(alloc, id)
+        .long(id)
+        .value_name(value_name)
+        .default_value(default)
+        .help(help)
+}
+
+fn number<'a>(
+    alloc: Global,
+    id: &'a str,
+    value_name: &'a str,
+    default: &'a str,
+    help: &'a str,
+) -> Arg<'a> {
+    text(alloc, id, value_name, default, help).value_parser(value_parser!(u32))
+}
+
+fn choice<'a>(
+    alloc: Global,
+    id: &'a str,
+    value_name: &'a str,
+    default: &'a str,
+    values: &'a [&'a str],
+    help: &'a str,
+) -> Arg<'a> {
+    text(alloc, id, value_name, default, help).value_parser(values)
+}

@@ -1,0 +1,149 @@
+// The commands and their arguments.
+
+use crate::help::{
+    AFTER_BENCH_HELP, AFTER_CAPTURE_HELP, AFTER_CERTIFY_HELP, AFTER_CHECK_HELP, AFTER_VERIFY_HELP,
+};
+
+/// A command of the program.
+#[derive(Clone, Copy)]
+pub struct Entry {
+    pub name: &'static str,
+    pub about: &'static str,
+    pub after_help: &'static str,
+    pub arguments: &'static [Argument],
+}
+
+/// What may stand after the name of a command. An option is given by its id, as `--workers` where that is `workers`.
+#[derive(Clone, Copy)]
+pub enum Argument {
+    /// A word that has to be there.
+    Word {
+        id: &'static str,
+        help: &'static str,
+    },
+    /// An option that takes any text.
+    Text {
+        id: &'static str,
+        value_name: &'static str,
+        default: &'static str,
+        help: &'static str,
+    },
+    /// An option that takes a number of 32 bits.
+    Number {
+        id: &'static str,
+        value_name: &'static str,
+        default: &'static str,
+        help: &'static str,
+    },
+    /// An option that takes one of these texts.
+    Choice {
+        id: &'static str,
+        value_name: &'static str,
+        default: &'static str,
+        values: &'static [&'static str],
+        help: &'static str,
+    },
+}
+
+/// The option of all commands.
+pub const HINTS: Argument = Argument::Choice {
+    id: "hints",
+    value_name: "WHEN",
+    default: "auto",
+    values: &["auto", "always", "never"],
+    help: "Whether to say more for people, on standard error",
+};
+
+/// The commands, in the order of the help.
+pub const COMMANDS: [Entry; 5] = [CHECK, CERTIFY, VERIFY, CAPTURE, BENCH];
+
+const CHECK: Entry = Entry {
+    name: "check",
+    about: "Check a plan: is there a fault, whoever starts together and whatever targets answer?",
+    after_help: AFTER_CHECK_HELP,
+    arguments: &[PLAN, WORKERS],
+};
+
+const CERTIFY: Entry = Entry {
+    name: "certify",
+    about: "Write the certificate of a plan: a proof for each pair, or the fault of one",
+    after_help: AFTER_CERTIFY_HELP,
+    arguments: &[PLAN],
+};
+
+const VERIFY: Entry = Entry {
+    name: "verify",
+    about: "Check a certificate against a plan, by a small checker of its own",
+    after_help: AFTER_VERIFY_HELP,
+    arguments: &[PLAN, CERT],
+};
+
+const CAPTURE: Entry = Entry {
+    name: "capture",
+    about: "Explain a recorded bus: which participants may have sent each transaction?",
+    after_help: AFTER_CAPTURE_HELP,
+    arguments: &[PLAN, VCD, SCL, SDA],
+};
+
+const BENCH: Entry = Entry {
+    name: "bench",
+    about: "Rehearse a plan: its starters play on a bench, each in a thread of its own",
+    after_help: AFTER_BENCH_HELP,
+    arguments: &[PLAN, CERT, STARTERS, FILL, ANSWERS],
+};
+
+const PLAN: Argument = Argument::Word {
+    id: "PLAN",
+    help: "The file with the plan; /dev/stdin reads standard input",
+};
+
+const CERT: Argument = Argument::Word {
+    id: "CERT",
+    help: "The file with the certificate; /dev/stdin reads standard input",
+};
+
+const VCD: Argument = Argument::Word {
+    id: "VCD",
+    help: "The file with the capture, a value change dump; /dev/stdin reads standard input",
+};
+
+const STARTERS: Argument = Argument::Word {
+    id: "STARTERS",
+    help: "Who starts together: labels of the plan's participants, joined by commas",
+};
+
+const WORKERS: Argument = Argument::Number {
+    id: "workers",
+    value_name: "N",
+    default: "1",
+    help: "How many threads walk the pairs",
+};
+
+const SCL: Argument = Argument::Text {
+    id: "scl",
+    value_name: "NAME",
+    default: "scl",
+    help: "The name of SCL in the capture",
+};
+
+const SDA: Argument = Argument::Text {
+    id: "sda",
+    value_name: "NAME",
+    default: "sda",
+    help: "The name of SDA in the capture",
+};
+
+const FILL: Argument = Argument::Choice {
+    id: "fill",
+    value_name: "BIT",
+    default: "0",
+    values: &["0", "1"],
+    help: "What the starters send for a bit that is open",
+};
+
+const ANSWERS: Argument = Argument::Text {
+    id: "answers",
+    value_name: "BITS",
+    default: "",
+    help: "What targets answer, by slot; past its end 1",
+};

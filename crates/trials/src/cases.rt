@@ -1,0 +1,141 @@
+// One case: a command with its files, and what two programs say of it.
+
+use crate::commands::Command;
+use bench_run::{NoGate, run_bench};
+use plain_model::commands::{self, Answer};
+use plan_text::{print_plan, read_plan};
+use report::devices::reading::READS;
+use report::{
+    Input, Output, RunError, Status, Watched, read_within, run_capture, run_certify, run_check,
+    run_verify, write_lines,
+};
+use std::alloc::{AllocError, Global};
+use std::sync::Wait;
+use std::thread::Threads;
+use std::time::Clock;
+
+/// A command with its files.
+#[derive(Debug, Drop)]
+pub struct Asked {
+    pub command: Command,
+    pub plan: Vec<u8>,
+    /// The certificate or the capture.
+    pub second: Vec<u8>,
+}
+
+/// A case of a file, and what is to be answered.
+#[derive(Debug, Drop)]
+pub struct Case {
+    pub name: String,
+    pub asked: Asked,
+    pub wanted: Answer,
+}
+
+/// What the plain program says.
+pub fn said_plainly(alloc: Global, asked: &Asked) -> Result<Answer, AllocError> {
+    let plan = asked.plan.as_slice();
+    let second = asked.second.as_slice();
+    match &asked.command {
+        Command::Check { .. } => commands::check(alloc, plan),
+        Command::Certify => commands::certify(alloc, plan),
+        Command::Verify => commands::verify(alloc, plan, second),
+        Command::Capture { scl, sda } => commands::capture(alloc, plan, second, scl, sda),
+        Command::Bench {
+            starters,
+            fill,
+            answers,
+        } => commands::bench(alloc, plan, second, starters, *fill, answers),
+        Command::Spelling => spelt_plainly(alloc, plan),
+    }
+}
+
+// The plain spelling, or the refusal of the plan.
+fn spelt_plainly(alloc: Global, plan: &[u8]) -> Result<Answer, AllocError> {
+    let out = commands::spelling(alloc, plan)?;
+    if out.is_empty() {
+        return commands::check(alloc, plan);
+    }
+    Ok(Answer {
+        status: 0,
+        out,
+        refusal: String::new(alloc),
+    })
+}
+
+/// What twire says.
+pub fn said<R: Threads + Wait + Clock + Sync>(
+    rt: &R,
+    alloc: Global,
+    asked: &Asked,
+) -> Result<Answer, AllocError> {
+    let mut plan = Watched::new(asked.plan.as_slice());
+    let mut second = Watched::new(asked.second.as_slice());
+    let mut page = Watched::new(Vec::new(alloc));
+    let ended = run(rt, alloc, &asked.command, &mut plan, &mut second, &mut page);
+    answer(alloc, ended, page.into_inner().as_slice())
+}
+
+/// Runs a command over these devices. A command of one file does not call the second reader.
+pub fn run<R: Threads + Wait + Clock + Sync, I: Input, J: Input, O: Output>(
+    rt: &R,
+    alloc: Global,
+    command: &Command,
+    plan: &mut I,
+    second: &mut J,
+    out: &mut O,
+) -> Result<Status, RunError> {
+    match command {
+        Command::Check { workers } => run_check(rt, alloc, plan, out, *workers, &report::NoGate),
+        Command::Certify => run_certify(alloc, plan, out),
+        Command::Verify => run_verify(alloc, plan, second, out),
+        Command::Capture { scl, sda } => run_capture(rt, alloc, plan, second, out, scl, sda),
+        Command::Bench {
+            starters,
+            fill,
+            answers,
+        } => run_bench(
+            rt, alloc, plan, second, out, starters, *fill, answers, &NoGate,
+        ),
+        Command::Spelling => run_spelling(alloc, plan, out),
+    }
+}
+
+fn run_spelling<I: Input, O: Output>(
+    alloc: Global,
+    plan: &mut I,
+    out: &mut O,
+) -> Result<Status, RunError> {
+    let text = read_within(alloc, plan, READS)?;
+    let plan = read_plan(alloc, text.as_slice())?;
+    let spelling = print_plan(alloc, &plan)?;
+    write_lines(out, spelling.as_slice(), Status::Good)
+}
+
+/// The answer of a run that has ended so, and has written this.
+pub fn answer(
+    alloc: Global,
+    ended: Result<Status, RunError>,
+    page: &[u8],
+) -> Result<Answer, AllocError> {
+    let out = String::from_utf8_lossy(alloc, page)?;
+    let (status, refusal) = match ended {
+        Ok(Status::Good) => (0, String::new(alloc)),
+        Ok(Status::Bad) => (1, String::new(alloc)),
+        Ok(Status::Refused) => (2, String::new(alloc)),
+        Err(error) => (2, format!(in alloc; "{error}")?),
+    };
+    Ok(Answer {
+        status,
+        out,
+        refusal,
+    })
+}
+
+/// Whether both spell the plan alike, where it is one.
+pub fn is_spelt_alike(alloc: Global, plan: &[u8]) -> Result<bool, AllocError> {
+    let plain = commands::spelling(alloc, plan)?;
+    Ok(match read_plan(alloc, plan) {
+        Ok(plan) => print_plan(alloc, &plan)?.as_slice() == plain.as_bytes(),
+        Err(_) => plain.is_empty(),
+    })
+}

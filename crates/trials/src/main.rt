@@ -1,0 +1,192 @@
+//! Runs cases, each a command with the files that it reads and what it is to write: whole, over devices that fail, that give
+//! or take a few bytes, or that signals interrupt, by several workers, and by plain programs that were written from the
+//! documents. Then it changes bytes and words of their files, and compares what twire says with the plain programs. Each
+//! changed case comes from a seed, so a run can be repeated: `trials [CASES [SEED]]`.
+//!
+//! The cases stand in `data/cases`; docs/TESTING.md says how they are written.
+#![tactic(auto)]
+
+mod blocks;
+mod cases;
+mod commands;
+mod dice;
+mod errors;
+mod files;
+mod interrupted;
+mod modes;
+mod mutations;
+mod seeds;
+mod tallies;
+mod texts;
+mod tried;
+
+use anyhow::Result;
+use cases::{Asked, Case, is_spelt_alike, said, said_plainly};
+use dice::Dice;
+use files::{FILES, push_cases};
+use modes::{MODES, try_case};
+use plain_model::commands::Answer;
+use seeds::{Seeds, next_case};
+use std::alloc::{AllocError, Global};
+use std::process::ExitCode;
+use std::rt::{Env, Files};
+use std::sync::Wait;
+use std::thread::Threads;
+use std::time::Clock;
+use std::{env, io};
+use tallies::Tallies;
+use tried::Tried;
+
+const CASES: u64 = 20_000;
+
+const SEED: u64 = 20_261_123;
+
+// How many disagreements are shown.
+const SHOWN: u64 = 5;
+
+fn main(rt: HostRuntime) -> ExitCode {
+    match run(&rt) {
+        Ok(true) => ExitCode::from(0),
+        Ok(false) => ExitCode::from(1),
+        Err(error) => {
+            let _ = eprintln!(rt; "{error}");
+            ExitCode::from(2)
+        }
+    }
+}
+
+// Whether all cases were answered as they are to be, all changed ones alike, and each kind of answer came up.
+fn run<R: Env + Files + Print + AllocGlobal + Threads + Wait + Clock + Sync>(
+    rt: &R,
+) -> Result<bool> {
+    let alloc = rt.alloc();
+    let mut tried = Tried::new();
+    let mut cases = Vec::new(alloc);
+    for file in FILES {
+        let first = cases.len();
+        push_cases(rt, alloc, file, &mut cases)?;
+        try_file(
+            rt,
+            alloc,
+            &mut tried,
+            file,
+            cases.get(first..).unwrap_or(&[]),
+        )?;
+    }
+    println!(rt; "{} cases, {} disagreements", cases.len(), tried.wrong)?;
+    let is_alike = try_changed(rt, alloc, &cases)?;
+    Ok(tried.wrong == 0 && is_alike)
+}
+
+// Runs the cases of a file in each way, and says how many runs that were.
+fn try_file<R: Print + Threads + Wait + Clock + Sync>(
+    rt: &R,
+    alloc: Global,
+    tried: &mut Tried,
+    file: &str,
+    cases: &[Case],
+) -> Result<()> {
+    println!(rt; "{file}: {} cases", cases.len())?;
+    for mode in MODES {
+        tried.runs = 0;
+        for case in cases {
+            try_case(rt, alloc, tried, case, mode)?;
+        }
+        println!(rt; "{file} {}: {}", mode.name(), tried.runs)?;
+    }
+    Ok(())
+}
+
+// Whether twire and the plain programs say the same of changed cases, and each kind of answer came up.
+fn try_changed<R: Env + AllocGlobal + Print + Threads + Wait + Clock + Sync>(
+    rt: &R,
+    alloc: Global,
+    cases: &[Case],
+) -> Result<bool> {
+    let mut seeds = Seeds::new(alloc);
+    for case in cases {
+        seeds.push(case)?;
+    }
+    let mut dice = Dice {
+        state: number_at(rt, 2)?.unwrap_or(SEED),
+    };
+    let mut tallies = Tallies::new(alloc);
+    let mut disagreements = 0u64;
+    let number = number_at(rt, 1)?.unwrap_or(CASES);
+    for k in 0..number {
+        let asked = next_case(alloc, &seeds, &mut dice)?;
+        if !is_said_alike(rt, alloc, &mut tallies, k, &asked, disagreements < SHOWN)? {
+            disagreements = disagreements.saturating_add(1);
+        }
+    }
+    println!(rt; "{number} changed cases, {disagreements} disagreements")?;
+    if number_at(rt, 1)?.is_some() {
+        tallies.print(rt)?;
+    }
+    let is_complete = tallies.print_rare(rt)?;
+    Ok(disagreements == 0 && is_complete)
+}
+
+// Whether twire and the plain program say the same of a case, which is counted, and shown where they do not.
+fn is_said_alike<R: Print + Threads + Wait + Clock + Sync>(
+    rt: &R,
+    alloc: Global,
+    tallies: &mut Tallies,
+    number: u64,
+    asked: &Asked,
+    shows: bool,
+) -> Result<bool> {
+    let plain = said_plainly(alloc, asked)?;
+    let found = said(rt, alloc, asked)?;
+    let is_alike = found == plain && is_spelt_alike(alloc, &asked.plan)?;
+    tallies.count(alloc, asked, &plain)?;
+    if shows && !is_alike {
+        show(rt, alloc, number, asked, &plain, &found)?;
+    }
+    Ok(is_alike)
+}
+
+// The number that the command line has in this place.
+fn number_at(rt: &(impl Env + Alloc), place: usize) -> io::Result<Option<u64>> {
+    Ok(match env::args(rt)?.nth(place) {
+        Some(word) => word.as_str().parse().ok(),
+        None => None,
+    })
+}
+
+fn show(
+    rt: &impl Print,
+    alloc: Global,
+    number: u64,
+    asked: &Asked,
+    plain: &Answer,
+    found: &Answer,
+) -> Result<()> {
+    let plan = readable(alloc, &asked.plan)?;
+    let second = readable(alloc, &asked.second)?;
+    println!(rt;
+        "changed case {number}: {:?}\n-- plan\n{plan}\n-- with\n{second}",
+        asked.command
+    )?;
+    println!(rt;
+        "-- plainly {} {}\n{}",
+        plain.status, plain.refusal, plain.out
+    )?;
+    println!(rt;
+        "-- found {} {}\n{}",
+        found.status, found.refusal, found.out
+    )?;
+    Ok(())
+}
+
+fn readable(alloc: Global, bytes: &[u8]) -> Result<String, AllocError> {
+    let mut text = String::new(alloc);
+    for byte in bytes {
+        if byte.is_ascii_graphic() || *byte == b' ' || *byte == b'\n' {
+            text.push(char::from(*byte))?;
+        } else {
+            write!(text, "\\x{byte:02x}")?;
+        }
+    }
+    Ok(text)
+}
