@@ -3,29 +3,41 @@
 //! documents. Then it changes bytes and words of their files, and compares what twire says with the plain programs. Each
 //! changed case comes from a seed, so a run can be repeated: `trials [CASES [SEED]]`.
 //!
+//! Where memory can be refused, as `tests/scarce.sh` does, it runs the cases with each allocation refused in turn instead, and
+//! the calls without memory with all of them refused.
+//!
 //! The cases stand in `data/cases`; docs/TESTING.md says how they are written.
 #![tactic(auto)]
 
 mod blocks;
+mod building;
+mod calls;
 mod cases;
 mod commands;
 mod dice;
 mod errors;
 mod files;
 mod interrupted;
+mod lists;
 mod modes;
 mod mutations;
+mod quiet;
+mod scarce;
+mod scarcity;
 mod seeds;
 mod tallies;
 mod texts;
 mod tried;
 
-use anyhow::Result;
+use anyhow::{Result, anyhow};
 use cases::{Asked, Case, is_spelt_alike, said, said_plainly};
 use dice::Dice;
 use files::{FILES, push_cases};
 use modes::{MODES, try_case};
 use plain_model::commands::Answer;
+use quiet::{are_others_quiet, try_quiet};
+use scarce::{Wants, try_scarce};
+use scarcity::{is_there, obeys};
 use seeds::{Seeds, next_case};
 use std::alloc::{AllocError, Global};
 use std::process::ExitCode;
@@ -60,6 +72,9 @@ fn run<R: Env + Files + Print + AllocGlobal + Threads + Wait + Clock + Sync>(
     rt: &R,
 ) -> Result<bool> {
     let alloc = rt.alloc();
+    if is_there(alloc) {
+        return run_scarce(rt, alloc);
+    }
     let mut tried = Tried::new();
     let mut cases = Vec::new(alloc);
     for file in FILES {
@@ -94,6 +109,57 @@ fn try_file<R: Print + Threads + Wait + Clock + Sync>(
         }
         println!(rt; "{file} {}: {}", mode.name(), tried.runs)?;
     }
+    Ok(())
+}
+
+// Whether all cases were answered as they are to be while memory was scarce.
+fn run_scarce<R: Files + Print + AllocGlobal + Threads + Wait + Clock + Sync>(
+    rt: &R,
+    alloc: Global,
+) -> Result<bool> {
+    if !obeys(alloc) {
+        return Err(anyhow!("other allocations are refused than are named"));
+    }
+    let mut tried = Tried::new();
+    let mut cases = Vec::new(alloc);
+    for file in FILES {
+        let first = cases.len();
+        push_cases(rt, alloc, file, &mut cases)?;
+        try_file_scarcely(
+            rt,
+            alloc,
+            &mut tried,
+            file,
+            cases.get(first..).unwrap_or(&[]),
+        )?;
+    }
+    let are_quiet = are_others_quiet(alloc)?;
+    if !are_quiet {
+        println!(rt; "a call without memory asks for some")?;
+    }
+    println!(rt; "{} cases, {} disagreements", cases.len(), tried.wrong)?;
+    Ok(tried.wrong == 0 && are_quiet)
+}
+
+// Runs the cases of a file while memory is scarce, and says in how many runs an allocation was refused.
+fn try_file_scarcely<R: Print + Threads + Wait + Clock + Sync>(
+    rt: &R,
+    alloc: Global,
+    tried: &mut Tried,
+    file: &str,
+    cases: &[Case],
+) -> Result<()> {
+    let mut wants = Wants::new();
+    for case in cases {
+        try_scarce(rt, alloc, tried, &mut wants, case)?;
+        try_quiet(rt, alloc, tried, case)?;
+    }
+    println!(rt;
+        "{file}: {} cases, {} runs with a refused allocation, {} of them out of memory",
+        cases.len(),
+        wants.refused,
+        wants.answered
+    )?;
     Ok(())
 }
 

@@ -1,5 +1,6 @@
 // The ways in which a case is run.
 
+use crate::calls::{calls_of, make};
 use crate::cases::{Asked, Case, answer, is_spelt_alike, run, said, said_plainly};
 use crate::commands::Command;
 use crate::interrupted::Interrupted;
@@ -28,17 +29,20 @@ pub enum Mode {
     Interrupted,
     /// A check by 1, 2, 3 and 8 workers.
     Workers,
+    /// Calls of the libraries in place of a command.
+    Calls,
     /// The plain programs.
     Plainly,
 }
 
-pub const MODES: [Mode; 7] = [
+pub const MODES: [Mode; 8] = [
     Mode::Whole,
     Mode::InPieces,
     Mode::FailingReads,
     Mode::FailingWrites,
     Mode::Interrupted,
     Mode::Workers,
+    Mode::Calls,
     Mode::Plainly,
 ];
 
@@ -51,6 +55,7 @@ impl Mode {
             Mode::FailingWrites => "failing writes",
             Mode::Interrupted => "interrupted",
             Mode::Workers => "workers",
+            Mode::Calls => "calls",
             Mode::Plainly => "plainly",
         }
     }
@@ -74,6 +79,7 @@ pub fn try_case<R: Threads + Wait + Clock + Sync + Print>(
         Mode::FailingWrites => try_failing_writes(rt, alloc, tried, case),
         Mode::Interrupted => try_interrupted(rt, alloc, tried, case),
         Mode::Workers => try_workers(rt, alloc, tried, case),
+        Mode::Calls => try_calls(rt, alloc, tried, case),
         Mode::Plainly => try_plainly(rt, alloc, tried, case),
     }
 }
@@ -295,6 +301,21 @@ fn said_by_workers<R: Threads + Wait + Clock + Sync>(
     let command = Command::Check { workers };
     let ended = run(rt, alloc, &command, &mut plan, &mut never, &mut page);
     answer(alloc, ended, page.into_inner().as_slice())
+}
+
+fn try_calls<R: Threads + Wait + Clock + Sync + Print>(
+    rt: &R,
+    alloc: Global,
+    tried: &mut Tried,
+    case: &Case,
+) -> Result<()> {
+    for call in calls_of(&case.asked.command) {
+        let mut page = Watched::new(Vec::new(alloc));
+        let ended = make(rt, alloc, *call, &case.asked, &mut page);
+        let found = answer(alloc, ended, page.into_inner().as_slice())?;
+        tried.count(rt, case, "calls", &case.wanted, &found)?;
+    }
+    Ok(())
 }
 
 // The plain programs know no workers.

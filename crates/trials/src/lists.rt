@@ -1,0 +1,57 @@
+// Calls on whole lists that no command makes: of samples, events and transactions, and of the messages of a plan.
+
+use crate::cases::Asked;
+use crate::commands::Command;
+use capture_check::{Transaction, events, explain, transactions};
+use plan_core::Plan;
+use plan_text::read_plan;
+use report::{Output, RunError, Status, write_lines};
+use std::alloc::{AllocError, Global};
+use vcd_read::{Reader, Sample};
+
+/// Writes how long the copies of the plan's messages are, and how many participants explain the transactions of the capture.
+pub fn tell_lists<O: Output>(
+    alloc: Global,
+    asked: &Asked,
+    out: &mut O,
+) -> Result<Status, RunError> {
+    let Command::Capture { scl, sda } = &asked.command else {
+        return Ok(Status::Refused);
+    };
+    let plan = read_plan(alloc, asked.plan.as_slice())?;
+    let copied = copied(alloc, &plan)?;
+    let mut reader = Reader::new(alloc, scl.as_str(), sda.as_str())?;
+    reader.feed(asked.second.as_slice())?;
+    let samples = reader.end()?;
+    let heard = heard(alloc, samples.as_slice())?;
+    let explainers = explainers(alloc, &plan, heard.as_slice())?;
+    let line = format!(in alloc; "{copied} {explainers}\n")?;
+    write_lines(out, line.as_bytes(), Status::Good)
+}
+
+fn copied(alloc: Global, plan: &Plan) -> Result<u32, AllocError> {
+    let mut slots = 0u32;
+    for k in 0..plan.messages() {
+        let copy = plan.message(k).copy(alloc)?;
+        slots = slots.saturating_add(copy.slots());
+    }
+    Ok(slots)
+}
+
+fn heard(alloc: Global, samples: &[Sample]) -> Result<Vec<Transaction>, AllocError> {
+    let events = events(alloc, samples)?;
+    transactions(alloc, events.as_slice())
+}
+
+fn explainers(
+    alloc: Global,
+    plan: &Plan,
+    transactions: &[Transaction],
+) -> Result<usize, AllocError> {
+    let mut count = 0usize;
+    for transaction in transactions {
+        let explainers = explain(alloc, plan, transaction)?;
+        count = count.saturating_add(explainers.len());
+    }
+    Ok(count)
+}
