@@ -1,116 +1,67 @@
-// Places in what a participant sends: what is offered at each place along a wire.
+// Places in what a participant sends: what is offered at each place along a wire, and that nothing is offered after its end.
+// What writes put, and what comes after each answer of a target, is told by cases of the crate `trials`.
 
 use bench_places::{Offered, Place};
-use message_tree::{Address, Bit, Count, Frame, Item, Pattern, Payload, Tail};
+use message_tree::{Address, Bit, Count, Frame, Item, Tail};
 use plan_core::Sends;
-use std::alloc::{AllocError, Global};
-use std::process::Abort;
 use std::test::Fail;
 
-fn sensor() -> Address {
-    Address::new(0x7f, 0b100_1000)
+fn symbol(offered: Offered) -> u8 {
+    match offered {
+        Offered::Bit(Bit::Zero) => b'0',
+        Offered::Bit(Bit::One) => b'1',
+        Offered::Bit(Bit::Either) => b'x',
+        Offered::Listen => b'?',
+        Offered::Again => b'r',
+        Offered::Stop => b's',
+        Offered::Claim => b'c',
+        Offered::Nothing => b'.',
+    }
 }
 
-fn write(alloc: Global, acked: Payload, refused: Tail) -> Result<Frame, AllocError> {
-    Ok(Frame::Write {
-        address: sensor(),
-        acked: Box::new(alloc, acked)?,
-        refused,
-    })
+fn item(symbol: u8) -> Item {
+    match symbol {
+        b'0' => Item::Sent(false),
+        b'1' => Item::Sent(true),
+        b'l' => Item::Heard(false),
+        b'h' => Item::Heard(true),
+        b'r' => Item::Again,
+        b'c' => Item::Claim,
+        _ => Item::Stop,
+    }
 }
 
-// A byte with a STOP after either answer of the target, unless it is acknowledged and `acked` goes on.
-fn byte(alloc: Global, bits: Pattern, acked: Tail) -> Result<Payload, AllocError> {
-    Ok(Payload::Byte {
-        bits,
-        acked: Box::new(alloc, Payload::Last(acked))?,
-        refused: Tail::Stop,
-    })
+// Whether these are offered before each item of the wire, which is allowed there, and after the last.
+fn is_offered(sends: Sends<'_>, wire: &[u8], offers: &[u8]) -> bool {
+    let mut place = Place::start(sends);
+    let mut left = offers;
+    for c in wire {
+        let Some((wanted, rest)) = left.split_first() else {
+            return false;
+        };
+        let item = item(*c);
+        let offered = place.offered();
+        if !offered.allows(item) {
+            return false;
+        }
+        if symbol(offered) != *wanted {
+            return false;
+        }
+        place = place.after(item);
+        left = rest;
+    }
+    left.len() == 1 && left.first() == Some(&symbol(place.offered()))
 }
 
-fn read(address: Address, count: Count) -> Frame {
-    Frame::Read {
-        address,
-        count,
+// Where the byte may be the last or not, its acknowledge is open.
+#[test]
+fn a_read_offers_an_open_acknowledge_and_then_its_stop(rt: HostRuntime) -> Result<(), Fail> {
+    let frame = Frame::Read {
+        address: Address::new(0x7c, 0b101_0000),
+        count: Count::between(2, 4).ok_or("a range")?,
         after: Tail::Stop,
         refused: Tail::Stop,
-    }
-}
-
-fn symbol(offered: Offered) -> char {
-    match offered {
-        Offered::Bit(Bit::Zero) => '0',
-        Offered::Bit(Bit::One) => '1',
-        Offered::Bit(Bit::Either) => 'x',
-        Offered::Listen => '?',
-        Offered::Again => 'r',
-        Offered::Stop => 's',
-        Offered::Claim => 'c',
-        Offered::Nothing => '.',
-    }
-}
-
-fn item(symbol: char) -> Option<Item> {
-    match symbol {
-        '0' => Some(Item::Sent(false)),
-        '1' => Some(Item::Sent(true)),
-        'l' => Some(Item::Heard(false)),
-        'h' => Some(Item::Heard(true)),
-        'r' => Some(Item::Again),
-        's' => Some(Item::Stop),
-        'c' => Some(Item::Claim),
-        _ => None,
-    }
-}
-
-// The symbol of what is offered before each item of the wire, and after the last.
-fn offers_along(
-    rt: &impl Abort,
-    alloc: Global,
-    sends: Sends<'_>,
-    wire: &str,
-) -> Result<String, AllocError> {
-    let mut offers = String::new(alloc);
-    let mut place = Place::start(sends);
-    for c in wire.chars() {
-        let item = item(c).expect(rt, "a symbol of an item");
-        let offered = place.offered();
-        offers.push(symbol(offered))?;
-        assert!(rt; offered.allows(item), "{c} after {offers}");
-        place = place.after(item);
-    }
-    offers.push(symbol(place.offered()))?;
-    Ok(offers)
-}
-
-#[test]
-fn a_write_offers_its_bits_and_listens_behind_each_byte(rt: HostRuntime) -> Result<(), Fail> {
-    let alloc = rt.alloc();
-    let frame = write(
-        alloc,
-        byte(alloc, Pattern::new(0xfe, 0), Tail::Stop)?,
-        Tail::Stop,
-    )?;
-    for (wire, offers) in [
-        ("10010000l00000001ls", "10010000?0000000x?s."),
-        ("10010000l00000000hs", "10010000?0000000x?s."),
-        ("10010000hs", "10010000?s."),
-    ] {
-        let along = offers_along(&rt, alloc, Sends::Message(&frame), wire)?;
-        assert_eq!(rt; along.as_str(), offers, "along {wire}");
-    }
-    Ok(())
-}
-
-#[test]
-fn the_acknowledge_of_a_read_byte_is_open_where_the_byte_may_be_the_last_or_not(
-    rt: HostRuntime,
-) -> Result<(), Fail> {
-    let alloc = rt.alloc();
-    let frame = read(
-        Address::new(0x7c, 0b101_0000),
-        Count::between(2, 4).ok_or("a range")?,
-    );
+    };
     for (wire, offers) in [
         (
             "10100111lhhhhhhhh0llllllll1s",
@@ -126,44 +77,14 @@ fn the_acknowledge_of_a_read_byte_is_open_where_the_byte_may_be_the_last_or_not(
         ),
         ("10100011hs", "10100xx1?s."),
     ] {
-        let along = offers_along(&rt, alloc, Sends::Message(&frame), wire)?;
-        assert_eq!(rt; along.as_str(), offers, "along {wire}");
+        let sends = Sends::Message(&frame);
+        assert!(rt; is_offered(sends, wire.as_bytes(), offers.as_bytes()));
     }
     Ok(())
 }
 
 #[test]
-fn each_answer_leads_to_its_own_tail(rt: HostRuntime) -> Result<(), Fail> {
-    let alloc = rt.alloc();
-    let one = Count::new(1).ok_or("a count")?;
-    let read = Tail::Again(Box::new(alloc, read(sensor(), one))?);
-    let write_again = Tail::Again(Box::new(
-        alloc,
-        write(alloc, Payload::Last(Tail::Stop), Tail::Stop)?,
-    )?);
-    let frame = write(
-        alloc,
-        byte(alloc, Pattern::new(0xff, 1), read)?,
-        write_again,
-    )?;
-    for (wire, offers) in [
-        (
-            "10010000l00000001lr10010001lhlhlhlhl1s",
-            "10010000?00000001?r10010001?????????1s.",
-        ),
-        ("10010000l00000001hs", "10010000?00000001?s."),
-        ("10010000hr10010000ls", "10010000?r10010000?s."),
-    ] {
-        let along = offers_along(&rt, alloc, Sends::Message(&frame), wire)?;
-        assert_eq!(rt; along.as_str(), offers, "along {wire}");
-    }
-    Ok(())
-}
-
-#[test]
-fn an_interrupt_claims_behind_its_header(rt: HostRuntime) -> Result<(), Fail> {
-    let address = Address::new(0x7f, 0b010_1010);
-    let along = offers_along(&rt, rt.alloc(), Sends::Interrupt(address), "01010101c")?;
-    assert_eq!(rt; along.as_str(), "01010101c.");
-    Ok(())
+fn an_interrupt_claims_behind_its_header(rt: HostRuntime) {
+    let sends = Sends::Interrupt(Address::new(0x7f, 0b010_1010));
+    assert!(rt; is_offered(sends, b"01010101c", b"01010101c."));
 }

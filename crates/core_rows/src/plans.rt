@@ -1,19 +1,61 @@
-// Builders and plans: what is refused, and what a plan then holds.
+// Builders and plans, by the calls that a reader of texts does not make: what is refused, what is told beforehand, and what a
+// plan then holds. A script has a call on each line, and what is to come of it.
 
 use message_tree::{Address, Frame, Pattern, Payload, Tail};
 use plan_core::{BuildError, Builder, Name, NameError, Participant, Plan, Sends};
 use std::alloc::{AllocError, Global};
-use std::process::Abort;
 use std::test::Fail;
 
-// A write to 1001000 of `n` bytes, which ends with a STOP after each answer that refuses.
-fn write(alloc: Global, n: u32) -> Result<Frame, AllocError> {
-    let mut payload = Payload::Last(Tail::Stop);
-    for _ in 0..n {
-        payload = byte(alloc, payload, Tail::Stop)?;
-    }
-    header(alloc, payload, Tail::Stop)
+// ---- names
+
+const NAMES: [&str; 7] = [
+    "a",
+    "Z",
+    "m0",
+    "a_b",
+    "stops",
+    "Stop",
+    "abcdefghijklmnopqrstuvwxyz012345",
+];
+
+const NO_NAMES: [&str; 19] = [
+    "",
+    "1a",
+    "_a",
+    "a-b",
+    "a b",
+    "a/b",
+    "é",
+    "aé",
+    "abcdefghijklmnopqrstuvwxyz0123456",
+    "plan",
+    "message",
+    "controller",
+    "interrupt",
+    "write",
+    "read",
+    "again",
+    "else",
+    "stop",
+    "never",
+];
+
+// The name gives its text back.
+fn is_name(alloc: Global, text: &str) -> Result<bool, NameError> {
+    Ok(Name::new(alloc, text)?.as_str() == text)
 }
+
+#[test]
+fn names_have_a_form(rt: HostRuntime) {
+    for text in NAMES {
+        assert_eq!(rt; is_name(rt.alloc(), text), Ok(true));
+    }
+    for text in NO_NAMES {
+        assert_eq!(rt; is_name(rt.alloc(), text), Err(NameError::BadName));
+    }
+}
+
+// ---- messages
 
 fn byte(alloc: Global, acked: Payload, refused: Tail) -> Result<Payload, AllocError> {
     Ok(Payload::Byte {
@@ -31,9 +73,13 @@ fn header(alloc: Global, acked: Payload, refused: Tail) -> Result<Frame, AllocEr
     })
 }
 
-// A repeated START and a write of `n` bytes.
-fn again(alloc: Global, n: u32) -> Result<Tail, AllocError> {
-    Ok(Tail::Again(Box::new(alloc, write(alloc, n)?)?))
+// A write to 1001000 of `n` bytes, which ends with a STOP after each answer that refuses.
+fn write(alloc: Global, n: u32) -> Result<Frame, AllocError> {
+    let mut payload = Payload::Last(Tail::Stop);
+    for _ in 0..n {
+        payload = byte(alloc, payload, Tail::Stop)?;
+    }
+    header(alloc, payload, Tail::Stop)
 }
 
 // A write of 17 bytes, which goes on with 237 bytes after each that is refused, and with `n` after the header: of
@@ -41,206 +87,189 @@ fn again(alloc: Global, n: u32) -> Result<Tail, AllocError> {
 fn wide(alloc: Global, n: u32) -> Result<Frame, AllocError> {
     let mut payload = Payload::Last(Tail::Stop);
     for _ in 0..17 {
-        let refused = again(alloc, 237)?;
-        payload = byte(alloc, payload, refused)?;
+        payload = byte(alloc, payload, again(alloc, 237)?)?;
     }
-    let refused = again(alloc, n)?;
-    header(alloc, payload, refused)
+    header(alloc, payload, again(alloc, n)?)
 }
 
-fn name(alloc: Global, text: &str) -> Result<Name, Fail> {
-    Ok(Name::new(alloc, text)?)
+// A repeated START and a write of `n` bytes.
+fn again(alloc: Global, n: u32) -> Result<Tail, AllocError> {
+    Ok(Tail::Again(Box::new(alloc, write(alloc, n)?)?))
 }
+
+// ---- calls
 
 // The names in a text, with a space between each two.
 fn names(alloc: Global, text: &str) -> Result<Vec<Name>, Fail> {
     let mut names = Vec::new(alloc);
     for word in text.split_whitespace() {
-        names.push(name(alloc, word)?)?;
+        names.push(Name::new(alloc, word)?)?;
     }
     Ok(names)
 }
 
-// What a call of the builder refuses, if anything. A message has `n` bytes.
-fn message(
+// Makes the call that changes a builder, with this name and what stands after it.
+fn changed(
     builder: &mut Builder,
     alloc: Global,
-    text: &str,
-    n: u32,
+    call: &str,
+    name: Name,
+    rest: &str,
 ) -> Result<Option<BuildError>, Fail> {
-    let name = name(alloc, text)?;
-    let frame = write(alloc, n)?;
-    Ok(builder.message(name, frame).err())
+    let number = rest.parse::<u8>().unwrap_or(0);
+    let ended = match call {
+        "message" => builder.message(name, write(alloc, u32::from(number))?),
+        "longer" => builder.message(name, write(alloc, 256)?),
+        "wide" => builder.message(name, wide(alloc, u32::from(number))?),
+        "controller" => builder.controller(name, &names(alloc, rest)?),
+        "interrupt" => builder.interrupt(name, number),
+        _ => builder.never(&name, &Name::new(alloc, rest)?),
+    };
+    Ok(ended.err())
 }
 
-fn wide_message(
-    builder: &mut Builder,
-    alloc: Global,
-    text: &str,
-    n: u32,
-) -> Result<Option<BuildError>, Fail> {
-    let name = name(alloc, text)?;
-    let frame = wide(alloc, n)?;
-    Ok(builder.message(name, frame).err())
-}
-
-fn controller(
-    builder: &mut Builder,
-    alloc: Global,
-    text: &str,
-    messages: &str,
-) -> Result<Option<BuildError>, Fail> {
-    let messages = names(alloc, messages)?;
-    let name = name(alloc, text)?;
-    Ok(builder.controller(name, &messages).err())
-}
-
-fn interrupt(
-    builder: &mut Builder,
-    alloc: Global,
-    text: &str,
-    address: u8,
-) -> Result<Option<BuildError>, Fail> {
-    let name = name(alloc, text)?;
-    Ok(builder.interrupt(name, address).err())
-}
-
-fn never(
-    builder: &mut Builder,
-    alloc: Global,
-    first: &str,
-    second: &str,
-) -> Result<Option<BuildError>, Fail> {
-    let first = name(alloc, first)?;
-    let second = name(alloc, second)?;
-    Ok(builder.never(&first, &second).err())
-}
-
-// What the builder would refuse, if anything, without a call that adds.
-fn message_name(builder: &Builder, alloc: Global, text: &str) -> Result<Option<BuildError>, Fail> {
-    let name = name(alloc, text)?;
-    Ok(builder.message_name_refusal(&name))
-}
-
-fn controller_name(
+// Asks what a builder would refuse. Of a sending the last name is the one that is to come.
+fn asked(
     builder: &Builder,
     alloc: Global,
-    text: &str,
+    call: &str,
+    name: &Name,
+    rest: &str,
 ) -> Result<Option<BuildError>, Fail> {
-    let name = name(alloc, text)?;
-    Ok(builder.controller_name_refusal(&name))
+    Ok(match call {
+        "message?" => builder.message_name_refusal(name),
+        "controller?" => builder.controller_name_refusal(name),
+        "interrupt?" => builder.interrupt_refusal(name),
+        "sending?" => builder.sending_refusal(&names(alloc, rest)?, name),
+        _ => builder.never_refusal(name, &Name::new(alloc, rest)?),
+    })
 }
 
-fn interrupt_name(
-    builder: &Builder,
-    alloc: Global,
-    text: &str,
-) -> Result<Option<BuildError>, Fail> {
-    let name = name(alloc, text)?;
-    Ok(builder.interrupt_refusal(&name))
-}
-
-fn one_more_sending(
-    builder: &Builder,
-    alloc: Global,
-    before: &str,
-    text: &str,
-) -> Result<Option<BuildError>, Fail> {
-    let before = names(alloc, before)?;
-    let name = name(alloc, text)?;
-    Ok(builder.sending_refusal(&before, &name))
-}
-
-fn one_more_never(
-    builder: &Builder,
-    alloc: Global,
-    first: &str,
-    second: &str,
-) -> Result<Option<BuildError>, Fail> {
-    let first = name(alloc, first)?;
-    let second = name(alloc, second)?;
-    Ok(builder.never_refusal(&first, &second))
-}
-
-fn is_controller(builder: &Builder, alloc: Global, text: &str) -> Result<bool, Fail> {
-    let name = name(alloc, text)?;
-    Ok(builder.has_controller(&name))
-}
-
-// Messages `m0`, `m1` and so on.
-fn add_messages(rt: &impl Abort, builder: &mut Builder, alloc: Global, n: u32) -> Result<(), Fail> {
-    for k in 0..n {
-        let text = format!(in alloc; "m{k}")?;
-        assert_eq!(rt; message(builder, alloc, text.as_str(), 0)?, None);
+fn word(refusal: Option<BuildError>) -> &'static str {
+    match refusal {
+        None => "ok",
+        Some(BuildError::Twice) => "Twice",
+        Some(BuildError::TooMany) => "TooMany",
+        Some(BuildError::TooLong) => "TooLong",
+        Some(BuildError::Unknown) => "Unknown",
+        Some(BuildError::NoMemory) => "NoMemory",
     }
-    Ok(())
 }
 
-// Controllers `c0`, `c1` and so on, which send these messages.
-fn add_controllers(
-    rt: &impl Abort,
-    builder: &mut Builder,
-    alloc: Global,
-    n: u32,
-    messages: &str,
-) -> Result<(), Fail> {
-    for c in 0..n {
-        let text = format!(in alloc; "c{c}")?;
-        assert_eq!(rt; controller(builder, alloc, text.as_str(), messages)?, None);
-    }
-    Ok(())
-}
-
-// Interrupts `t0`, `t1` and so on.
-fn add_interrupts(
-    rt: &impl Abort,
-    builder: &mut Builder,
-    alloc: Global,
-    n: u32,
-) -> Result<(), Fail> {
-    for k in 0..n {
-        let text = format!(in alloc; "t{k}")?;
-        assert_eq!(rt; interrupt(builder, alloc, text.as_str(), 0xaa)?, None);
-    }
-    Ok(())
-}
-
-fn pair(plan: &Plan, i: u32) -> Option<(u32, u32)> {
-    if i < plan.pair_count() {
-        Some(plan.pair(i))
+// Makes the call of a line, `CALL NAME REST`, and gives the word for what came of it.
+fn told(builder: &mut Builder, alloc: Global, line: &str) -> Result<&'static str, Fail> {
+    let (call, words) = line.split_once(' ').unwrap_or((line, ""));
+    let (text, rest) = words.split_once(' ').unwrap_or((words, ""));
+    let name = Name::new(alloc, text)?;
+    if call == "known?" {
+        Ok(if builder.has_controller(&name) {
+            "yes"
+        } else {
+            "no"
+        })
+    } else if call.ends_with('?') {
+        Ok(word(asked(builder, alloc, call, &name, rest)?))
     } else {
-        None
+        Ok(word(changed(builder, alloc, call, name, rest)?))
     }
 }
 
-fn participant(plan: &Plan, i: u32) -> Option<Participant> {
-    if i < plan.participants() {
-        Some(plan.participant(i))
-    } else {
-        None
+// The calls `CALL NAME0 REST`, `CALL NAME1 REST` and so on.
+fn are_made(builder: &mut Builder, alloc: Global, call: &str, times: u32) -> Result<bool, Fail> {
+    for k in 0..times {
+        let number = format!(in alloc; "{k}")?;
+        let line = call.replace(alloc, "%", number.as_str())?;
+        if told(builder, alloc, line.as_str())? != "ok" {
+            return Ok(false);
+        }
     }
+    Ok(true)
 }
 
-// The nodes of the message that a participant sends.
-fn sent_nodes(plan: &Plan, i: u32) -> Option<u32> {
+// Makes the calls of a script, each on a line `CALL -> WORD`, or `TIMES CALL` where all are to be ok. Gives the first line
+// that is wrong.
+fn first_wrong<'a>(
+    builder: &mut Builder,
+    alloc: Global,
+    script: &'a str,
+) -> Result<Option<&'a str>, Fail> {
+    for line in script.lines() {
+        let is_right = match line.split_once(" -> ") {
+            Some((call, wanted)) => told(builder, alloc, call)? == wanted,
+            None => {
+                let (times, call) = line.split_once(' ').unwrap_or(("", line));
+                are_made(builder, alloc, call, times.parse().unwrap_or(0))?
+            }
+        };
+        if !is_right {
+            return Ok(Some(line));
+        }
+    }
+    Ok(None)
+}
+
+// ---- plans
+
+// The numbers of messages, controllers, interrupts, participants and pairs.
+fn has_counts(plan: &Plan, counts: [u32; 5]) -> bool {
+    counts
+        == [
+            plan.messages(),
+            plan.controllers(),
+            plan.interrupts(),
+            plan.participants(),
+            plan.pair_count(),
+        ]
+}
+
+// Pair i is that of x and y.
+fn has_pairs(plan: &Plan, pairs: &[(u32, u32, u32)]) -> bool {
+    for (i, x, y) in pairs {
+        if *i >= plan.pair_count() || plan.pair(*i) != (*x, *y) {
+            return false;
+        }
+    }
+    true
+}
+
+// Each pair comes after the one before it in dictionary order, and the last is this one.
+fn are_in_order(plan: &Plan, wanted: (u32, u32)) -> bool {
+    let mut last = (0, 0);
+    for i in 0..plan.pair_count() {
+        let next = plan.pair(i);
+        if next <= last {
+            return false;
+        }
+        last = next;
+    }
+    last == wanted
+}
+
+// Participant i is this one, has this label, and is found by it.
+fn has_participant(
+    plan: &Plan,
+    alloc: Global,
+    i: u32,
+    wanted: Participant,
+    text: &str,
+) -> Result<bool, AllocError> {
+    Ok(
+        i < plan.participants()
+            && plan.participant(i) == wanted
+            && plan.label(alloc, i)?.as_str() == text
+            && plan.find(text) == Some(i),
+    )
+}
+
+// The nodes of the message that a participant sends, or the address with which it interrupts.
+fn sent(plan: &Plan, i: u32) -> Option<(u32, Option<Address>)> {
     if i >= plan.participants() {
         return None;
     }
-    match plan.sends(i) {
-        Sends::Message(frame) => Some(frame.nodes()),
-        Sends::Interrupt(_) => None,
-    }
-}
-
-// The address of a participant that interrupts.
-fn sent_address(plan: &Plan, i: u32) -> Option<Address> {
-    if i >= plan.participants() {
-        return None;
-    }
-    match plan.sends(i) {
-        Sends::Interrupt(address) => Some(address),
-        Sends::Message(_) => None,
-    }
+    Some(match plan.sends(i) {
+        Sends::Message(frame) => (frame.nodes(), None),
+        Sends::Interrupt(address) => (0, Some(address)),
+    })
 }
 
 fn forbids(plan: &Plan, x: u32, y: u32) -> Option<bool> {
@@ -259,537 +288,270 @@ fn never_at(plan: &Plan, k: u32) -> Option<(u32, u32)> {
     }
 }
 
-// The participant has this label, and is found by it.
-fn expect_label(
-    rt: &impl Abort,
-    alloc: Global,
-    plan: &Plan,
-    i: u32,
-    text: &str,
-) -> Result<(), Fail> {
-    if i < plan.participants() {
-        let label = plan.label(alloc, i)?;
-        assert_eq!(rt; label.as_str(), text);
-    }
-    assert_eq!(rt; plan.find(text), Some(i));
-    Ok(())
+// 257 bytes on a path, and 256; 4097 nodes, and 4096. The name is looked at first.
+const BOUNDS: &str = "\
+longer a -> TooLong
+message a 255 -> ok
+longer a -> Twice
+wide b 32 -> TooLong
+wide b 31 -> ok";
+
+fn after_bounds(plan: &Plan) -> bool {
+    has_counts(plan, [2, 0, 0, 0, 0])
 }
 
-#[test]
-fn names_have_a_form(rt: HostRuntime) {
-    let alloc = rt.alloc();
-    for text in [
-        "a",
-        "Z",
-        "m0",
-        "a_b",
-        "stops",
-        "Stop",
-        "abcdefghijklmnopqrstuvwxyz012345",
-    ] {
-        assert!(rt; matches!(Name::new(alloc, text), Ok(_)), "{text}");
-    }
-    for text in [
-        "",
-        "1a",
-        "_a",
-        "a-b",
-        "a b",
-        "a/b",
-        "é",
-        "aé",
-        "abcdefghijklmnopqrstuvwxyz0123456",
-    ] {
-        assert!(rt;
-            matches!(Name::new(alloc, text), Err(NameError::BadName)),
-            "{text}"
-        );
-    }
-    for text in "plan message controller interrupt write read again else stop never".split_whitespace()
-    {
-        assert!(rt;
-            matches!(Name::new(alloc, text), Err(NameError::BadName)),
-            "{text}"
-        );
-    }
+const MESSAGES: &str = "\
+256 message m% 0
+message a 0 -> TooMany
+longer a -> TooMany
+longer m3 -> Twice
+message? a -> TooMany
+message? m3 -> Twice";
+
+fn after_messages(plan: &Plan) -> bool {
+    has_counts(plan, [256, 0, 0, 0, 0])
 }
 
-#[test]
-fn names_give_their_text(rt: HostRuntime) -> Result<(), Fail> {
-    let name = name(rt.alloc(), "m_0")?;
-    assert_eq!(rt; name.as_str(), "m_0");
-    Ok(())
+// 512 sendings and 513, 32 controllers and 33. With 496 sendings 16 more are told to be allowed.
+const SENDINGS: &str = "\
+17 message m% 0
+31 controller c% m0 m1 m2 m3 m4 m5 m6 m7 m8 m9 m10 m11 m12 m13 m14 m15
+sending? m15 m0 m1 m2 m3 m4 m5 m6 m7 m8 m9 m10 m11 m12 m13 m14 -> ok
+sending? m16 m0 m1 m2 m3 m4 m5 m6 m7 m8 m9 m10 m11 m12 m13 m14 m15 -> TooMany
+sending? m3 m0 m1 m2 m3 m4 m5 m6 m7 m8 m9 m10 m11 m12 m13 m14 m15 -> Twice
+sending? q m0 m1 m2 m3 m4 m5 m6 m7 m8 m9 m10 m11 m12 m13 m14 m15 -> Unknown
+controller d m0 m1 m2 m3 m4 m5 m6 m7 m8 m9 m10 m11 m12 m13 m14 m15 m16 -> TooMany
+controller d m0 m1 m2 m3 m4 m5 m6 m7 m8 m9 m10 m11 m12 m13 m14 m15 m3 -> Twice
+controller d m0 m1 m2 m3 m4 m5 m6 m7 m8 m9 m10 m11 m12 m13 m14 m15 q -> Unknown
+controller d m0 m1 m2 m3 m4 m5 m6 m7 m8 m9 m10 m11 m12 m13 m14 m15 -> ok
+controller e q -> TooMany
+controller d q -> Twice";
+
+fn after_sendings(plan: &Plan) -> bool {
+    has_counts(plan, [17, 32, 0, 512, 126_976])
 }
 
-#[test]
-fn messages_are_bounded(rt: HostRuntime) -> Result<(), Fail> {
-    let mut builder = Builder::new(rt.alloc());
-    expect_bounds(&rt, &mut builder, rt.alloc())
-}
+const INTERRUPTS: &str = "\
+32 interrupt t% 170
+interrupt u 0 -> TooMany
+interrupt t5 0 -> Twice";
 
-// 257 bytes on a path, and 256; 4097 nodes, and 4096.
-fn expect_bounds(rt: &impl Abort, builder: &mut Builder, alloc: Global) -> Result<(), Fail> {
-    assert_eq!(rt;
-        message(builder, alloc, "a", 256)?,
-        Some(BuildError::TooLong)
-    );
-    assert_eq!(rt; message(builder, alloc, "a", 255)?, None);
-    assert_eq!(rt; message(builder, alloc, "a", 256)?, Some(BuildError::Twice));
-    assert_eq!(rt;
-        wide_message(builder, alloc, "b", 32)?,
-        Some(BuildError::TooLong)
-    );
-    assert_eq!(rt; wide_message(builder, alloc, "b", 31)?, None);
-    Ok(())
-}
-
-#[test]
-fn messages_are_at_most_256(rt: HostRuntime) -> Result<(), Fail> {
-    let mut builder = Builder::new(rt.alloc());
-    fill_messages(&rt, &mut builder, rt.alloc())?;
-    expect_full_of_messages(&rt, &builder, rt.alloc())?;
-    assert_eq!(rt; builder.finish().messages(), 256);
-    Ok(())
-}
-
-fn fill_messages(rt: &impl Abort, builder: &mut Builder, alloc: Global) -> Result<(), Fail> {
-    add_messages(rt, builder, alloc, 256)?;
-    assert_eq!(rt; message(builder, alloc, "a", 0)?, Some(BuildError::TooMany));
-    assert_eq!(rt;
-        message(builder, alloc, "a", 256)?,
-        Some(BuildError::TooMany)
-    );
-    assert_eq!(rt;
-        message(builder, alloc, "m3", 256)?,
-        Some(BuildError::Twice)
-    );
-    Ok(())
-}
-
-fn expect_full_of_messages(rt: &impl Abort, builder: &Builder, alloc: Global) -> Result<(), Fail> {
-    assert_eq!(rt;
-        message_name(builder, alloc, "a")?,
-        Some(BuildError::TooMany)
-    );
-    assert_eq!(rt;
-        message_name(builder, alloc, "m3")?,
-        Some(BuildError::Twice)
-    );
-    Ok(())
-}
-
-const ALL: &str = "m0 m1 m2 m3 m4 m5 m6 m7 m8 m9 m10 m11 m12 m13 m14 m15";
-
-#[test]
-fn sendings_are_at_most_512(rt: HostRuntime) -> Result<(), Fail> {
-    let mut builder = Builder::new(rt.alloc());
-    fill_sendings(&rt, &mut builder, rt.alloc())?;
-    expect_counts(&rt, &builder.finish(), [17, 32, 0, 512, 126_976]);
-    Ok(())
-}
-
-// 512 sendings and 513, 32 controllers and 33.
-fn fill_sendings(rt: &impl Abort, builder: &mut Builder, alloc: Global) -> Result<(), Fail> {
-    add_messages(rt, builder, alloc, 17)?;
-    add_controllers(rt, builder, alloc, 31, ALL)?;
-    let more = format!(in alloc; "{ALL} m16")?;
-    assert_eq!(rt;
-        controller(builder, alloc, "d", more.as_str())?,
-        Some(BuildError::TooMany)
-    );
-    let twice = format!(in alloc; "{ALL} m3")?;
-    assert_eq!(rt;
-        controller(builder, alloc, "d", twice.as_str())?,
-        Some(BuildError::Twice)
-    );
-    let unknown = format!(in alloc; "{ALL} q")?;
-    assert_eq!(rt;
-        controller(builder, alloc, "d", unknown.as_str())?,
-        Some(BuildError::Unknown)
-    );
-    assert_eq!(rt; controller(builder, alloc, "d", ALL)?, None);
-    assert_eq!(rt;
-        controller(builder, alloc, "e", "q")?,
-        Some(BuildError::TooMany)
-    );
-    assert_eq!(rt;
-        controller(builder, alloc, "d", "q")?,
-        Some(BuildError::Twice)
-    );
-    Ok(())
-}
-
-// The numbers of messages, controllers, interrupts, participants and pairs.
-fn expect_counts(rt: &impl Abort, plan: &Plan, counts: [u32; 5]) {
-    assert_eq!(rt; plan.messages(), counts[0]);
-    assert_eq!(rt; plan.controllers(), counts[1]);
-    assert_eq!(rt; plan.interrupts(), counts[2]);
-    assert_eq!(rt; plan.participants(), counts[3]);
-    assert_eq!(rt; plan.pair_count(), counts[4]);
-}
-
-fn expect_pairs(rt: &impl Abort, plan: &Plan, pairs: &[(u32, u32, u32)]) {
-    for (i, x, y) in pairs {
-        assert_eq!(rt; pair(plan, *i), Some((*x, *y)), "{i}");
-    }
-}
-
-#[test]
-fn interrupts_are_at_most_32(rt: HostRuntime) -> Result<(), Fail> {
-    let mut builder = Builder::new(rt.alloc());
-    fill_interrupts(&rt, &mut builder, rt.alloc())?;
-    let plan = builder.finish();
-    expect_counts(&rt, &plan, [0, 0, 32, 32, 496]);
-    expect_pairs(&rt, &plan, &[(0, 0, 1), (31, 1, 2), (495, 30, 31)]);
-    if 31 < plan.interrupts() {
-        assert_eq!(rt; plan.interrupt_address(31), 0x2a);
-        assert_eq!(rt; plan.interrupt_name(31).as_str(), "t31");
-    }
-    Ok(())
-}
-
-fn fill_interrupts(rt: &impl Abort, builder: &mut Builder, alloc: Global) -> Result<(), Fail> {
-    add_interrupts(rt, builder, alloc, 32)?;
-    assert_eq!(rt;
-        interrupt(builder, alloc, "u", 0)?,
-        Some(BuildError::TooMany)
-    );
-    assert_eq!(rt;
-        interrupt(builder, alloc, "t5", 0)?,
-        Some(BuildError::Twice)
-    );
-    Ok(())
+// Of 170, which is 0xaa, the low seven bits are the address.
+fn after_interrupts(plan: &Plan) -> bool {
+    has_counts(plan, [0, 0, 32, 32, 496])
+        && has_pairs(plan, &[(0, 0, 1), (31, 1, 2), (495, 30, 31)])
+        && 31 < plan.interrupts()
+        && plan.interrupt_address(31) == 0x2a
+        && plan.interrupt_name(31).as_str() == "t31"
 }
 
 // Name by name: an unknown one before one that stands twice, and the other way round.
-#[test]
-fn lists_are_refused_in_order(rt: HostRuntime) -> Result<(), Fail> {
-    let mut builder = Builder::new(rt.alloc());
-    refuse_lists(&rt, &mut builder, rt.alloc())?;
-    expect_counts(&rt, &builder.finish(), [1, 1, 0, 0, 0]);
-    Ok(())
+const LISTS: &str = "\
+message m 0 -> ok
+controller a -> ok
+controller b m q m -> Unknown
+controller b m m q -> Twice
+controller a q -> Twice";
+
+fn after_lists(plan: &Plan) -> bool {
+    has_counts(plan, [1, 1, 0, 0, 0])
 }
 
-fn refuse_lists(rt: &impl Abort, builder: &mut Builder, alloc: Global) -> Result<(), Fail> {
-    assert_eq!(rt; message(builder, alloc, "m", 0)?, None);
-    assert_eq!(rt; controller(builder, alloc, "a", "")?, None);
-    assert_eq!(rt;
-        controller(builder, alloc, "b", "m q m")?,
-        Some(BuildError::Unknown)
-    );
-    assert_eq!(rt;
-        controller(builder, alloc, "b", "m m q")?,
-        Some(BuildError::Twice)
-    );
-    assert_eq!(rt;
-        controller(builder, alloc, "a", "q")?,
-        Some(BuildError::Twice)
-    );
-    Ok(())
+const NEVERS: &str = "\
+3 controller c%
+never q q -> Unknown
+never c0 c0 -> Twice
+never c0 q -> Unknown
+never c0 c1 -> ok
+never c0 c1 -> Twice
+never c1 c0 -> Twice
+never c2 c1 -> ok";
+
+fn after_nevers(plan: &Plan) -> bool {
+    never_at(plan, 0) == Some((0, 1))
+        && never_at(plan, 1) == Some((2, 1))
+        && never_at(plan, 2).is_none()
 }
 
-#[test]
-fn nevers_are_refused_in_order(rt: HostRuntime) -> Result<(), Fail> {
-    let mut builder = Builder::new(rt.alloc());
-    refuse_nevers(&rt, &mut builder, rt.alloc())?;
-    let plan = builder.finish();
-    assert_eq!(rt; never_at(&plan, 0), Some((0, 1)));
-    assert_eq!(rt; never_at(&plan, 1), Some((2, 1)));
-    assert_eq!(rt; never_at(&plan, 2), None);
-    Ok(())
-}
+// What is told beforehand. The interrupt comes first, and is numbered after the sending.
+const ONE_AND_ONE: &str = "\
+interrupt t 72 -> ok
+message m 0 -> ok
+controller a m -> ok
+message? m -> Twice
+message? a -> ok
+message? t -> ok
+message? n -> ok
+controller? m -> ok
+controller? a -> Twice
+controller? t -> ok
+controller? n -> ok
+interrupt? m -> ok
+interrupt? a -> ok
+interrupt? t -> Twice
+interrupt? n -> ok
+known? a -> yes
+known? t -> no
+sending? m -> ok
+sending? a -> Unknown
+sending? q q -> Unknown
+sending? m q m -> Twice
+sending? m q -> ok";
 
-fn refuse_nevers(rt: &impl Abort, builder: &mut Builder, alloc: Global) -> Result<(), Fail> {
-    add_controllers(rt, builder, alloc, 3, "")?;
-    for (first, second, answer) in [
-        ("q", "q", Some(BuildError::Unknown)),
-        ("c0", "c0", Some(BuildError::Twice)),
-        ("c0", "q", Some(BuildError::Unknown)),
-        ("c0", "c1", None),
-        ("c0", "c1", Some(BuildError::Twice)),
-        ("c1", "c0", Some(BuildError::Twice)),
-        ("c2", "c1", None),
-    ] {
-        assert_eq!(rt;
-            never(builder, alloc, first, second)?,
-            answer,
-            "{first} {second}"
-        );
-    }
-    Ok(())
-}
-
-// A message `m`, a controller `a` and an interrupt `t`.
-#[test]
-fn refusals_are_told_beforehand(rt: HostRuntime) -> Result<(), Fail> {
-    let mut builder = Builder::new(rt.alloc());
-    fill_one_and_one(&rt, &mut builder, rt.alloc())?;
-    expect_refused_names(&rt, &builder, rt.alloc())?;
-    expect_refused_sendings(&rt, &builder, rt.alloc())?;
-    expect_counts(&rt, &builder.finish(), [1, 1, 1, 2, 1]);
-    Ok(())
-}
-
-fn expect_refused_names(rt: &impl Abort, builder: &Builder, alloc: Global) -> Result<(), Fail> {
-    let twice = Some(BuildError::Twice);
-    for (text, message, controller, interrupt) in [
-        ("m", twice, None, None),
-        ("a", None, twice, None),
-        ("t", None, None, twice),
-        ("n", None, None, None),
-    ] {
-        assert_eq!(rt; message_name(builder, alloc, text)?, message, "{text}");
-        assert_eq!(rt;
-            controller_name(builder, alloc, text)?,
-            controller,
-            "{text}"
-        );
-        assert_eq!(rt; interrupt_name(builder, alloc, text)?, interrupt, "{text}");
-    }
-    assert!(rt; is_controller(builder, alloc, "a")?);
-    assert!(rt; !is_controller(builder, alloc, "t")?);
-    Ok(())
-}
-
-fn expect_refused_sendings(rt: &impl Abort, builder: &Builder, alloc: Global) -> Result<(), Fail> {
-    for (before, text, answer) in [
-        ("", "m", None),
-        ("", "a", Some(BuildError::Unknown)),
-        ("q", "q", Some(BuildError::Unknown)),
-        ("q m", "m", Some(BuildError::Twice)),
-        ("q", "m", None),
-    ] {
-        assert_eq!(rt;
-            one_more_sending(builder, alloc, before, text)?,
-            answer,
-            "{before} {text}"
-        );
-    }
-    Ok(())
+fn after_one_and_one(plan: &Plan, alloc: Global) -> Result<bool, AllocError> {
+    let sending = Participant::Sending {
+        controller: 0,
+        message: 0,
+    };
+    Ok(
+        has_counts(plan, [1, 1, 1, 2, 1])
+            && has_pairs(plan, &[(0, 0, 1)])
+            && sent(plan, 0) == Some((1, None))
+            && sent(plan, 1) == Some((0, Some(Address::new(0x7f, 0x48))))
+            && has_participant(plan, alloc, 0, sending, "a/m")?
+            && has_participant(plan, alloc, 1, Participant::Interrupt(0), "!t")?
+            && plan.find("t").is_none(),
+    )
 }
 
 // Controllers `c0`, `c1` and `c2`, of which the last and the first never start together.
-#[test]
-fn refused_nevers_are_told_beforehand(rt: HostRuntime) -> Result<(), Fail> {
-    let mut builder = Builder::new(rt.alloc());
-    fill_with_never(&rt, &mut builder, rt.alloc())?;
-    expect_refused_nevers(&rt, &builder, rt.alloc())
-}
+const APART: &str = "\
+message m0 0 -> ok
+3 controller c% m0
+never c2 c0 -> ok
+interrupt t0 170 -> ok
+never? q q -> Unknown
+never? c0 c0 -> Twice
+never? c0 q -> Unknown
+never? c0 c1 -> ok
+never? c0 c2 -> Twice
+never? c2 c0 -> Twice";
 
-fn expect_refused_nevers(rt: &impl Abort, builder: &Builder, alloc: Global) -> Result<(), Fail> {
-    for (first, second, answer) in [
-        ("q", "q", Some(BuildError::Unknown)),
-        ("c0", "c0", Some(BuildError::Twice)),
-        ("c0", "q", Some(BuildError::Unknown)),
-        ("c0", "c1", None),
-        ("c0", "c2", Some(BuildError::Twice)),
-        ("c2", "c0", Some(BuildError::Twice)),
-    ] {
-        assert_eq!(rt;
-            one_more_never(builder, alloc, first, second)?,
-            answer,
-            "{first} {second}"
-        );
-    }
-    Ok(())
-}
-
-// With 496 sendings, and 15 or 16 more.
-#[test]
-fn one_sending_too_many_is_told_beforehand(rt: HostRuntime) -> Result<(), Fail> {
-    let mut builder = Builder::new(rt.alloc());
-    fill_all_but_one(&rt, &mut builder, rt.alloc())?;
-    expect_last_sending(&rt, &builder, rt.alloc())
-}
-
-fn fill_all_but_one(rt: &impl Abort, builder: &mut Builder, alloc: Global) -> Result<(), Fail> {
-    add_messages(rt, builder, alloc, 17)?;
-    add_controllers(rt, builder, alloc, 31, ALL)
-}
-
-fn expect_last_sending(rt: &impl Abort, builder: &Builder, alloc: Global) -> Result<(), Fail> {
-    for (before, text, answer) in [
-        (
-            "m0 m1 m2 m3 m4 m5 m6 m7 m8 m9 m10 m11 m12 m13 m14",
-            "m15",
-            None,
-        ),
-        (ALL, "m16", Some(BuildError::TooMany)),
-        (ALL, "m3", Some(BuildError::Twice)),
-        (ALL, "q", Some(BuildError::Unknown)),
-    ] {
-        assert_eq!(rt;
-            one_more_sending(builder, alloc, before, text)?,
-            answer,
-            "{text}"
-        );
-    }
-    Ok(())
-}
-
-// 32 controllers and 32 interrupts.
-#[test]
-fn full_plans_are_told_beforehand(rt: HostRuntime) -> Result<(), Fail> {
-    let mut builder = Builder::new(rt.alloc());
-    fill_all(&rt, &mut builder, rt.alloc())?;
-    expect_full(&rt, &builder, rt.alloc())
-}
-
-fn expect_full(rt: &impl Abort, builder: &Builder, alloc: Global) -> Result<(), Fail> {
-    let twice = Some(BuildError::Twice);
-    let many = Some(BuildError::TooMany);
-    assert_eq!(rt; message_name(builder, alloc, "m")?, None);
-    assert_eq!(rt; controller_name(builder, alloc, "d")?, many);
-    assert_eq!(rt; controller_name(builder, alloc, "c31")?, twice);
-    assert_eq!(rt; interrupt_name(builder, alloc, "u")?, many);
-    assert_eq!(rt; interrupt_name(builder, alloc, "t31")?, twice);
-    assert!(rt; is_controller(builder, alloc, "c31")?);
-    assert!(rt; !is_controller(builder, alloc, "t31")?);
-    Ok(())
-}
-
-#[test]
-fn pairs_are_numbered(rt: HostRuntime) -> Result<(), Fail> {
-    let mut builder = Builder::new(rt.alloc());
-    fill_five_by_eight(&rt, &mut builder, rt.alloc())?;
-    let plan = builder.finish();
-    expect_counts(&rt, &plan, [5, 8, 0, 40, 700]);
-    expect_pairs(
-        &rt,
-        &plan,
-        &[(0, 0, 5), (1, 0, 6), (34, 0, 39), (35, 1, 5), (699, 34, 39)],
-    );
-    assert_eq!(rt;
-        participant(&plan, 7),
-        Some(Participant::Sending {
-            controller: 1,
-            message: 2
-        })
-    );
-    expect_label(&rt, rt.alloc(), &plan, 7, "c1/m2")?;
-    for text in ["c1/m5", "c1m2", "!c1", "c1/", ""] {
-        assert_eq!(rt; plan.find(text), None);
-    }
-    Ok(())
-}
-
-fn fill_five_by_eight(rt: &impl Abort, builder: &mut Builder, alloc: Global) -> Result<(), Fail> {
-    add_messages(rt, builder, alloc, 5)?;
-    add_controllers(rt, builder, alloc, 8, "m0 m1 m2 m3 m4")
-}
-
-#[test]
-fn items_are_given_back(rt: HostRuntime) -> Result<(), Fail> {
-    let mut builder = Builder::new(rt.alloc());
-    fill_items(&rt, &mut builder, rt.alloc())?;
-    expect_items(&rt, &builder.finish());
-    Ok(())
-}
-
-fn fill_items(rt: &impl Abort, builder: &mut Builder, alloc: Global) -> Result<(), Fail> {
-    add_messages(rt, builder, alloc, 2)?;
-    assert_eq!(rt; message(builder, alloc, "n", 3)?, None);
-    assert_eq!(rt; controller(builder, alloc, "a", "n m0")?, None);
-    Ok(())
-}
-
-// Two sendings of one controller are no pair.
-fn expect_items(rt: &impl Abort, plan: &Plan) {
-    expect_counts(rt, plan, [3, 1, 0, 2, 0]);
-    if 2 < plan.messages() {
-        assert_eq!(rt; plan.message_name(2).as_str(), "n");
-        assert_eq!(rt; plan.message(2).nodes(), 4);
-    }
-    if 0 < plan.controllers() {
-        assert_eq!(rt; plan.controller_name(0).as_str(), "a");
-        assert_eq!(rt; plan.controller_messages(0), [2, 0].as_slice());
-    }
-    assert_eq!(rt;
-        participant(plan, 0),
-        Some(Participant::Sending {
-            controller: 0,
-            message: 2
-        })
-    );
-}
-
-#[test]
-fn sendings_come_before_interrupts(rt: HostRuntime) -> Result<(), Fail> {
-    let mut builder = Builder::new(rt.alloc());
-    fill_one_and_one(&rt, &mut builder, rt.alloc())?;
-    expect_one_and_one(&rt, &builder.finish(), rt.alloc())
-}
-
-fn fill_one_and_one(rt: &impl Abort, builder: &mut Builder, alloc: Global) -> Result<(), Fail> {
-    assert_eq!(rt; interrupt(builder, alloc, "t", 0x48)?, None);
-    assert_eq!(rt; message(builder, alloc, "m", 0)?, None);
-    assert_eq!(rt; controller(builder, alloc, "a", "m")?, None);
-    Ok(())
-}
-
-fn expect_one_and_one(rt: &impl Abort, plan: &Plan, alloc: Global) -> Result<(), Fail> {
-    expect_counts(rt, plan, [1, 1, 1, 2, 1]);
-    assert_eq!(rt; participant(plan, 1), Some(Participant::Interrupt(0)));
-    assert_eq!(rt; sent_nodes(plan, 0), Some(1));
-    assert_eq!(rt; sent_address(plan, 1), Some(Address::new(0x7f, 0x48)));
-    expect_pairs(rt, plan, &[(0, 0, 1)]);
-    expect_label(rt, alloc, plan, 0, "a/m")?;
-    expect_label(rt, alloc, plan, 1, "!t")?;
-    assert_eq!(rt; plan.find("t"), None);
-    Ok(())
-}
-
-#[test]
-fn never_leaves_pairs_out(rt: HostRuntime) -> Result<(), Fail> {
-    let mut builder = Builder::new(rt.alloc());
-    fill_with_never(&rt, &mut builder, rt.alloc())?;
-    let plan = builder.finish();
-
-    // Of (0, 1), (0, 2), (0, 3), (1, 2), (1, 3) and (2, 3) all but the second.
-    expect_counts(&rt, &plan, [1, 3, 1, 4, 5]);
-    expect_pairs(
-        &rt,
-        &plan,
-        &[(0, 0, 1), (1, 0, 3), (2, 1, 2), (3, 1, 3), (4, 2, 3)],
-    );
-    for (x, y, both) in [
-        (0, 2, true),
-        (2, 0, true),
-        (0, 1, false),
-        (0, 0, false),
-        (2, 3, false),
-    ] {
-        assert_eq!(rt; forbids(&plan, x, y), Some(both));
-    }
-    Ok(())
-}
-
-fn fill_with_never(rt: &impl Abort, builder: &mut Builder, alloc: Global) -> Result<(), Fail> {
-    add_messages(rt, builder, alloc, 1)?;
-    add_controllers(rt, builder, alloc, 3, "m0")?;
-    assert_eq!(rt; never(builder, alloc, "c2", "c0")?, None);
-    add_interrupts(rt, builder, alloc, 1)
+// Of (0, 1), (0, 2), (0, 3), (1, 2), (1, 3) and (2, 3) all but the second.
+fn after_apart(plan: &Plan) -> bool {
+    has_counts(plan, [1, 3, 1, 4, 5])
+        && has_pairs(
+            plan,
+            &[(0, 0, 1), (1, 0, 3), (2, 1, 2), (3, 1, 3), (4, 2, 3)],
+        )
+        && forbids(plan, 0, 2) == Some(true)
+        && forbids(plan, 2, 0) == Some(true)
+        && forbids(plan, 0, 1) == Some(false)
+        && forbids(plan, 0, 0) == Some(false)
+        && forbids(plan, 2, 3) == Some(false)
 }
 
 // All pairs of a plan of 512 sendings and 32 interrupts.
-#[test]
-fn pairs_come_in_order(rt: HostRuntime) -> Result<(), Fail> {
-    let mut builder = Builder::new(rt.alloc());
-    fill_all(&rt, &mut builder, rt.alloc())?;
-    let plan = builder.finish();
-    expect_counts(&rt, &plan, [16, 32, 32, 544, 143_856]);
-    let mut last = (0, 0);
-    for i in 0..plan.pair_count() {
-        let next = plan.pair(i);
-        assert!(rt; last < next, "{i}");
-        last = next;
-    }
-    assert_eq!(rt; last, (542, 543));
-    Ok(())
+const FULL: &str = "\
+16 message m% 0
+32 controller c% m0 m1 m2 m3 m4 m5 m6 m7 m8 m9 m10 m11 m12 m13 m14 m15
+32 interrupt t% 170
+message? m -> ok
+controller? d -> TooMany
+controller? c31 -> Twice
+interrupt? u -> TooMany
+interrupt? t31 -> Twice
+known? c31 -> yes
+known? t31 -> no";
+
+fn after_full(plan: &Plan) -> bool {
+    has_counts(plan, [16, 32, 32, 544, 143_856]) && are_in_order(plan, (542, 543))
 }
 
-fn fill_all(rt: &impl Abort, builder: &mut Builder, alloc: Global) -> Result<(), Fail> {
-    add_messages(rt, builder, alloc, 16)?;
-    add_controllers(rt, builder, alloc, 32, ALL)?;
-    add_interrupts(rt, builder, alloc, 32)
+const FIVE_BY_EIGHT: &str = "\
+5 message m% 0
+8 controller c% m0 m1 m2 m3 m4";
+
+fn after_five_by_eight(plan: &Plan, alloc: Global) -> Result<bool, AllocError> {
+    let sending = Participant::Sending {
+        controller: 1,
+        message: 2,
+    };
+    Ok(
+        has_counts(plan, [5, 8, 0, 40, 700])
+            && has_pairs(
+                plan,
+                &[(0, 0, 5), (1, 0, 6), (34, 0, 39), (35, 1, 5), (699, 34, 39)],
+            )
+            && has_participant(plan, alloc, 7, sending, "c1/m2")?
+            && plan.find("c1/m5").is_none()
+            && plan.find("c1m2").is_none()
+            && plan.find("!c1").is_none()
+            && plan.find("c1/").is_none()
+            && plan.find("").is_none(),
+    )
+}
+
+// Items are given back as they came. Two sendings of one controller are no pair.
+const ITEMS: &str = "\
+2 message m% 0
+message n 3 -> ok
+controller a n m0 -> ok";
+
+fn after_items(plan: &Plan) -> bool {
+    has_counts(plan, [3, 1, 0, 2, 0])
+        && 2 < plan.messages()
+        && plan.message_name(2).as_str() == "n"
+        && plan.message(2).nodes() == 4
+        && 0 < plan.controllers()
+        && plan.controller_name(0).as_str() == "a"
+        && plan.controller_messages(0) == [2, 0].as_slice()
+        && sent(plan, 0) == Some((4, None))
+}
+
+// The scripts, each of which makes a plan.
+const SCRIPTS: [&str; 11] = [
+    BOUNDS,
+    MESSAGES,
+    SENDINGS,
+    INTERRUPTS,
+    LISTS,
+    NEVERS,
+    ONE_AND_ONE,
+    APART,
+    FULL,
+    FIVE_BY_EIGHT,
+    ITEMS,
+];
+
+// What the plan of each script is to hold.
+fn holds(plan: &Plan, alloc: Global, script: usize) -> Result<bool, AllocError> {
+    Ok(match script {
+        0 => after_bounds(plan),
+        1 => after_messages(plan),
+        2 => after_sendings(plan),
+        3 => after_interrupts(plan),
+        4 => after_lists(plan),
+        5 => after_nevers(plan),
+        6 => after_one_and_one(plan, alloc)?,
+        7 => after_apart(plan),
+        8 => after_full(plan),
+        9 => after_five_by_eight(plan, alloc)?,
+        _ => after_items(plan),
+    })
+}
+
+// The first line of the script that is wrong, or another text where its plan is.
+fn wrong_in(
+    alloc: Global,
+    number: usize,
+    script: &'static str,
+) -> Result<Option<&'static str>, Fail> {
+    let mut builder = Builder::new(alloc);
+    if let Some(line) = first_wrong(&mut builder, alloc, script)? {
+        return Ok(Some(line));
+    }
+    if holds(&builder.finish(), alloc, number)? {
+        Ok(None)
+    } else {
+        Ok(Some(script))
+    }
+}
+
+#[test]
+fn builders_refuse_and_plans_hold_what_the_scripts_say(rt: HostRuntime) -> Result<(), Fail> {
+    for (number, script) in SCRIPTS.iter().enumerate() {
+        assert_eq!(rt; wrong_in(rt.alloc(), number, script)?, None);
+    }
+    Ok(())
 }

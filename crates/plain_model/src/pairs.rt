@@ -158,24 +158,30 @@ fn are_comparable(x: Form, y: Form) -> bool {
 
 // What a letter of a proof leaves to be proved, where it may stand here. The last one comes first.
 fn left_by(letter: u8, x: &[&[u8]], i: usize, y: &[&[u8]], j: usize) -> Option<[Option<Due>; 2]> {
-    let refused = Some(Due::From(refused(x, i), refused(y, j)));
-    let next = Some(Due::From(i.saturating_add(1), j.saturating_add(1)));
     let next_but_one = Some(Due::From(i.saturating_add(2), j.saturating_add(2)));
     match (letter, form_of(x, i), form_of(y, j)) {
-        (b'B', Form::Write, Form::Write) | (b'B', Form::Byte, Form::Byte) => Some([refused, next]),
+        (b'B', Form::Write, Form::Write) | (b'B', Form::Byte, Form::Byte) => {
+            let next = Due::From(i.saturating_add(1), j.saturating_add(1));
+            Some([both_refused(x, i, y, j), Some(next)])
+        }
         (b'D', Form::Read, Form::Read) => {
             let (least, greatest) = count(x, i.saturating_add(1));
             let (other_least, other_greatest) = count(y, j.saturating_add(1));
             if least.max(other_least) <= greatest.min(other_greatest) {
-                Some([refused, next_but_one])
+                Some([both_refused(x, i, y, j), next_but_one])
             } else {
-                Some([refused, Some(Due::NoCommonCount)])
+                Some([both_refused(x, i, y, j), Some(Due::NoCommonCount)])
             }
         }
         (b'S', Form::Again, Form::Again) => Some([None, next_but_one]),
         (b'.', Form::Stop, Form::Stop) => Some([None, None]),
         _ => None,
     }
+}
+
+// What the two send where neither is acknowledged.
+fn both_refused(x: &[&[u8]], i: usize, y: &[&[u8]], j: usize) -> Option<Due> {
+    Some(Due::From(refused(x, i), refused(y, j)))
 }
 
 /// The proof of two senders that have no fault, as a line of a certificate without its end. Where they have one there is no

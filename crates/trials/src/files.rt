@@ -8,7 +8,8 @@ use std::alloc::Global;
 use std::fs;
 use std::rt::Files;
 
-pub const FILES: [&str; 6] = [
+pub const FILES: [&str; 7] = [
+    "plans",
     "checks",
     "certificates",
     "captures",

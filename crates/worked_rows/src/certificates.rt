@@ -3,8 +3,9 @@
 use cert_check::{accept_plan, check_fault, check_pair};
 use certificate::{Cert, CertFault, CertText, Fault, print_cert};
 use message_tree::{Item, Kind};
+use plan_core::Plan;
 use plan_text::read_plan;
-use std::alloc::Global;
+use std::alloc::{AllocError, Global};
 use std::test::Fail;
 
 const TWO_OPEN: &str =
@@ -14,7 +15,7 @@ const TWO_OPEN: &str =
 const LEVELS: usize = 3_000_000;
 
 // A proof that is `n` nodes deep, in one of four shapes.
-fn deep(alloc: Global, n: usize, shape: u32) -> Result<Cert, Fail> {
+fn deep(alloc: Global, n: usize, shape: u32) -> Result<Cert, AllocError> {
     let mut proof = Cert::Alike;
     for _ in 0..n {
         let node = Box::new(alloc, proof)?;
@@ -28,68 +29,81 @@ fn deep(alloc: Global, n: usize, shape: u32) -> Result<Cert, Fail> {
     Ok(proof)
 }
 
+// The one pair of the plan is not proved by the first of these, and so the plan is not accepted with them.
+fn is_refused(plan: Plan, proofs: &[Cert]) -> bool {
+    let Some(proof) = proofs.first() else {
+        return false;
+    };
+    if plan.pair_count() != 1 || check_pair(&plan, 0, proof) {
+        return false;
+    }
+    match accept_plan(plan, proofs) {
+        Ok(_) => false,
+        Err((_, fault)) => fault == CertFault::Pair(0),
+    }
+}
+
 #[test]
 fn proofs_of_3_000_000_levels_are_checked_and_dropped(rt: HostRuntime) -> Result<(), Fail> {
     let alloc = rt.alloc();
     for shape in 0..4 {
-        let plan = read_plan(alloc, TWO_OPEN.as_bytes())?;
-        assert_eq!(rt; plan.pair_count(), 1);
-        let proof = deep(alloc, LEVELS, shape)?;
-        assert_eq!(rt; check_pair(&plan, 0, &proof), false, "shape {shape}");
-        let proofs = vec![in alloc; proof]?;
-        let fault = accept_plan(plan, &proofs).err().map(|back| back.1);
-        assert_eq!(rt; fault, Some(CertFault::Pair(0)), "shape {shape}");
+        let proofs = vec![in alloc; deep(alloc, LEVELS, shape)?]?;
+        assert!(rt; is_refused(read_plan(alloc, TWO_OPEN.as_bytes())?, &proofs));
     }
     Ok(())
 }
 
-// A wire of `n` items that are all like this one.
-fn wire(alloc: Global, item: Item, n: usize) -> Result<Vec<Item>, Fail> {
+// So many items that are all like this one lead to a fault of the pair.
+fn is_fault_behind(alloc: Global, plan: &Plan, item: Item, n: usize) -> Result<bool, AllocError> {
     let mut wire = Vec::new(alloc);
     for _ in 0..n {
         wire.push(item)?;
     }
-    Ok(wire)
+    let fault = Fault {
+        wire,
+        first: Kind::Stop,
+        second: Kind::Sent,
+    };
+    Ok(plan.pair_count() == 1 && check_fault(plan, 0, &fault))
 }
 
 #[test]
 fn a_fault_behind_3_000_000_items_is_none_of_a_short_pair(rt: HostRuntime) -> Result<(), Fail> {
-    let alloc = rt.alloc();
-    let plan = read_plan(alloc, TWO_OPEN.as_bytes())?;
-    assert_eq!(rt; plan.pair_count(), 1);
+    let plan = read_plan(rt.alloc(), TWO_OPEN.as_bytes())?;
+    assert!(rt; plan.pair_count() == 1);
     for item in [Item::Sent(true), Item::Heard(false), Item::Again] {
-        let fault = Fault {
-            wire: wire(alloc, item, LEVELS)?,
-            first: Kind::Stop,
-            second: Kind::Sent,
-        };
-        assert_eq!(rt; check_fault(&plan, 0, &fault), false, "{item:?}");
+        assert!(rt; !is_fault_behind(rt.alloc(), &plan, item, LEVELS)?);
     }
     Ok(())
 }
 
+// How many bytes the certificate has with this proof alone.
+fn printed(alloc: Global, proof: Cert) -> Result<usize, AllocError> {
+    let proofs = vec![in alloc; proof]?;
+    Ok(print_cert(alloc, &CertText::Proofs(proofs))?.len())
+}
+
+// The first two lines, and for each node a letter or a dot, and what ends it.
 #[test]
 fn proofs_of_3_000_000_levels_are_printed(rt: HostRuntime) -> Result<(), Fail> {
     let alloc = rt.alloc();
-    let leaves = [LEVELS + 1, LEVELS + 1, LEVELS + 1, 1];
-    for (shape, leaves) in (0..4).zip(leaves) {
-        let proofs = vec![in alloc; deep(alloc, LEVELS, shape)?]?;
-        let text = print_cert(alloc, &CertText::Proofs(proofs))?;
-        // The first two lines, and for each node a letter or a dot, and what ends it
-        assert_eq!(rt; text.len(), 15 + 2 * (LEVELS + leaves), "shape {shape}");
+    for (shape, leaves) in [(0, LEVELS + 1), (1, LEVELS + 1), (2, LEVELS + 1), (3, 1)] {
+        assert!(rt; printed(alloc, deep(alloc, LEVELS, shape)?)? == 15 + 2 * (LEVELS + leaves));
     }
     Ok(())
 }
 
-// The text for debugging goes down level by level: a caller's proof may have 4,096 levels there.
+fn levels_written(alloc: Global, proof: &Cert, word: &str) -> Result<usize, AllocError> {
+    let text = format!(in alloc; "{proof:?}")?;
+    Ok(text.as_str().matches(word).count())
+}
+
+// The text for debugging goes down level by level: a caller's proof may have 4,096 levels there. Each has this word.
 #[test]
 fn proofs_of_4096_levels_are_written_for_debugging(rt: HostRuntime) -> Result<(), Fail> {
     let alloc = rt.alloc();
-    // The word that each level has
     for (shape, word) in [(0, "Byte"), (1, "Byte"), (2, "Read"), (3, "Again")] {
-        let proof = deep(alloc, 4096, shape)?;
-        let text = format!(in alloc; "{proof:?}")?;
-        assert_eq!(rt; text.as_str().matches(word).count(), 4096);
+        assert!(rt; levels_written(alloc, &deep(alloc, 4096, shape)?, word)? == 4096);
     }
     Ok(())
 }

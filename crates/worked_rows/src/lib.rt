@@ -15,12 +15,6 @@ mod interruptions;
 #[cfg(test)]
 mod limits;
 #[cfg(test)]
-mod memory;
-#[cfg(test)]
-mod names;
-#[cfg(test)]
-mod proofs;
-#[cfg(test)]
-mod runs;
+mod tables;
 #[cfg(test)]
 mod workers;

@@ -3,84 +3,156 @@
 use pair_walk::{Outcome, Verdict, first_fault, walk};
 use plan_core::Plan;
 use plan_text::read_plan;
-use std::alloc::Global;
-use std::process::Abort;
+use std::alloc::{AllocError, Global};
 use std::test::Fail;
-use verdicts::{Faults, faults, table};
+use verdicts::{Faults, Table, faults, table};
 
 // 32 controllers that send 16 messages each, and 32 interrupts. Message m0 ends where the others send a byte, so each pair
 // of m0 and another message has a fault, the first pair among them. The last two interrupts have one address.
-fn widest_plan(alloc: Global) -> Result<String, Fail> {
-    let mut text = String::new(alloc);
-    text.push_str("plan 1\nmessage m0 write 1001000 stop else stop ;\n")?;
-    for k in 1..16 {
-        writeln!(
-            text,
-            "message m{k} write 1001000 xxxxxxxx stop else stop else stop ;"
-        )?;
-    }
-    for c in 0..32 {
-        let messages = match c % 2 {
-            0 => "m0 m1 m2 m3 m4 m5 m6 m7 m8 m9 m10 m11 m12 m13 m14 m15",
-            _ => "m1 m2 m3 m4 m5 m6 m7 m8 m9 m10 m11 m12 m13 m14 m15 m0",
-        };
-        writeln!(text, "controller c{c} {messages} ;")?;
-    }
-    for high in ["00", "01"] {
-        for low in [
-            "0000", "0001", "0010", "0011", "0100", "0101", "0110", "0111", "1000", "1001", "1010",
-            "1011", "1100", "1101", "1110",
-        ] {
-            writeln!(text, "interrupt i{high}{low} 1{high}{low} ;")?;
-        }
-    }
-    text.push_str("interrupt last 1111111 ;\ninterrupt other 1111111 ;\n")?;
-    Ok(text)
-}
+const WIDEST: &str = "\
+plan 1
+message m0 write 1001000 stop else stop ;
+message m1 write 1001000 xxxxxxxx stop else stop else stop ;
+message m2 write 1001000 xxxxxxxx stop else stop else stop ;
+message m3 write 1001000 xxxxxxxx stop else stop else stop ;
+message m4 write 1001000 xxxxxxxx stop else stop else stop ;
+message m5 write 1001000 xxxxxxxx stop else stop else stop ;
+message m6 write 1001000 xxxxxxxx stop else stop else stop ;
+message m7 write 1001000 xxxxxxxx stop else stop else stop ;
+message m8 write 1001000 xxxxxxxx stop else stop else stop ;
+message m9 write 1001000 xxxxxxxx stop else stop else stop ;
+message m10 write 1001000 xxxxxxxx stop else stop else stop ;
+message m11 write 1001000 xxxxxxxx stop else stop else stop ;
+message m12 write 1001000 xxxxxxxx stop else stop else stop ;
+message m13 write 1001000 xxxxxxxx stop else stop else stop ;
+message m14 write 1001000 xxxxxxxx stop else stop else stop ;
+message m15 write 1001000 xxxxxxxx stop else stop else stop ;
+controller c0 m0 m1 m2 m3 m4 m5 m6 m7 m8 m9 m10 m11 m12 m13 m14 m15 ;
+controller c1 m1 m2 m3 m4 m5 m6 m7 m8 m9 m10 m11 m12 m13 m14 m15 m0 ;
+controller c2 m0 m1 m2 m3 m4 m5 m6 m7 m8 m9 m10 m11 m12 m13 m14 m15 ;
+controller c3 m1 m2 m3 m4 m5 m6 m7 m8 m9 m10 m11 m12 m13 m14 m15 m0 ;
+controller c4 m0 m1 m2 m3 m4 m5 m6 m7 m8 m9 m10 m11 m12 m13 m14 m15 ;
+controller c5 m1 m2 m3 m4 m5 m6 m7 m8 m9 m10 m11 m12 m13 m14 m15 m0 ;
+controller c6 m0 m1 m2 m3 m4 m5 m6 m7 m8 m9 m10 m11 m12 m13 m14 m15 ;
+controller c7 m1 m2 m3 m4 m5 m6 m7 m8 m9 m10 m11 m12 m13 m14 m15 m0 ;
+controller c8 m0 m1 m2 m3 m4 m5 m6 m7 m8 m9 m10 m11 m12 m13 m14 m15 ;
+controller c9 m1 m2 m3 m4 m5 m6 m7 m8 m9 m10 m11 m12 m13 m14 m15 m0 ;
+controller c10 m0 m1 m2 m3 m4 m5 m6 m7 m8 m9 m10 m11 m12 m13 m14 m15 ;
+controller c11 m1 m2 m3 m4 m5 m6 m7 m8 m9 m10 m11 m12 m13 m14 m15 m0 ;
+controller c12 m0 m1 m2 m3 m4 m5 m6 m7 m8 m9 m10 m11 m12 m13 m14 m15 ;
+controller c13 m1 m2 m3 m4 m5 m6 m7 m8 m9 m10 m11 m12 m13 m14 m15 m0 ;
+controller c14 m0 m1 m2 m3 m4 m5 m6 m7 m8 m9 m10 m11 m12 m13 m14 m15 ;
+controller c15 m1 m2 m3 m4 m5 m6 m7 m8 m9 m10 m11 m12 m13 m14 m15 m0 ;
+controller c16 m0 m1 m2 m3 m4 m5 m6 m7 m8 m9 m10 m11 m12 m13 m14 m15 ;
+controller c17 m1 m2 m3 m4 m5 m6 m7 m8 m9 m10 m11 m12 m13 m14 m15 m0 ;
+controller c18 m0 m1 m2 m3 m4 m5 m6 m7 m8 m9 m10 m11 m12 m13 m14 m15 ;
+controller c19 m1 m2 m3 m4 m5 m6 m7 m8 m9 m10 m11 m12 m13 m14 m15 m0 ;
+controller c20 m0 m1 m2 m3 m4 m5 m6 m7 m8 m9 m10 m11 m12 m13 m14 m15 ;
+controller c21 m1 m2 m3 m4 m5 m6 m7 m8 m9 m10 m11 m12 m13 m14 m15 m0 ;
+controller c22 m0 m1 m2 m3 m4 m5 m6 m7 m8 m9 m10 m11 m12 m13 m14 m15 ;
+controller c23 m1 m2 m3 m4 m5 m6 m7 m8 m9 m10 m11 m12 m13 m14 m15 m0 ;
+controller c24 m0 m1 m2 m3 m4 m5 m6 m7 m8 m9 m10 m11 m12 m13 m14 m15 ;
+controller c25 m1 m2 m3 m4 m5 m6 m7 m8 m9 m10 m11 m12 m13 m14 m15 m0 ;
+controller c26 m0 m1 m2 m3 m4 m5 m6 m7 m8 m9 m10 m11 m12 m13 m14 m15 ;
+controller c27 m1 m2 m3 m4 m5 m6 m7 m8 m9 m10 m11 m12 m13 m14 m15 m0 ;
+controller c28 m0 m1 m2 m3 m4 m5 m6 m7 m8 m9 m10 m11 m12 m13 m14 m15 ;
+controller c29 m1 m2 m3 m4 m5 m6 m7 m8 m9 m10 m11 m12 m13 m14 m15 m0 ;
+controller c30 m0 m1 m2 m3 m4 m5 m6 m7 m8 m9 m10 m11 m12 m13 m14 m15 ;
+controller c31 m1 m2 m3 m4 m5 m6 m7 m8 m9 m10 m11 m12 m13 m14 m15 m0 ;
+interrupt i000000 1000000 ;
+interrupt i000001 1000001 ;
+interrupt i000010 1000010 ;
+interrupt i000011 1000011 ;
+interrupt i000100 1000100 ;
+interrupt i000101 1000101 ;
+interrupt i000110 1000110 ;
+interrupt i000111 1000111 ;
+interrupt i001000 1001000 ;
+interrupt i001001 1001001 ;
+interrupt i001010 1001010 ;
+interrupt i001011 1001011 ;
+interrupt i001100 1001100 ;
+interrupt i001101 1001101 ;
+interrupt i001110 1001110 ;
+interrupt i010000 1010000 ;
+interrupt i010001 1010001 ;
+interrupt i010010 1010010 ;
+interrupt i010011 1010011 ;
+interrupt i010100 1010100 ;
+interrupt i010101 1010101 ;
+interrupt i010110 1010110 ;
+interrupt i010111 1010111 ;
+interrupt i011000 1011000 ;
+interrupt i011001 1011001 ;
+interrupt i011010 1011010 ;
+interrupt i011011 1011011 ;
+interrupt i011100 1011100 ;
+interrupt i011101 1011101 ;
+interrupt i011110 1011110 ;
+interrupt last 1111111 ;
+interrupt other 1111111 ;
+";
 
 fn is_unsafe(verdict: &Verdict) -> bool {
     matches!(&verdict.outcome, Outcome::Unsafe(_))
 }
 
-fn expect_verdicts(rt: &impl Abort, verdicts: &[Verdict]) {
-    assert_eq!(rt; verdicts.len(), 143_856);
-    assert_eq!(rt; verdicts.first().map(is_unsafe), Some(true));
-    assert_eq!(rt; verdicts.last().map(is_unsafe), Some(true));
-    // 496 pairs of controllers with 30 pairs of m0 and another message, and the two interrupts
-    let faults = verdicts.iter().filter(|verdict| is_unsafe(verdict)).count();
-    assert_eq!(rt; faults, 14_881);
-}
+// 496 pairs of controllers have 30 pairs each of m0 and another message, and there are the two interrupts.
+const FAULTS: usize = 14_881;
 
-fn expect_faults(rt: &impl Abort, faults: &Faults) {
-    assert_eq!(rt; faults.len(), 14_881);
-    assert_eq!(rt; faults.get(0).0, 0);
-    assert_eq!(rt; faults.get(14_880).0, 143_855);
-    assert_eq!(rt; faults.is_safe(), false);
-}
-
-fn expect_walks(rt: &impl Abort, alloc: Global, plan: &Plan) -> Result<(), Fail> {
-    assert_eq!(rt; plan.pair_count(), 143_856);
-    for i in [0, 1, 2, 71_928, 143_854, 143_855] {
-        let verdict = walk(alloc, plan, i)?;
-        assert_eq!(rt; verdict.pair, i);
+fn has_verdicts(table: &Table) -> bool {
+    let mut count = 0usize;
+    for verdict in table.verdicts() {
+        if is_unsafe(verdict) {
+            count = count.saturating_add(1);
+        }
     }
-    assert_eq!(rt; is_unsafe(&walk(alloc, plan, 0)?), true);
-    assert_eq!(rt; is_unsafe(&walk(alloc, plan, 143_855)?), true);
-    assert_eq!(rt; first_fault(alloc, plan, 0)?.is_some(), true);
-    assert_eq!(rt; first_fault(alloc, plan, 16)?.is_some(), false);
-    assert_eq!(rt; first_fault(alloc, plan, 143_855)?.is_some(), true);
-    Ok(())
+    let ends = (table.verdicts().first(), table.verdicts().last());
+    count == FAULTS
+        && table.verdicts().len() == 143_856
+        && matches!(ends, (Some(first), Some(last)) if is_unsafe(first) && is_unsafe(last))
+        && !table.is_safe()
+}
+
+fn has_faults(faults: &Faults) -> bool {
+    faults.len() == FAULTS
+        && faults.get(0).0 == 0
+        && faults.get(14_880).0 == 143_855
+        && !faults.is_safe()
+}
+
+// Whether the walk of this pair has its number, and finds a fault.
+fn is_walked(alloc: Global, plan: &Plan, i: u32) -> Result<Option<bool>, AllocError> {
+    if i >= plan.pair_count() {
+        return Ok(None);
+    }
+    let verdict = walk(alloc, plan, i)?;
+    let is_unsafe = is_unsafe(&verdict);
+    let has_fault = first_fault(alloc, plan, i)?.is_some();
+    Ok(if verdict.pair == i && is_unsafe == has_fault {
+        Some(is_unsafe)
+    } else {
+        None
+    })
 }
 
 #[test]
 fn the_widest_plan_has_all_its_verdicts(rt: HostRuntime) -> Result<(), Fail> {
     let alloc = rt.alloc();
-    let text = widest_plan(alloc)?;
-    let plan = read_plan(alloc, text.as_bytes())?;
-    expect_walks(&rt, alloc, &plan)?;
-    let table = table(alloc, &plan)?;
-    expect_verdicts(&rt, table.verdicts());
-    assert_eq!(rt; table.is_safe(), false);
-    expect_faults(&rt, &faults(alloc, &plan)?);
+    let plan = read_plan(alloc, WIDEST.as_bytes())?;
+    for (i, is_unsafe) in [
+        (0, true),
+        (1, true),
+        (2, true),
+        (16, false),
+        (71_928, false),
+        (143_854, false),
+        (143_855, true),
+    ] {
+        assert_eq!(rt; is_walked(alloc, &plan, i)?, Some(is_unsafe), "{i}");
+    }
+    assert!(rt; is_walked(alloc, &plan, 143_856)?.is_none());
+    assert!(rt; has_verdicts(&table(alloc, &plan)?));
+    assert!(rt; has_faults(&faults(alloc, &plan)?));
     Ok(())
 }

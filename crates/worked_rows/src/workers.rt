@@ -1,13 +1,13 @@
 // What several workers find, and that they really work in threads of their own.
 
-use crate::memory::{page, source, written};
-use crate::proofs::forty_sendings;
+use plan_core::Plan;
 use plan_text::read_plan;
-use report::run_check;
+use report::{Watched, run_check};
 use std::alloc::{AllocError, Global};
 use std::sync::atomic::{AtomicU64, Ordering};
 use std::test::*;
 use std::thread;
+use std::thread::Threads;
 use verdicts::{Gate, MOST_WORKERS, NoGate, TableError, faults, faults_with, table, table_with};
 
 /// How often a worker looks at the flags of the others before a test fails.
@@ -16,45 +16,88 @@ const MOST_TURNS: u32 = 1_000_000;
 /// How often each plan is checked with workers that yield at random.
 const RUNS: u32 = 200;
 
+// Eight controllers that each send the same five messages.
+const FORTY: &str = "\
+plan 1
+message m0 write 1001000 00000000 stop else stop else stop ;
+message m1 write 1001000 00000001 stop else stop else stop ;
+message m2 write 1001000 0000001x stop else stop else stop ;
+message m3 write 1001000 00000100 stop else stop else stop ;
+message m4 write 1001000 1xxxxxxx stop else stop else stop ;
+controller c0 m0 m1 m2 m3 m4 ;
+controller c1 m0 m1 m2 m3 m4 ;
+controller c2 m0 m1 m2 m3 m4 ;
+controller c3 m0 m1 m2 m3 m4 ;
+controller c4 m0 m1 m2 m3 m4 ;
+controller c5 m0 m1 m2 m3 m4 ;
+controller c6 m0 m1 m2 m3 m4 ;
+controller c7 m0 m1 m2 m3 m4 ;
+";
+
 // Eight controllers that each send the same three messages, of which two clash.
-fn clashing_sendings(alloc: Global) -> Result<String, AllocError> {
-    let mut plan = String::from_str(alloc, "plan 1\n")?;
-    plan.push_str("message m write 1001000 stop else stop ;\n")?;
-    plan.push_str("message n write 1001000 0000000x stop else stop else stop ;\n")?;
-    plan.push_str("message o write 1001001 stop else stop ;\n")?;
-    for k in 0..8u8 {
-        writeln!(plan, "controller c{k} m n o ;")?;
-    }
-    Ok(plan)
+const CLASHING: &str = "\
+plan 1
+message m write 1001000 stop else stop ;
+message n write 1001000 0000000x stop else stop else stop ;
+message o write 1001001 stop else stop ;
+controller c0 m n o ;
+controller c1 m n o ;
+controller c2 m n o ;
+controller c3 m n o ;
+controller c4 m n o ;
+controller c5 m n o ;
+controller c6 m n o ;
+controller c7 m n o ;
+";
+
+// ---- what is found
+
+// All verdicts, as text: by one thread, and by so many workers.
+fn table_text(alloc: Global, plan: &Plan) -> Result<String, AllocError> {
+    let table = table(alloc, plan)?;
+    format!(in alloc; "{table:?}")
+}
+
+fn shared_table_text<R: Threads + Sync>(
+    rt: &R,
+    alloc: Global,
+    plan: &Plan,
+    workers: u32,
+) -> Result<String, TableError> {
+    let table = table_with(rt, alloc, plan, workers, &NoGate)?;
+    Ok(format!(in alloc; "{table:?}")?)
+}
+
+// All faults, as text: by one thread, and by so many workers.
+fn faults_text(alloc: Global, plan: &Plan) -> Result<String, AllocError> {
+    let faults = faults(alloc, plan)?;
+    format!(in alloc; "{faults:?}")
+}
+
+fn shared_faults_text<R: Threads + Sync, G: Gate + Sync>(
+    rt: &R,
+    alloc: Global,
+    plan: &Plan,
+    workers: u32,
+    gate: &G,
+) -> Result<String, TableError> {
+    let faults = faults_with(rt, alloc, plan, workers, gate)?;
+    Ok(format!(in alloc; "{faults:?}")?)
 }
 
 #[test]
-fn workers_make_the_table_of_one_thread(rt: HostRuntime) -> Result<(), Fail> {
+fn workers_find_what_one_thread_finds(rt: HostRuntime) -> Result<(), Fail> {
     let alloc = rt.alloc();
-    for text in [forty_sendings(alloc)?, clashing_sendings(alloc)?] {
+    for text in [FORTY, CLASHING] {
         let plan = read_plan(alloc, text.as_bytes())?;
-        let alone = table(alloc, &plan)?;
-        let alone = format!(in alloc; "{alone:?}")?;
         for workers in [1u32, 2, 8] {
-            let together = table_with(&rt, alloc, &plan, workers, &NoGate)?;
-            let together = format!(in alloc; "{together:?}")?;
-            assert_eq!(rt; together.as_str(), alone.as_str(), "{workers} workers");
-        }
-    }
-    Ok(())
-}
-
-#[test]
-fn workers_find_the_faults_of_one_thread(rt: HostRuntime) -> Result<(), Fail> {
-    let alloc = rt.alloc();
-    for text in [forty_sendings(alloc)?, clashing_sendings(alloc)?] {
-        let plan = read_plan(alloc, text.as_bytes())?;
-        let alone = faults(alloc, &plan)?;
-        let alone = format!(in alloc; "{alone:?}")?;
-        for workers in [1u32, 2, 8] {
-            let together = faults_with(&rt, alloc, &plan, workers, &NoGate)?;
-            let together = format!(in alloc; "{together:?}")?;
-            assert_eq!(rt; together.as_str(), alone.as_str(), "{workers} workers");
+            assert!(rt;
+                shared_table_text(&rt, alloc, &plan, workers)? == table_text(alloc, &plan)?
+            );
+            assert!(rt;
+                shared_faults_text(&rt, alloc, &plan, workers, &NoGate)?
+                    == faults_text(alloc, &plan)?
+            );
         }
     }
     Ok(())
@@ -63,52 +106,17 @@ fn workers_find_the_faults_of_one_thread(rt: HostRuntime) -> Result<(), Fail> {
 #[test]
 fn no_worker_and_nine_workers_are_refused(rt: HostRuntime) -> Result<(), Fail> {
     let alloc = rt.alloc();
-    let text = forty_sendings(alloc)?;
-    let plan = read_plan(alloc, text.as_bytes())?;
+    let plan = read_plan(alloc, FORTY.as_bytes())?;
     for workers in [0u32, 9] {
-        let refused = Some(TableError::Workers);
-        assert_eq!(rt;
-            table_with(&rt, alloc, &plan, workers, &NoGate).err(),
-            refused
-        );
-        assert_eq!(rt;
-            faults_with(&rt, alloc, &plan, workers, &NoGate).err(),
-            refused
-        );
+        let found = table_with(&rt, alloc, &plan, workers, &NoGate).err();
+        assert!(rt; found == Some(TableError::Workers));
+        let found = faults_with(&rt, alloc, &plan, workers, &NoGate).err();
+        assert!(rt; found == Some(TableError::Workers));
     }
     Ok(())
 }
 
-#[test]
-fn each_number_of_workers_writes_the_same_report(rt: HostRuntime) -> Result<(), Fail> {
-    let alloc = rt.alloc();
-    for text in [forty_sendings(alloc)?, clashing_sendings(alloc)?] {
-        let mut alone = page(alloc);
-        let status = run_check(
-            &rt,
-            alloc,
-            &mut source(text.as_bytes()),
-            &mut alone,
-            1,
-            &NoGate,
-        )?;
-        let alone = written(alone)?;
-        for workers in 2..=MOST_WORKERS {
-            let mut together = page(alloc);
-            let mut plan = source(text.as_bytes());
-            assert_eq!(rt;
-                run_check(&rt, alloc, &mut plan, &mut together, workers, &NoGate),
-                Ok(status)
-            );
-            assert_eq!(rt;
-                written(together)?.as_str(),
-                alone.as_str(),
-                "{workers} workers"
-            );
-        }
-    }
-    Ok(())
-}
+// ---- threads
 
 // Each of the first pieces of work, one for each worker, raises a flag and waits for the flags of the others. All pieces
 // are counted as they begin and as they end.
@@ -135,21 +143,13 @@ impl Flags {
         }
     }
 
-    // How many flags were raised, how many workers waited in vain, and how many different workers raised one.
-    fn told(&self) -> (u64, u64, u32) {
-        (
-            self.raised.load(Ordering::SeqCst),
-            self.missed.load(Ordering::SeqCst),
-            self.who.load(Ordering::SeqCst).count_ones(),
-        )
-    }
-
-    // How many pieces of work have begun, and how many have ended.
-    fn counted(&self) -> (u64, u64) {
-        (
-            self.begun.load(Ordering::SeqCst),
-            self.ended.load(Ordering::SeqCst),
-        )
+    // Whether each worker raised a flag, none waited in vain, and so many pieces of work have begun and ended.
+    fn have_met(&self, pieces: u64) -> bool {
+        self.raised.load(Ordering::SeqCst) == self.workers
+            && self.missed.load(Ordering::SeqCst) == 0
+            && u64::from(self.who.load(Ordering::SeqCst).count_ones()) == self.workers
+            && self.begun.load(Ordering::SeqCst) == pieces
+            && self.ended.load(Ordering::SeqCst) == pieces
     }
 }
 
@@ -176,50 +176,55 @@ impl Gate for Flags {
     }
 }
 
+// 40 participants of 8 controllers are 700 pairs, and five messages have 25 places of two senders.
+fn meet_at_tables<R: Threads + Sync>(
+    rt: &R,
+    alloc: Global,
+    plan: &Plan,
+    workers: u32,
+) -> Result<bool, TableError> {
+    let flags = Flags::new(workers);
+    table_with(rt, alloc, plan, workers, &flags)?;
+    Ok(flags.have_met(700))
+}
+
+fn meet_at_faults<R: Threads + Sync>(
+    rt: &R,
+    alloc: Global,
+    plan: &Plan,
+    workers: u32,
+) -> Result<bool, TableError> {
+    let flags = Flags::new(workers);
+    faults_with(rt, alloc, plan, workers, &flags)?;
+    Ok(flags.have_met(25))
+}
+
 #[test]
-fn all_workers_walk_at_the_same_time(rt: HostRuntime) -> Result<(), Fail> {
+fn all_workers_walk_and_compare_at_the_same_time(rt: HostRuntime) -> Result<(), Fail> {
     let alloc = rt.alloc();
-    let text = forty_sendings(alloc)?;
-    let plan = read_plan(alloc, text.as_bytes())?;
+    let plan = read_plan(alloc, FORTY.as_bytes())?;
     for workers in [2u32, 8] {
-        let flags = Flags::new(workers);
-        table_with(&rt, alloc, &plan, workers, &flags)?;
-        assert_eq!(rt; flags.told(), (u64::from(workers), 0, workers));
-        // 40 participants of 8 controllers are 700 pairs.
-        assert_eq!(rt; flags.counted(), (700, 700));
+        assert!(rt; meet_at_tables(&rt, alloc, &plan, workers)?);
+        assert!(rt; meet_at_faults(&rt, alloc, &plan, workers)?);
     }
     Ok(())
 }
 
-#[test]
-fn all_workers_compare_senders_at_the_same_time(rt: HostRuntime) -> Result<(), Fail> {
-    let alloc = rt.alloc();
-    let text = forty_sendings(alloc)?;
-    let plan = read_plan(alloc, text.as_bytes())?;
-    for workers in [2u32, 8] {
-        let flags = Flags::new(workers);
-        faults_with(&rt, alloc, &plan, workers, &flags)?;
-        assert_eq!(rt; flags.told(), (u64::from(workers), 0, workers));
-        // Five messages have 25 places of two senders.
-        assert_eq!(rt; flags.counted(), (25, 25));
-    }
-    Ok(())
+fn meet_in_a_check<R: Threads + Sync>(rt: &R, alloc: Global, workers: u32) -> bool {
+    let flags = Flags::new(workers);
+    let mut plan = Watched::new(FORTY.as_bytes());
+    let mut page = Watched::new(Vec::new(alloc));
+    let ended = run_check(rt, alloc, &mut plan, &mut page, workers, &flags);
+    ended.is_ok()
+        && page.into_inner().as_slice() == b"safe: 700 pairs\n".as_slice()
+        && flags.have_met(25)
 }
 
 #[test]
-fn a_check_uses_all_its_workers(rt: HostRuntime) -> Result<(), Fail> {
-    let alloc = rt.alloc();
-    let text = forty_sendings(alloc)?;
+fn a_check_uses_all_its_workers(rt: HostRuntime) {
     for workers in [2u32, 8] {
-        let flags = Flags::new(workers);
-        let mut page = page(alloc);
-        let mut plan = source(text.as_bytes());
-        run_check(&rt, alloc, &mut plan, &mut page, workers, &flags)?;
-        assert_eq!(rt; written(page)?.as_str(), "safe: 700 pairs\n");
-        assert_eq!(rt; flags.told(), (u64::from(workers), 0, workers));
-        assert_eq!(rt; flags.counted(), (25, 25));
+        assert!(rt; meet_in_a_check(&rt, rt.alloc(), workers));
     }
-    Ok(())
 }
 
 // Yields now and then, as a mixed count of the calls says.
@@ -253,15 +258,12 @@ fn workers_that_yield_at_random_find_the_same(rt: HostRuntime) -> Result<(), Fai
     let gate = Yields {
         calls: AtomicU64::new(0),
     };
-    for text in [forty_sendings(alloc)?, clashing_sendings(alloc)?] {
+    for text in [FORTY, CLASHING] {
         let plan = read_plan(alloc, text.as_bytes())?;
-        let alone = faults(alloc, &plan)?;
-        let alone = format!(in alloc; "{alone:?}")?;
+        let alone = faults_text(alloc, &plan)?;
         for run in 0..RUNS {
             let workers = 2 + run % (MOST_WORKERS - 1);
-            let found = faults_with(&rt, alloc, &plan, workers, &gate)?;
-            let found = format!(in alloc; "{found:?}")?;
-            assert_eq!(rt; found.as_str(), alone.as_str(), "{workers} workers");
+            assert!(rt; shared_faults_text(&rt, alloc, &plan, workers, &gate)? == alone);
         }
     }
     Ok(())
