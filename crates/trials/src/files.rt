@@ -8,11 +8,12 @@ use std::alloc::Global;
 use std::fs;
 use std::rt::Files;
 
-pub const FILES: [&str; 6] = [
+pub const FILES: [&str; 7] = [
     "checks",
     "certificates",
     "captures",
     "rehearsals",
+    "seats",
     "refusals",
     "spellings",
 ];
