@@ -1,5 +1,5 @@
-//! Tests of the bench, through the public calls of `bus_bench`. They stand apart from that crate, which is then proved
-//! once and not once more with its tests.
+//! Tests of the bench that no case of `trials` can say: seats that are asked in a random order, and rehearsals whose
+//! threads are held by gates.
 #![tactic(auto)]
 
 #[cfg(test)]
@@ -7,26 +7,10 @@ mod agreement;
 #[cfg(test)]
 mod dice;
 #[cfg(test)]
-mod ends;
-#[cfg(test)]
-mod limits;
-#[cfg(test)]
 mod plain;
-#[cfg(test)]
-mod plans;
-#[cfg(test)]
-mod ranges;
 #[cfg(test)]
 mod rehearsals;
 #[cfg(test)]
 mod safe_plans;
 #[cfg(test)]
 mod sittings;
-#[cfg(test)]
-mod starters;
-#[cfg(test)]
-mod threads;
-#[cfg(test)]
-mod turns;
-#[cfg(test)]
-mod waits;

@@ -140,26 +140,3 @@ fn a_bench_plays_generated_plans_as_the_plain_program_does(rt: HostRuntime) -> R
     assert!(rt; slots > 300 * 15, "{slots}");
     Ok(())
 }
-
-#[test]
-fn the_order_in_which_seats_are_asked_changes_nothing(rt: HostRuntime) -> Result<(), Fail> {
-    let alloc = rt.alloc();
-    let mut dice = Dice { state: 7 };
-    for text in [THREE, RANGES] {
-        let accepted = accepted(alloc, read_plan(alloc, text.as_bytes())?)?;
-        for _ in 0..10 {
-            let case = random_case(alloc, accepted.plan(), &mut dice)?;
-            for _ in 0..20 {
-                assert_played(&rt, alloc, &accepted, &case, &mut dice)?;
-            }
-        }
-    }
-    for _ in 0..5 {
-        let accepted = accepted(alloc, safe_plan(alloc, 8, &mut dice)?)?;
-        let case = random_case(alloc, accepted.plan(), &mut dice)?;
-        for _ in 0..20 {
-            assert_played(&rt, alloc, &accepted, &case, &mut dice)?;
-        }
-    }
-    Ok(())
-}

@@ -85,23 +85,16 @@ seen_on fill sight.Waiting old new saw filled = subst (IsFilledSeat fill) (sym s
 seen_on fill (sight.On w) old new saw filled = subst (IsFilledSeat fill) (sym saw.3) (filled_slot fill old w (standing_behind w) saw.1 filled)
 seen_on fill (sight.Lost w) old new saw filled = subst (IsFilledSeat fill) (sym saw.3) (filled_slot fill old w standing.Lost saw.1 filled)
 
-bench_stays : (sight : Sight) (old new : seats.Player) → Saw sight old new → new.bench ≡ old.bench
-bench_stays sight.Ended old new saw = ap (λ (s : seats.Player). s.bench) saw.1
-bench_stays sight.NotPut old new saw = ap (λ (s : seats.Player). s.bench) saw.2
-bench_stays sight.Waiting old new saw = ap (λ (s : seats.Player). s.bench) saw.2
-bench_stays (sight.On w) old new saw = ap (λ (s : seats.Player). s.bench) saw.3
-bench_stays (sight.Lost w) old new saw = ap (λ (s : seats.Player). s.bench) saw.3
-
 -- a player that has looked
 pub looks_on : (bench : BenchName) (fill : Bool) (player : Player) (sight : Sight) (new : seats.Player) (stage : Stage) (slot : ℕ) →
-    Saw sight player.seat new → (player.stage ≡ Looks) →
+    Saw sight player.seat new → new.bench ≡ player.seat.bench → (player.stage ≡ Looks) →
     ((old after : seats.Player) → old.standing ≡ standing.Playing → HasPutHere old → Saw sight old after → IsInStep stage after) →
     PlaysOn bench fill player →
     PlaysOn bench fill (record { seat = new; number = player.number; slot = slot; stage = stage })
-looks_on bench fill player sight new stage slot saw looks next on =
+looks_on bench fill player sight new stage slot saw same looks next on =
     let step : IsInStep Looks player.seat = subst (λ (s : Stage). IsInStep s player.seat) looks on.in_step in
     record {
-      seat_of = bench_stays sight player.seat new saw ∙ on.seat_of;
+      seat_of = same ∙ on.seat_of;
       in_step = next player.seat new step.0 step.1 saw;
       filled = seen_on fill sight player.seat new saw on.filled;
     }

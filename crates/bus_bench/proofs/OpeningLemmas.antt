@@ -18,11 +18,13 @@ use Rattle.bus_bench.specs.declared.seats.Standing.TheVariants.{Playing}
 use Rattle.bus_bench.specs.Hands.{hand_game, setup_game, starter}
 use Rattle.bus_bench.specs.Opening.{IsHanding}
 use Rattle.bus_bench.specs.Rule.{SLOTS, holds_at}
-use Rattle.bus_bench.specs.Seats.{BenchName, game_of, fresh}
+use Rattle.bus_bench.specs.Seats.{BenchName, Player, game_of, fresh}
 use Rattle.bus_bench.specs.Steps.{handing_out, handed_out}
 use Rattle.bus_bench.specs.Tickets.{bench_name, setup_of, IsBench, ticket_bench, IsSeat}
 use Rattle.std.specs.List.{range_with_len}
+use Rattle.std.specs.Prelude.{All}
 use Rattle.std.proofs.lemmas.List.{map-append}
+use Rattle.std.proofs.lemmas.List.Elements.{All-map, All-same}
 use Rattle.plan_core.specs.declared.plans.Plan.{Plan}
 use Rattle.plan_core.specs.Faults.{IsSafe}
 use Rattle.plan_core.proofs.PlanLemmas.{limits_of}
@@ -84,6 +86,12 @@ one_more_seat bench n =
     let here : 0 + n ≡ n = omega arith in
     let next : suc n ≡ n + 1 = omega arith in
     sym (map-append (fresh bench) (range_with_len 0 n) (n ∷ [])) ∙ ap (map (fresh bench)) (ap (λ (k : ℕ). range_with_len 0 n ++ k ∷ []) (sym here) ∙ sym (next_place 0 n) ∙ ap (range_with_len 0) next)
+
+-- the seats that an opened bench hands out are its own
+pub of_its_bench : (bench : BenchName) (n : ℕ) (seats : List Player) → seats ≡ map (fresh bench) (range_with_len 0 n) → All (λ s. s.bench ≡ bench) seats
+of_its_bench bench n seats e =
+    let P : Player → Type 0 = λ s. s.bench ≡ bench in
+    All-same P seats (map (fresh bench) (range_with_len 0 n)) e (All-map P (fresh bench) (range_with_len 0 n) (λ k d lt. refl))
 
 -- what a bench is opened with is a game
 pub set_up : (plan : Plan) (starters starters' : List ℕ) (answers answers' : List Bool) → starters' ≡ starters → answers' ≡ answers → IsSafe (plan_contents plan) → starters_refusal (plan_contents plan) starters ≡ None → IsGame (record { plan = plan_contents plan; starters = starters'; answers = answers' })

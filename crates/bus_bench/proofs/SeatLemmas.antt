@@ -29,6 +29,7 @@ use Rattle.bus_bench.specs.Hands.{hand_game, starter}
 use Rattle.bus_bench.specs.Rule.{SLOTS, holds_at}
 use Rattle.bus_bench.specs.Steps.{IsJust, HandPlayed, put_on, HasPut, own_item, item_shown, seen_on, HasSeen}
 use Rattle.bus_bench.specs.Seats as seats
+use Rattle.bus_bench.specs.declared.errors.Sight.{Sight}
 use Rattle.bus_bench.specs.declared.errors.Sight.TheVariants as sight
 use Rattle.bus_bench.specs.Tickets.{bench_name, IsBench, ticket_bench, player_of, is_lost, HasOwn, IsPlaying, StandsSo, IsSeat}
 use Rattle.bus_bench.proofs.ViewLemmas.{at_those, one_or_other}
@@ -366,3 +367,11 @@ not_one x y b is off e = let same : is_item x y ≡ true = ap (λ (w : Item). is
 
 pub is_one : (x y : Item) (b : Bool) → b ≡ is_item x y → b ≡ true → x ≡ y
 is_one x y b is on = same_item x y (sym is ∙ on)
+
+-- a seat that has looked is where it was
+pub saw_at_bench : (seen : Sight) (old new : seats.Player) → seats.Saw seen old new → new.bench ≡ old.bench
+saw_at_bench sight.Ended old new saw = ap (λ (s : seats.Player). s.bench) saw.1
+saw_at_bench sight.NotPut old new saw = ap (λ (s : seats.Player). s.bench) saw.2
+saw_at_bench sight.Waiting old new saw = ap (λ (s : seats.Player). s.bench) saw.2
+saw_at_bench (sight.On w) old new saw = ap (λ (s : seats.Player). s.bench) saw.3
+saw_at_bench (sight.Lost w) old new saw = ap (λ (s : seats.Player). s.bench) saw.3

@@ -1,6 +1,6 @@
 // Opening a bench.
 
-ghost use Rattle.std.specs.Prelude.{◌≡◌, ◌<◌, ◌+◌, [], length, map, replicate, IfOk, IfErr, Some, None};
+ghost use Rattle.std.specs.Prelude.{◌≡◌, ◌<◌, ◌+◌, [], All, length, map, replicate, IfOk, IfErr, Some, None};
 ghost use Rattle.std.specs.List.{range_with_len};
 ghost use Rattle.plan_core.specs.Faults.{IsSafe};
 ghost use Rattle.plan_core.specs.PlanContents.{plan_contents};
@@ -42,6 +42,8 @@ pub fn open_bench<'a>(
     answers: &[bool],
 ) -> Result<Opened<'a>, OpenError>
     ensures opened { IfOk result (λ r. IsOpened (accepted_plan accepted.now) starters.now answers.now r.0 r.1 r.2.items) }
+    ensures host { IfOk result (λ r. r.1 ≡ r.0) }
+    ensures seats { IfOk result (λ r. All (λ seat. seat.bench ≡ r.0) r.2.items) }
     ensures fit { IfOk result (λ _. starters_refusal (plan_contents (accepted_plan accepted.now)) starters.now ≡ None) }
     ensures refused { IfErr result (IsOpenRefusal (starters_refusal (plan_contents (accepted_plan accepted.now)) starters.now)) }
 {
@@ -61,7 +63,8 @@ fn open<'a>(
 ) -> Result<Opened<'a>, AllocError>
     requires safe { IsSafe (plan_contents plan.now) }
     requires starters { starters_refusal (plan_contents plan.now) starters.now ≡ None }
-    ensures { IfOk result (λ r. IsOpened plan.now starters.now answers.now r.0 r.1 r.2.items) }
+    ensures opened { IfOk result (λ r. IsOpened plan.now starters.now answers.now r.0 r.1 r.2.items) }
+    ensures seats { IfOk result (λ r. All (λ seat. seat.bench ≡ r.0) r.2.items) }
 {
     let setup = Setup {
         plan,
@@ -118,6 +121,7 @@ fn hand_out_all<'a>(
     requires host { IsHanding bench.now 0 ticket.old.table_id ticket.old.me }
     ensures host { IfOk result (λ _. IsHanding bench.now (length bench.now.starters) ticket.new.table_id ticket.new.me) }
     ensures seats { IfOk result (λ r. r.items ≡ map (fresh bench.now) (range_with_len 0 (length bench.now.starters))) }
+    ensures each { IfOk result (λ r. All (λ seat. seat.bench ≡ bench.now) r.items) }
 {
     let count = bench.terms.starters.len();
     let mut seats = Vec::with_capacity(alloc, count)?;

@@ -50,6 +50,7 @@ impl<'a> Seat<'a> {
         ensures done { IfOk result (λ _. CanPut self.old put × (self.new ≡ after_put put self.old)) }
         ensures refused { IfErr result (λ e. IsPutRefusal e self.old put × (self.new ≡ self.old)) }
         ensures play { HasPlay self.new }
+        ensures bench { self.new.bench ≡ self.old.bench }
     {
         if self.standing != Standing::Playing {
             return Err(PutError::Over);

@@ -22,6 +22,7 @@ impl<'a> Seat<'a> {
         requires { bench.now ≡ self.old.bench }
         ensures seen { Saw result self.old self.new }
         ensures play { HasPlay self.new }
+        ensures bench { self.new.bench ≡ self.old.bench }
         ensures alone { length self.old.bench.starters ≡ 1 → result ≢ Sight.Waiting }
     {
         if self.standing != Standing::Playing {

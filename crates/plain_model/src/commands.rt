@@ -6,6 +6,7 @@ use crate::certificates::{Flaw, Reading, read_certificate};
 use crate::dumps::words_of;
 use crate::pairs::{Clash, clashes_so, first_clash, is_proved, proof_of};
 use crate::plans::{Items, Named, Refusal, items_of};
+use crate::seats::{Bench, Seat};
 use crate::senders::{Form, Place, START, after, at, count, form_of, may_put};
 use capture_check::{Mark, Transaction, Until};
 use message_tree::{Item, Kind};
@@ -252,6 +253,50 @@ fn rehearsed(
     }
     out.push('\n')?;
     answered(alloc, 0, out)
+}
+
+/// The lines of a script with what the seats of a bench answer, for these starters of a safe plan.
+pub fn seats(
+    alloc: Global,
+    plan: &[u8],
+    script: &[u8],
+    starters: &str,
+    answers: &str,
+) -> Result<Answer, AllocError> {
+    let items = match items_of(alloc, plan) {
+        Ok(items) => items,
+        Err(refusal) => return refused_plan(alloc, refusal),
+    };
+    if certify(alloc, plan)?.status != 0 {
+        return answered(alloc, 1, format!(in alloc; "accepted unsafe\n")?);
+    }
+    let senders = senders_of(alloc, &items)?;
+    match chosen(alloc, &items, &senders, starters)? {
+        Ok(chosen) => said_by_seats(alloc, &items, &chosen, text(script), answers),
+        Err(code) => refused(alloc, format!(in alloc; "B{code}")?),
+    }
+}
+
+fn said_by_seats(
+    alloc: Global,
+    items: &Items<'_>,
+    chosen: &[&Sender],
+    script: &str,
+    answers: &str,
+) -> Result<Answer, AllocError> {
+    let mut bench = Bench {
+        seats: Vec::new(alloc),
+        answers,
+        wire: Vec::new(alloc),
+        is_finished: false,
+    };
+    for sender in chosen {
+        if let Some(words) = sent(items, sender) {
+            let label = sender.label.as_str();
+            bench.seats.push(Seat::new(alloc, label, words))?;
+        }
+    }
+    answered(alloc, 0, bench.say(alloc, script)?)
 }
 
 /// The labels of the participants, or none where the text spells no plan.

@@ -1,7 +1,7 @@
 //! The rules of the bus as plain and slow programs: all texts of a participant, all runs of a set, a walk of a pair slot by
 //! slot, one play of a set, and what a recorded wire shows. `commands` has the five commands from the bytes of their files to
-//! what they write, over lists of words alone. The crates `plain_rows`, `bench_rows` and `trials` compare the other crates
-//! with them. They are for small plans, and nothing is made fast.
+//! what they write, and the answers of seats to a script, over lists of words alone. The crates `plain_rows`, `bench_rows`
+//! and `trials` compare the other crates with them. They are for small plans, and nothing is made fast.
 #![tactic(auto)]
 
 pub mod benches;
@@ -14,6 +14,7 @@ pub mod pairs;
 pub mod plans;
 pub mod plays;
 pub mod runs;
+pub mod seats;
 pub mod senders;
 pub mod texts;
 

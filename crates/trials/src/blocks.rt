@@ -55,7 +55,7 @@ fn put_part<'a>(block: &mut Block<'a>, part: &'a str) -> Result<(), CaseError> {
     };
     match title {
         "plan" => block.plan = lines,
-        "certificate" | "dump" => block.second = lines,
+        "certificate" | "dump" | "script" => block.second = lines,
         "output" => block.out = lines,
         "refusal" => block.refusal = refusal_of(lines.unwrap_or("").trim())?,
         "rows" => block.rows = lines.unwrap_or(""),

@@ -1,6 +1,7 @@
 // One case: a command with its files, and what two programs say of it.
 
 use crate::commands::Command;
+use crate::scripts::run_seats;
 use bench_run::{NoGate, run_bench};
 use plain_model::commands::{self, Answer};
 use plan_text::{print_plan, read_plan};
@@ -19,7 +20,7 @@ use std::time::Clock;
 pub struct Asked {
     pub command: Command,
     pub plan: Vec<u8>,
-    /// The certificate or the capture.
+    /// The certificate, the capture or the script.
     pub second: Vec<u8>,
 }
 
@@ -46,6 +47,9 @@ pub fn said_plainly(alloc: Global, asked: &Asked) -> Result<Answer, AllocError> 
             answers,
         } => commands::bench(alloc, plan, second, starters, *fill, answers),
         Command::Spelling => spelt_plainly(alloc, plan),
+        Command::Seats { starters, answers } => {
+            commands::seats(alloc, plan, second, starters, answers)
+        }
     }
 }
 
@@ -97,6 +101,9 @@ pub fn run<R: Threads + Wait + Clock + Sync, I: Input, J: Input, O: Output>(
             rt, alloc, plan, second, out, starters, *fill, answers, &NoGate,
         ),
         Command::Spelling => run_spelling(alloc, plan, out),
+        Command::Seats { starters, answers } => {
+            run_seats(alloc, plan, second, out, starters, answers)
+        }
     }
 }
 

@@ -1,5 +1,5 @@
-// The commands of the cases, as the program takes them, and one more: `spelling`, which writes a plan in its canonical
-// spelling.
+// The commands of the cases, as the program takes them, and two more: `spelling`, which writes a plan in its canonical
+// spelling, and `seats`, which runs a script on the seats of a bench.
 
 use crate::errors::CaseError;
 use std::alloc::Global;
@@ -22,6 +22,10 @@ pub enum Command {
         answers: String,
     },
     Spelling,
+    Seats {
+        starters: String,
+        answers: String,
+    },
 }
 
 impl Command {
@@ -33,6 +37,7 @@ impl Command {
             Command::Capture { .. } => "capture",
             Command::Bench { .. } => "bench",
             Command::Spelling => "spelling",
+            Command::Seats { .. } => "seats",
         }
     }
 
@@ -40,7 +45,10 @@ impl Command {
     pub fn reads_two(&self) -> bool {
         matches!(
             self,
-            Command::Verify | Command::Capture { .. } | Command::Bench { .. }
+            Command::Verify
+                | Command::Capture { .. }
+                | Command::Bench { .. }
+                | Command::Seats { .. }
         )
     }
 }
@@ -63,6 +71,10 @@ pub fn command_of(alloc: Global, line: &str) -> Result<Command, CaseError> {
             let (starters, rest) = rest.split_once(' ').unwrap_or((rest, ""));
             bench_of(alloc, unquoted(starters), &options_of(rest)?)
         }
+        "seats" => {
+            let (starters, rest) = rest.split_once(' ').unwrap_or((rest, ""));
+            seats_of(alloc, unquoted(starters), &options_of(rest)?)
+        }
         _ => other_of(alloc, name, &options_of(rest)?),
     }
 }
@@ -71,6 +83,13 @@ fn bench_of(alloc: Global, starters: &str, options: &Options<'_>) -> Result<Comm
     Ok(Command::Bench {
         starters: String::from_str(alloc, starters)?,
         fill: options.fill == "1",
+        answers: String::from_str(alloc, options.answers)?,
+    })
+}
+
+fn seats_of(alloc: Global, starters: &str, options: &Options<'_>) -> Result<Command, CaseError> {
+    Ok(Command::Seats {
+        starters: String::from_str(alloc, starters)?,
         answers: String::from_str(alloc, options.answers)?,
     })
 }

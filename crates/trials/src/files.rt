@@ -8,12 +8,13 @@ use std::alloc::Global;
 use std::fs;
 use std::rt::Files;
 
-pub const FILES: [&str; 7] = [
+pub const FILES: [&str; 8] = [
     "plans",
     "checks",
     "certificates",
     "captures",
     "rehearsals",
+    "seats",
     "refusals",
     "spellings",
 ];

@@ -30,8 +30,11 @@ impl<'a> Seeds<'a> {
         }
     }
 
-    /// The files of one more case.
+    /// The files of one more case. Scripts are not changed.
     pub fn push(&mut self, case: &'a Case) -> Result<(), AllocError> {
+        if let Command::Seats { .. } = &case.asked.command {
+            return Ok(());
+        }
         let plan = case.asked.plan.as_slice();
         if plan.len() <= MOST_BYTES {
             let is_refused = case.wanted.refusal.as_str().starts_with('P');

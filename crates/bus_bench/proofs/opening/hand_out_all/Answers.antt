@@ -1,5 +1,5 @@
 use Rattle.std.proofs.Common.{◌∙◌, ◌∷◌, ◌++◌, [], refl}
-use Rattle.bus_bench.proofs.OpeningLemmas.{one_more_seat}
+use Rattle.bus_bench.proofs.OpeningLemmas.{one_more_seat, of_its_bench}
 use Rattle.bus_bench.proofs.opening.hand_out_all.Goals as goal
 
 pub loop-number-preserved : goal.loop-number-preserved
@@ -10,3 +10,6 @@ loop-number-preserved c =
       c.hand_out.ensures.host,
       c.in_ok-push.ensures.items ∙ (λ k. i.3 k ++ c.hand_out.ensures.seat k ∷ []) ∙ one_more_seat c.args.bench.now c.loop-number.number,
     )
+
+pub returns-clause-each : goal.returns-clause-each
+returns-clause-each c = of_its_bench c.args.bench.now c.loop-number.number c.loop-number.seats.items c.loop-number.invariant.3

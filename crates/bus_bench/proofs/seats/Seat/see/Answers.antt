@@ -6,8 +6,9 @@ use Rattle.bench_plays.specs.Words.{arrivals_in}
 use Rattle.bus_bench.specs.declared.hands.Hand.{Hand}
 use Rattle.bus_bench.specs.declared.seats.Standing.{Standing}
 use Rattle.bus_bench.specs.declared.seats.Standing.TheVariants.{Playing}
+use Rattle.bus_bench.specs.declared.errors.Sight.TheVariants as sight
 use Rattle.bus_bench.specs.Tickets.{IsSeat, ticket_bench, setup_of}
-use Rattle.bus_bench.proofs.SeatLemmas.{see_allowed, still_waits, never_waits_alone, complete_slot, lost_now, on_now, begins_on, saw_lost, saw_on, not_one, is_one}
+use Rattle.bus_bench.proofs.SeatLemmas.{see_allowed, still_waits, never_waits_alone, complete_slot, lost_now, on_now, begins_on, saw_lost, saw_on, saw_at_bench, not_one, is_one}
 use Rattle.bus_bench.proofs.seats.Seat.see.Goals as goal
 
 -- the seat was playing, and had put
@@ -87,3 +88,12 @@ returns-clause-seen c =
     let arrived : c.arrivals.result ≡ arrivals_in c.load-word.result = c.arrivals.ensures ∙ ap arrivals_in c.new-tally.ensures in
     let done = complete_slot i.ticket.table_id i.ticket.me c.load-word.new.seat.me i.number i.place c.in-Some.own i.slot i.live c.load-word.result _ _ c.args.bench.now _ c.shown-shown.result c.item.result was c.load-word.ensures.2 arrived c.if-arrivals-self.false named c.answer-answer.ensures c.new-tally.ensures c.shown-shown.ensures c.item.ensures in
     saw_on i.ticket.table_id c.load-word.new.seat.table_id i.ticket.me c.load-word.new.seat.me i.number i.place c.in-Some.own i.slot i.live c.load-word.result i.standing c.standing_on-self-inside.result c.shown-shown.result c.item.result c.args.self.now plays c.load-word.ensures.0 done (is_one _ _ _ c.are_one.ensures c.if-not-are_one.false) c.standing_on-self-inside.ensures c.self.view_is
+
+pub returns-clause-bench : goal.returns-clause-bench
+returns-clause-bench c = saw_at_bench (sight.On c.shown-shown.result) _ _ (returns-clause-seen c)
+
+pub returns-then-not-are_one-clause-bench : goal.returns-then-not-are_one-clause-bench
+returns-then-not-are_one-clause-bench c = saw_at_bench (sight.Lost c.shown-shown.result) _ _ (returns-then-not-are_one-clause-seen c)
+
+pub returns-then-arrivals-self-clause-bench : goal.returns-then-arrivals-self-clause-bench
+returns-then-arrivals-self-clause-bench c = saw_at_bench sight.Waiting _ _ (returns-then-arrivals-self-clause-seen c)
