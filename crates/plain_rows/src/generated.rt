@@ -1,7 +1,10 @@
-// Small messages made from a seed, on which `walk`, the slot-by-slot walk and the runs of the pair agree.
+// Small messages made from a seed, on which `walk`, the plain check and the runs of each pair agree.
 
-use crate::plans::plan;
-use crate::words::assert_agreement;
+use message_tree::{Item, Kind};
+use pair_walk::{Outcome, walk};
+use plain_model::{commands, first_meeting, play};
+use plan_core::Plan;
+use plan_text::read_plan;
 use std::alloc::{AllocError, Global};
 use std::test::Fail;
 
@@ -54,38 +57,40 @@ fn counts(dice: &mut Dice) -> &'static str {
     }
 }
 
+fn push_all(text: &mut String, words: &[&str]) -> Result<(), AllocError> {
+    for word in words {
+        text.push_str(word)?;
+    }
+    Ok(())
+}
+
 // A header with what is sent after it, up to two data bytes or a read. Says how many bytes of it a target may refuse.
 fn push_bytes(text: &mut String, dice: &mut Dice) -> Result<u32, AllocError> {
     let target = address(dice);
     if dice.throw(3) == 0 {
-        write!(text, "read {target} {}", counts(dice))?;
+        push_all(text, &["read ", target, " ", counts(dice)])?;
         return Ok(1);
     }
-    write!(text, "write {target}")?;
+    push_all(text, &["write ", target])?;
     let bytes = dice.throw(2).wrapping_add(dice.throw(2));
     for _ in 0..bytes {
-        write!(text, " {}", data(dice))?;
+        push_all(text, &[" ", data(dice)])?;
     }
     Ok(bytes.wrapping_add(1))
 }
 
-// A frame with no further one after it.
-fn push_last_frame(text: &mut String, dice: &mut Dice) -> Result<(), AllocError> {
+// A STOP; or a repeated START, where that may be, and a frame with no further one after it.
+fn push_tail(text: &mut String, dice: &mut Dice) -> Result<(), AllocError> {
+    if dice.throw(3) != 0 {
+        return text.push_str(" stop");
+    }
+    text.push_str(" again ")?;
     let refusals = push_bytes(text, dice)?;
     text.push_str(" stop")?;
     for _ in 0..refusals {
         text.push_str(" else stop")?;
     }
     Ok(())
-}
-
-// A STOP, or a repeated START and a last frame.
-fn push_tail(text: &mut String, dice: &mut Dice) -> Result<(), AllocError> {
-    if dice.throw(3) != 0 {
-        return text.push_str(" stop");
-    }
-    text.push_str(" again ")?;
-    push_last_frame(text, dice)
 }
 
 // A message with at most two frames on a path.
@@ -103,7 +108,7 @@ fn push_message(text: &mut String, dice: &mut Dice) -> Result<(), AllocError> {
 pub fn plan_words(alloc: Global, dice: &mut Dice) -> Result<String, AllocError> {
     let mut text = String::from_str(alloc, "plan 2")?;
     for name in ["m", "n", "o", "p"] {
-        write!(text, " message {name} ")?;
+        push_all(&mut text, &[" message ", name, " "])?;
         push_message(&mut text, dice)?;
         text.push_str(" ;")?;
     }
@@ -112,26 +117,109 @@ pub fn plan_words(alloc: Global, dice: &mut Dice) -> Result<String, AllocError> 
     Ok(text)
 }
 
+// ---- three reports
+
+// The line of a report for a fault of pair i.
+fn push_fault(
+    report: &mut String,
+    alloc: Global,
+    plan: &Plan,
+    i: u32,
+    wire: &[Item],
+    kinds: [Kind; 2],
+) -> Result<(), AllocError> {
+    if i >= plan.pair_count() {
+        return Ok(());
+    }
+    let (x, y) = plan.pair(i);
+    write!(
+        report,
+        "pair {i} {} {}: ",
+        plan.label(alloc, x)?,
+        plan.label(alloc, y)?
+    )?;
+    push_all(
+        report,
+        &[kinds[0].word(), " against ", kinds[1].word(), " after "],
+    )?;
+    for item in wire {
+        report.push(item.symbol())?;
+    }
+    report.push('\n')
+}
+
+// What `walk` says of pair i.
+fn push_walk(report: &mut String, alloc: Global, plan: &Plan, i: u32) -> Result<(), AllocError> {
+    if i >= plan.pair_count() {
+        return Ok(());
+    }
+    match walk(alloc, plan, i)?.outcome {
+        Outcome::Safe(_) => Ok(()),
+        Outcome::Unsafe(fault) => {
+            push_fault(
+                report,
+                alloc,
+                plan,
+                i,
+                &fault.wire,
+                [fault.first, fault.second],
+            )
+        }
+    }
+}
+
+// What the runs of pair i say of it.
+fn push_runs(report: &mut String, alloc: Global, plan: &Plan, i: u32) -> Result<(), AllocError> {
+    if i >= plan.pair_count() {
+        return Ok(());
+    }
+    let (x, y) = plan.pair(i);
+    let meetings = play(alloc, plan, &[x, y])?;
+    match first_meeting(&meetings, x, y) {
+        Some(met) => push_fault(report, alloc, plan, i, &met.wire, [met.first, met.second]),
+        None => Ok(()),
+    }
+}
+
+// The lines that `walk` makes, or nothing where those of the runs are others.
+fn agreed(alloc: Global, plan: &Plan) -> Result<Option<String>, AllocError> {
+    let mut walks = String::new(alloc);
+    let mut runs = String::new(alloc);
+    for i in 0..plan.pair_count() {
+        push_walk(&mut walks, alloc, plan, i)?;
+        push_runs(&mut runs, alloc, plan, i)?;
+    }
+    Ok(if walks == runs { Some(walks) } else { None })
+}
+
+// How many faults the plan has, or nothing where the walk, the runs and the plain check do not agree. The plain check goes
+// slot by slot, and writes one line more.
+fn agreed_faults(alloc: Global, text: &str) -> Result<Option<usize>, Fail> {
+    let plan = read_plan(alloc, text.as_bytes())?;
+    let Some(lines) = agreed(alloc, &plan)? else {
+        return Ok(None);
+    };
+    let report = commands::check(alloc, text.as_bytes())?.out;
+    let faults = lines.as_str().lines().count();
+    let last = report.as_str().strip_prefix(lines.as_str());
+    Ok(match last {
+        Some(last) if last.lines().count() == 1 && plan.pair_count() == 19 => Some(faults),
+        _ => None,
+    })
+}
+
 // Each plan has four pairs of `a` and `b`, four with `c`, ten with an interrupt and one of interrupts: nineteen in all.
 #[test]
 fn the_walks_and_the_runs_agree_on_generated_messages(rt: HostRuntime) -> Result<(), Fail> {
-    let alloc = rt.alloc();
     let mut dice = Dice { state: 20_261_122 };
-    let mut faulty = Vec::new(alloc);
-    let mut safe = Vec::new(alloc);
+    let mut faults = 0usize;
     for _ in 0..16 {
-        let plan = plan(alloc, plan_words(alloc, &mut dice)?.as_str())?;
-        assert_eq!(rt; plan.pair_count(), 19);
-        for i in 0..plan.pair_count() {
-            if assert_agreement(&rt, alloc, &plan, i)? {
-                faulty.push(i)?;
-            } else {
-                safe.push(i)?;
-            }
-        }
+        let text = plan_words(rt.alloc(), &mut dice)?;
+        let found = agreed_faults(rt.alloc(), text.as_str())?;
+        assert!(rt; found.is_some());
+        faults = faults.saturating_add(found.unwrap_or(0));
     }
     // Both answers are common.
-    assert!(rt; faulty.len() > 50);
-    assert!(rt; safe.len() > 50);
+    assert!(rt; 50 < faults && faults < 16 * 19 - 50);
     Ok(())
 }
