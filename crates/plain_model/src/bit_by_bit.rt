@@ -1,10 +1,7 @@
-// A pair walked slot by slot, with the wire in hand.
+// Where a participant stands in what it sends, slot by slot.
 
-use crate::runs::clash;
-use certificate::Fault;
 use message_tree::{Address, Bit, Count, Frame, Item, Pattern, Payload, Tail};
 use plan_core::{Participant, Plan};
-use std::alloc::{AllocError, Global};
 
 // Where a participant stands in what it sends.
 #[derive(Clone, Copy, Drop)]
@@ -35,59 +32,6 @@ pub(crate) enum Place<'a> {
     Interrupt(Address, u8),
     Waiting,
     Over,
-}
-
-// The wire that both have followed, and where each stands.
-#[derive(Drop)]
-struct Both<'a> {
-    wire: Vec<Item>,
-    x: Place<'a>,
-    y: Place<'a>,
-}
-
-/// The first fault of `x` and `y`, in dictionary order, when the two start alone; `None` where they have none, or where
-/// the plan has no such participants.
-pub fn first_fault(
-    alloc: Global,
-    plan: &Plan,
-    x: u32,
-    y: u32,
-) -> Result<Option<Fault>, AllocError> {
-    // The one to go on from stands last, so that of two bits the 0 is taken first.
-    let mut open = Vec::new(alloc);
-    open.push(Both {
-        wire: Vec::new(alloc),
-        x: start(plan, x),
-        y: start(plan, y),
-    })?;
-    for _ in 0..u64::MAX {
-        let Some(both) = open.pop() else {
-            break;
-        };
-        let (first, second) = (offers(both.x), offers(both.y));
-        if let Some((a, b)) = clashing(first, second) {
-            return Ok(Some(Fault {
-                wire: both.wire,
-                first: a.kind(),
-                second: b.kind(),
-            }));
-        }
-        let [zero, one] = first;
-        for item in [one, zero] {
-            if let Some(item) = item
-                && offered(second, item)
-            {
-                let mut wire = both.wire.clone()?;
-                wire.push(item)?;
-                open.push(Both {
-                    wire,
-                    x: step(both.x, item),
-                    y: step(both.y, item),
-                })?;
-            }
-        }
-    }
-    Ok(None)
 }
 
 pub(crate) fn start(plan: &Plan, p: u32) -> Place<'_> {
@@ -270,22 +214,4 @@ fn after_read(count: Count, bytes: u8, heard: u8, after: &Tail, item: Item) -> P
     } else {
         Place::At(after)
     }
-}
-
-// Two items that must not meet, one of each.
-fn clashing(first: [Option<Item>; 2], second: [Option<Item>; 2]) -> Option<(Item, Item)> {
-    for a in first {
-        for b in second {
-            if let (Some(a), Some(b)) = (a, b)
-                && clash(a, b)
-            {
-                return Some((a, b));
-            }
-        }
-    }
-    None
-}
-
-fn offered(offers: [Option<Item>; 2], item: Item) -> bool {
-    offers.contains(&Some(item))
 }

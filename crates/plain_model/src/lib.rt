@@ -1,11 +1,11 @@
-//! The rules of the bus as plain and slow programs: all texts of a participant, all runs of a set, a walk of a pair slot by
-//! slot, one play of a set, and what a recorded wire shows. `commands` has the five commands from the bytes of their files to
-//! what they write, and the answers of seats to a script, over lists of words alone. The crates `plain_rows`, `bench_rows`
-//! and `trials` compare the other crates with them. They are for small plans, and nothing is made fast.
+//! The rules of the bus as plain and slow programs: all texts of a participant, all runs of a set, one play of a set, and what
+//! a recorded wire shows. `commands` has the five commands from the bytes of their files to what they write, and the answers
+//! of seats to a script, over lists of words alone; there a pair is walked slot by slot. The crates `plain_rows`,
+//! `bench_rows` and `trials` compare the other crates with them. They are for small plans, and nothing is made fast.
 #![tactic(auto)]
 
 pub mod benches;
-pub mod bit_by_bit;
+mod bit_by_bit;
 pub mod captures;
 pub mod certificates;
 pub mod commands;
@@ -18,7 +18,6 @@ pub mod seats;
 pub mod senders;
 pub mod texts;
 
-pub use bit_by_bit::first_fault;
 pub use captures::{Word, events_of, explainers_of, samples_of, transactions_of};
 pub use dumps::words_of as dump_words_of;
 pub use plays::{Ending, play_out};

@@ -2,15 +2,14 @@
 // plain programs find.
 
 use crate::generated::{Dice, plan_words};
-use crate::plans::plan;
 use capture_check::{Event, Transaction, Until, events, explain, transactions};
 use message_tree::Item;
 use plain_model::{Word, events_of, explainers_of, samples_of, texts_of, transactions_of};
 use plan_core::Plan;
+use plan_text::read_plan;
 use std::alloc::{AllocError, Global};
-use std::process::Abort;
 use std::test::Fail;
-use vcd_read::{Level, Reader, Sample, Signal};
+use vcd_read::{Level, Reader, Sample, Signal, VcdError};
 
 const DEFINITIONS: &str = "$var wire 1 ! scl $end $var wire 1 \" sda $end $enddefinitions $end\n";
 
@@ -35,19 +34,6 @@ fn push_level(
     Ok(())
 }
 
-// These levels, one after another.
-fn push_levels(
-    words: &mut Vec<Word>,
-    dice: &mut Dice,
-    time: &mut u64,
-    levels: &[(Signal, bool)],
-) -> Result<(), AllocError> {
-    for (line, high) in levels {
-        push_level(words, dice, time, *line, *high)?;
-    }
-    Ok(())
-}
-
 // What the item does with the wires. A target answers another bit than the listed one now and then. A claim is followed
 // by a level and a STOP.
 fn push_item(
@@ -57,41 +43,22 @@ fn push_item(
     item: Item,
 ) -> Result<(), AllocError> {
     let (scl, sda) = (Signal::Scl, Signal::Sda);
-    match item {
-        Item::Sent(bit) => {
-            let level = bit != (dice.throw(100) == 0);
-            push_levels(
-                words,
-                dice,
-                time,
-                &[(sda, level), (scl, true), (scl, false)],
-            )
-        }
-        Item::Heard(bit) => {
-            let level = bit != (dice.throw(6) == 0);
-            push_levels(
-                words,
-                dice,
-                time,
-                &[(sda, level), (scl, true), (scl, false)],
-            )
-        }
-        Item::Again => {
-            let levels = [(sda, true), (scl, true), (sda, false), (scl, false)];
-            push_levels(words, dice, time, &levels)
-        }
-        Item::Stop => push_levels(words, dice, time, &[(sda, false), (scl, true), (sda, true)]),
-        Item::Claim => {
-            let levels = [
-                (scl, true),
-                (scl, false),
-                (sda, false),
-                (scl, true),
-                (sda, true),
-            ];
-            push_levels(words, dice, time, &levels)
+    let (bit, levels) = match item {
+        Item::Sent(bit) => (bit != (dice.throw(100) == 0), "d1C"),
+        Item::Heard(bit) => (bit != (dice.throw(6) == 0), "d1C"),
+        Item::Again => (true, "d1DC"),
+        Item::Stop => (false, "d1D"),
+        Item::Claim => (false, "1Cd1D"),
+    };
+    for step in levels.as_bytes() {
+        match *step {
+            b'd' => push_level(words, dice, time, sda, bit)?,
+            b'D' => push_level(words, dice, time, sda, !bit)?,
+            b'1' => push_level(words, dice, time, scl, true)?,
+            _ => push_level(words, dice, time, scl, false)?,
         }
     }
+    Ok(())
 }
 
 // One of the texts of each of the plan's participants in turn, from START to STOP.
@@ -101,7 +68,8 @@ pub fn wire_words(alloc: Global, plan: &Plan, dice: &mut Dice) -> Result<Vec<Wor
     for p in 0..plan.participants() {
         push_item(&mut words, dice, &mut time, Item::Again)?;
         let texts = texts_of(alloc, plan, p)?;
-        if let Some(text) = texts.get(one_of(dice, &texts)) {
+        let count = u32::try_from(texts.len()).unwrap_or(u32::MAX);
+        if let Some(text) = texts.get(dice.throw(count) as usize) {
             for item in text {
                 push_item(&mut words, dice, &mut time, *item)?;
             }
@@ -110,37 +78,18 @@ pub fn wire_words(alloc: Global, plan: &Plan, dice: &mut Dice) -> Result<Vec<Wor
     Ok(words)
 }
 
-// The place of one of these.
-fn one_of(dice: &mut Dice, texts: &[Vec<Item>]) -> usize {
-    let mut count: u32 = 0;
-    for _ in texts {
-        count = count.wrapping_add(1);
-    }
-    dice.throw(count) as usize
-}
-
-// The words as a dump writes them, each in one of several ways.
-fn dump_text(alloc: Global, words: &[Word], dice: &mut Dice) -> Result<String, AllocError> {
-    let mut text = String::from_str(alloc, DEFINITIONS)?;
-    for word in words {
-        match word {
-            Word::At(time) => write!(text, "#{time}")?,
-            Word::Takes(line, level) => {
-                text.push_str(level_text(*level, dice.throw(3)))?;
-                text.push(if *line == Signal::Scl { '!' } else { '"' })?;
-            }
+/// One word as a dump writes it, in one of several ways.
+pub fn push_word(text: &mut String, word: &Word, dice: &mut Dice) -> Result<(), AllocError> {
+    match word {
+        Word::At(time) => write!(text, "#{time}"),
+        Word::Takes(line, level) => {
+            text.push_str(level_text(*level, dice.throw(3)))?;
+            text.push(if *line == Signal::Scl { '!' } else { '"' })
         }
-        text.push_str(match dice.throw(12) {
-            0 => "\n",
-            1 => "\t\n ",
-            2 => " $comment #0 x! $end ",
-            _ => " ",
-        })?;
     }
-    Ok(text)
 }
 
-pub fn level_text(level: Level, way: u32) -> &'static str {
+fn level_text(level: Level, way: u32) -> &'static str {
     match (level, way) {
         (Level::Low, 0) => "b0 ",
         (Level::Low, _) => "0",
@@ -152,100 +101,113 @@ pub fn level_text(level: Level, way: u32) -> &'static str {
     }
 }
 
-// The samples of a dump that comes in pieces.
-fn read_samples(alloc: Global, text: &str, dice: &mut Dice) -> Result<Vec<Sample>, Fail> {
-    let mut reader = Reader::new(alloc, "scl", "sda")?;
-    let size = dice.throw(90) as usize;
-    for piece in text.as_bytes().chunks(size.max(1)) {
-        reader.feed(piece)?;
+// The words as a dump writes them.
+fn dump_text(alloc: Global, words: &[Word], dice: &mut Dice) -> Result<String, AllocError> {
+    let mut text = String::from_str(alloc, DEFINITIONS)?;
+    for word in words {
+        push_word(&mut text, word, dice)?;
+        text.push_str(match dice.throw(12) {
+            0 => "\n",
+            1 => "\t\n ",
+            2 => " $comment #0 x! $end ",
+            _ => " ",
+        })?;
     }
-    Ok(reader.end()?)
+    Ok(text)
 }
 
-// Both find the same transaction, and the same participants explain it. Says whether one does.
-fn assert_explained<R: Abort>(
-    rt: &R,
+/// The samples of a dump that comes in pieces of so many bytes.
+pub fn read(alloc: Global, text: &str, size: u32) -> Result<Vec<Sample>, VcdError> {
+    let mut reader = Reader::new(alloc, "scl", "sda")?;
+    for piece in text.as_bytes().chunks((size as usize).max(1)) {
+        reader.feed(piece)?;
+    }
+    reader.end()
+}
+
+// Whether somebody explains the transaction; or nothing, where others do than the plain program finds.
+fn is_explained(
     alloc: Global,
     plan: &Plan,
     found: &Transaction,
-    plain: &Transaction,
-) -> Result<bool, Fail> {
-    assert_eq!(rt; found.from, plain.from);
-    assert_eq!(rt; found.until, plain.until);
-    assert_eq!(rt; found.marks, plain.marks);
+) -> Result<Option<bool>, AllocError> {
     let explainers = explain(alloc, plan, found)?;
-    if let Until::Stopped(_) = found.until {
-        assert_eq!(rt; explainers, explainers_of(alloc, plan, &plain.marks)?);
+    let is_alike = match found.until {
+        Until::Stopped(_) => explainers == explainers_of(alloc, plan, &found.marks)?,
+        _ => explainers.is_empty(),
+    };
+    Ok(if is_alike {
+        Some(!explainers.is_empty())
     } else {
-        assert!(rt; explainers.is_empty());
-    }
-    Ok(!explainers.is_empty())
+        None
+    })
 }
 
-// The dump of these words, and what happens in it.
-fn events_read<R: Abort>(
-    rt: &R,
-    alloc: Global,
-    words: &[Word],
-    dice: &mut Dice,
-) -> Result<Vec<Event>, Fail> {
-    let text = dump_text(alloc, words, dice)?;
-    let samples = read_samples(alloc, text.as_str(), dice)?;
-    assert_eq!(rt; samples, samples_of(alloc, words)?);
-    let found = events(alloc, &samples)?;
-    assert_eq!(rt; found, events_of(alloc, &samples)?);
-    Ok(found)
+// How many transactions are explained and how many are not.
+#[derive(Clone, Copy)]
+struct Counts {
+    explained: u32,
+    unexplained: u32,
 }
 
-// The transactions of these events. Says of each whether somebody explains it.
-fn push_answers<R: Abort>(
-    rt: &R,
+// Counts the transactions of these events. Says whether the plain programs find the same.
+fn are_explained_alike(
     alloc: Global,
-    answers: &mut Vec<bool>,
     plan: &Plan,
     events: &[Event],
-) -> Result<(), Fail> {
+    counts: &mut Counts,
+) -> Result<bool, AllocError> {
     let found = transactions(alloc, events)?;
     let plain = transactions_of(alloc, events)?;
-    assert_eq!(rt; found.len(), plain.len());
-    for (one, other) in found.iter().zip(&plain) {
-        answers.push(assert_explained(rt, alloc, plan, one, other)?)?;
+    if found.len() != plain.len() {
+        return Ok(false);
     }
-    Ok(())
+    for (one, other) in found.iter().zip(&plain) {
+        if one.from != other.from || one.until != other.until || one.marks != other.marks {
+            return Ok(false);
+        }
+        match is_explained(alloc, plan, one)? {
+            Some(true) => counts.explained = counts.explained.saturating_add(1),
+            Some(false) => counts.unexplained = counts.unexplained.saturating_add(1),
+            None => return Ok(false),
+        }
+    }
+    Ok(true)
 }
 
-fn push_answers_of_one<R: Abort>(
-    rt: &R,
+// The same of a dump of these words, whose samples and events are to be those of the plain programs too.
+fn are_heard_alike(
     alloc: Global,
-    answers: &mut Vec<bool>,
+    plan: &Plan,
+    words: &[Word],
     dice: &mut Dice,
-) -> Result<(), Fail> {
-    let plan = plan(alloc, plan_words(alloc, dice)?.as_str())?;
-    let words = wire_words(alloc, &plan, dice)?;
-    let events = events_read(rt, alloc, &words, dice)?;
-    push_answers(rt, alloc, answers, &plan, &events)
+    counts: &mut Counts,
+) -> Result<bool, Fail> {
+    let text = dump_text(alloc, words, dice)?;
+    let samples = read(alloc, text.as_str(), dice.throw(90))?;
+    let found = events(alloc, &samples)?;
+    Ok(
+        samples == samples_of(alloc, words)?
+            && found == events_of(alloc, &samples)?
+            && are_explained_alike(alloc, plan, &found, counts)?,
+    )
 }
 
 #[test]
 fn generated_captures_are_read_and_explained_alike(rt: HostRuntime) -> Result<(), Fail> {
     let alloc = rt.alloc();
     let mut dice = Dice { state: 20_261_123 };
-    let mut answers = Vec::new(alloc);
+    let mut counts = Counts {
+        explained: 0,
+        unexplained: 0,
+    };
     for _ in 0..12 {
-        push_answers_of_one(&rt, alloc, &mut answers, &mut dice)?;
+        let plan = read_plan(alloc, plan_words(alloc, &mut dice)?.as_bytes())?;
+        let words = wire_words(alloc, &plan, &mut dice)?;
+        assert!(rt; are_heard_alike(alloc, &plan, &words, &mut dice, &mut counts)?);
     }
     // Both answers are common.
-    assert!(rt; count_of(&answers, true) > 20);
-    assert!(rt; count_of(&answers, false) > 10);
+    assert!(rt; counts.explained > 20);
+    assert!(rt; counts.unexplained > 10);
     Ok(())
-}
-
-fn count_of(answers: &[bool], explained: bool) -> u32 {
-    let mut count: u32 = 0;
-    for answer in answers {
-        if *answer == explained {
-            count = count.wrapping_add(1);
-        }
-    }
-    count
 }

@@ -1,9 +1,9 @@
 // What the plain play says of worked plans.
 
-use crate::plans::plan;
 use message_tree::Item;
 use plain_model::play_out;
 use plan_core::Plan;
+use plan_text::read_plan;
 use std::alloc::{AllocError, Global};
 use std::test::Fail;
 
@@ -13,44 +13,52 @@ const THREE: &str =
 const RANGES: &str =
     "plan 2 message m read 1001000 1..2 stop else stop ; message n read 1001000 2 stop else stop ; controller a m ; controller b n ;";
 
-fn copies<T: Copy + Drop>(alloc: Global, value: T, n: usize) -> Result<Vec<T>, AllocError> {
-    let mut list = Vec::new(alloc);
-    for _ in 0..n {
-        list.push(value)?;
-    }
-    Ok(list)
+// How a play is to end: so many slots, the last of them a STOP, these winners, and the slot in which the first starter lost.
+#[derive(Clone, Copy)]
+struct Ended<'a> {
+    slots: usize,
+    won: &'a [u32],
+    lost: Option<u32>,
+}
+
+// All start, each with these choices, and so many answers acknowledge.
+fn ends_so(
+    alloc: Global,
+    plan: &Plan,
+    choices: u64,
+    acknowledged: usize,
+    wanted: &Ended<'_>,
+) -> Result<bool, AllocError> {
+    let answers = [false; 18];
+    let answers = answers.get(..acknowledged).unwrap_or(&answers);
+    let choices = [choices; 3];
+    let starters = [0, 1, 2];
+    let starters = starters
+        .get(..plan.participants() as usize)
+        .unwrap_or(&starters);
+    Ok(match play_out(alloc, plan, starters, &choices, answers)? {
+        Some(ending) => {
+            ending.wire.len() == wanted.slots
+                && ending.wire.last() == Some(&Item::Stop)
+                && ending.won.as_slice() == wanted.won
+                && ending.lost.first() == Some(&wanted.lost)
+        }
+        None => false,
+    })
 }
 
 #[test]
 fn the_plain_program_plays_worked_plans(rt: HostRuntime) -> Result<(), Fail> {
-    let alloc = rt.alloc();
-    let three = plan(alloc, THREE)?;
-    let ranges = plan(alloc, RANGES)?;
-    for (plan, choices, acknowledged, slots, won, lost) in [
-        (&three, u64::MAX, 18, 19, [1, 2].as_slice(), Some(11)),
-        (&three, 0, 18, 19, &[2], Some(11)),
-        (&three, 0, 0, 10, &[0, 1, 2], None),
-        (&ranges, u64::MAX, 9, 28, &[1], Some(17)),
-        (&ranges, 0, 9, 28, &[0, 1], None),
+    for (text, choices, acknowledged, slots, won, lost) in [
+        (THREE, u64::MAX, 18, 19, [1, 2].as_slice(), Some(11)),
+        (THREE, 0, 18, 19, [2].as_slice(), Some(11)),
+        (THREE, 0, 0, 10, [0, 1, 2].as_slice(), None),
+        (RANGES, u64::MAX, 9, 28, [1].as_slice(), Some(17)),
+        (RANGES, 0, 9, 28, [0, 1].as_slice(), None),
     ] {
-        let all = starters_in_order(alloc, plan)?;
-        let choices = copies(alloc, choices, all.len())?;
-        let answers = copies(alloc, false, acknowledged)?;
-        let Some(ending) = play_out(alloc, plan, &all, &choices, &answers)? else {
-            return Err(Fail::from("a clash in a safe plan"));
-        };
-        assert_eq!(rt; ending.wire.len(), slots);
-        assert_eq!(rt; ending.wire.last().copied(), Some(Item::Stop));
-        assert_eq!(rt; ending.won.as_slice(), won);
-        assert_eq!(rt; ending.lost.first().copied(), Some(lost));
+        let plan = read_plan(rt.alloc(), text.as_bytes())?;
+        let wanted = Ended { slots, won, lost };
+        assert!(rt; ends_so(rt.alloc(), &plan, choices, acknowledged, &wanted)?);
     }
     Ok(())
-}
-
-fn starters_in_order(alloc: Global, plan: &Plan) -> Result<Vec<u32>, AllocError> {
-    let mut list = Vec::new(alloc);
-    for p in 0..plan.participants() {
-        list.push(p)?;
-    }
-    Ok(list)
 }

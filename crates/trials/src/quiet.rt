@@ -5,10 +5,12 @@ ghost use Rattle.std.specs.Prelude.{◌≡◌};
 use crate::cases::Case;
 use crate::commands::Command;
 use crate::scarcity::{Refused, Scarcity};
+use crate::scripts::{MOST_SLOTS, bits_of, certificate_of, numbers_of, put_all, see_all};
+use crate::sittings::Sitting;
 use crate::tried::Tried;
 use anyhow::Result;
 use capture_check::{Follower, Listener, Watch};
-use cert_check::{accept_plan, check_fault, check_pair};
+use cert_check::{accept_certificate, accept_plan, check_fault, check_pair};
 use certificate::{Cert, CertText, Fault, read_cert};
 use message_tree::{Address, Count, Frame, Item, Pattern};
 use pair_queue::{Take, Thief, open_queue, settle};
@@ -28,6 +30,9 @@ pub fn try_quiet(rt: &impl Print, alloc: Global, tried: &mut Tried, case: &Case)
         Command::Verify => is_cert_quiet(alloc, plan, second)?,
         Command::Capture { scl, sda } => {
             is_reader_quiet(alloc, second, scl.as_str(), sda.as_str())?
+        }
+        Command::Seats { starters, answers } => {
+            are_seats_quiet(alloc, plan, starters.as_str(), answers.as_str())?
         }
         _ => return Ok(()),
     };
@@ -189,6 +194,34 @@ fn is_reader_quiet(alloc: Global, dump: &[u8], scl: &str, sda: &str) -> Result<b
         Err(_) => true,
     };
     Ok(is_quiet(scarce) && is_rest_empty && events <= dump.len() as u64)
+}
+
+// The seats play by turns to the end.
+fn are_seats_quiet(alloc: Global, text: &[u8], starters: &str, answers: &str) -> Result<bool> {
+    let Ok(plan) = read_plan(alloc, text) else {
+        return Ok(true);
+    };
+    let cert = certificate_of(alloc, &plan)?;
+    let Ok(accepted) = accept_certificate(alloc, plan, cert.as_slice())? else {
+        return Ok(true);
+    };
+    let numbers = numbers_of(alloc, accepted.plan(), starters)?;
+    let answers = bits_of(alloc, answers)?;
+    let Ok(mut sitting) = Sitting::open(alloc, &accepted, &numbers, &answers) else {
+        return Ok(true);
+    };
+    let scarce = refusing(alloc);
+    play(&mut sitting);
+    Ok(is_quiet(scarce))
+}
+
+fn play(sitting: &mut Sitting<'_>) {
+    for _ in 0..MOST_SLOTS {
+        put_all(sitting, "01");
+        if see_all(sitting).is_none() {
+            return;
+        }
+    }
 }
 
 fn are_bits_quiet(alloc: Global) -> bool {

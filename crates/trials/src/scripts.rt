@@ -55,7 +55,7 @@ fn page_of(
     }
 }
 
-fn certificate_of(alloc: Global, plan: &Plan) -> Result<Vec<u8>, AllocError> {
+pub fn certificate_of(alloc: Global, plan: &Plan) -> Result<Vec<u8>, AllocError> {
     let faults = faults(alloc, plan)?;
     certificate_text(alloc, plan, &faults)
 }
@@ -81,7 +81,7 @@ fn played(
 }
 
 // The starters with these labels. In place of a label that the plan does not have stands a number of no participant.
-fn numbers_of(alloc: Global, plan: &Plan, starters: &str) -> Result<Vec<u32>, AllocError> {
+pub fn numbers_of(alloc: Global, plan: &Plan, starters: &str) -> Result<Vec<u32>, AllocError> {
     let mut numbers = Vec::new(alloc);
     if starters.is_empty() {
         return Ok(numbers);
@@ -92,7 +92,7 @@ fn numbers_of(alloc: Global, plan: &Plan, starters: &str) -> Result<Vec<u32>, Al
     Ok(numbers)
 }
 
-fn bits_of(alloc: Global, answers: &str) -> Result<Vec<bool>, AllocError> {
+pub fn bits_of(alloc: Global, answers: &str) -> Result<Vec<bool>, AllocError> {
     let mut bits = Vec::new(alloc);
     for byte in answers.as_bytes() {
         bits.push(*byte == b'1')?;
@@ -124,7 +124,7 @@ enum Line<'a> {
 }
 
 // No run has more slots.
-const MOST_SLOTS: u32 = 2_560;
+pub const MOST_SLOTS: u32 = 2_560;
 
 impl Table<'_, '_> {
     // Writes each line with its answer.
@@ -321,7 +321,7 @@ fn push_slots(
 }
 
 // Each seat puts what it may, where it has not.
-fn put_all(sitting: &mut Sitting<'_>, fill: &str) {
+pub fn put_all(sitting: &mut Sitting<'_>, fill: &str) {
     for seat in 0..sitting.len() {
         if let Some(put) = filled(sitting.offered(seat), bit_of(seat, fill)) {
             let _ = sitting.put(seat, put);
@@ -335,7 +335,7 @@ fn bit_of(seat: usize, fill: &str) -> bool {
 }
 
 // Each seat looks. What the first of them that sees something sees.
-fn see_all(sitting: &mut Sitting<'_>) -> Option<Item> {
+pub fn see_all(sitting: &mut Sitting<'_>) -> Option<Item> {
     let mut seen = None;
     for seat in 0..sitting.len() {
         if let Sight::On(item) | Sight::Lost(item) = sitting.see(seat)
