@@ -132,6 +132,9 @@ fn push_fault(
         return Ok(());
     }
     let (x, y) = plan.pair(i);
+    if x >= plan.participants() || y >= plan.participants() {
+        return Ok(());
+    }
     write!(
         report,
         "pair {i} {} {}: ",

@@ -32,7 +32,9 @@ pub fn built_again(alloc: Global, plan: &Plan) -> Result<Plan, RunError> {
 fn sent_by(alloc: Global, plan: &Plan, controller: u32) -> Result<Vec<Name>, RunError> {
     let mut names = Vec::new(alloc);
     for k in plan.controller_messages(controller) {
-        names.push(copied(alloc, plan.message_name(*k))?)?;
+        if *k < plan.messages() {
+            names.push(copied(alloc, plan.message_name(*k))?)?;
+        }
     }
     Ok(names)
 }
