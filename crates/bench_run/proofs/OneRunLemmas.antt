@@ -13,13 +13,13 @@ use Rattle.plan_core.specs.Participants.{TextOf, sender_at}
 use Rattle.plan_core.specs.Lawful.{Set, In}
 use Rattle.plan_core.specs.Rounds.{Offers, IsSlot, IsWire, is_item, survivors}
 use Rattle.plan_core.specs.Runs.{HasEnded}
-use Rattle.bench_plays.specs.declared.puts.Put.{Put}
-use Rattle.bench_plays.specs.declared.puts.Put.TheVariants.{Drive, Listen, Again, Stop, Claim}
-use Rattle.bench_plays.specs.Games.{Game, IsGame, those, answer_at}
-use Rattle.bench_plays.specs.Plays.{item_with, Puts, HavePut, put_in, Goes, here, slot, Leads, IsPlay}
-use Rattle.bench_plays.proofs.PlayLemmas.{was_in, is_prefix, ended_goes_no_further}
-use Rattle.bench_plays.proofs.RunLemmas.{comparable, one_wire}
-use Rattle.bench_plays.proofs.SlotLemmas.{first_slot}
+use Rattle.plays.specs.declared.puts.Put.{Put}
+use Rattle.plays.specs.declared.puts.Put.TheVariants.{Drive, Listen, Again, Stop, Claim}
+use Rattle.plays.specs.Games.{Game, IsGame, those, answer_at}
+use Rattle.plays.specs.Plays.{item_with, Puts, HavePut, put_in, Goes, here, slot, Leads, IsPlay}
+use Rattle.plays.proofs.PlayLemmas.{was_in, is_prefix, ended_goes_no_further}
+use Rattle.plays.proofs.RunLemmas.{comparable, one_wire}
+use Rattle.plays.proofs.SlotLemmas.{first_slot}
 use Rattle.bench_run.specs.Filled.{MaySendEither, IsFilled, IsRehearsed}
 
 -- ---- one participant

@@ -8,10 +8,10 @@ use Rattle.std.proofs.lemmas.List.Elements.{All-nil, All-cons, All-map}
 use Rattle.std.proofs.lemmas.Bool.{cases_lt}
 use Rattle.message_tree.specs.declared.items.Item.{Item}
 use Rattle.message_tree.specs.declared.items.Item.TheVariants.{Sent}
-use Rattle.bench_places.specs.declared.offers.Offered.{Offered}
-use Rattle.bench_places.specs.Offers.{MayPut}
-use Rattle.bench_plays.specs.declared.puts.Put.{Put}
-use Rattle.bench_plays.specs.declared.puts.Put.TheVariants.{Listen}
+use Rattle.places.specs.declared.offers.Offered.{Offered}
+use Rattle.places.specs.Offers.{MayPut}
+use Rattle.plays.specs.declared.puts.Put.{Put}
+use Rattle.plays.specs.declared.puts.Put.TheVariants.{Listen}
 use Rattle.bus_bench.specs.Seats as seats
 use Rattle.bus_bench.specs.Seats.{BenchName, fresh, game_of, participant, MayOffer, HasPutHere, Saw, after_put, after_slot, standing_behind}
 use Rattle.bus_bench.specs.declared.errors.Sight.{Sight}

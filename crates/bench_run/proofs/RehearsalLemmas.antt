@@ -12,7 +12,7 @@ use Rattle.cert_check.specs.Accepts.{IsAnswer}
 use Rattle.cert_check.proofs.AnswerLemmas.{answers_texts}
 use Rattle.cert_check.specs.declared.answers.Answer.{Answer}
 use Rattle.cert_check.specs.declared.answers.Answer.TheVariants.{Safe}
-use Rattle.bench_plays.specs.Games.{Game}
+use Rattle.plays.specs.Games.{Game}
 use Rattle.bus_bench.specs.Hands.{contents_in}
 use Rattle.bus_bench.specs.Opening.{IsOpened, IsOpenRefusal}
 use Rattle.bus_bench.specs.Seats as seats

@@ -3,16 +3,16 @@ use Rattle.std.specs.Prelude.{◌≡◌, ℕ, ◌<◌, Bool, true, false, List, 
 use Rattle.std.specs.List.{slice_index_or}
 use Rattle.message_tree.specs.declared.items.Item.{Item}
 use Rattle.message_tree.specs.declared.items.Item.TheVariants.{Sent}
-use Rattle.bench_places.specs.declared.offers.Offered.{Offered}
-use Rattle.bench_places.specs.Offers.{MayPut}
+use Rattle.places.specs.declared.offers.Offered.{Offered}
+use Rattle.places.specs.Offers.{MayPut}
 use Rattle.plan_core.specs.Contents.{Contents}
 use Rattle.plan_core.specs.Lawful.{Set, In}
 use Rattle.plan_core.specs.Rounds.{Offers}
 use Rattle.plan_core.specs.Runs.{HasEnded}
-use Rattle.bench_plays.specs.declared.puts.Put.{Put}
-use Rattle.bench_plays.specs.declared.puts.Put.TheVariants.{Drive, Listen}
-use Rattle.bench_plays.specs.Games.{Game, those}
-use Rattle.bench_plays.specs.Plays.{Puts, IsPlay, item_with}
+use Rattle.plays.specs.declared.puts.Put.{Put}
+use Rattle.plays.specs.declared.puts.Put.TheVariants.{Drive, Listen}
+use Rattle.plays.specs.Games.{Game, those}
+use Rattle.plays.specs.Plays.{Puts, IsPlay, item_with}
 
 -- x is what is put where this is offered: it may be put whatever the targets' bit is, and it is `fill` where either bit may be
 abbrev pub IsFilling : Offered → Bool → Put → Type 0

@@ -1,7 +1,7 @@
 // What is put wherever a choice is made in one way.
 
 ghost use Rattle.std.specs.Prelude.{◌≡◌, None, IfSome};
-ghost use Rattle.bench_places.specs.declared.offers.Offered.TheVariants.{Nothing};
+ghost use Rattle.places.specs.declared.offers.Offered.TheVariants.{Nothing};
 ghost use Rattle.bench_run.specs.Filled.{IsFilling};
 
 use bus_bench::{Offered, Put};

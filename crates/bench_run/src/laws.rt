@@ -2,7 +2,7 @@
 
 ghost use Rattle.std.specs.Prelude.{◌≡◌, ℕ, Bool, List};
 ghost use Rattle.message_tree.specs.declared.items.Item.{Item};
-ghost use Rattle.bench_plays.specs.Games.{Game, IsGame};
+ghost use Rattle.plays.specs.Games.{Game, IsGame};
 ghost use Rattle.bench_run.specs.Filled.{IsRehearsed};
 
 /// The starters of a safe plan have one rehearsal with these answers and this fill: its wire and its winners are the same,

@@ -10,13 +10,13 @@ use Rattle.atomic_table.specs.Table.{Me, Joins, Allows}
 use Rattle.message_tree.specs.declared.items.Item.{Item}
 use Rattle.plan_core.specs.Lawful.{Set, In}
 use Rattle.plan_core.specs.Runs.{HasEnded, Whole}
-use Rattle.bench_places.specs.declared.places.Place.{Place}
-use Rattle.bench_plays.specs.declared.puts.Put.{Put}
-use Rattle.bench_plays.specs.Games.{Game, IsGame, those, answer_at}
-use Rattle.bench_plays.specs.Plays.{Puts, Goes, Leads, IsPlay, here}
-use Rattle.bench_plays.specs.Words.{word_of, shown_in, left_in, count_in}
-use Rattle.bench_plays.proofs.PlayLemmas.{was_in, is_prefix, not_further, ended_goes_no_further, is_whole}
-use Rattle.bench_plays.proofs.SlotLemmas.{Complete, slot_tells}
+use Rattle.places.specs.declared.cursor.Place.{Place}
+use Rattle.plays.specs.declared.puts.Put.{Put}
+use Rattle.plays.specs.Games.{Game, IsGame, those, answer_at}
+use Rattle.plays.specs.Plays.{Puts, Goes, Leads, IsPlay, here}
+use Rattle.plays.specs.Words.{word_of, shown_in, left_in, count_in}
+use Rattle.plays.proofs.PlayLemmas.{was_in, is_prefix, not_further, ended_goes_no_further, is_whole}
+use Rattle.plays.proofs.SlotLemmas.{Complete, slot_tells}
 use Rattle.bus_bench.specs.declared.hands.Hand.{Hand}
 use Rattle.bus_bench.specs.declared.hands.Setup.{Setup}
 use Rattle.bus_bench.specs.declared.hands.Told.{Told}

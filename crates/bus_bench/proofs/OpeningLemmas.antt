@@ -7,10 +7,10 @@ use Rattle.message_tree.specs.declared.items.Item.{Item}
 use Rattle.message_tree.specs.Texts.{Sender, SenderText}
 use Rattle.plan_core.specs.Participants.{TextOf, sender_at, participant_count}
 use Rattle.plan_core.specs.PlanContents.{plan_contents}
-use Rattle.bench_places.specs.declared.places.Place.{Place}
-use Rattle.bench_places.specs.Places.{rest_of}
-use Rattle.bench_plays.specs.Games.{Game, IsGame, those}
-use Rattle.bench_plays.proofs.PlayLemmas.{start_is_play}
+use Rattle.places.specs.declared.cursor.Place.{Place}
+use Rattle.places.specs.Places.{rest_of}
+use Rattle.plays.specs.Games.{Game, IsGame, those}
+use Rattle.plays.proofs.PlayLemmas.{start_is_play}
 use Rattle.bus_bench.specs.declared.hands.Hand.{Hand}
 use Rattle.bus_bench.specs.declared.hands.Setup.{Setup}
 use Rattle.bus_bench.specs.declared.hands.Terms.{Terms}

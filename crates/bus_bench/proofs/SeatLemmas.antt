@@ -10,15 +10,15 @@ use Rattle.message_tree.specs.declared.items.Item.TheVariants as item
 use Rattle.plan_core.specs.Participants.{Text}
 use Rattle.plan_core.specs.Rounds.{Offers, is_item}
 use Rattle.plan_core.proofs.Model.{same_item, item_is_itself}
-use Rattle.bench_places.specs.declared.places.Place.{Place}
-use Rattle.bench_places.specs.Places.{rest_of}
-use Rattle.bench_places.specs.Offers.{Begins}
-use Rattle.bench_plays.specs.declared.puts.Put.{Put}
-use Rattle.bench_plays.specs.declared.puts.Put.TheVariants.{Listen}
-use Rattle.bench_plays.specs.Games.{those, answer_at}
-use Rattle.bench_plays.specs.Plays.{item_of, item_with, put_in}
-use Rattle.bench_plays.specs.Words.{contribution, arrivals_in, shown_in, left_in}
-use Rattle.bench_plays.proofs.PlayLemmas.{has_room, was_in}
+use Rattle.places.specs.declared.cursor.Place.{Place}
+use Rattle.places.specs.Places.{rest_of}
+use Rattle.places.specs.Offers.{Begins}
+use Rattle.plays.specs.declared.puts.Put.{Put}
+use Rattle.plays.specs.declared.puts.Put.TheVariants.{Listen}
+use Rattle.plays.specs.Games.{those, answer_at}
+use Rattle.plays.specs.Plays.{item_of, item_with, put_in}
+use Rattle.plays.specs.Words.{contribution, arrivals_in, shown_in, left_in}
+use Rattle.plays.proofs.PlayLemmas.{has_room, was_in}
 use Rattle.std.proofs.lemmas.Bool.Decides.{nat_tests}
 use Rattle.plan_core.specs.Lawful.{In}
 use Rattle.bus_bench.specs.declared.hands.Hand.{Hand}

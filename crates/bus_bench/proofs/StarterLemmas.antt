@@ -21,7 +21,7 @@ use Rattle.plan_core.specs.Limits.{IsWithinLimits}
 use Rattle.plan_core.specs.Participants.{participants_of, participant_count, sendings_from, same_controller, forbidden, one_controller, apart}
 use Rattle.plan_core.proofs.ContentsLemmas.{participant_count-is, length-sendings_from}
 use Rattle.plan_core.proofs.PairLaws.{apart-either, AllPairs-map}
-use Rattle.bench_plays.specs.Games.{IsGame, those}
+use Rattle.plays.specs.Games.{IsGame, those}
 use Rattle.bus_bench.specs.declared.errors.OpenError.{OpenError}
 use Rattle.bus_bench.specs.declared.errors.OpenError.TheVariants.{Unknown, SameController, Never}
 use Rattle.bus_bench.specs.Starters.{shares_controller, refusal_behind, first_refusal, starters_refusal}

@@ -12,11 +12,11 @@ use Rattle.atomic_table.proofs.Lists.{at_set, set_again}
 use Rattle.message_tree.specs.declared.items.Item.{Item}
 use Rattle.plan_core.specs.Lawful.{Set, In}
 use Rattle.plan_core.specs.Rounds.{Offers, is_item, survivors}
-use Rattle.bench_plays.specs.declared.puts.Put.{Put}
-use Rattle.bench_plays.specs.declared.puts.Put.TheVariants.{Drive, Listen, Again, Stop, Claim}
-use Rattle.bench_plays.specs.Games.{Game, IsGame, those, answer_at}
-use Rattle.bench_plays.specs.Plays.{Puts, Goes, Leads, IsPlay, here, item_of, put_in, with_put}
-use Rattle.bench_plays.specs.Words.{contribution, word_of, arrivals_in, shown_in, left_in, count_in}
+use Rattle.plays.specs.declared.puts.Put.{Put}
+use Rattle.plays.specs.declared.puts.Put.TheVariants.{Drive, Listen, Again, Stop, Claim}
+use Rattle.plays.specs.Games.{Game, IsGame, those, answer_at}
+use Rattle.plays.specs.Plays.{Puts, Goes, Leads, IsPlay, here, item_of, put_in, with_put}
+use Rattle.plays.specs.Words.{contribution, word_of, arrivals_in, shown_in, left_in, count_in}
 use Rattle.bus_bench.specs.declared.hands.Hand.{Hand}
 use Rattle.bus_bench.specs.declared.hands.Setup.{Setup}
 use Rattle.bus_bench.specs.declared.hands.Told.{Told}
@@ -25,9 +25,9 @@ use Rattle.bus_bench.specs.declared.hands.Role.TheVariants.{Host, Player, Nobody
 use Rattle.bus_bench.specs.Hands.{hand_game, setup_game, starter}
 use Rattle.bus_bench.specs.Rule.{SLOTS, Knows, Holder, FitsPlayer, FitsHost, FitsRole, Fits, IsWired, holds_at, opening}
 use Rattle.bus_bench.specs.Steps.{HandPlayed, put_on, HasPut, own_item, item_shown, seen_on, HasSeen, puts_back, HasRead, handing_out, handed_out, taken_back, nobody}
-use Rattle.bench_plays.proofs.PlayLemmas.{start_is_play, PutOn, put_is_play, not_further, is_prefix}
-use Rattle.bench_plays.proofs.WordLemmas.{word_small, contribution_small, word_none, word_put_here, word_put_elsewhere}
-use Rattle.bench_plays.proofs.SlotLemmas.{Open, Complete, slot_tells}
+use Rattle.plays.proofs.PlayLemmas.{start_is_play, PutOn, put_is_play, not_further, is_prefix}
+use Rattle.plays.proofs.WordLemmas.{word_small, contribution_small, word_none, word_put_here, word_put_elsewhere}
+use Rattle.plays.proofs.SlotLemmas.{Open, Complete, slot_tells}
 use Rattle.bus_bench.proofs.ViewLemmas.{at_those, one_place, all_count, all_back, one_or_other, place_of, every_place}
 
 -- ---- what fits by its role

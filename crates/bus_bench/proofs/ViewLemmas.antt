@@ -14,11 +14,11 @@ use Rattle.std.proofs.lemmas.Map.Made.{IsDistinct-from_AllPairs}
 use Rattle.std.proofs.lemmas.Map.Steps.{length-le_from_distinct_below}
 use Rattle.std.proofs.lemmas.Bool.Decides.{nat_tests}
 use Rattle.plan_core.specs.Lawful.{Set, In}
-use Rattle.bench_plays.specs.Games.{Game, those}
+use Rattle.plays.specs.Games.{Game, those}
 use Rattle.bus_bench.specs.Hands.{starter}
-use Rattle.bench_plays.specs.Plays.{Puts}
+use Rattle.plays.specs.Plays.{Puts}
 use Rattle.bus_bench.specs.declared.hands.Told.{Told}
-use Rattle.bench_plays.specs.Words.{count_in}
+use Rattle.plays.specs.Words.{count_in}
 use Rattle.bus_bench.specs.Steps.{puts_back}
 
 pub one_or_other : (b : Bool) → (b ≡ true) ⊎ (b ≡ false)

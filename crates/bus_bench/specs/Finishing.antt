@@ -6,7 +6,7 @@ use Rattle.std.specs.List.{list_any, list_all}
 use Rattle.message_tree.specs.declared.items.Item.{Item}
 use Rattle.plan_core.specs.Lawful.{Set, In}
 use Rattle.plan_core.specs.Runs.{HasEnded, Whole}
-use Rattle.bench_plays.specs.Plays.{Puts, IsPlay}
+use Rattle.plays.specs.Plays.{Puts, IsPlay}
 use Rattle.bus_bench.specs.declared.errors.FinishFault.{FinishFault}
 use Rattle.bus_bench.specs.declared.errors.FinishFault.TheVariants.{Missing, NotEnded, NoMemory}
 use Rattle.bus_bench.specs.declared.hands.Hand.{Hand}

@@ -4,7 +4,7 @@ use Rattle.std.specs.List.{slice_index_or}
 use Rattle.plan_core.specs.declared.plans.Plan.{Plan}
 use Rattle.plan_core.specs.Contents.{Contents, empty}
 use Rattle.plan_core.specs.PlanContents.{plan_contents}
-use Rattle.bench_plays.specs.Games.{Game}
+use Rattle.plays.specs.Games.{Game}
 use Rattle.bus_bench.specs.declared.hands.Hand.{Hand}
 use Rattle.bus_bench.specs.declared.hands.Setup.{Setup}
 

@@ -6,9 +6,9 @@ use lib.ListN.{get_elem?}
 use Rattle.atomic_table.specs.Table.{State}
 use Rattle.message_tree.specs.declared.items.Item.{Item}
 use Rattle.plan_core.specs.Lawful.{Set}
-use Rattle.bench_plays.specs.Games.{Game, IsGame}
-use Rattle.bench_plays.specs.Plays.{Puts, Goes, Leads, IsPlay}
-use Rattle.bench_plays.specs.Words.{word_of, count_in}
+use Rattle.plays.specs.Games.{Game, IsGame}
+use Rattle.plays.specs.Plays.{Puts, Goes, Leads, IsPlay}
+use Rattle.plays.specs.Words.{word_of, count_in}
 use Rattle.bus_bench.specs.declared.hands.Hand.{Hand}
 use Rattle.bus_bench.specs.declared.hands.Setup.{Setup}
 use Rattle.bus_bench.specs.declared.hands.Told.{Told}

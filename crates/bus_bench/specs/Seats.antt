@@ -6,10 +6,10 @@ use Rattle.message_tree.specs.declared.items.Item.{Item}
 use Rattle.message_tree.specs.declared.items.Item.TheVariants as item
 use Rattle.plan_core.specs.Rounds.{Offers}
 use Rattle.plan_core.specs.declared.plans.Plan.{Plan}
-use Rattle.bench_plays.specs.declared.puts.Put.{Put}
-use Rattle.bench_plays.specs.declared.puts.Put.TheVariants.{Listen}
-use Rattle.bench_plays.specs.Games.{Game}
-use Rattle.bench_plays.specs.Plays.{item_of}
+use Rattle.plays.specs.declared.puts.Put.{Put}
+use Rattle.plays.specs.declared.puts.Put.TheVariants.{Listen}
+use Rattle.plays.specs.Games.{Game}
+use Rattle.plays.specs.Plays.{item_of}
 use Rattle.bus_bench.specs.declared.errors.PutError.{PutError}
 use Rattle.bus_bench.specs.declared.errors.PutError.TheVariants.{Over, Early, NotOffered}
 use Rattle.bus_bench.specs.declared.errors.Sight.{Sight}

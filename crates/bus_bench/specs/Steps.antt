@@ -4,11 +4,11 @@ use Rattle.std.specs.List.{slice_index_or}
 use Rattle.message_tree.specs.declared.items.Item.{Item}
 use Rattle.plan_core.specs.Lawful.{Set}
 use Rattle.plan_core.specs.Rounds.{is_item}
-use Rattle.bench_plays.specs.declared.puts.Put.{Put}
-use Rattle.bench_plays.specs.declared.puts.Put.TheVariants.{Listen}
-use Rattle.bench_plays.specs.Games.{Game, answer_at}
-use Rattle.bench_plays.specs.Plays.{Puts, IsPlay, item_of}
-use Rattle.bench_plays.specs.Words.{contribution, word_of, arrivals_in, shown_in, left_in}
+use Rattle.plays.specs.declared.puts.Put.{Put}
+use Rattle.plays.specs.declared.puts.Put.TheVariants.{Listen}
+use Rattle.plays.specs.Games.{Game, answer_at}
+use Rattle.plays.specs.Plays.{Puts, IsPlay, item_of}
+use Rattle.plays.specs.Words.{contribution, word_of, arrivals_in, shown_in, left_in}
 use Rattle.bus_bench.specs.declared.hands.Hand.{Hand}
 use Rattle.bus_bench.specs.declared.hands.Told.{Told}
 use Rattle.bus_bench.specs.declared.hands.Role.TheVariants.{Player, Nobody}

@@ -5,10 +5,10 @@ use Rattle.atomic_table.specs.Table.{Me}
 use Rattle.message_tree.specs.declared.items.Item.{Item}
 use Rattle.plan_core.specs.Participants.{Text}
 use Rattle.plan_core.specs.Runs.{HasEnded}
-use Rattle.bench_places.specs.declared.places.Place.{Place}
-use Rattle.bench_places.specs.Places.{rest_of}
-use Rattle.bench_plays.specs.declared.puts.Put.{Put}
-use Rattle.bench_plays.specs.Games.{IsGame}
+use Rattle.places.specs.declared.cursor.Place.{Place}
+use Rattle.places.specs.Places.{rest_of}
+use Rattle.plays.specs.declared.puts.Put.{Put}
+use Rattle.plays.specs.Games.{IsGame}
 use Rattle.bus_bench.specs.declared.hands.Hand.{Hand}
 use Rattle.bus_bench.specs.declared.hands.Setup.{Setup}
 use Rattle.bus_bench.specs.declared.hands.Terms.{Terms}

@@ -12,8 +12,8 @@ use crate::hands::Terms;
 use crate::putting::answer_in;
 use crate::seats::{Bench, Host, Seat, Standing, Ticket, Wire};
 use crate::steps::{ComesBack, Reads};
-use bench_plays::Tally;
 use message_tree::Item;
+use plays::Tally;
 use std::alloc::{AllocError, Global};
 
 /// What was played: the wire, and who was live at its end, by participant number, in the order of the starters.

@@ -1,8 +1,8 @@
 // What the host of a bench and its seats know, in proofs alone: no value of these types but a setup is made.
 
-use bench_plays::Put;
 use message_tree::Item;
 use plan_core::Plan;
+use plays::Put;
 use std::collections::LinkedList;
 
 /// What a bench is told when it is opened.

@@ -14,9 +14,9 @@ mod seeing;
 mod starters;
 mod steps;
 
-pub use bench_places::Offered;
-pub use bench_plays::Put;
 pub use errors::{FinishFault, OpenError, PutError, Sight};
 pub use finishing::{Played, Unfinished, finish};
 pub use opening::{MOST_SLOTS, open_bench};
+pub use places::Offered;
+pub use plays::Put;
 pub use seats::{Bench, Host, Seat, Standing};

@@ -5,7 +5,7 @@ ghost use Rattle.std.specs.List.{range_with_len};
 ghost use Rattle.plan_core.specs.Faults.{IsSafe};
 ghost use Rattle.plan_core.specs.PlanContents.{plan_contents};
 ghost use Rattle.cert_check.specs.Holds.{accepted_plan};
-ghost use Rattle.bench_plays.specs.Games.{IsGame};
+ghost use Rattle.plays.specs.Games.{IsGame};
 ghost use Rattle.bus_bench.specs.Hands.{setup_game};
 ghost use Rattle.bus_bench.specs.Opening.{IsHanding, IsOpened, IsOpenRefusal};
 ghost use Rattle.bus_bench.specs.Rule.{SLOTS, opening};
@@ -18,8 +18,8 @@ use crate::seats::{Bench, Host, Seat, Standing, Ticket, Wire};
 use crate::starters::check_starters;
 use crate::steps::HandsOut;
 use atomic_table::Table;
-use bench_places::Place;
 use cert_check::Accepted;
+use places::Place;
 use plan_core::Plan;
 use std::alloc::{AllocError, Global};
 

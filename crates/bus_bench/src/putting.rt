@@ -1,13 +1,13 @@
 // What a seat may put, and putting it.
 
 ghost use Rattle.std.specs.Prelude.{◌≡◌};
-ghost use Rattle.bench_plays.specs.Games.{answer_at};
+ghost use Rattle.plays.specs.Games.{answer_at};
 
 use crate::errors::PutError;
 use crate::seats::{Bench, Seat, Standing};
 use crate::steps::Puts;
-use bench_places::Offered;
-use bench_plays::Put;
+use places::Offered;
+use plays::Put;
 
 impl<'a> Bench<'a> {
     // The bit of the targets in this slot.
@@ -28,7 +28,7 @@ pub(crate) fn answer_in(answers: &[bool], slot: u32) -> bool
 impl<'a> Seat<'a> {
     ghost use Rattle.std.specs.Prelude.{◌↔◌, IfOk, IfErr};
     ghost use Rattle.message_tree.specs.declared.items.Item.{Item};
-    ghost use Rattle.bench_places.specs.Offers.{MayPut};
+    ghost use Rattle.places.specs.Offers.{MayPut};
     ghost use Rattle.bus_bench.specs.Seats.{MayOffer, CanPut, IsPutRefusal, after_put, HasPlay};
 
     /// What the seat may put in its slot: exactly what the participant may send after what the seat has seen, and

@@ -3,8 +3,8 @@
 use crate::hands::{Hand, Setup, Terms};
 use crate::steps::Wired;
 use atomic_table::Table;
-use bench_places::Place;
-use bench_plays::Put;
+use places::Place;
+use plays::Put;
 use std::alloc::Global;
 use std::marker::Model;
 

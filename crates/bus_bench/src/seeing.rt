@@ -7,8 +7,8 @@ ghost use Rattle.bus_bench.specs.Seats.{standing_behind};
 use crate::errors::Sight;
 use crate::seats::{Bench, Seat, Standing};
 use crate::steps::Sees;
-use bench_plays::Tally;
 use message_tree::Item;
+use plays::Tally;
 
 impl<'a> Seat<'a> {
     ghost use Rattle.std.specs.Prelude.{◌≡◌, ◌≢◌, length};

@@ -7,7 +7,7 @@ use Rattle.message_tree.specs.declared.bits.Bit.TheVariants.{Zero, One, Either}
 use Rattle.message_tree.specs.declared.items.Item.{Item}
 use Rattle.message_tree.specs.declared.items.Item.TheVariants.{Sent, Again, Stop}
 use Rattle.message_tree.specs.Texts.{Language, SentThen}
-use Rattle.bench_places.specs.Offers.{Begins}
+use Rattle.places.specs.Offers.{Begins}
 use Rattle.capture_check.specs.declared.listening.Mark.{Mark}
 use Rattle.capture_check.specs.declared.listening.Mark.TheVariants as mark
 use Rattle.capture_check.specs.Marks.{Leaves, Fits}

@@ -6,15 +6,15 @@ ghost use Rattle.message_tree.specs.declared.items.Item.{Item};
 ghost use Rattle.message_tree.specs.Patterns.{address_bits};
 ghost use Rattle.message_tree.specs.Texts.{FrameText, SentThen};
 ghost use Rattle.message_tree.specs.Trees.{frame_tree};
-ghost use Rattle.bench_places.specs.Offers.{MayPut};
+ghost use Rattle.places.specs.Offers.{MayPut};
 ghost use Rattle.capture_check.specs.Along.{after_bits, may_be};
 ghost use Rattle.capture_check.specs.Explained.{Whatever};
 ghost use Rattle.capture_check.specs.Marks.{Fits, Leaves};
 
 use crate::bits::header_bits;
 use crate::listening::Mark;
-use bench_places::{Offered, Place};
 use message_tree::{Address, Bit, Frame, Item};
+use places::{Offered, Place};
 use plan_core::Sends;
 
 /// Whether a text of the message has these marks.

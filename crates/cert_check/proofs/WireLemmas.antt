@@ -9,9 +9,9 @@ use Rattle.message_tree.specs.declared.items.Kind.{Kind}
 use Rattle.message_tree.specs.declared.items.Kind.TheVariants as kind
 use Rattle.message_tree.specs.Items.{kind_of}
 use Rattle.message_tree.specs.Texts.{Language}
-use Rattle.bench_places.specs.declared.offers.Offered.{Offered}
-use Rattle.bench_places.specs.declared.offers.Offered.TheVariants.{Bit, Listen, Again, Stop, Claim}
-use Rattle.bench_places.specs.Offers.{Begins, MayPut}
+use Rattle.places.specs.declared.offers.Offered.{Offered}
+use Rattle.places.specs.declared.offers.Offered.TheVariants.{Bit, Listen, Again, Stop, Claim}
+use Rattle.places.specs.Offers.{Begins, MayPut}
 use Rattle.cert_check.specs.Wires.{GoesOnWith, is_offered}
 
 pub along : {A B C : Type 0} → A ↔ B → B ↔ C → A ↔ C

@@ -5,8 +5,8 @@ use Rattle.message_tree.specs.declared.items.Kind.{Kind}
 use Rattle.message_tree.specs.declared.items.Kind.TheVariants as kind
 use Rattle.message_tree.specs.Items.{kind_of, KindsClash}
 use Rattle.message_tree.specs.Texts.{Language, Sender, SenderText}
-use Rattle.bench_places.specs.declared.offers.Offered.{Offered}
-use Rattle.bench_places.specs.declared.offers.Offered.TheVariants.{Bit, Listen, Again, Stop, Claim}
+use Rattle.places.specs.declared.offers.Offered.{Offered}
+use Rattle.places.specs.declared.offers.Offered.TheVariants.{Bit, Listen, Again, Stop, Claim}
 
 -- after u, one of these lists goes on with an item of this kind
 abbrev pub GoesOnWith : Language → List Item → Kind → Type 0

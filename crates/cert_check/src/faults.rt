@@ -9,9 +9,9 @@ ghost use Rattle.cert_check.specs.PairFaults.{IsPairFault};
 ghost use Rattle.plan_core.specs.Senders.{what_is_sent};
 ghost use Rattle.cert_check.specs.Wires.{GoesOnWith, ClashAfter, is_offered};
 
-use bench_places::{Offered, Place};
 use certificate::Fault;
 use message_tree::{Item, Kind};
+use places::{Offered, Place};
 use plan_core::{Plan, Sends};
 
 /// Whether the pair with number `i` has this fault when it starts alone. Any of its faults will do, not only the first.

@@ -4,7 +4,7 @@ use crate::cases::{Asked, Case};
 use crate::commands::command_of;
 use crate::errors::CaseError;
 use crate::texts::{text_of, words_of};
-use plain_model::commands::Answer;
+use reference::commands::Answer;
 use std::alloc::Global;
 
 /// What a case file has between two lines that begin with `=== `: a name, a command, and texts. The two files that the

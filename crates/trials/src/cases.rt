@@ -3,8 +3,8 @@
 use crate::commands::Command;
 use crate::scripts::run_seats;
 use bench_run::{NoGate, run_bench};
-use plain_model::commands::{self, Answer};
 use plan_text::{print_plan, read_plan};
+use reference::commands::{self, Answer};
 use report::devices::reading::READS;
 use report::{
     Input, Output, RunError, Status, Watched, read_within, run_capture, run_certify, run_check,

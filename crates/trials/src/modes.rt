@@ -6,7 +6,7 @@ use crate::commands::Command;
 use crate::interrupted::Interrupted;
 use crate::tried::Tried;
 use anyhow::Result;
-use plain_model::commands::Answer;
+use reference::commands::Answer;
 use report::{FaultyReader, FaultyWriter, Input, Output, Watched};
 use std::alloc::{AllocError, Global};
 use std::sync::Wait;

@@ -7,7 +7,7 @@ use crate::lists::tell_lists;
 use crate::scarcity::{Refused, Scarcity};
 use crate::tried::Tried;
 use anyhow::Result;
-use plain_model::commands::Answer;
+use reference::commands::Answer;
 use report::Watched;
 use std::alloc::{AllocError, Global};
 use std::sync::Wait;

@@ -4,7 +4,7 @@ use crate::cases::{Asked, Case};
 use crate::commands::Command;
 use crate::dice::Dice;
 use crate::mutations::{CERT_WORDS, DUMP_WORDS, LABELS, PLAN_WORDS, copied, mutated};
-use plain_model::commands;
+use reference::commands;
 use std::alloc::{AllocError, Global};
 
 /// The files that are changed.

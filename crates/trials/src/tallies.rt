@@ -2,7 +2,7 @@
 
 use crate::cases::Asked;
 use crate::commands::Command;
-use plain_model::commands::Answer;
+use reference::commands::Answer;
 use std::alloc::{AllocError, Global};
 use std::io;
 

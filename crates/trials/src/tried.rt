@@ -2,7 +2,7 @@
 
 use crate::cases::Case;
 use anyhow::Result;
-use plain_model::commands::Answer;
+use reference::commands::Answer;
 use std::alloc::Global;
 
 /// How many wrong runs are shown.

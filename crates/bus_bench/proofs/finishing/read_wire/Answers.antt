@@ -2,8 +2,8 @@ use Rattle.std.proofs.Common.{◌≡◌, ◌<◌, ◌≤◌, ◌+◌, ◌∷◌,
 use Rattle.std.proofs.lemmas.List.{length-append}
 use Rattle.atomic_table.specs.Table.{Me}
 use Rattle.message_tree.specs.declared.items.Item.{Item}
-use Rattle.bench_plays.specs.Games.{answer_at}
-use Rattle.bench_plays.specs.Words.{shown_in, left_in}
+use Rattle.plays.specs.Games.{answer_at}
+use Rattle.plays.specs.Words.{shown_in, left_in}
 use Rattle.bus_bench.specs.declared.hands.Hand.{Hand}
 use Rattle.bus_bench.specs.Rule.{SLOTS}
 use Rattle.bus_bench.specs.Steps.{HasRead}

@@ -1,7 +1,7 @@
 use Rattle.std.proofs.Common.{false}
 use Rattle.message_tree.specs.Texts.{FrameText}
 use Rattle.message_tree.specs.Trees.{frame_tree}
-use Rattle.bench_places.specs.Places.{rest_of}
+use Rattle.places.specs.Places.{rest_of}
 use Rattle.capture_check.specs.declared.listening.Mark.TheVariants.{Level}
 use Rattle.capture_check.proofs.AlongLemmas.{along, one_more, not_along, at_end}
 use Rattle.capture_check.proofs.texts.frame_fits.Goals as goal

@@ -1,6 +1,6 @@
 use Rattle.message_tree.specs.Texts.{FrameText}
 use Rattle.message_tree.specs.Trees.{frame_tree}
-use Rattle.bench_places.specs.Places.{rest_of}
+use Rattle.places.specs.Places.{rest_of}
 use Rattle.capture_check.proofs.AlongLemmas.{IsLeft}
 use Rattle.capture_check.proofs.texts.frame_fits.Given as goal
 

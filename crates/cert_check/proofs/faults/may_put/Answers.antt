@@ -2,7 +2,7 @@ use Rattle.std.proofs.Common.{◌≡◌, ◌↔◌, Bool, true, false, sym, subs
 use Rattle.message_tree.specs.declared.items.Item.TheVariants.{Sent}
 use Rattle.message_tree.specs.Texts.{SenderText}
 use Rattle.plan_core.specs.Senders.{what_is_sent}
-use Rattle.bench_places.specs.Places.{rest_of}
+use Rattle.places.specs.Places.{rest_of}
 use Rattle.cert_check.specs.Wires.{GoesOnWith}
 use Rattle.cert_check.proofs.WireLemmas.{not_along, at_end}
 use Rattle.cert_check.proofs.faults.may_put.Goals as goal

@@ -1,6 +1,6 @@
 use Rattle.message_tree.specs.Texts.{SenderText}
 use Rattle.plan_core.specs.Senders.{what_is_sent}
-use Rattle.bench_places.specs.Places.{rest_of}
+use Rattle.places.specs.Places.{rest_of}
 use Rattle.cert_check.proofs.WireLemmas.{IsLeft}
 use Rattle.cert_check.proofs.faults.may_put.Given as goal
 

@@ -3,12 +3,12 @@ use Rattle.std.specs.Prelude.{IsTrue}
 use Rattle.atomic_table.specs.Seated.{TableId}
 use Rattle.atomic_table.specs.Table.{Me}
 use Rattle.message_tree.specs.declared.items.Item.{Item}
-use Rattle.bench_places.specs.declared.places.Place.{Place}
-use Rattle.bench_places.specs.Places.{rest_of}
-use Rattle.bench_places.specs.Offers.{Begins}
-use Rattle.bench_plays.specs.declared.puts.Put.{Put}
-use Rattle.bench_plays.specs.Games.{answer_at}
-use Rattle.bench_plays.specs.Plays.{item_of, item_with}
+use Rattle.places.specs.declared.cursor.Place.{Place}
+use Rattle.places.specs.Places.{rest_of}
+use Rattle.places.specs.Offers.{Begins}
+use Rattle.plays.specs.declared.puts.Put.{Put}
+use Rattle.plays.specs.Games.{answer_at}
+use Rattle.plays.specs.Plays.{item_of, item_with}
 use Rattle.bus_bench.specs.declared.hands.Hand.{Hand}
 use Rattle.bus_bench.specs.declared.seats.Standing.{Standing}
 use Rattle.bus_bench.specs.declared.seats.Standing.TheVariants.{Playing}

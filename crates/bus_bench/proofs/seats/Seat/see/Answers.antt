@@ -1,8 +1,8 @@
 use Rattle.std.proofs.Common.{rules, ◌≡◌, ◌+◌, ◌∙◌, ap, sym, subst, ℕ, Option, Some, None}
 use Rattle.atomic_table.specs.Table.{Me}
-use Rattle.bench_places.specs.declared.places.Place.{Place}
-use Rattle.bench_plays.specs.declared.puts.Put.{Put}
-use Rattle.bench_plays.specs.Words.{arrivals_in}
+use Rattle.places.specs.declared.cursor.Place.{Place}
+use Rattle.plays.specs.declared.puts.Put.{Put}
+use Rattle.plays.specs.Words.{arrivals_in}
 use Rattle.bus_bench.specs.declared.hands.Hand.{Hand}
 use Rattle.bus_bench.specs.declared.seats.Standing.{Standing}
 use Rattle.bus_bench.specs.declared.seats.Standing.TheVariants.{Playing}
