@@ -43,7 +43,7 @@ gcc -O2 -Wall -shared -fPIC -nostdlib -o "$work/refusals.so" "$tests/scarce/refu
     fail "the library that refuses memory is not built" "$work/log"
 
 cd -- "$crate/data" || fail "there is no folder $crate/data"
-LD_PRELOAD=$work/refusals.so timeout 600 "$program" </dev/null >"$work/out" 2>"$work/err"
+LD_PRELOAD=$work/refusals.so timeout 900 "$program" </dev/null >"$work/out" 2>"$work/err"
 status=$?
 [[ $status -eq 0 ]] || fail "trials ended with status $status" "$work/out" "$work/err"
 

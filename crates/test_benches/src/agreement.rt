@@ -3,7 +3,7 @@
 use crate::dice::Dice;
 use crate::sittings::Sitting;
 use bench_run::filled;
-use bus_bench::{Put, PutError, Sight};
+use bus_bench::{OpenError, Put, PutError, Sight};
 use cert_check::{Accepted, accept_plan};
 use message_tree::Item;
 use pair_walk::{Outcome, walk};
@@ -179,4 +179,12 @@ pub fn assert_played(
     assert_eq!(rt; played.wire.as_slice(), ending.wire.as_slice(), "{case:?}");
     assert_eq!(rt; played.won.as_slice(), ending.won.as_slice(), "{case:?}");
     Ok(ending.wire.len())
+}
+
+// The program prints `memory` in its place.
+#[test]
+fn want_of_memory_prints_its_code(rt: HostRuntime) -> Result<(), Fail> {
+    let error = OpenError::NoMemory;
+    assert_eq!(rt; format!(in rt.alloc(); "{error}")?.as_str(), "B4");
+    Ok(())
 }

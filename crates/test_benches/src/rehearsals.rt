@@ -60,12 +60,17 @@ fn rehearse<R: Threads + Wait + Clock + Sync, G: Gate + Sync>(
 /// A slot after the first header, in which all three starters are still live.
 const LATER: u32 = 10;
 
-// Each seat raises a flag before its first slot, and again before a later one, and waits for the flags of the others.
+/// The slot before the last one, in which two are.
+const NEXT_TO_LAST: u32 = 17;
+
+// Each seat raises a flag before its first slot, again before a later one, and before the one next to the last, and waits for
+// the flags of the others that are live.
 #[derive(Drop)]
 struct Flags {
     seats: u64,
     raised_first: AtomicU64,
     raised_later: AtomicU64,
+    raised_last: AtomicU64,
     missed: AtomicU64,
     before: AtomicU64,
     after: AtomicU64,
@@ -77,6 +82,7 @@ impl Flags {
             seats,
             raised_first: AtomicU64::new(0),
             raised_later: AtomicU64::new(0),
+            raised_last: AtomicU64::new(0),
             missed: AtomicU64::new(0),
             before: AtomicU64::new(0),
             after: AtomicU64::new(0),
@@ -85,11 +91,11 @@ impl Flags {
 }
 
 impl Flags {
-    // Raises a flag, and waits for those of the others.
-    fn meet(&self, raised: &AtomicU64) {
+    // Raises a flag, and waits until so many are.
+    fn meet(&self, raised: &AtomicU64, seats: u64) {
         raised.fetch_add(1, Ordering::SeqCst);
         for _ in 0..MOST_TURNS {
-            if raised.load(Ordering::SeqCst) >= self.seats {
+            if raised.load(Ordering::SeqCst) >= seats {
                 return;
             }
             thread::yield_now();
@@ -102,8 +108,9 @@ impl Gate for Flags {
     fn before(&self, _seat: u32, slot: u32) {
         self.before.fetch_add(1, Ordering::SeqCst);
         match slot {
-            0 => self.meet(&self.raised_first),
-            LATER => self.meet(&self.raised_later),
+            0 => self.meet(&self.raised_first, self.seats),
+            LATER => self.meet(&self.raised_later, self.seats),
+            NEXT_TO_LAST => self.meet(&self.raised_last, self.seats.min(2)),
             _ => {}
         }
     }
@@ -121,6 +128,7 @@ fn all_starters_play_at_the_same_time(rt: HostRuntime) -> Result<(), Fail> {
     assert_eq!(rt; text.as_str(), "wire 10010000l11001111ls\nwon b/n c/o\n");
     assert_eq!(rt; gate.raised_first.load(Ordering::SeqCst), 3);
     assert_eq!(rt; gate.raised_later.load(Ordering::SeqCst), 3);
+    assert_eq!(rt; gate.raised_last.load(Ordering::SeqCst), 2);
     assert_eq!(rt; gate.missed.load(Ordering::SeqCst), 0);
     Ok(())
 }

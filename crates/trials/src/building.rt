@@ -14,7 +14,7 @@ pub fn built_again(alloc: Global, plan: &Plan) -> Result<Plan, RunError> {
     }
     for k in 0..plan.controllers() {
         let name = copied(alloc, plan.controller_name(k))?;
-        let sent = sent_by(alloc, plan, k)?;
+        let sent = names_of(alloc, plan, plan.controller_messages(k))?;
         built(builder.controller(name, sent.as_slice()))?;
     }
     for k in 0..plan.interrupts() {
@@ -28,10 +28,10 @@ pub fn built_again(alloc: Global, plan: &Plan) -> Result<Plan, RunError> {
     Ok(builder.finish())
 }
 
-// The names of the messages of a controller.
-fn sent_by(alloc: Global, plan: &Plan, controller: u32) -> Result<Vec<Name>, RunError> {
+// The names of these messages.
+fn names_of(alloc: Global, plan: &Plan, messages: &[u32]) -> Result<Vec<Name>, RunError> {
     let mut names = Vec::new(alloc);
-    for k in plan.controller_messages(controller) {
+    for k in messages {
         if *k < plan.messages() {
             names.push(copied(alloc, plan.message_name(*k))?)?;
         }

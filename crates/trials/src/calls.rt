@@ -126,11 +126,17 @@ fn certify<O: Output>(alloc: Global, table: Table, out: &mut O) -> Result<Status
     } else {
         Status::Bad
     };
+    let Some(cert) = certified(alloc, table) else {
+        return Err(RunError::NoMemory);
+    };
+    let text = print_cert(alloc, &cert)?;
+    write_lines(out, text.as_slice(), status)
+}
+
+// The table is handed back where memory is refused, and asked once more.
+fn certified(alloc: Global, table: Table) -> Option<CertText> {
     match table.certify(alloc) {
-        Ok(cert) => {
-            let text = print_cert(alloc, &cert)?;
-            write_lines(out, text.as_slice(), status)
-        }
-        Err(_) => Err(RunError::NoMemory),
+        Ok(cert) => Some(cert),
+        Err(table) => table.certify(alloc).ok(),
     }
 }

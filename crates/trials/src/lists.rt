@@ -7,7 +7,7 @@ use plan_core::Plan;
 use plan_text::read_plan;
 use report::{Output, RunError, Status, write_lines};
 use std::alloc::{AllocError, Global};
-use vcd_read::{Reader, Sample};
+use vcd_read::{Reader, Sample, VcdError};
 
 /// Writes how long the copies of the plan's messages are, and how many participants explain the transactions of the capture.
 pub fn tell_lists<O: Output>(
@@ -21,12 +21,20 @@ pub fn tell_lists<O: Output>(
     let plan = read_plan(alloc, asked.plan.as_slice())?;
     let copied = copied(alloc, &plan)?;
     let mut reader = Reader::new(alloc, scl.as_str(), sda.as_str())?;
-    reader.feed(asked.second.as_slice())?;
+    feed(&mut reader, asked.second.as_slice())?;
     let samples = reader.end()?;
     let heard = heard(alloc, samples.as_slice())?;
     let explainers = explainers(alloc, &plan, heard.as_slice())?;
     let line = format!(in alloc; "{copied} {explainers}\n")?;
     write_lines(out, line.as_bytes(), Status::Good)
+}
+
+// Feeds a piece, and once more where memory was refused: the reader is then as it was.
+fn feed(reader: &mut Reader, piece: &[u8]) -> Result<(), VcdError> {
+    match reader.feed(piece) {
+        Err(VcdError::NoMemory) => reader.feed(piece),
+        answer => answer,
+    }
 }
 
 fn copied(alloc: Global, plan: &Plan) -> Result<u32, AllocError> {

@@ -36,7 +36,7 @@ use cases::{Asked, Case, is_spelt_alike, said, said_plainly};
 use dice::Dice;
 use files::{FILES, push_cases};
 use modes::{MODES, try_case};
-use quiet::{are_others_quiet, try_quiet};
+use quiet::{Quiet, are_others_quiet};
 use reference::commands::Answer;
 use scarce::{Wants, try_scarce};
 use scarcity::{is_there, obeys};
@@ -123,6 +123,7 @@ fn run_scarce<R: Files + Print + AllocGlobal + Threads + Wait + Clock + Sync>(
         return Err(anyhow!("other allocations are refused than are named"));
     }
     let mut tried = Tried::new();
+    let mut quiet = Quiet::new();
     let mut cases = Vec::new(alloc);
     for file in FILES {
         let first = cases.len();
@@ -131,13 +132,14 @@ fn run_scarce<R: Files + Print + AllocGlobal + Threads + Wait + Clock + Sync>(
             rt,
             alloc,
             &mut tried,
+            &mut quiet,
             file,
             cases.get(first..).unwrap_or(&[]),
         )?;
     }
-    let are_quiet = are_others_quiet(alloc)?;
+    let are_quiet = are_others_quiet(alloc)? && quiet.is_complete();
     if !are_quiet {
-        println!(rt; "a call without memory asks for some")?;
+        println!(rt; "a call without memory asks for some, or was not made")?;
     }
     println!(rt; "{} cases, {} disagreements", cases.len(), tried.wrong)?;
     Ok(tried.wrong == 0 && are_quiet)
@@ -148,13 +150,14 @@ fn try_file_scarcely<R: Print + Threads + Wait + Clock + Sync>(
     rt: &R,
     alloc: Global,
     tried: &mut Tried,
+    quiet: &mut Quiet,
     file: &str,
     cases: &[Case],
 ) -> Result<()> {
     let mut wants = Wants::new();
     for case in cases {
         try_scarce(rt, alloc, tried, &mut wants, case)?;
-        try_quiet(rt, alloc, tried, case)?;
+        quiet.try_case(rt, alloc, tried, case)?;
     }
     println!(rt;
         "{file}: {} cases, {} runs with a refused allocation, {} of them out of memory",

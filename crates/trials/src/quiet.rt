@@ -8,39 +8,89 @@ use crate::scarcity::{Refused, Scarcity};
 use crate::scripts::{MOST_SLOTS, bits_of, certificate_of, numbers_of, put_all, see_all};
 use crate::sittings::Sitting;
 use crate::tried::Tried;
-use anyhow::Result;
+use anyhow::{Result, anyhow};
 use capture_check::{Follower, Listener, Watch};
 use cert_check::{accept_certificate, accept_plan, check_fault, check_pair};
 use certificate::{Cert, CertText, Fault, read_cert};
-use message_tree::{Address, Count, Frame, Item, Pattern};
-use pair_queue::{Take, Thief, open_queue, settle};
-use plan_core::{Builder, Name, Plan};
+use message_tree::{Address, Bit, Count, Frame, Item, Pattern, Tail};
+use pair_queue::{SettleFault, Take, Thief, open_queue, settle};
+use plan_core::{Builder, Name, Participant, Plan, Sends};
 use plan_text::read_plan;
-use std::alloc::{AllocError, Global};
+use report::{Input, Watched};
+use std::alloc::Global;
 use vcd_read::Reader;
 use verdicts::{Faults, Table, faults, table};
 
-/// Makes the calls without memory on what a case reads, where they can be made on it. What they need is made before.
-pub fn try_quiet(rt: &impl Print, alloc: Global, tried: &mut Tried, case: &Case) -> Result<()> {
-    let plan = case.asked.plan.as_slice();
-    let second = case.asked.second.as_slice();
-    let is_quiet = match &case.asked.command {
-        Command::Check { .. } => is_plan_quiet(alloc, plan)?,
-        Command::Certify => is_table_quiet(alloc, plan)?,
-        Command::Verify => is_cert_quiet(alloc, plan, second)?,
-        Command::Capture { scl, sda } => {
-            is_reader_quiet(alloc, second, scl.as_str(), sda.as_str())?
+/// On how many cases of each kind the calls without memory were made.
+#[derive(Drop)]
+pub struct Quiet {
+    plans: u32,
+    tables: u32,
+    certs: u32,
+    dumps: u32,
+    seats: u32,
+}
+
+impl Quiet {
+    pub fn new() -> Quiet {
+        Quiet {
+            plans: 0,
+            tables: 0,
+            certs: 0,
+            dumps: 0,
+            seats: 0,
         }
-        Command::Seats { starters, answers } => {
-            are_seats_quiet(alloc, plan, starters.as_str(), answers.as_str())?
+    }
+
+    /// Whether they were made on some case of each kind.
+    pub fn is_complete(&self) -> bool {
+        self.plans > 0 && self.tables > 0 && self.certs > 0 && self.dumps > 0 && self.seats > 0
+    }
+
+    /// Makes the calls without memory on what a case reads, where they can be made on it. What they need is made before.
+    pub fn try_case(
+        &mut self,
+        rt: &impl Print,
+        alloc: Global,
+        tried: &mut Tried,
+        case: &Case,
+    ) -> Result<()> {
+        let plan = case.asked.plan.as_slice();
+        let second = case.asked.second.as_slice();
+        let quiet = match &case.asked.command {
+            Command::Check { .. } => is_plan_quiet(alloc, plan)?,
+            Command::Certify => is_table_quiet(alloc, plan)?,
+            Command::Verify => is_cert_quiet(alloc, plan, second)?,
+            Command::Capture { scl, sda } => {
+                is_reader_quiet(alloc, second, scl.as_str(), sda.as_str())?
+            }
+            Command::Seats { starters, answers } => {
+                are_seats_quiet(alloc, plan, starters.as_str(), answers.as_str())?
+            }
+            _ => return Ok(()),
+        };
+        let Some(is_quiet) = quiet else {
+            return Ok(());
+        };
+        self.note(&case.asked.command);
+        tried.count_devices(rt, case, "quiet", &case.wanted, &case.wanted, is_quiet)
+    }
+
+    // One more case of this kind.
+    fn note(&mut self, command: &Command) {
+        match command {
+            Command::Check { .. } => self.plans = self.plans.saturating_add(1),
+            Command::Certify => self.tables = self.tables.saturating_add(1),
+            Command::Verify => self.certs = self.certs.saturating_add(1),
+            Command::Capture { .. } => self.dumps = self.dumps.saturating_add(1),
+            Command::Seats { .. } => self.seats = self.seats.saturating_add(1),
+            _ => {}
         }
-        _ => return Ok(()),
-    };
-    tried.count_devices(rt, case, "quiet", &case.wanted, &case.wanted, is_quiet)
+    }
 }
 
 /// Whether the calls that need no case take no memory.
-pub fn are_others_quiet(alloc: Global) -> Result<bool, AllocError> {
+pub fn are_others_quiet(alloc: Global) -> Result<bool> {
     Ok(are_bits_quiet(alloc) && is_builder_quiet(alloc)? && is_queue_quiet(alloc)?)
 }
 
@@ -57,14 +107,15 @@ fn is_quiet(mut scarce: Scarcity) -> bool {
     !scarce.has_met()
 }
 
-fn is_plan_quiet(alloc: Global, text: &[u8]) -> Result<bool> {
+// Whether the calls on a plan are quiet, where the text is one.
+fn is_plan_quiet(alloc: Global, text: &[u8]) -> Result<Option<bool>> {
     let Ok(plan) = read_plan(alloc, text) else {
-        return Ok(true);
+        return Ok(None);
     };
     let wanted = sum_of(&plan);
     let scarce = refusing(alloc);
     let found = sum_of(&plan);
-    Ok(is_quiet(scarce) && found == wanted)
+    Ok(Some(is_quiet(scarce) && found == wanted))
 }
 
 // A number to which each call on a plan adds.
@@ -99,10 +150,13 @@ fn add_message(sum: &mut u64, message: &Frame) {
 }
 
 fn add_pairs(sum: &mut u64, plan: &Plan) {
+    add(sum, plan.find("a/m").unwrap_or(0) as usize);
     for i in 0..plan.participants() {
-        let _ = plan.participant(i);
-        let _ = plan.sends(i);
-        add(sum, usize::from(plan.forbids(i, i)));
+        add(sum, sender(plan.participant(i)));
+        add(sum, sent(plan.sends(i)));
+        for j in 0..plan.participants() {
+            add(sum, usize::from(plan.forbids(i, j)));
+        }
     }
     for i in 0..plan.pair_count() {
         let (x, y) = plan.pair(i);
@@ -110,20 +164,37 @@ fn add_pairs(sum: &mut u64, plan: &Plan) {
     }
 }
 
+fn sender(participant: Participant) -> usize {
+    match participant {
+        Participant::Sending {
+            controller,
+            message,
+        } => (controller ^ message) as usize,
+        Participant::Interrupt(number) => number as usize,
+    }
+}
+
+fn sent(sends: Sends<'_>) -> usize {
+    match sends {
+        Sends::Message(message) => message.longest() as usize,
+        Sends::Interrupt(address) => usize::from(address.bit(0) == Bit::One),
+    }
+}
+
 fn add(sum: &mut u64, number: usize) {
     *sum = sum.wrapping_mul(31).wrapping_add(number as u64);
 }
 
-fn is_table_quiet(alloc: Global, text: &[u8]) -> Result<bool> {
+fn is_table_quiet(alloc: Global, text: &[u8]) -> Result<Option<bool>> {
     let Ok(plan) = read_plan(alloc, text) else {
-        return Ok(true);
+        return Ok(None);
     };
     let table = table(alloc, &plan)?;
     let faults = faults(alloc, &plan)?;
     let wanted = listed(&table, &faults);
     let scarce = refusing(alloc);
     let found = listed(&table, &faults);
-    Ok(is_quiet(scarce) && found == wanted)
+    Ok(Some(is_quiet(scarce) && found == wanted))
 }
 
 // A number to which each call on a table and on a list of faults adds.
@@ -140,44 +211,78 @@ fn listed(table: &Table, faults: &Faults) -> u64 {
     sum
 }
 
-fn is_cert_quiet(alloc: Global, text: &[u8], cert: &[u8]) -> Result<bool> {
+fn is_cert_quiet(alloc: Global, text: &[u8], cert: &[u8]) -> Result<Option<bool>> {
     let Ok(plan) = read_plan(alloc, text) else {
-        return Ok(true);
+        return Ok(None);
     };
-    match read_cert(alloc, cert) {
-        Ok(CertText::Proofs(proofs)) => Ok(are_proofs_quiet(alloc, plan, proofs)),
-        Ok(CertText::Flaw(_, fault)) => Ok(is_fault_quiet(alloc, &plan, &fault)),
-        Err(_) => Ok(true),
-    }
+    Ok(match read_cert(alloc, cert) {
+        Ok(CertText::Proofs(proofs)) => Some(are_proofs_quiet(alloc, plan, proofs)),
+        Ok(CertText::Flaw(_, fault)) => Some(is_fault_quiet(alloc, &plan, &fault)),
+        Err(_) => None,
+    })
 }
 
 fn are_proofs_quiet(alloc: Global, plan: Plan, proofs: Vec<Cert>) -> bool {
+    let wanted = proved(&plan, &proofs);
     let scarce = refusing(alloc);
-    for i in 0..plan.pair_count() {
-        for proof in &proofs {
-            let _ = check_pair(&plan, i, proof);
-        }
-    }
+    let found = proved(&plan, &proofs);
     if let Ok(accepted) = accept_plan(plan, proofs.as_slice()) {
         let _ = accepted.plan().pair_count();
         let _ = accepted.into_plan();
     }
     drop(proofs);
-    is_quiet(scarce)
+    is_quiet(scarce) && found == wanted
+}
+
+// A number that says which proof proves which pair.
+fn proved(plan: &Plan, proofs: &[Cert]) -> u64 {
+    let mut sum = 0u64;
+    for i in 0..plan.pair_count() {
+        for proof in proofs {
+            add(&mut sum, usize::from(check_pair(plan, i, proof)));
+        }
+    }
+    sum
 }
 
 fn is_fault_quiet(alloc: Global, plan: &Plan, fault: &Fault) -> bool {
+    let wanted = faulty(plan, fault);
     let scarce = refusing(alloc);
-    for i in 0..plan.pair_count() {
-        let _ = check_fault(plan, i, fault);
-    }
-    is_quiet(scarce)
+    let found = faulty(plan, fault);
+    is_quiet(scarce) && found == wanted
 }
 
-fn is_reader_quiet(alloc: Global, dump: &[u8], scl: &str, sda: &str) -> Result<bool> {
+// A number that says which pairs have the fault.
+fn faulty(plan: &Plan, fault: &Fault) -> u64 {
+    let mut sum = 0u64;
+    for i in 0..plan.pair_count() {
+        add(&mut sum, usize::from(check_fault(plan, i, fault)));
+    }
+    sum
+}
+
+// One reader ends with its samples, and another after they were cleared.
+fn is_reader_quiet(alloc: Global, dump: &[u8], scl: &str, sda: &str) -> Result<Option<bool>> {
     let mut reader = Reader::new(alloc, scl, sda)?;
+    let mut other = Reader::new(alloc, scl, sda)?;
     let _ = reader.feed(dump);
+    let _ = other.feed(dump);
+    let wanted = heard(&reader);
     let scarce = refusing(alloc);
+    let found = heard(&reader);
+    let device = Watched::new(dump);
+    let failed = device.failed();
+    let _ = Listener::new().end();
+    let _ = Follower::new();
+    reader.clear_samples();
+    let cleared = reader.end();
+    let whole = other.end();
+    let is_same = found == wanted && !failed && cleared.is_ok() == whole.is_ok();
+    Ok(Some(is_quiet(scarce) && is_same))
+}
+
+// How many events the samples have.
+fn heard(reader: &Reader) -> u64 {
     let mut watch = Watch::new();
     let mut events = 0u64;
     for sample in reader.samples() {
@@ -185,34 +290,31 @@ fn is_reader_quiet(alloc: Global, dump: &[u8], scl: &str, sda: &str) -> Result<b
             events = events.saturating_add(1);
         }
     }
-    let _ = Listener::new().end();
-    let _ = Follower::new();
-    reader.clear_samples();
-    let rest = reader.end();
-    let is_rest_empty = match &rest {
-        Ok(samples) => samples.len() <= 1,
-        Err(_) => true,
-    };
-    Ok(is_quiet(scarce) && is_rest_empty && events <= dump.len() as u64)
+    events
 }
 
 // The seats play by turns to the end.
-fn are_seats_quiet(alloc: Global, text: &[u8], starters: &str, answers: &str) -> Result<bool> {
+fn are_seats_quiet(
+    alloc: Global,
+    text: &[u8],
+    starters: &str,
+    answers: &str,
+) -> Result<Option<bool>> {
     let Ok(plan) = read_plan(alloc, text) else {
-        return Ok(true);
+        return Ok(None);
     };
     let cert = certificate_of(alloc, &plan)?;
     let Ok(accepted) = accept_certificate(alloc, plan, cert.as_slice())? else {
-        return Ok(true);
+        return Ok(None);
     };
     let numbers = numbers_of(alloc, accepted.plan(), starters)?;
     let answers = bits_of(alloc, answers)?;
     let Ok(mut sitting) = Sitting::open(alloc, &accepted, &numbers, &answers) else {
-        return Ok(true);
+        return Ok(None);
     };
     let scarce = refusing(alloc);
     play(&mut sitting);
-    Ok(is_quiet(scarce))
+    Ok(Some(is_quiet(scarce)))
 }
 
 fn play(sitting: &mut Sitting<'_>) {
@@ -237,6 +339,10 @@ fn are_bits_quiet(alloc: Global) -> bool {
         None => 0,
     };
     let is_none = Count::new(0).is_none();
+    let meets = match (Count::between(2, 4), Count::new(3)) {
+        (Some(range), Some(three)) => range.meets(&three),
+        _ => false,
+    };
     let heard = Item::Heard(true);
     let (kind, symbol) = (heard.kind(), heard.symbol());
     let word = kind.word();
@@ -246,50 +352,80 @@ fn are_bits_quiet(alloc: Global) -> bool {
         && bits.0 != bits.1
         && least == 4
         && is_none
+        && meets
         && symbol == 'h'
         && kind == Item::Heard(false).kind()
         && !word.is_empty()
 }
 
-// The builder's questions.
-fn is_builder_quiet(alloc: Global) -> Result<bool, AllocError> {
-    let Ok(name) = Name::new(alloc, "a") else {
+// The questions to a builder that has a message, a controller and an interrupt, and its end.
+fn is_builder_quiet(alloc: Global) -> Result<bool> {
+    let (a, m, t) = (name(alloc, "a")?, name(alloc, "m")?, name(alloc, "t")?);
+    let mut builder = Builder::new(alloc);
+    let Some(count) = Count::new(1) else {
         return Ok(false);
     };
+    let frame = Frame::Read {
+        address: Address::new(0x7f, 0x48),
+        count,
+        after: Tail::Stop,
+        refused: Tail::Stop,
+    };
+    let is_built = builder.message(name(alloc, "m")?, frame).is_ok()
+        && builder.controller(name(alloc, "a")?, &[]).is_ok()
+        && builder.interrupt(name(alloc, "t")?, 1).is_ok();
     let scarce = refusing(alloc);
-    let builder = Builder::new(alloc);
     let refusals = [
-        builder.message_name_refusal(&name).is_some(),
-        builder.controller_name_refusal(&name).is_some(),
-        builder.has_controller(&name),
-        builder.sending_refusal(&[], &name).is_some(),
-        builder.interrupt_refusal(&name).is_some(),
-        builder.never_refusal(&name, &name).is_some(),
+        builder.message_name_refusal(&m).is_some(),
+        builder.controller_name_refusal(&a).is_some(),
+        builder.has_controller(&a),
+        builder.sending_refusal(&[], &a).is_some(),
+        builder.sending_refusal(&[], &m).is_some(),
+        builder.interrupt_refusal(&t).is_some(),
+        builder.never_refusal(&a, &a).is_some(),
     ];
-    let plan = builder.finish();
-    let is_empty = plan.participants() == 0;
-    Ok(is_quiet(scarce) && is_empty && refusals == [false, false, false, true, false, true])
+    let participants = builder.finish().participants();
+    Ok(
+        is_quiet(scarce)
+            && is_built
+            && participants == 1
+            && refusals == [true, true, true, true, false, true, true],
+    )
 }
 
-// The owner takes two numbers, and a thief the third; then the queue is settled.
-fn is_queue_quiet(alloc: Global) -> Result<bool, AllocError> {
+fn name(alloc: Global, text: &str) -> Result<Name> {
+    match Name::new(alloc, text) {
+        Ok(name) => Ok(name),
+        Err(error) => Err(anyhow!("{error}")),
+    }
+}
+
+// The owner takes a number, a thief the second; a number is left; the owner takes it and finds the end; the thief is missing;
+// all are back.
+fn is_queue_quiet(alloc: Global) -> Result<bool> {
     let (mut owner, mut thieves) = open_queue(alloc, 3, 1)?;
+    let none = Vec::new(alloc);
     let Some(mut thief) = thieves.pop() else {
         return Ok(false);
     };
     let scarce = refusing(alloc);
     let first = owner.take();
     let second = asked(&mut thief);
+    thieves.push(thief)?;
+    let Err(left) = settle(owner, thieves) else {
+        return Ok(false);
+    };
+    let mut owner = left.owner;
     let third = owner.take();
     let end = owner.take();
-    thieves.push(thief)?;
-    let is_settled = settle(owner, thieves).is_ok();
+    let Err(missing) = settle(owner, none) else {
+        return Ok(false);
+    };
+    let is_settled = settle(missing.owner, left.thieves).is_ok();
     Ok(
         is_quiet(scarce)
-            && first == Some(0)
-            && second == Take::Pair(1)
-            && third == Some(2)
-            && end.is_none()
+            && (first, second, third, end) == (Some(0), Take::Pair(1), Some(2), None)
+            && (left.why, missing.why) == (SettleFault::Left, SettleFault::Missing)
             && is_settled,
     )
 }

@@ -43,7 +43,10 @@ impl Wants {
     }
 }
 
-/// Tries a case with each allocation refused in turn: first alone, and then with all that come after it.
+// Where a thread is refused, the players that have one wait for the others, so more starters would take minutes.
+const MOST_STARTERS: usize = 4;
+
+/// Tries a case with its allocations refused one after the other: first alone, and then with all that come after it.
 pub fn try_scarce<R: Threads + Wait + Clock + Sync + Print>(
     rt: &R,
     alloc: Global,
@@ -51,6 +54,11 @@ pub fn try_scarce<R: Threads + Wait + Clock + Sync + Print>(
     wants: &mut Wants,
     case: &Case,
 ) -> Result<()> {
+    if let Command::Bench { starters, .. } = &case.asked.command
+        && starters.as_str().split(',').count() > MOST_STARTERS
+    {
+        return Ok(());
+    }
     try_deed(rt, alloc, tried, wants, case, Deed::Command)?;
     if let Command::Check { workers: 1 } = &case.asked.command {
         try_deed(rt, alloc, tried, wants, case, Deed::By(2))?;
@@ -63,9 +71,6 @@ pub fn try_scarce<R: Threads + Wait + Clock + Sync + Print>(
     }
     Ok(())
 }
-
-// More allocations than any case makes.
-const MOST: u32 = 1_000_000;
 
 fn try_deed<R: Threads + Wait + Clock + Sync + Print>(
     rt: &R,
@@ -82,25 +87,75 @@ fn try_deed<R: Threads + Wait + Clock + Sync + Print>(
         deed,
         &mut Scarcity::new(alloc, Refused::None),
     )?;
-    if !matches!(deed, Deed::Lists) {
-        tried.count(rt, case, "ample memory", &case.wanted, &wanted)?;
-    }
+    let due = match deed {
+        Deed::Lists => &wanted,
+        _ => &case.wanted,
+    };
+    let is_answered = wanted.refusal.as_str() != "memory";
+    tried.count_devices(rt, case, "ample memory", due, &wanted, is_answered)?;
+    let before = wants.refused;
     for is_alone in [true, false] {
-        for n in 1..MOST {
-            let refused = if is_alone {
-                Refused::One(n)
-            } else {
-                Refused::From(n)
-            };
-            let mut scarce = Scarcity::new(alloc, refused);
-            let found = said_scarcely(rt, alloc, case, deed, &mut scarce)?;
-            count(rt, tried, wants, case, &wanted, &found, &scarce)?;
-            if !scarce.has_met() {
-                break;
-            }
-        }
+        let ends = refuse_each(rt, alloc, tried, wants, (case, &wanted), deed, is_alone)?;
+        tried.count_devices(
+            rt,
+            case,
+            "allocations without an end",
+            &wanted,
+            &wanted,
+            ends,
+        )?;
     }
-    Ok(())
+    let is_tried = wants.refused > before || asks_for_none(case, deed);
+    tried.count_devices(
+        rt,
+        case,
+        "no allocation to refuse",
+        &wanted,
+        &wanted,
+        is_tried,
+    )
+}
+
+// The number of workers is judged first, and a call may refuse a text before it takes memory.
+fn asks_for_none(case: &Case, deed: Deed) -> bool {
+    match deed {
+        Deed::Command | Deed::By(_) => case.wanted.refusal.as_str() == "workers",
+        Deed::Call(_) | Deed::Lists => !case.wanted.refusal.is_empty(),
+    }
+}
+
+// More allocations than any case makes.
+const MOST: u32 = 1_000_000;
+
+// Each of the first allocations is refused, and later fewer and fewer.
+const EACH: u32 = 256;
+
+// Whether the allocations end.
+fn refuse_each<R: Threads + Wait + Clock + Sync + Print>(
+    rt: &R,
+    alloc: Global,
+    tried: &mut Tried,
+    wants: &mut Wants,
+    (case, wanted): (&Case, &Answer),
+    deed: Deed,
+    is_alone: bool,
+) -> Result<bool> {
+    let mut n = 1u32;
+    for _ in 0..MOST {
+        let refused = if is_alone {
+            Refused::One(n)
+        } else {
+            Refused::From(n)
+        };
+        let mut scarce = Scarcity::new(alloc, refused);
+        let found = said_scarcely(rt, alloc, case, deed, &mut scarce)?;
+        count(rt, tried, wants, case, wanted, &found, &scarce)?;
+        if !scarce.has_met() {
+            return Ok(true);
+        }
+        n = n.saturating_add(1).saturating_add(n / EACH);
+    }
+    Ok(false)
 }
 
 // More bytes than `tell_lists` writes.

@@ -80,14 +80,14 @@ fn played(
     Ok(page)
 }
 
-// The starters with these labels. In place of a label that the plan does not have stands a number of no participant.
+// The starters with these labels. In place of a label that the plan does not have stands the greatest number.
 pub fn numbers_of(alloc: Global, plan: &Plan, starters: &str) -> Result<Vec<u32>, AllocError> {
     let mut numbers = Vec::new(alloc);
     if starters.is_empty() {
         return Ok(numbers);
     }
     for label in starters.split(',') {
-        numbers.push(plan.find(label).unwrap_or(plan.participants()))?;
+        numbers.push(plan.find(label).unwrap_or(u32::MAX))?;
     }
     Ok(numbers)
 }
@@ -176,7 +176,7 @@ impl Table<'_, '_> {
             return page.push_str("no bench");
         };
         let count = self.put_in_order(&mut sitting, seats);
-        match sitting.end(alloc, count)? {
+        match ended(alloc, sitting, count)? {
             End::Played(played) => self.push_played(&played, page),
             End::Unfinished(why, sitting) => {
                 self.sitting = Some(sitting);
@@ -219,6 +219,14 @@ impl Table<'_, '_> {
             Some(place) => labels.nth(place).unwrap_or("?"),
             None => "?",
         }
+    }
+}
+
+// All is handed back where memory is refused, and given back once more.
+fn ended<'a>(alloc: Global, sitting: Sitting<'a>, count: usize) -> Result<End<'a>, AllocError> {
+    match sitting.end(alloc, count)? {
+        End::Unfinished(FinishFault::NoMemory, sitting) => sitting.end(alloc, count),
+        end => Ok(end),
     }
 }
 
