@@ -116,7 +116,7 @@ const WORKERS: Argument = Argument::Number {
     id: "workers",
     value_name: "N",
     default: "1",
-    help: "How many threads walk the pairs",
+    help: "How many threads walk the pairs, 1 to 8",
 };
 
 const SCL: Argument = Argument::Text {

@@ -10,11 +10,11 @@ use crate::errors::RunError;
 /// How a run ended that wrote its whole report.
 #[derive(Clone, Copy, Debug, PartialEq, Eq)]
 pub enum Status {
-    /// The plan is safe.
+    /// Nothing was found: the plan is safe, each stopped transaction is explained, or the bench was played.
     Good,
-    /// The plan is not safe.
+    /// The plan is not safe, or a stopped transaction is not explained.
     Bad,
-    /// What was given is refused.
+    /// The certificate is wrong.
     Refused,
 }
 
