@@ -1,8 +1,6 @@
 // Calls of the libraries that no command makes, and that say what a command says.
 
 use crate::building::built_again;
-use crate::cases::Asked;
-use crate::commands::Command;
 use cert_check::{AcceptError, Answer, accept, accept_plan};
 use certificate::{CertError, CertText, print_cert, read_cert};
 use plan_core::Plan;
@@ -10,6 +8,8 @@ use plan_text::{print_plan, read_plan};
 use report::{NoGate, Output, RunError, Status, answer_line, status_of_answer, write_lines};
 use std::alloc::Global;
 use std::thread::Threads;
+use trial_cases::cases::Asked;
+use trial_cases::commands::Command;
 use verdicts::{Table, table, table_with};
 
 /// A call in place of a command.

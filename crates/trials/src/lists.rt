@@ -1,12 +1,12 @@
 // Calls on whole lists that no command makes: of samples, events and transactions, and of the messages of a plan.
 
-use crate::cases::Asked;
-use crate::commands::Command;
 use capture_check::{Transaction, events, explain, transactions};
 use plan_core::Plan;
 use plan_text::read_plan;
 use report::{Output, RunError, Status, write_lines};
 use std::alloc::{AllocError, Global};
+use trial_cases::cases::Asked;
+use trial_cases::commands::Command;
 use vcd_read::{Reader, Sample, VcdError};
 
 /// Writes how long the copies of the plan's messages are, and how many participants explain the transactions of the capture.

@@ -9,38 +9,25 @@
 //! The cases stand in `data/cases`; docs/TESTING.md says how they are written.
 #![tactic(auto)]
 
-mod blocks;
+mod answers;
 mod building;
 mod calls;
-mod cases;
-mod commands;
-mod dice;
-mod errors;
-mod files;
 mod interrupted;
 mod lists;
 mod modes;
-mod mutations;
 mod quiet;
 mod scarce;
 mod scarcity;
 mod scripts;
-mod seeds;
 mod sittings;
-mod tallies;
-mod texts;
-mod tried;
 
+use answers::{is_spelt_alike, said};
 use anyhow::{Result, anyhow};
-use cases::{Asked, Case, is_spelt_alike, said, said_plainly};
-use dice::Dice;
-use files::{FILES, push_cases};
 use modes::{MODES, try_case};
 use quiet::{Quiet, are_others_quiet};
 use reference::commands::Answer;
 use scarce::{Wants, try_scarce};
 use scarcity::{is_there, obeys};
-use seeds::{Seeds, next_case};
 use std::alloc::{AllocError, Global};
 use std::process::ExitCode;
 use std::rt::{Env, Files};
@@ -48,8 +35,12 @@ use std::sync::Wait;
 use std::thread::Threads;
 use std::time::Clock;
 use std::{env, io};
-use tallies::Tallies;
-use tried::Tried;
+use trial_cases::cases::{Asked, Case, said_plainly};
+use trial_cases::dice::Dice;
+use trial_cases::files::{FILES, push_cases};
+use trial_cases::seeds::{Seeds, next_case};
+use trial_cases::tallies::Tallies;
+use trial_cases::tried::Tried;
 
 const CASES: u64 = 20_000;
 

@@ -1,10 +1,8 @@
 // The ways in which a case is run.
 
+use crate::answers::{answer, is_spelt_alike, run, said};
 use crate::calls::{calls_of, make};
-use crate::cases::{Asked, Case, answer, is_spelt_alike, run, said, said_plainly};
-use crate::commands::Command;
 use crate::interrupted::Interrupted;
-use crate::tried::Tried;
 use anyhow::Result;
 use reference::commands::Answer;
 use report::{FaultyReader, FaultyWriter, Input, Output, Watched};
@@ -12,6 +10,9 @@ use std::alloc::{AllocError, Global};
 use std::sync::Wait;
 use std::thread::Threads;
 use std::time::Clock;
+use trial_cases::cases::{Asked, Case, said_plainly};
+use trial_cases::commands::Command;
+use trial_cases::tried::Tried;
 
 /// A way in which a case is run.
 #[derive(Clone, Copy)]

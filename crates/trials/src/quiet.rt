@@ -2,12 +2,9 @@
 
 ghost use Rattle.std.specs.Prelude.{◌≡◌};
 
-use crate::cases::Case;
-use crate::commands::Command;
 use crate::scarcity::{Refused, Scarcity};
 use crate::scripts::{MOST_SLOTS, bits_of, certificate_of, numbers_of, put_all, see_all};
 use crate::sittings::Sitting;
-use crate::tried::Tried;
 use anyhow::{Result, anyhow};
 use capture_check::{Follower, Listener, Watch};
 use cert_check::{accept_certificate, accept_plan, check_fault, check_pair};
@@ -18,6 +15,9 @@ use plan_core::{Builder, Name, Participant, Plan, Sends};
 use plan_text::read_plan;
 use report::{Input, Watched};
 use std::alloc::Global;
+use trial_cases::cases::Case;
+use trial_cases::commands::Command;
+use trial_cases::tried::Tried;
 use vcd_read::Reader;
 use verdicts::{Faults, Table, faults, table};
 

@@ -1,11 +1,9 @@
 // Cases while memory is scarce.
 
+use crate::answers::{answer, run};
 use crate::calls::{Call, calls_of, make};
-use crate::cases::{Case, answer, run};
-use crate::commands::Command;
 use crate::lists::tell_lists;
 use crate::scarcity::{Refused, Scarcity};
-use crate::tried::Tried;
 use anyhow::Result;
 use reference::commands::Answer;
 use report::Watched;
@@ -13,6 +11,9 @@ use std::alloc::{AllocError, Global};
 use std::sync::Wait;
 use std::thread::Threads;
 use std::time::Clock;
+use trial_cases::cases::Case;
+use trial_cases::commands::Command;
+use trial_cases::tried::Tried;
 
 /// What is done for a case.
 #[derive(Clone, Copy, Drop)]
