@@ -87,26 +87,60 @@ fn follow<I: Read>(rt: &impl Clock, alloc: Global, plan: &str, dump: &mut I) -> 
         transactions: Step::new(),
         explained: Step::new(),
     };
+    follow_dump(rt, alloc, &plan, dump, &mut capture)?;
+    Ok(capture)
+}
+
+fn follow_dump<I: Read>(
+    rt: &impl Clock,
+    alloc: Global,
+    plan: &Plan,
+    dump: &mut I,
+    capture: &mut Capture,
+) -> Result<()> {
     let mut reader = Reader::new(alloc, "scl", "sda")?;
+    follow_blocks(rt, alloc, plan, dump, &mut reader, capture)?;
+    let start = Instant::now(rt)?;
+    let samples = reader.end()?;
+    capture.samples.add(rt, start, samples.len())?;
+    hear(rt, alloc, plan, capture, samples.as_slice())
+}
+
+fn follow_blocks<I: Read>(
+    rt: &impl Clock,
+    alloc: Global,
+    plan: &Plan,
+    dump: &mut I,
+    reader: &mut Reader,
+    capture: &mut Capture,
+) -> Result<()> {
     let mut block = vec![in alloc; 0u8; BLOCK]?;
     for _ in 0..u64::MAX {
         let count = dump.read(block.as_mut_slice())?;
         if count == 0 {
             break;
         }
-        capture.bytes = capture.bytes.saturating_add(count);
-        let start = Instant::now(rt)?;
-        reader.feed(&block[..count])?;
-        let samples = reader.samples();
-        capture.samples.add(rt, start, samples.len())?;
-        hear(rt, alloc, &plan, &mut capture, samples)?;
-        reader.clear_samples();
+        follow_block(rt, alloc, plan, &block[..count], reader, capture)?;
     }
+    Ok(())
+}
+
+fn follow_block(
+    rt: &impl Clock,
+    alloc: Global,
+    plan: &Plan,
+    block: &[u8],
+    reader: &mut Reader,
+    capture: &mut Capture,
+) -> Result<()> {
+    capture.bytes = capture.bytes.saturating_add(block.len());
     let start = Instant::now(rt)?;
-    let samples = reader.end()?;
+    reader.feed(block)?;
+    let samples = reader.samples();
     capture.samples.add(rt, start, samples.len())?;
-    hear(rt, alloc, &plan, &mut capture, samples.as_slice())?;
-    Ok(capture)
+    hear(rt, alloc, plan, capture, samples)?;
+    reader.clear_samples();
+    Ok(())
 }
 
 // The steps after the samples of one block.
