@@ -17,18 +17,18 @@ use Rattle.bus_bench.specs.Hands.{contents_in}
 use Rattle.bus_bench.specs.Opening.{IsOpened, IsOpenRefusal}
 use Rattle.bus_bench.specs.Seats as seats
 use Rattle.bus_bench.specs.Seats.{BenchName, game_of}
-use Rattle.bus_bench.specs.Starters.{starters_refusal}
-use Rattle.bus_bench.specs.declared.errors.OpenError.{OpenError}
-use Rattle.bus_bench.specs.declared.errors.OpenError.TheVariants.{NoStarter, Unknown, SameController, Never, NoMemory}
-use Rattle.report.specs.Certificates.{verify_line, answer_status}
-use Rattle.report.specs.Checks.{RefusesPlan, SpellsPlan}
-use Rattle.report.specs.Devices.{Reader}
-use Rattle.report.specs.Runs.{ReadsBoth, HaltsAtBoth, after_both}
-use Rattle.report.specs.RunErrors.{open_error}
-use Rattle.report.specs.declared.errors.RunError.{RunError}
-use Rattle.report.specs.declared.errors.RunError.TheVariants as memory
-use Rattle.report.specs.declared.runs.Status.{Status}
-use Rattle.report.specs.declared.runs.Status.TheVariants.{Good}
+use Rattle.plays.specs.Starters.{starters_refusal}
+use Rattle.plays.specs.declared.starters.OpenError.{OpenError}
+use Rattle.plays.specs.declared.starters.OpenError.TheVariants.{NoStarter, Unknown, SameController, Never, NoMemory}
+use Rattle.run_parts.specs.Answers.{verify_line, answer_status}
+use Rattle.run_parts.specs.PlanTexts.{RefusesPlan, SpellsPlan}
+use Rattle.run_parts.specs.Devices.{Reader}
+use Rattle.run_parts.specs.Runs.{ReadsBoth, HaltsAtBoth, after_both}
+use Rattle.run_parts.specs.RunErrors.{open_error}
+use Rattle.run_parts.specs.declared.errors.RunError.{RunError}
+use Rattle.run_parts.specs.declared.errors.RunError.TheVariants as memory
+use Rattle.run_parts.specs.declared.runs.Status.{Status}
+use Rattle.run_parts.specs.declared.runs.Status.TheVariants.{Good}
 use Rattle.bench_run.specs.Filled.{IsRehearsed}
 use Rattle.bench_run.specs.Lines.{rehearsal_lines}
 use Rattle.bench_run.specs.Rehearsals.{IsPlayedOut, Rehearsed, RefusesStarters, IsNotOpened, HaltsAtBench, at_texts, at_starters}

@@ -8,8 +8,8 @@ use Rattle.plan_core.specs.Contents.{Contents}
 use Rattle.plan_core.specs.Lawful.{Set}
 use Rattle.plan_core.specs.Limits.{IsWithinLimits}
 use Rattle.plan_core.specs.Participants.{participant_count}
-use Rattle.bus_bench.specs.Starters.{starters_refusal}
-use Rattle.bus_bench.proofs.StarterLemmas.{lawful_starters}
+use Rattle.plays.specs.Starters.{starters_refusal}
+use Rattle.plays.proofs.StarterLemmas.{lawful_starters}
 use Rattle.bus_bench.proofs.ViewLemmas.{at_those}
 
 pub won_below : (plan : Contents) (starters won : List ℕ) (live : Set) → IsWithinLimits plan → starters_refusal plan starters ≡ None → won ≡ filter live starters → (p : ℕ) → Contains won p → p < participant_count plan

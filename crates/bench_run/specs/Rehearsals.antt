@@ -6,15 +6,15 @@ use Rattle.plan_text.specs.Grammar.{Spells}
 use Rattle.cert_check.specs.Accepts.{IsCertified, AnswersBytes}
 use Rattle.cert_check.specs.declared.answers.Answer.{Answer}
 use Rattle.cert_check.specs.declared.answers.Answer.TheVariants.{Safe}
-use Rattle.bus_bench.specs.Starters.{starters_refusal}
-use Rattle.report.specs.Certificates.{verify_line, answer_status}
-use Rattle.report.specs.Checks.{RefusesPlan, SpellsPlan}
-use Rattle.report.specs.Devices.{Reader}
-use Rattle.report.specs.Runs.{ReadsBoth, HaltsAtBoth}
-use Rattle.report.specs.declared.errors.RunError.{RunError}
-use Rattle.report.specs.declared.errors.RunError.TheVariants.{Bench, NoMemory}
-use Rattle.report.specs.declared.runs.Status.{Status}
-use Rattle.report.specs.declared.runs.Status.TheVariants.{Good}
+use Rattle.plays.specs.Starters.{starters_refusal}
+use Rattle.run_parts.specs.Answers.{verify_line, answer_status}
+use Rattle.run_parts.specs.PlanTexts.{RefusesPlan, SpellsPlan}
+use Rattle.run_parts.specs.Devices.{Reader}
+use Rattle.run_parts.specs.Runs.{ReadsBoth, HaltsAtBoth}
+use Rattle.run_parts.specs.declared.errors.RunError.{RunError}
+use Rattle.run_parts.specs.declared.errors.RunError.TheVariants.{Bench, NoMemory}
+use Rattle.run_parts.specs.declared.runs.Status.{Status}
+use Rattle.run_parts.specs.declared.runs.Status.TheVariants.{Good}
 use Rattle.bench_run.specs.Filled.{IsRehearsed}
 use Rattle.bench_run.specs.Lines.{rehearsal_lines}
 use Rattle.bench_run.specs.Starters.{labels_in, AreNumbersOf, bits_in}

@@ -7,7 +7,7 @@ ghost use Rattle.bench_run.specs.Lines.{rehearsal_lines};
 
 use bus_bench::Played;
 use plan_core::Plan;
-use report::{push_labels, push_wire};
+use run_parts::{push_labels, push_wire};
 use std::alloc::{AllocError, Global};
 
 /// The wire, and those who were live at its end.

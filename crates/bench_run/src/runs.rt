@@ -4,7 +4,7 @@ ghost use Rattle.std.specs.Prelude.{◌≡◌, ◌⊎◌, ℕ, List, IfOk, IfErr
 ghost use Rattle.plan_core.specs.PlanContents.{plan_contents};
 ghost use Rattle.plan_text.specs.Grammar.{Spells};
 ghost use Rattle.cert_check.specs.Holds.{accepted_plan};
-ghost use Rattle.report.specs.Runs.{ReadsBoth, Reports, Stops};
+ghost use Rattle.run_parts.specs.Runs.{ReadsBoth, Reports, Stops};
 ghost use Rattle.bench_run.specs.Rehearsals.{Rehearsed, IsPlayedOut, RefusesStarters, IsNotOpened, HaltsAtBench};
 
 use crate::gates::Gate;
@@ -15,8 +15,8 @@ use bus_bench::open_bench;
 use cert_check::{Accepted, accept_certificate};
 use plan_core::Plan;
 use plan_text::read_plan;
-use report::devices::reading::READS;
-use report::{
+use run_parts::devices::reading::READS;
+use run_parts::{
     Input, Output, RunError, Status, answer_line, read_within, status_of_answer, write_lines,
 };
 use std::alloc::Global;

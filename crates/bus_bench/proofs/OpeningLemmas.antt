@@ -28,8 +28,8 @@ use Rattle.std.proofs.lemmas.List.Elements.{All-map, All-same}
 use Rattle.plan_core.specs.declared.plans.Plan.{Plan}
 use Rattle.plan_core.specs.Faults.{IsSafe}
 use Rattle.plan_core.proofs.PlanLemmas.{limits_of}
-use Rattle.bus_bench.specs.Starters.{starters_refusal}
-use Rattle.bus_bench.proofs.StarterLemmas.{game_of_starters}
+use Rattle.plays.specs.Starters.{starters_refusal}
+use Rattle.plays.proofs.StarterLemmas.{game_of_starters}
 use Rattle.bus_bench.proofs.ViewLemmas.{at_those}
 use Rattle.bus_bench.proofs.StepLemmas.{hands_out}
 

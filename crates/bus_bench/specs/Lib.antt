@@ -3,6 +3,5 @@ pub mod Rule
 pub mod Steps
 pub mod Seats
 pub mod Tickets
-pub mod Starters
 pub mod Opening
 pub mod Finishing

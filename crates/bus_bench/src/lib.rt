@@ -11,12 +11,11 @@ pub mod opening;
 mod putting;
 pub mod seats;
 mod seeing;
-mod starters;
 mod steps;
 
-pub use errors::{FinishFault, OpenError, PutError, Sight};
+pub use errors::{FinishFault, PutError, Sight};
 pub use finishing::{Played, Unfinished, finish};
 pub use opening::{MOST_SLOTS, open_bench};
 pub use places::Offered;
-pub use plays::Put;
+pub use plays::{OpenError, Put};
 pub use seats::{Bench, Host, Seat, Standing};

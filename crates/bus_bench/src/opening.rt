@@ -6,21 +6,20 @@ ghost use Rattle.plan_core.specs.Faults.{IsSafe};
 ghost use Rattle.plan_core.specs.PlanContents.{plan_contents};
 ghost use Rattle.cert_check.specs.Holds.{accepted_plan};
 ghost use Rattle.plays.specs.Games.{IsGame};
+ghost use Rattle.plays.specs.Starters.{starters_refusal};
 ghost use Rattle.bus_bench.specs.Hands.{setup_game};
 ghost use Rattle.bus_bench.specs.Opening.{IsHanding, IsOpened, IsOpenRefusal};
 ghost use Rattle.bus_bench.specs.Rule.{SLOTS, opening};
 ghost use Rattle.bus_bench.specs.Seats.{fresh};
-ghost use Rattle.bus_bench.specs.Starters.{starters_refusal};
 
-use crate::errors::OpenError;
 use crate::hands::{Setup, Terms};
 use crate::seats::{Bench, Host, Seat, Standing, Ticket, Wire};
-use crate::starters::check_starters;
 use crate::steps::HandsOut;
 use atomic_table::Table;
 use cert_check::Accepted;
 use places::Place;
 use plan_core::Plan;
+use plays::{OpenError, check_starters};
 use std::alloc::{AllocError, Global};
 
 /// The slots of a bench: no run of a plan is longer.

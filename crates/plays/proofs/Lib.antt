@@ -3,3 +3,4 @@ pub mod WordLemmas
 pub mod FieldLemmas
 pub mod SlotLemmas
 pub mod RunLemmas
+pub mod StarterLemmas

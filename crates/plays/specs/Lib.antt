@@ -3,3 +3,4 @@ pub mod Plays
 pub mod Words
 pub mod Tallies
 pub mod Laws
+pub mod Starters

@@ -1,12 +1,14 @@
 //! Plays of a bench: what the participants who start together put, slot by slot, and the wire that comes of it.
 //!
-//! `puts` has what one participant may put in one slot, `tally` the word that counts the puts of one slot. A play is a
-//! definition of this crate's specs, and `laws` says what holds of it.
+//! `starters` says who may start together, `puts` has what one participant may put in one slot, `tally` the word that
+//! counts the puts of one slot. A play is a definition of this crate's specs, and `laws` says what holds of it.
 #![tactic(auto)]
 
 pub mod laws;
 pub mod puts;
+pub mod starters;
 pub mod tally;
 
 pub use puts::Put;
+pub use starters::{OpenError, check_starters};
 pub use tally::Tally;

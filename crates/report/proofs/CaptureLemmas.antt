@@ -10,7 +10,7 @@ use Rattle.vcd_read.specs.Dumps.{samples_of}
 use Rattle.vcd_read.specs.Readers.{IsRefusal}
 use Rattle.vcd_read.specs.Refusals.{error_of}
 use Rattle.report.specs.Captures.{RefusesDump}
-use Rattle.report.specs.RunErrors.{vcd_error}
+use Rattle.run_parts.specs.RunErrors.{vcd_error}
 
 pub zip_at : {X Y : Type 0} (R : X → Y → Type 0) (xs : List X) (ys : List Y) (k : ℕ) (x : X) (y : Y) → AllZip R xs ys → k < length xs → R (slice_index_or xs k x) (slice_index_or ys k y)
 zip_at R [] ys k x y h l = absurd (omega (arith, l))

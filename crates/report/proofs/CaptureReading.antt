@@ -3,14 +3,14 @@ use Rattle.std.proofs.Common.{◌≡◌, ℕ, ◌+◌, ◌<◌, ◌≤◌, false
 use Rattle.std.proofs.KnownBytes.{Consumes-trans}
 use Rattle.std.specs.Io.KnownBytes.{Consumes, IsAtEnd}
 use Rattle.report.specs.Captures.{PassesSoFar, RefusesBeginning, RefusesDump, HaltsAtDump, refused_within, refused_at_end}
-use Rattle.report.specs.Reading.{ReadsAll}
-use Rattle.report.specs.Runs.{ReadsText, most_reads}
-use Rattle.report.specs.declared.errors.RunError.{RunError}
+use Rattle.run_parts.specs.Reading.{ReadsAll}
+use Rattle.run_parts.specs.Runs.{ReadsText, most_reads}
+use Rattle.run_parts.specs.declared.errors.RunError.{RunError}
 use Rattle.plan_core.specs.Contents.{Contents}
 use Rattle.report.specs.declared.following.Capture.{Capture}
 use Rattle.report.specs.CaptureViews.{Follows}
-use Rattle.report.specs.Devices.{Reader}
-use Rattle.report.proofs.DeviceLemmas.{Reading, nothing_read, one_more_read}
+use Rattle.run_parts.specs.Devices.{Reader}
+use Rattle.run_parts.proofs.DeviceLemmas.{Reading, nothing_read, one_more_read}
 
 -- so many reads have given this text of a dump, and the capture followed it
 pub record ReadsOn {D : Type 0} (reader : Reader D) (start : D) (plan : Contents) (begun : Capture) (reads : ℕ) (now : D) (capture : Capture) : Type 0 where

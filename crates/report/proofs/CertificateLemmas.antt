@@ -16,10 +16,12 @@ use Rattle.plan_text.proofs.ReadLemmas.{one_plan}
 use Rattle.plan_text.specs.Grammar.{Spells}
 use Rattle.verdicts.specs.Certificates.{certificate_for}
 use Rattle.verdicts.specs.Verdicts.{AreVerdicts}
-use Rattle.report.specs.Certificates.{Certified, Verified, answer_status, verify_line}
-use Rattle.report.specs.Checks.{Judges, SpellsPlan}
-use Rattle.report.specs.declared.runs.Status.{Status}
-use Rattle.report.specs.declared.runs.Status.TheVariants.{Good}
+use Rattle.report.specs.Certificates.{Certified, Verified}
+use Rattle.run_parts.specs.Answers.{answer_status, verify_line}
+use Rattle.report.specs.Checks.{Judges}
+use Rattle.run_parts.specs.PlanTexts.{SpellsPlan}
+use Rattle.run_parts.specs.declared.runs.Status.{Status}
+use Rattle.run_parts.specs.declared.runs.Status.TheVariants.{Good}
 
 pub certifies : (text slice report : List ℕ) (plan : Contents) (verdicts : List Verdict) (status : Status) → slice ≡ text → Spells slice plan → IsWithinLimits plan → AreVerdicts plan verdicts → report ≡ cert_text (certificate_for verdicts) → Judges status plan → Certified text report status
 certifies text slice report plan verdicts status same spelled limits right written judged = record {
@@ -31,9 +33,6 @@ certifies text slice report plan verdicts status same spelled limits right writt
   written = written;
   judged = judged;
 }
-
-pub spells_plan : (text slice : List ℕ) (plan : Contents) → slice ≡ text → Spells slice plan → SpellsPlan text
-spells_plan text slice plan same spelled = (plan, subst (λ (t : List ℕ). Spells t plan) same spelled)
 
 -- what is answered for a plan that was read is answered for the two texts
 pub answers_both : (text slice cert cert_slice : List ℕ) (plan : Contents) (answer : Answer) → slice ≡ text → cert_slice ≡ cert → Spells slice plan → IsAnswer plan cert_slice answer → AnswersBytes text cert answer

@@ -7,20 +7,16 @@ use Rattle.plan_text.specs.Refusals.{First}
 use Rattle.plan_text.specs.declared.errors.PlanError.{PlanError}
 use Rattle.plan_text.specs.declared.errors.PlanError.TheVariants as plan
 use Rattle.verdicts.specs.Verdicts.{AreVerdicts}
-use Rattle.report.specs.Checks.{Judges, Checked, RefusesPlan}
+use Rattle.report.specs.Checks.{Judges, Checked}
+use Rattle.run_parts.specs.PlanTexts.{RefusesPlan}
 use Rattle.report.specs.Lines.{check_lines}
-use Rattle.report.specs.declared.runs.Status.{Status}
-use Rattle.report.specs.declared.errors.RunError.{RunError}
-use Rattle.report.specs.declared.errors.RunError.TheVariants as error
-use Rattle.report.specs.RunErrors.{run_error, table_error}
+use Rattle.run_parts.specs.declared.runs.Status.{Status}
+use Rattle.run_parts.specs.declared.errors.RunError.{RunError}
+use Rattle.run_parts.specs.declared.errors.RunError.TheVariants as error
+use Rattle.run_parts.specs.RunErrors.{run_error, table_error}
 use Rattle.verdicts.specs.declared.errors.TableError.{TableError}
 use Rattle.verdicts.specs.declared.errors.TableError.TheVariants as table
 use Rattle.verdicts.specs.declared.sharing.TheConstants.{MOST_WORKERS}
-
-pub refuses_plan : (text : List ℕ) (e : PlanError) → (e ≡ plan.NoMemory) ⊎ First text e → RefusesPlan text (run_error e)
-refuses_plan text plan.NoMemory h = tt
-refuses_plan text e (inl same) = cc
-refuses_plan text e (inr first) = first
 
 -- what a run knows of the plan that it has read, and of the report that it writes
 pub checks : (text slice report : List ℕ) (plan : Contents) (verdicts : List Verdict) (status : Status) → slice ≡ text → Spells slice plan → AreVerdicts plan verdicts → report ≡ check_lines plan verdicts → Judges status plan → Checked text report status

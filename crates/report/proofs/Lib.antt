@@ -1,9 +1,7 @@
 pub mod AcceptedLemmas
 pub mod PrintableLemmas
 pub mod CertificateLemmas
-pub mod DeviceLemmas
 pub mod LineLemmas
-pub mod RunLemmas
 pub mod CheckLemmas
 pub mod CaptureLemmas
 pub mod CaptureReading

@@ -1,17 +1,12 @@
 -- The lines of a report on a capture: one for each transaction, with the labels of those that explain it, and one that counts.
 use Rattle.std.specs.Prelude.{ℕ, ◌+◌, List, [], ◌∷◌, ◌++◌, codes}
 use Rattle.std.specs.Fmt.{decimal}
-use Rattle.std.specs.List.{flat_map}
 use Rattle.plan_core.specs.Contents.{Contents}
-use Rattle.plan_core.specs.Labels.{label_of}
 use Rattle.capture_check.specs.declared.listening.Until.{Until}
 use Rattle.capture_check.specs.declared.listening.Until.TheVariants.{Stopped, Cut, Unfinished}
 use Rattle.capture_check.specs.Explained.{AreExplainers}
 use Rattle.capture_check.specs.Transactions.{Recorded}
-
--- the labels of these participants, each after one space
-abbrev pub labels : Contents → List ℕ → List ℕ
-labels plan ps = flat_map (λ p. codes " " ++ label_of plan p) ps
+use Rattle.run_parts.specs.Lines.{labels}
 
 abbrev pub who : Contents → List ℕ → List ℕ
 who plan [] = codes " unexplained"

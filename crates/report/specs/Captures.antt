@@ -8,13 +8,13 @@ use Rattle.vcd_read.specs.Dumps.{samples_of, said_so_far}
 use Rattle.vcd_read.specs.Refusals.{error_of}
 use Rattle.capture_check.specs.Following.{transactions_in}
 use Rattle.report.specs.CaptureLines.{Tally, Tells, capture_report}
-use Rattle.report.specs.Checks.{RefusesPlan, SpellsPlan}
-use Rattle.report.specs.Devices.{Reader, HasGiven}
-use Rattle.report.specs.Runs.{ReadsText, HaltsAtText, most_reads}
-use Rattle.report.specs.declared.runs.Status.{Status}
-use Rattle.report.specs.declared.runs.Status.TheVariants.{Good, Bad, Refused}
-use Rattle.report.specs.declared.errors.RunError.{RunError}
-use Rattle.report.specs.declared.errors.RunError.TheVariants as error
+use Rattle.run_parts.specs.PlanTexts.{RefusesPlan, SpellsPlan}
+use Rattle.run_parts.specs.Devices.{Reader, HasGiven}
+use Rattle.run_parts.specs.Runs.{ReadsText, HaltsAtText, most_reads}
+use Rattle.run_parts.specs.declared.runs.Status.{Status}
+use Rattle.run_parts.specs.declared.runs.Status.TheVariants.{Good, Bad, Refused}
+use Rattle.run_parts.specs.declared.errors.RunError.{RunError}
+use Rattle.run_parts.specs.declared.errors.RunError.TheVariants as error
 
 -- Good where all that were stopped are explained, and Bad where one is not
 abbrev pub Explained : Status → Tally → Type 0

@@ -1,13 +1,6 @@
-pub mod Devices
-pub mod WatchedDevices
-pub mod OpenedReaders
-pub mod Reading
-pub mod Writing
-pub mod Runs
 pub mod Lines
 pub mod FaultLines
 pub mod Checks
-pub mod RunErrors
 pub mod Certificates
 pub mod CaptureLines
 pub mod CaptureViews

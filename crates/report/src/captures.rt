@@ -4,15 +4,13 @@ ghost use Rattle.std.specs.Prelude.{◌≡◌, ◌<◌, ℕ, List, [], length, s
 ghost use Rattle.plan_core.specs.PlanContents.{plan_contents};
 ghost use Rattle.report.specs.Captures.{CaptureOf, Captured, HaltsAtCapture, HaltsAtDump};
 ghost use Rattle.report.specs.CaptureViews.{Follows};
-ghost use Rattle.report.specs.Runs.{ReadsText, ReadsBoth, Reports, Stops};
+ghost use Rattle.run_parts.specs.Runs.{ReadsText, ReadsBoth, Reports, Stops};
 
-use crate::devices::reading::{BLOCK, READS, read_within};
-use crate::devices::traits::{Input, Output};
-use crate::errors::RunError;
 use crate::following::Capture;
-use crate::runs::{Status, write_lines};
 use plan_core::Plan;
 use plan_text::read_plan;
+use run_parts::devices::reading::{BLOCK, READS};
+use run_parts::{Input, Output, RunError, Status, read_within, write_lines};
 use std::alloc::Global;
 use std::thread::Threads;
 

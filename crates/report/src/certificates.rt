@@ -1,19 +1,19 @@
 // The runs that write a certificate and that check one.
 
 ghost use Rattle.std.specs.Prelude.{◌≡◌, IfOk, IfErr, string_bytes};
-ghost use Rattle.report.specs.Certificates.{Certified, Verified, verify_line, answer_status};
-ghost use Rattle.report.specs.Checks.{RefusesPlan, SpellsPlan};
-ghost use Rattle.report.specs.Runs.{ReadsText, HaltsAtText, ReadsBoth, HaltsAtBoth, Reports, Stops};
+ghost use Rattle.report.specs.Certificates.{Certified, Verified};
+ghost use Rattle.run_parts.specs.Answers.{verify_line, answer_status};
+ghost use Rattle.run_parts.specs.PlanTexts.{RefusesPlan, SpellsPlan};
+ghost use Rattle.run_parts.specs.Runs.{ReadsText, HaltsAtText, ReadsBoth, HaltsAtBoth, Reports, Stops};
 
 use crate::checks::status_of;
-use crate::devices::reading::{READS, read_within};
-use crate::devices::traits::{Input, Output};
-use crate::errors::RunError;
-use crate::runs::{Status, write_lines};
-use cert_check::{Answer, check_certificate};
-use certificate::CertFault;
+use cert_check::check_certificate;
 use plan_text::read_plan;
-use std::alloc::{AllocError, Global};
+use run_parts::devices::reading::READS;
+use run_parts::{
+    Input, Output, RunError, Status, answer_line, read_within, status_of_answer, write_lines,
+};
+use std::alloc::Global;
 use verdicts::{certificate_text, faults};
 
 /// Writes the certificate of the plan that the reader gives: the proofs of all pairs where the plan is safe, and else
@@ -69,29 +69,4 @@ pub fn run_verify<I: Input, J: Input, O: Output>(
     let answer = check_certificate(alloc, &plan, cert_text.as_slice())?;
     let report = answer_line(alloc, answer)?;
     write_lines(out, report.as_bytes(), status_of_answer(answer))
-}
-
-/// The status of a run that ends with this answer.
-pub fn status_of_answer(answer: Answer) -> Status
-    ensures { result ≡ answer_status answer }
-{
-    match answer {
-        Answer::Safe => Status::Good,
-        Answer::Unsafe => Status::Bad,
-        Answer::Wrong(_) => Status::Refused,
-    }
-}
-
-/// The line of an answer.
-pub fn answer_line(alloc: Global, answer: Answer) -> Result<String, AllocError>
-    ensures { IfOk result (λ line. string_bytes line ≡ verify_line answer) }
-{
-    match answer {
-        Answer::Safe => format!(in alloc; "accepted safe\n"),
-        Answer::Unsafe => format!(in alloc; "accepted unsafe\n"),
-        Answer::Wrong(CertFault::Format(line)) => format!(in alloc; "wrong C1 line {line}\n"),
-        Answer::Wrong(CertFault::Count) => format!(in alloc; "wrong C2\n"),
-        Answer::Wrong(CertFault::TooDeep(line)) => format!(in alloc; "wrong C3 line {line}\n"),
-        Answer::Wrong(CertFault::Pair(pair)) => format!(in alloc; "wrong C5 pair {pair}\n"),
-    }
 }

@@ -3,15 +3,14 @@
 ghost use Rattle.std.specs.Prelude.{◌≡◌, ◌<◌, ◌≤◌, ◌⊎◌, ◌↔◌, IsTrue, IfOk, IfErr};
 ghost use Rattle.plan_core.specs.Contents.{Contents};
 ghost use Rattle.plan_core.specs.Faults.{IsSafe};
-ghost use Rattle.report.specs.Checks.{Judges, Checked, RefusesPlan};
-ghost use Rattle.report.specs.Runs.{ReadsText, HaltsAtText, Reports, Stops};
+ghost use Rattle.report.specs.Checks.{Judges, Checked};
+ghost use Rattle.run_parts.specs.PlanTexts.{RefusesPlan};
+ghost use Rattle.run_parts.specs.Runs.{ReadsText, HaltsAtText, Reports, Stops};
 
-use crate::devices::reading::{READS, read_within};
-use crate::devices::traits::{Input, Output};
-use crate::errors::RunError;
 use crate::lines::check_report;
-use crate::runs::{Status, write_lines};
 use plan_text::read_plan;
+use run_parts::devices::reading::READS;
+use run_parts::{Input, Output, RunError, Status, read_within, write_lines};
 use std::alloc::Global;
 use std::thread::Threads;
 use verdicts::{Gate, MOST_WORKERS, faults_with};

@@ -1,10 +1,9 @@
 // A dump that comes in pieces, from its bytes to the lines of a report.
 
-use crate::errors::RunError;
-use crate::runs::Status;
 use crate::telling::Telling;
 use capture_check::Follower;
 use plan_core::Plan;
+use run_parts::{RunError, Status};
 use std::alloc::{AllocError, Global};
 use std::thread::Threads;
 use vcd_read::Reader;

@@ -6,8 +6,8 @@ ghost use Rattle.plan_core.specs.Faults.{IsSafe};
 ghost use Rattle.plan_text.specs.Grammar.{Spells};
 ghost use Rattle.cert_check.specs.Accepts.{IsCertified, IsRefuted};
 ghost use Rattle.report.specs.Certificates.{Certified, Verified};
-ghost use Rattle.report.specs.declared.runs.Status.{Status};
-ghost use Rattle.report.specs.declared.runs.Status.TheVariants.{Good, Bad};
+ghost use Rattle.run_parts.specs.declared.runs.Status.{Status};
+ghost use Rattle.run_parts.specs.declared.runs.Status.TheVariants.{Good, Bad};
 
 /// What certify writes is accepted by the separate checker: of a safe plan, its certificate certifies the plan, so that
 /// `accept` answers Safe; of another, it refutes the plan, so that `accept` answers Unsafe.

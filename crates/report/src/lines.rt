@@ -9,8 +9,8 @@ ghost use Rattle.report.specs.FaultLines.{fault_report};
 ghost use Rattle.report.specs.Lines.{fault_text, fault_line, last_line};
 
 use certificate::Fault;
-use message_tree::Item;
 use plan_core::Plan;
+use run_parts::push_wire;
 use std::alloc::{AllocError, Global};
 use verdicts::Faults;
 
@@ -71,16 +71,6 @@ fn push_fault_text(
     )?;
     push_wire(report, &fault.wire)?;
     report.push_str("\n")?;
-    Ok(())
-}
-
-/// Adds the symbols of a wire.
-pub fn push_wire(report: &mut String, wire: &[Item]) -> Result<(), AllocError>
-    ensures { OnOk result (string_bytes report.new ≡ string_bytes report.old ++ wire_text wire.now) }
-{
-    for item in wire {
-        report.push(item.symbol())?;
-    }
     Ok(())
 }
 

@@ -3,11 +3,12 @@
 ghost use Rattle.std.specs.Prelude.{◌≡◌, ℕ, ◌<◌, ◌++◌, Contains, map, string_bytes, OnOk, IfOk, ◌+◌};
 ghost use Rattle.plan_core.specs.Participants.{participant_count};
 ghost use Rattle.plan_core.specs.PlanContents.{plan_contents};
-ghost use Rattle.report.specs.CaptureLines.{capture_line, ending_text, labels, who};
+ghost use Rattle.report.specs.CaptureLines.{capture_line, ending_text, who};
+ghost use Rattle.run_parts.specs.Lines.{labels};
 
-use crate::runs::Status;
 use capture_check::{Transaction, Until, explain_all};
 use plan_core::Plan;
+use run_parts::{Status, push_labels};
 use std::alloc::{AllocError, Global};
 use std::thread::Threads;
 
@@ -156,23 +157,4 @@ fn push_who(
         return lines.push_str(" unexplained");
     }
     push_labels(alloc, lines, plan, participants)
-}
-
-/// Adds the labels of participants, each after a space.
-pub fn push_labels(
-    alloc: Global,
-    lines: &mut String,
-    plan: &Plan,
-    participants: &[u32],
-) -> Result<(), AllocError>
-    requires { (p : ℕ) → Contains participants.now p → p < participant_count (plan_contents plan.now) }
-    ensures { OnOk result (string_bytes lines.new ≡ string_bytes lines.old ++
-        labels (plan_contents plan.now) participants.now) }
-{
-    for p in participants {
-        let label = plan.label(alloc, *p)?;
-        let label = label.as_str();
-        write!(lines, " {label}")?;
-    }
-    Ok(())
 }

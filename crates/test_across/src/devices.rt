@@ -1,8 +1,8 @@
 // Devices that fail: where they are called no more, and what `Watched` says of them. And how often a reader is called.
 
-use report::{
-    FaultyReader, FaultyWriter, Input, Output, RunError, Watched, read_within, run_capture,
-};
+use faulty_devices::{FaultyReader, FaultyWriter};
+use report::run_capture;
+use run_parts::{Input, Output, RunError, Watched, read_within};
 use std::alloc::Global;
 use std::thread::Threads;
 use vcd_read::VcdError;

@@ -4,11 +4,9 @@ use crate::scripts::run_seats;
 use bench_run::{NoGate, run_bench};
 use plan_text::{print_plan, read_plan};
 use reference::commands::{self, Answer};
-use report::devices::reading::READS;
-use report::{
-    Input, Output, RunError, Status, Watched, read_within, run_capture, run_certify, run_check,
-    run_verify, write_lines,
-};
+use report::{run_capture, run_certify, run_check, run_verify};
+use run_parts::devices::reading::READS;
+use run_parts::{Input, Output, RunError, Status, Watched, read_within, write_lines};
 use std::alloc::{AllocError, Global};
 use std::sync::Wait;
 use std::thread::Threads;

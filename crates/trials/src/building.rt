@@ -1,7 +1,7 @@
 // A plan that is built again.
 
 use plan_core::{BuildError, Builder, Name, NameError, Plan};
-use report::RunError;
+use run_parts::RunError;
 use std::alloc::Global;
 
 /// The plan that a builder makes of all that a plan has, in the same order.

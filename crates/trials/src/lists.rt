@@ -3,7 +3,7 @@
 use capture_check::{Transaction, events, explain, transactions};
 use plan_core::Plan;
 use plan_text::read_plan;
-use report::{Output, RunError, Status, write_lines};
+use run_parts::{Output, RunError, Status, write_lines};
 use std::alloc::{AllocError, Global};
 use trial_cases::cases::Asked;
 use trial_cases::commands::Command;

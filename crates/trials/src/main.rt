@@ -12,7 +12,6 @@
 mod answers;
 mod building;
 mod calls;
-mod interrupted;
 mod lists;
 mod modes;
 mod quiet;

@@ -2,10 +2,10 @@
 
 use crate::answers::{answer, is_spelt_alike, run, said};
 use crate::calls::{calls_of, make};
-use crate::interrupted::Interrupted;
 use anyhow::Result;
+use faulty_devices::{FaultyReader, FaultyWriter, Interrupted};
 use reference::commands::Answer;
-use report::{FaultyReader, FaultyWriter, Input, Output, Watched};
+use run_parts::{Input, Output, Watched};
 use std::alloc::{AllocError, Global};
 use std::sync::Wait;
 use std::thread::Threads;

@@ -13,7 +13,7 @@ use message_tree::{Address, Bit, Count, Frame, Item, Pattern, Tail};
 use pair_queue::{SettleFault, Take, Thief, open_queue, settle};
 use plan_core::{Builder, Name, Participant, Plan, Sends};
 use plan_text::read_plan;
-use report::{Input, Watched};
+use run_parts::{Input, Watched};
 use std::alloc::Global;
 use trial_cases::cases::Case;
 use trial_cases::commands::Command;

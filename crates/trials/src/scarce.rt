@@ -6,7 +6,7 @@ use crate::lists::tell_lists;
 use crate::scarcity::{Refused, Scarcity};
 use anyhow::Result;
 use reference::commands::Answer;
-use report::Watched;
+use run_parts::Watched;
 use std::alloc::{AllocError, Global};
 use std::sync::Wait;
 use std::thread::Threads;

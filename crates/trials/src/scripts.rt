@@ -7,8 +7,8 @@ use cert_check::{Accepted, accept_certificate};
 use message_tree::{Bit, Item};
 use plan_core::Plan;
 use plan_text::read_plan;
-use report::devices::reading::READS;
-use report::{
+use run_parts::devices::reading::READS;
+use run_parts::{
     Input, Output, RunError, Status, answer_line, read_within, status_of_answer, write_lines,
 };
 use std::alloc::{AllocError, Global};

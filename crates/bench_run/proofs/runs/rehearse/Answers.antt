@@ -7,9 +7,9 @@ use Rattle.cert_check.specs.Holds.{accepted_plan}
 use Rattle.cert_check.specs.declared.accepted.Accepted.{Accepted}
 use Rattle.cert_check.specs.declared.answers.Answer.{Answer}
 use Rattle.cert_check.specs.declared.answers.Answer.TheVariants.{Safe}
-use Rattle.report.specs.declared.errors.RunError.TheVariants as error
-use Rattle.report.specs.declared.runs.Status.TheVariants.{Good}
-use Rattle.report.proofs.RunLemmas.{on_error}
+use Rattle.run_parts.specs.declared.errors.RunError.TheVariants as error
+use Rattle.run_parts.specs.declared.runs.Status.TheVariants.{Good}
+use Rattle.run_parts.proofs.RunLemmas.{on_error}
 use Rattle.bench_run.specs.Rehearsals.{IsNotOpened}
 use Rattle.bench_run.proofs.RehearsalLemmas.{not_opened, rehearses, not_accepted}
 use Rattle.bench_run.proofs.runs.rehearse.Goals as goal

@@ -1,12 +1,12 @@
 use Rattle.std.proofs.Common.{subst, List, ℕ}
 use Rattle.plan_core.specs.PlanContents.{plan_contents}
 use Rattle.plan_text.specs.Grammar.{Spells}
-use Rattle.report.specs.Checks.{RefusesPlan}
-use Rattle.report.specs.Runs.{ReadsBoth, at_first, at_second, unread, refused}
-use Rattle.report.specs.RunErrors.{run_error}
-use Rattle.report.proofs.CertificateLemmas.{spells_plan}
-use Rattle.report.proofs.CheckLemmas.{refuses_plan}
-use Rattle.report.proofs.RunLemmas.{halting_stops, writing_reports, writing_stops}
+use Rattle.run_parts.specs.PlanTexts.{RefusesPlan}
+use Rattle.run_parts.specs.Runs.{ReadsBoth, at_first, at_second, unread, refused}
+use Rattle.run_parts.specs.RunErrors.{run_error}
+use Rattle.run_parts.proofs.PlanTextLemmas.{spells_plan}
+use Rattle.run_parts.proofs.PlanTextLemmas.{refuses_plan}
+use Rattle.run_parts.proofs.RunLemmas.{halting_stops, writing_reports, writing_stops}
 use Rattle.bench_run.specs.Rehearsals.{Rehearsed, HaltsAtBench, at_texts}
 use Rattle.bench_run.proofs.RehearsalLemmas.{halts_after, due_for}
 use Rattle.bench_run.proofs.runs.run_bench.Goals as goal

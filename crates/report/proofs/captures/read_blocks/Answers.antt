@@ -1,9 +1,9 @@
 use Rattle.std.proofs.Common.{◌≡◌, ◌<◌, ℕ, subst, arith, length, string_bytes}
 use Rattle.plan_core.specs.PlanContents.{plan_contents}
 use Rattle.report.specs.Captures.{CaptureOf, HaltsAtDump, read_fails, meets_no_end}
-use Rattle.report.specs.Devices.{HasGiven}
+use Rattle.run_parts.specs.Devices.{HasGiven}
 use Rattle.report.proofs.CaptureReading.{begin, all_read, ends, end_halts, one_more, feed_halts}
-use Rattle.report.proofs.RunLemmas.{on_error}
+use Rattle.run_parts.proofs.RunLemmas.{on_error}
 use Rattle.report.proofs.captures.read_blocks.Goals as goal
 
 pub loop-init : goal.loop-init

@@ -1,9 +1,9 @@
 use Rattle.std.proofs.Common.{[], arith}
 use Rattle.plan_core.specs.PlanContents.{plan_contents}
 use Rattle.report.specs.Captures.{HaltsAtDump, no_memory}
-use Rattle.report.specs.Devices.{no_read}
-use Rattle.report.specs.declared.errors.RunError.TheVariants as error
-use Rattle.report.proofs.RunLemmas.{on_error}
+use Rattle.run_parts.specs.Devices.{no_read}
+use Rattle.run_parts.specs.declared.errors.RunError.TheVariants as error
+use Rattle.run_parts.proofs.RunLemmas.{on_error}
 use Rattle.report.proofs.captures.read_capture.Goals as goal
 
 pub returns-in_err-block-clause-stops : goal.returns-in_err-block-clause-stops

@@ -2,12 +2,12 @@ use Rattle.std.proofs.Common.{sym, subst, ℕ, List}
 use Rattle.plan_core.specs.PlanContents.{plan_contents}
 use Rattle.plan_text.specs.Grammar.{Spells}
 use Rattle.report.specs.Captures.{CaptureOf, Captured, HaltsAtCapture, at_plan, at_dump}
-use Rattle.report.specs.Checks.{RefusesPlan}
-use Rattle.report.specs.Runs.{ReadsBoth, unread, refused}
-use Rattle.report.specs.RunErrors.{run_error}
-use Rattle.report.proofs.CertificateLemmas.{spells_plan}
-use Rattle.report.proofs.CheckLemmas.{refuses_plan}
-use Rattle.report.proofs.RunLemmas.{halting_stops, writing_reports, writing_stops}
+use Rattle.run_parts.specs.PlanTexts.{RefusesPlan}
+use Rattle.run_parts.specs.Runs.{ReadsBoth, unread, refused}
+use Rattle.run_parts.specs.RunErrors.{run_error}
+use Rattle.run_parts.proofs.PlanTextLemmas.{spells_plan}
+use Rattle.run_parts.proofs.PlanTextLemmas.{refuses_plan}
+use Rattle.run_parts.proofs.RunLemmas.{halting_stops, writing_reports, writing_stops}
 use Rattle.report.proofs.captures.run_capture.Goals as goal
 
 pub returns-in_err-text-clause-stops : goal.returns-in_err-text-clause-stops

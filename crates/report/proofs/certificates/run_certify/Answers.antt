@@ -2,13 +2,13 @@ use Rattle.std.proofs.Common.{◌∙◌, subst, ℕ, List}
 use Rattle.plan_core.proofs.PlanLemmas.{limits_of}
 use Rattle.plan_core.specs.PlanContents.{plan_contents}
 use Rattle.report.specs.Certificates.{Certified}
-use Rattle.report.specs.Checks.{RefusesPlan}
-use Rattle.report.specs.Runs.{ReadsText, HaltsAtText, unread, refused}
-use Rattle.report.specs.RunErrors.{run_error}
-use Rattle.report.specs.declared.errors.RunError.TheVariants as error
+use Rattle.run_parts.specs.PlanTexts.{RefusesPlan}
+use Rattle.run_parts.specs.Runs.{ReadsText, HaltsAtText, unread, refused}
+use Rattle.run_parts.specs.RunErrors.{run_error}
+use Rattle.run_parts.specs.declared.errors.RunError.TheVariants as error
 use Rattle.report.proofs.CertificateLemmas.{certifies}
-use Rattle.report.proofs.CheckLemmas.{refuses_plan}
-use Rattle.report.proofs.RunLemmas.{halting_stops, writing_reports, writing_stops}
+use Rattle.run_parts.proofs.PlanTextLemmas.{refuses_plan}
+use Rattle.run_parts.proofs.RunLemmas.{halting_stops, writing_reports, writing_stops}
 use Rattle.report.proofs.certificates.run_certify.Goals as goal
 
 pub returns-in_err-text-clause-stops : goal.returns-in_err-text-clause-stops

@@ -1,13 +1,14 @@
 use Rattle.std.proofs.Common.{◌∙◌, subst, ℕ, List}
 use Rattle.plan_core.specs.PlanContents.{plan_contents}
 use Rattle.report.specs.Certificates.{Verified}
-use Rattle.report.specs.Checks.{RefusesPlan, SpellsPlan}
-use Rattle.report.specs.Runs.{ReadsBoth, HaltsAtBoth, at_first, at_second, after_both, unread, refused}
-use Rattle.report.specs.RunErrors.{run_error}
-use Rattle.report.specs.declared.errors.RunError.TheVariants as error
-use Rattle.report.proofs.CertificateLemmas.{spells_plan, answers_both}
-use Rattle.report.proofs.CheckLemmas.{refuses_plan}
-use Rattle.report.proofs.RunLemmas.{halting_stops, writing_reports, writing_stops}
+use Rattle.run_parts.specs.PlanTexts.{RefusesPlan, SpellsPlan}
+use Rattle.run_parts.specs.Runs.{ReadsBoth, HaltsAtBoth, at_first, at_second, after_both, unread, refused}
+use Rattle.run_parts.specs.RunErrors.{run_error}
+use Rattle.run_parts.specs.declared.errors.RunError.TheVariants as error
+use Rattle.report.proofs.CertificateLemmas.{answers_both}
+use Rattle.run_parts.proofs.PlanTextLemmas.{spells_plan}
+use Rattle.run_parts.proofs.PlanTextLemmas.{refuses_plan}
+use Rattle.run_parts.proofs.RunLemmas.{halting_stops, writing_reports, writing_stops}
 use Rattle.report.proofs.certificates.run_verify.Goals as goal
 
 pub returns-in_err-plan_text-clause-stops : goal.returns-in_err-plan_text-clause-stops

@@ -2,13 +2,15 @@ use Rattle.std.proofs.Common.{◌≡◌, ◌∙◌, Err, ap, subst, ℕ, List, a
 use Rattle.plan_core.specs.PlanContents.{plan_contents}
 use Rattle.verdicts.specs.Faults.{fault_list}
 use Rattle.verdicts.specs.declared.errors.TableError.TheVariants as table
-use Rattle.report.specs.Checks.{Checked, RefusesPlan}
-use Rattle.report.specs.Runs.{ReadsText, HaltsAtText, unread, refused}
-use Rattle.report.specs.RunErrors.{run_error, table_error}
-use Rattle.report.specs.declared.errors.RunError.TheVariants as error
-use Rattle.report.proofs.CheckLemmas.{refuses_plan, refuses_none, enough_workers, workers_not_told, checks}
+use Rattle.report.specs.Checks.{Checked}
+use Rattle.run_parts.specs.PlanTexts.{RefusesPlan}
+use Rattle.run_parts.specs.Runs.{ReadsText, HaltsAtText, unread, refused}
+use Rattle.run_parts.specs.RunErrors.{run_error, table_error}
+use Rattle.run_parts.specs.declared.errors.RunError.TheVariants as error
+use Rattle.report.proofs.CheckLemmas.{refuses_none, enough_workers, workers_not_told, checks}
+use Rattle.run_parts.proofs.PlanTextLemmas.{refuses_plan}
 use Rattle.report.proofs.LineLemmas.{report_is}
-use Rattle.report.proofs.RunLemmas.{halting_stops, writing_reports, writing_stops}
+use Rattle.run_parts.proofs.RunLemmas.{halting_stops, writing_reports, writing_stops}
 use Rattle.report.proofs.checks.run_check.Goals as goal
 
 pub returns-in_err-text-clause-stops : goal.returns-in_err-text-clause-stops

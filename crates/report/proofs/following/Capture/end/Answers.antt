@@ -2,9 +2,9 @@ use Rattle.std.proofs.Common.{List, ℕ}
 use Rattle.plan_core.specs.PlanContents.{plan_contents}
 use Rattle.report.specs.Captures.{RefusesDump}
 use Rattle.report.specs.CaptureViews.{Follows}
-use Rattle.report.specs.RunErrors.{vcd_error}
+use Rattle.run_parts.specs.RunErrors.{vcd_error}
 use Rattle.report.proofs.CaptureLemmas.{refuses_dump}
-use Rattle.report.proofs.RunLemmas.{on_error}
+use Rattle.run_parts.proofs.RunLemmas.{on_error}
 use Rattle.report.proofs.following.Capture.end.Goals as goal
 
 pub returns-in_err-samples-clause-refused : goal.returns-in_err-samples-clause-refused

@@ -1,0 +1,112 @@
+// Which starters a bench is opened for.
+
+ghost use Rattle.std.specs.Prelude.{◌≡◌, ◌<◌, Some, None, All, IfOk, IfErr};
+ghost use Rattle.std.specs.List.{list_any};
+ghost use Rattle.plan_core.specs.Participants.{participant_count, same_controller, forbidden};
+ghost use Rattle.plan_core.specs.PlanContents.{plan_contents};
+ghost use Rattle.plays.specs.Starters.{shares_controller, refusal_behind, starters_refusal};
+
+use plan_core::{Participant, Plan};
+use thiserror::Error;
+
+/// Why a bench is not opened.
+#[derive(Clone, Copy, Debug, Drop, PartialEq, Eq, Error)]
+pub enum OpenError {
+    /// There is no starter.
+    #[error("B1")]
+    NoStarter,
+    /// There is no participant with this number.
+    #[error("B2")]
+    Unknown,
+    /// Two starters are sendings of one controller, or one participant.
+    #[error("B3")]
+    SameController,
+    /// Two starters are sendings of controllers that never start together.
+    #[error("B8")]
+    Never,
+    /// There was no memory.
+    #[error("B4")]
+    NoMemory,
+}
+
+/// Whether these participants of the plan may start together. It takes no memory.
+///
+/// NoStarter where there is none; else starter by starter: Unknown where the plan has no such participant, SameController
+/// where an earlier starter is the same participant or a sending of the same controller, Never where its controller and
+/// that of an earlier starter never start together.
+pub fn check_starters(plan: &Plan, starters: &[u32]) -> Result<(), OpenError>
+    ensures allowed { IfOk result (λ _. starters_refusal (plan_contents plan.now) starters.now ≡ None) }
+    ensures refused { IfErr result (λ e. starters_refusal (plan_contents plan.now) starters.now ≡ Some e) }
+{
+    if starters.is_empty() {
+        return Err(OpenError::NoStarter);
+    }
+    for (k, starter) in starters.iter().enumerate() {
+        check_starter(plan, &starters[..k], *starter)?;
+    }
+    Ok(())
+}
+
+// Whether this starter may start together with those before it, which the plan has.
+fn check_starter(plan: &Plan, before: &[u32], starter: u32) -> Result<(), OpenError>
+    requires { All (λ y. y < participant_count (plan_contents plan.now)) before.now }
+    ensures allowed { IfOk result (λ _. refusal_behind (plan_contents plan.now) before.now starter ≡ None) }
+    ensures refused { IfErr result (λ e. refusal_behind (plan_contents plan.now) before.now starter ≡ Some e) }
+{
+    if starter >= plan.participants() {
+        return Err(OpenError::Unknown);
+    }
+    if sends_already(plan, before, starter) {
+        return Err(OpenError::SameController);
+    }
+    if is_forbidden(plan, before, starter) {
+        return Err(OpenError::Never);
+    }
+    Ok(())
+}
+
+// Whether the starter, or a sending of its controller, is among those before it.
+fn sends_already(plan: &Plan, before: &[u32], starter: u32) -> bool
+    requires known { All (λ y. y < participant_count (plan_contents plan.now)) before.now }
+    requires within { starter < participant_count (plan_contents plan.now) }
+    ensures { result ≡ list_any (λ y. shares_controller (plan_contents plan.now) y starter) before.now }
+{
+    for other in before {
+        if *other == starter || is_same_controller(plan, *other, starter) {
+            return true;
+        }
+    }
+    false
+}
+
+// Whether a `never` names the starter's controller and that of one before it.
+fn is_forbidden(plan: &Plan, before: &[u32], starter: u32) -> bool
+    requires known { All (λ y. y < participant_count (plan_contents plan.now)) before.now }
+    requires within { starter < participant_count (plan_contents plan.now) }
+    ensures { result ≡ list_any (λ y. forbidden (plan_contents plan.now) y starter) before.now }
+{
+    for other in before {
+        if plan.forbids(*other, starter) {
+            return true;
+        }
+    }
+    false
+}
+
+// Whether both are sendings of one controller.
+fn is_same_controller(plan: &Plan, x: u32, y: u32) -> bool
+    requires x_within { x < participant_count (plan_contents plan.now) }
+    requires y_within { y < participant_count (plan_contents plan.now) }
+    ensures { result ≡ same_controller (plan_contents plan.now) x y }
+{
+    match (plan.participant(x), plan.participant(y)) {
+        (
+            Participant::Sending { controller, .. },
+            Participant::Sending {
+                controller: other,
+                ..
+            },
+        ) => controller == other,
+        _ => false,
+    }
+}

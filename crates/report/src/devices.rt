@@ -1,8 +1,0 @@
-// Readers and writers that say whether they failed, and the two loops over them.
-
-pub mod faulty;
-pub mod opened;
-pub mod reading;
-pub mod traits;
-pub mod watched;
-pub mod writing;

@@ -1,0 +1,10 @@
+pub mod Devices
+pub mod OpenedReaders
+pub mod WatchedDevices
+pub mod Reading
+pub mod Writing
+pub mod RunErrors
+pub mod Runs
+pub mod Lines
+pub mod Answers
+pub mod PlanTexts

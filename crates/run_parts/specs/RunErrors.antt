@@ -1,0 +1,31 @@
+-- A refusal of a plan text, of a bench, and of workers, as that of a run.
+use Rattle.plays.specs.declared.starters.OpenError.{OpenError}
+use Rattle.plays.specs.declared.starters.OpenError.TheVariants as opening
+use Rattle.plan_text.specs.declared.errors.PlanError.{PlanError}
+use Rattle.plan_text.specs.declared.errors.PlanError.TheVariants as plan
+use Rattle.run_parts.specs.declared.errors.RunError.{RunError}
+use Rattle.run_parts.specs.declared.errors.RunError.TheVariants.{Plan, Vcd, Bench, Workers, NoMemory}
+use Rattle.vcd_read.specs.declared.errors.VcdError.{VcdError}
+use Rattle.vcd_read.specs.declared.errors.VcdError.TheVariants as vcd
+use Rattle.verdicts.specs.declared.errors.TableError.{TableError}
+use Rattle.verdicts.specs.declared.errors.TableError.TheVariants as table
+
+-- the same refusal; want of memory has no place in the text
+abbrev pub run_error : PlanError → RunError
+run_error plan.NoMemory = NoMemory
+run_error e = Plan e
+
+-- where a dump is refused
+abbrev pub vcd_error : VcdError → RunError
+vcd_error vcd.NoMemory = NoMemory
+vcd_error e = Vcd e
+
+-- where no bench is opened
+abbrev pub open_error : OpenError → RunError
+open_error opening.NoMemory = NoMemory
+open_error e = Bench e
+
+-- where workers give no answer
+abbrev pub table_error : TableError → RunError
+table_error table.Workers = Workers
+table_error table.NoMemory = NoMemory

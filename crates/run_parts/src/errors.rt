@@ -1,0 +1,98 @@
+// Why a run ends with no report, or with a part of one.
+
+ghost use Rattle.std.specs.Prelude.{◌≡◌};
+ghost use Rattle.run_parts.specs.declared.errors.RunError.TheVariants.{NoMemory};
+ghost use Rattle.run_parts.specs.RunErrors.{run_error, vcd_error, open_error, table_error};
+
+use plan_text::PlanError;
+use plays::OpenError;
+use std::alloc::{AllocError, AllocFailed};
+use thiserror::Error;
+use vcd_read::VcdError;
+use verdicts::TableError;
+
+/// Why a run ends without its report. Only after `Write` has a part of the report been written: its first bytes.
+#[derive(Clone, Copy, Debug, PartialEq, Eq, Error)]
+pub enum RunError {
+    /// The plan text is refused. For want of memory the refusal is `NoMemory`.
+    #[error("{0}")]
+    Plan(PlanError),
+    /// The dump is refused. For want of memory the refusal is `NoMemory`.
+    #[error("{0}")]
+    Vcd(VcdError),
+    /// The bench is not opened. For want of memory the refusal is `NoMemory`.
+    #[error("{0}")]
+    Bench(OpenError),
+    /// The number of workers is 0, or above 8.
+    #[error("workers")]
+    Workers,
+    /// A reader failed, or gave no end within its limit of calls.
+    #[error("read")]
+    Read,
+    /// The writer failed, or took no bytes.
+    #[error("write")]
+    Write,
+    /// Memory was refused.
+    #[error("memory")]
+    NoMemory,
+}
+
+impl From<PlanError> for RunError {
+    ghost from_gives = { λ refusal e. e ≡ run_error refusal };
+
+    fn from(error: PlanError) -> RunError {
+        match error {
+            PlanError::NoMemory => RunError::NoMemory,
+            _ => RunError::Plan(error),
+        }
+    }
+}
+
+impl From<VcdError> for RunError {
+    ghost from_gives = { λ refusal e. e ≡ vcd_error refusal };
+
+    fn from(error: VcdError) -> RunError {
+        match error {
+            VcdError::NoMemory => RunError::NoMemory,
+            _ => RunError::Vcd(error),
+        }
+    }
+}
+
+impl From<OpenError> for RunError {
+    ghost from_gives = { λ refusal e. e ≡ open_error refusal };
+
+    fn from(error: OpenError) -> RunError {
+        match error {
+            OpenError::NoMemory => RunError::NoMemory,
+            _ => RunError::Bench(error),
+        }
+    }
+}
+
+impl From<TableError> for RunError {
+    ghost from_gives = { λ refusal e. e ≡ table_error refusal };
+
+    fn from(error: TableError) -> RunError {
+        match error {
+            TableError::Workers => RunError::Workers,
+            TableError::NoMemory => RunError::NoMemory,
+        }
+    }
+}
+
+impl From<AllocError> for RunError {
+    ghost from_gives = { λ _ e. e ≡ NoMemory };
+
+    fn from(_error: AllocError) -> RunError {
+        RunError::NoMemory
+    }
+}
+
+impl<T: Drop> From<AllocFailed<T>> for RunError {
+    ghost from_gives = { λ _ e. e ≡ NoMemory };
+
+    fn from(_error: AllocFailed<T>) -> RunError {
+        RunError::NoMemory
+    }
+}
