@@ -9,6 +9,7 @@ use Rattle.message_tree.specs.Counts.{greatest_of}
 use Rattle.message_tree.specs.Sizes.{frame_bytes, payload_bytes, tail_bytes, frame_nodes, payload_nodes, tail_nodes}
 use Rattle.message_tree.specs.Trees.{FrameTree, write, read, PayloadTree, byte, last, TailTree, stop, again}
 use Rattle.plan_core.specs.Contents.{Contents}
+use Rattle.plan_core.specs.declared.limits.TheConstants.{MOST_BYTES, MOST_NODES}
 use Rattle.plan_core.specs.declared.builder.BuildError.{BuildError}
 use Rattle.plan_text.specs.Canonical.{address_word, pattern_word}
 use Rattle.plan_text.specs.declared.errors.PlanError.{PlanError}
@@ -40,13 +41,13 @@ node_step true (Some cause) line n more e k h = absurd cc
 node_step true None line n more e k h = (refl, refl, h)
 node_step false r line n more e k h = absurd cc
 
-byte_kept : (above nodes : ℕ) → (nat_le 4096 nodes || nat_le 256 above) ≡ false → (above < 256) × (nodes < 4096)
+byte_kept : (above nodes : ℕ) → (nat_le MOST_NODES nodes || nat_le MOST_BYTES above) ≡ false → (above < MOST_BYTES) × (nodes < MOST_NODES)
 byte_kept above nodes h = (grind (arith, nat_tests), grind (arith, nat_tests))
 
-byte_room : (above nodes : ℕ) → byte_refusal above nodes ≡ None → (above < 256) × (nodes < 4096)
-byte_room above nodes h = byte_kept above nodes (if_none (nat_le 4096 nodes || nat_le 256 above) _ _ h).0
+byte_room : (above nodes : ℕ) → byte_refusal above nodes ≡ None → (above < MOST_BYTES) × (nodes < MOST_NODES)
+byte_room above nodes h = byte_kept above nodes (if_none (nat_le MOST_NODES nodes || nat_le MOST_BYTES above) _ _ h).0
 
-read_kept : (n : ℕ) → nat_lt 256 n ≡ false → n ≤ 256
+read_kept : (n : ℕ) → nat_lt MOST_BYTES n ≡ false → n ≤ MOST_BYTES
 read_kept n h = grind (arith, nat_tests)
 
 -- ---- single tokens
@@ -64,8 +65,8 @@ frame_begins plan above nodes more (next token line rest) h = absurd cc
 record HeaderThere (plan : Contents) (above nodes : ℕ) (further : List Expected) (from : Tokens) : Type 0 where
   address : Address
   passed : Passed (word (address_word address)) plan from (nodes + 1) further
-  path : above < 256
-  room : nodes < 4096
+  path : above < MOST_BYTES
+  room : nodes < MOST_NODES
 
 header_from : (bytes : List ℕ) (plan : Contents) (above nodes line : ℕ) (further : List Expected) (rest : Tokens) → is_pattern 7 bytes ≡ true → byte_refusal above nodes ≡ None → refusal plan rest (nodes + 1) further ≡ None →
     HeaderThere plan above nodes further (next (word bytes) line rest)
@@ -92,7 +93,7 @@ record CountThere (plan : Contents) (header nodes : ℕ) (more : List Expected) 
   amount : Count
   to : Tokens
   spelled : SpellsCount amount from to
-  path : header + greatest_of amount ≤ 256
+  path : header + greatest_of amount ≤ MOST_BYTES
   rest : refusal plan to nodes (tail (header + greatest_of amount) ∷ (else_word ∷ (tail header ∷ more))) ≡ None
   smaller : size from ≡ suc (size to)
 
@@ -102,7 +103,7 @@ count_by None bytes plan header nodes line more rest form h = absurd cc
 count_by (Some ends) bytes plan header nodes line more rest form h =
     let p = node_step (in_range ends) (read_refusal header (number ends.1)) _ _ _ _ _ h in
     let c = count_from bytes ends form p.0 in
-    let kept = read_kept (header + number ends.1) (if_none (nat_lt 256 (header + number ends.1)) _ _ p.1).0 in
+    let kept = read_kept (header + number ends.1) (if_none (nat_lt MOST_BYTES (header + number ends.1)) _ _ p.1).0 in
     let same : number ends.1 ≡ greatest_of c.count = ap (λ (x : List ℕ × List ℕ). number x.1) (sym c.ends_are) ∙ c.writes.greatest in
     record {
       amount = c.count;
@@ -134,7 +135,7 @@ tail_begins plan above nodes more (next (keyword keywords.Again) line rest) h = 
 tail_begins plan above nodes more (next token line rest) h = absurd cc
 
 data PayloadBegins (plan : Contents) (above nodes : ℕ) (more : List Expected) (from : Tokens) : Type 0 where
-  sends : (p : Pattern) → Passed (word (pattern_word p)) plan from (nodes + 1) (payload (above + 1) ∷ (else_word ∷ (tail (above + 1) ∷ more))) → above < 256 → nodes < 4096 → PayloadBegins plan above nodes more from
+  sends : (p : Pattern) → Passed (word (pattern_word p)) plan from (nodes + 1) (payload (above + 1) ∷ (else_word ∷ (tail (above + 1) ∷ more))) → above < MOST_BYTES → nodes < MOST_NODES → PayloadBegins plan above nodes more from
   ends : TailBegins plan above nodes more from → PayloadBegins plan above nodes more from
 
 payload_begins : (plan : Contents) (above nodes : ℕ) (more : List Expected) (from : Tokens) → refusal plan from nodes (payload above ∷ more) ≡ None → PayloadBegins plan above nodes more from
@@ -155,8 +156,8 @@ pub record PartThere (T : Type 0) (spelled_by : T → Phrase) (bytes nodes_of : 
   pub part : T
   pub to : Tokens
   pub spelled : spelled_by part from to
-  pub path : above + bytes part ≤ 256
-  pub room : nodes + nodes_of part ≤ 4096
+  pub path : above + bytes part ≤ MOST_BYTES
+  pub room : nodes + nodes_of part ≤ MOST_NODES
   pub rest : refusal plan to (nodes + nodes_of part) more ≡ None
   pub smaller : size to < size from
 
@@ -171,7 +172,7 @@ TailThere = PartThere TailTree SpellsTail tail_bytes tail_nodes
 
 -- for tokens fewer than n
 mutual
-  pub frame_there : (n : ℕ) (plan : Contents) (above nodes : ℕ) (more : List Expected) (from : Tokens) → size from < n → above ≤ 256 → nodes ≤ 4096 → refusal plan from nodes (frame above ∷ more) ≡ None → FrameThere plan above nodes more from
+  pub frame_there : (n : ℕ) (plan : Contents) (above nodes : ℕ) (more : List Expected) (from : Tokens) → size from < n → above ≤ MOST_BYTES → nodes ≤ MOST_NODES → refusal plan from nodes (frame above ∷ more) ≡ None → FrameThere plan above nodes more from
   frame_there zero plan above nodes more from fewer path room h = absurd (omega arith)
   frame_there (suc n) plan above nodes more from fewer path room h =
       elim (frame_begins plan above nodes more from h) [
@@ -210,7 +211,7 @@ mutual
             }
       ]
 
-  payload_there : (n : ℕ) (plan : Contents) (above nodes : ℕ) (more : List Expected) (from : Tokens) → size from < n → above ≤ 256 → nodes ≤ 4096 → refusal plan from nodes (payload above ∷ more) ≡ None → PayloadThere plan above nodes more from
+  payload_there : (n : ℕ) (plan : Contents) (above nodes : ℕ) (more : List Expected) (from : Tokens) → size from < n → above ≤ MOST_BYTES → nodes ≤ MOST_NODES → refusal plan from nodes (payload above ∷ more) ≡ None → PayloadThere plan above nodes more from
   payload_there zero plan above nodes more from fewer path room h = absurd (omega arith)
   payload_there (suc n) plan above nodes more from fewer path room h =
       elim (payload_begins plan above nodes more from h) [
@@ -236,7 +237,7 @@ mutual
         ]
       ]
 
-  tail_there : (n : ℕ) (plan : Contents) (above nodes : ℕ) (more : List Expected) (from : Tokens) → size from < n → above ≤ 256 → nodes ≤ 4096 → refusal plan from nodes (tail above ∷ more) ≡ None → TailThere plan above nodes more from
+  tail_there : (n : ℕ) (plan : Contents) (above nodes : ℕ) (more : List Expected) (from : Tokens) → size from < n → above ≤ MOST_BYTES → nodes ≤ MOST_NODES → refusal plan from nodes (tail above ∷ more) ≡ None → TailThere plan above nodes more from
   tail_there zero plan above nodes more from fewer path room h = absurd (omega arith)
   tail_there (suc n) plan above nodes more from fewer path room h =
       let none : nodes + 0 ≡ nodes = omega arith in

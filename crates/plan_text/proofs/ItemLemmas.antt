@@ -17,6 +17,7 @@ use Rattle.message_tree.specs.Trees.{FrameTree}
 use Rattle.plan_core.proofs.BuildingLemmas.{message_fits, controller_fits}
 use Rattle.plan_core.specs.Building.{message_refusal, message_name_refusal, with_message, controller_refusal, controller_name_refusal, list_refusal, with_controller, interrupt_refusal, with_interrupt, never_refusal, with_never, has_name}
 use Rattle.plan_core.specs.Contents.{Contents}
+use Rattle.plan_core.specs.declared.limits.TheConstants.{MOST_NODES}
 use Rattle.plan_core.specs.Names.{IsName, is_name, is_name_byte}
 use Rattle.plan_core.specs.declared.builder.BuildError.{BuildError}
 use Rattle.plan_text.specs.Canonical.{bit_symbol, interrupt_word}
@@ -86,7 +87,7 @@ list_more plan before (n ∷ names) name first second =
 -- ---- a message
 
 pub message_read : (plan whole : Contents) (name : List ℕ) (f : FrameTree) (n line : ℕ) (t0 t1 t2 t3 : Tokens) → t0 ≡ next (word name) line t1 → IsName name → message_name_refusal plan name ≡ None
-    → FrameRead 0 f (record { tokens = t1; nodes = 0 }) (record { tokens = t2; nodes = n }) → n ≤ 4096 → (l : ℕ) × (t2 ≡ next semicolon l t3) → whole ≡ with_message plan name f → (version : Version) → RestRead keywords.Message version plan t0 whole t3
+    → FrameRead 0 f (record { tokens = t1; nodes = 0 }) (record { tokens = t2; nodes = n }) → n ≤ MOST_NODES → (l : ℕ) × (t2 ≡ next semicolon l t3) → whole ≡ with_message plan name f → (version : Version) → RestRead keywords.Message version plan t0 whole t3
 message_read plan whole name f n line t0 t1 t2 t3 named is allowed framed fits ended added version start l begun =
     record {
       item = message name f;

@@ -11,6 +11,7 @@ use Rattle.message_tree.specs.Counts.{least_of, greatest_of}
 use Rattle.message_tree.specs.Patterns.{address_bits, pattern_bits}
 use Rattle.message_tree.specs.Trees.{write, read, PayloadTree, TailTree}
 use Rattle.plan_core.specs.Contents.{Contents}
+use Rattle.plan_core.specs.declared.limits.TheConstants.{MOST_BYTES, MOST_NODES}
 use Rattle.plan_text.specs.Canonical.{bit_symbol, address_word, pattern_word}
 use Rattle.plan_text.specs.declared.errors.PlanError.{PlanError}
 use Rattle.plan_text.specs.declared.symbols.Keyword.{Keyword}
@@ -37,13 +38,13 @@ pub pattern_is_pattern : (p : Pattern) → is_pattern 8 (pattern_word p) ≡ tru
 unfolding pattern_bits
 pattern_is_pattern p = all_bits (pattern_bits p)
 
-pub byte_fits : (above nodes : ℕ) → above < 256 → nodes < 4096 → byte_refusal above nodes ≡ None
+pub byte_fits : (above nodes : ℕ) → above < MOST_BYTES → nodes < MOST_NODES → byte_refusal above nodes ≡ None
 byte_fits above nodes path room = grind arith
 
-pub read_fits : (header greatest : ℕ) → header + greatest ≤ 256 → read_refusal header greatest ≡ None
+pub read_fits : (header greatest : ℕ) → header + greatest ≤ MOST_BYTES → read_refusal header greatest ≡ None
 read_fits header greatest path = grind arith
 
-path_of : (above first second : ℕ) → above < 256 → above + 1 + first ≤ 256 → above + 1 + second ≤ 256 → above + (max first second + 1) ≤ 256
+path_of : (above first second : ℕ) → above < MOST_BYTES → above + 1 + first ≤ MOST_BYTES → above + 1 + second ≤ MOST_BYTES → above + (max first second + 1) ≤ MOST_BYTES
 path_of above first second h f s = omega (arith, h, f, s)
 
 leb_is : (m n : ℕ) → m ≤ n → nat_le m n ≡ true

@@ -9,6 +9,7 @@ use Rattle.message_tree.specs.Counts.{greatest_of}
 use Rattle.message_tree.specs.Sizes.{frame_bytes, payload_bytes, tail_bytes, frame_nodes, payload_nodes, tail_nodes}
 use Rattle.message_tree.specs.Trees.{FrameTree, write, read, PayloadTree, byte, last, TailTree, stop, again}
 use Rattle.plan_core.specs.Contents.{Contents}
+use Rattle.plan_core.specs.declared.limits.TheConstants.{MOST_BYTES, MOST_NODES}
 use Rattle.plan_core.specs.Limits.{sending_count}
 use Rattle.plan_core.proofs.BuildingLemmas.{message_parts, controller_parts, size_allowed}
 use Rattle.plan_core.specs.Building.{has_name, message_name_refusal, controller_name_refusal, message_refusal, list_refusal, controller_refusal, never_refusal, two_refusal}
@@ -27,7 +28,7 @@ use Rattle.plan_text.proofs.SpelledVersions.{front_same, stops_at_end, version_p
 use Rattle.plan_text.proofs.WordLemmas.{all_known}
 
 mutual
-  frame_passes : (f : FrameTree) (plan : Contents) (above nodes : ℕ) (more : List Expected) (from to : Tokens) → SpellsFrame f from to → above + frame_bytes f ≤ 256 → nodes + frame_nodes f ≤ 4096 →
+  frame_passes : (f : FrameTree) (plan : Contents) (above nodes : ℕ) (more : List Expected) (from to : Tokens) → SpellsFrame f from to → above + frame_bytes f ≤ MOST_BYTES → nodes + frame_nodes f ≤ MOST_NODES →
       refusal plan from nodes (frame above ∷ more) ≡ refusal plan to (nodes + frame_nodes f) more
   frame_passes (write a p t) plan above nodes more from to s path room =
       let header : refusal plan from nodes (frame above ∷ more) ≡ refusal plan s.2.0 (nodes + 1) (payload (above + 1) ∷ (else_word ∷ (tail (above + 1) ∷ more))) =
@@ -50,7 +51,7 @@ mutual
       let sum : nodes + 1 + tail_nodes v + tail_nodes t ≡ nodes + (tail_nodes v + tail_nodes t + 1) = omega arith in
       header ∙ counted ∙ first ∙ middle ∙ second ∙ ap (λ n. refusal plan to n more) sum
 
-  payload_passes : (f : PayloadTree) (plan : Contents) (above nodes : ℕ) (more : List Expected) (from to : Tokens) → SpellsPayload f from to → above + payload_bytes f ≤ 256 → nodes + payload_nodes f ≤ 4096 →
+  payload_passes : (f : PayloadTree) (plan : Contents) (above nodes : ℕ) (more : List Expected) (from to : Tokens) → SpellsPayload f from to → above + payload_bytes f ≤ MOST_BYTES → nodes + payload_nodes f ≤ MOST_NODES →
       refusal plan from nodes (payload above ∷ more) ≡ refusal plan to (nodes + payload_nodes f) more
   payload_passes (byte b p t) plan above nodes more from to s path room =
       let header : refusal plan from nodes (payload above ∷ more) ≡ refusal plan s.0 (nodes + 1) (payload (above + 1) ∷ (else_word ∷ (tail (above + 1) ∷ more))) =
@@ -67,7 +68,7 @@ mutual
       let first : refusal plan from nodes (payload above ∷ more) ≡ refusal plan s.0 nodes (frame above ∷ more) = rw s.1.1 refl in
       first ∙ frame_passes f plan above nodes more s.0 to s.2 path room
 
-  tail_passes : (f : TailTree) (plan : Contents) (above nodes : ℕ) (more : List Expected) (from to : Tokens) → SpellsTail f from to → above + tail_bytes f ≤ 256 → nodes + tail_nodes f ≤ 4096 →
+  tail_passes : (f : TailTree) (plan : Contents) (above nodes : ℕ) (more : List Expected) (from to : Tokens) → SpellsTail f from to → above + tail_bytes f ≤ MOST_BYTES → nodes + tail_nodes f ≤ MOST_NODES →
       refusal plan from nodes (tail above ∷ more) ≡ refusal plan to (nodes + tail_nodes f) more
   tail_passes stop plan above nodes more from to s path room =
       let none : nodes + 0 ≡ nodes = omega arith in

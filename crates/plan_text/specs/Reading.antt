@@ -4,6 +4,7 @@ use Rattle.std.specs.Prelude.{◌≡◌, ℕ, ◌+◌, ◌≤◌, ◌<◌, Bool,
 use Rattle.std.specs.Prelude.{Some, None}
 use Rattle.message_tree.specs.Codes.{code}
 use Rattle.plan_core.specs.Contents.{Contents}
+use Rattle.plan_core.specs.declared.limits.TheConstants.{MOST_BYTES, MOST_NODES}
 use Rattle.plan_text.specs.declared.errors.PlanError.{PlanError}
 use Rattle.plan_text.specs.declared.errors.PlanError.TheVariants as errors
 use Rattle.plan_text.specs.declared.symbols.Symbol.{Symbol}
@@ -107,7 +108,7 @@ Refuses old expected e =
 pub record PartRead (spelled_by : Phrase) (expected : Expected) (above bytes nodes : ℕ) (old new : Place) : Type 0 where
   pub spelled : spelled_by old.tokens new.tokens
   pub leads : Leads old (expected ∷ []) new []
-  pub path : above + bytes ≤ 256
+  pub path : above + bytes ≤ MOST_BYTES
   pub nodes_then : new.nodes ≡ old.nodes + nodes
 
 abbrev pub FrameRead : ℕ → FrameTree → Place → Place → Type 0
@@ -133,8 +134,8 @@ pub record TokenRead (token : spec.Token) (expected : Expected) (old new : Place
 pub record NodeRead (bytes : List ℕ) (above : ℕ) (old new : Place) : Type 0 where
   pub line : ℕ
   pub token_is : old.tokens ≡ spec.next (spec.word bytes) line new.tokens
-  pub path : above < 256
-  pub nodes_before : old.nodes < 4096
+  pub path : above < MOST_BYTES
+  pub nodes_before : old.nodes < MOST_NODES
   pub nodes_then : new.nodes ≡ old.nodes + 1
 
 -- a count below a header
@@ -143,7 +144,7 @@ pub record CountRead (count : Count) (header : ℕ) (old new : Place) : Type 0 w
   pub bytes : List ℕ
   pub token_is : old.tokens ≡ spec.next (spec.word bytes) line new.tokens
   pub writes : WritesCount bytes count
-  pub path : header + greatest_of count ≤ 256
+  pub path : header + greatest_of count ≤ MOST_BYTES
   pub nodes_then : new.nodes ≡ old.nodes
 
 -- the token stood in the first place, and what follows it in the second

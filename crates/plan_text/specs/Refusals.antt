@@ -9,6 +9,7 @@ use Rattle.plan_core.specs.Building.{message_name_refusal, controller_name_refus
 use Rattle.plan_core.specs.Building.{has_name, never_refusal}
 use Rattle.plan_core.specs.declared.builder.BuildError.{BuildError}
 use Rattle.plan_core.specs.declared.builder.BuildError.TheVariants as build
+use Rattle.plan_core.specs.declared.limits.TheConstants.{MOST_BYTES, MOST_NODES}
 use Rattle.plan_text.specs.declared.errors.PlanError.{PlanError}
 use Rattle.plan_text.specs.declared.errors.PlanError.TheVariants as errors
 use Rattle.plan_text.specs.declared.errors.PlanError.TheVariants.{NotAscii, Unexpected, BadCount, TooLong, TooMany}
@@ -68,7 +69,7 @@ name_step bytes cause line more = if is_name bytes then unless_refused cause lin
 
 -- why one more header or data byte is refused below a path of so many bytes, after so many nodes of the message
 abbrev pub byte_refusal : ℕ → ℕ → Option BuildError
-byte_refusal above nodes = if nat_le 4096 nodes || nat_le 256 above then Some build.TooLong else None
+byte_refusal above nodes = if nat_le MOST_NODES nodes || nat_le MOST_BYTES above then Some build.TooLong else None
 
 -- a header, after which these are expected
 abbrev pub header_step : List ℕ → ℕ → ℕ → ℕ → List Expected → Step
@@ -77,7 +78,7 @@ header_step bytes above nodes line more =
     else Err (Unexpected line)
 
 abbrev pub read_refusal : ℕ → ℕ → Option BuildError
-read_refusal header greatest = if nat_lt 256 (header + greatest) then Some build.TooLong else None
+read_refusal header greatest = if nat_lt MOST_BYTES (header + greatest) then Some build.TooLong else None
 
 -- a count below a header
 abbrev pub count_step : Option (List ℕ × List ℕ) → ℕ → ℕ → ℕ → Step

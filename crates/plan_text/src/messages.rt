@@ -13,12 +13,7 @@ use crate::sources::Source;
 use crate::symbols::{Keyword, Symbol, Token};
 use crate::words::{address, count_ends, pattern};
 use message_tree::{Address, Count, Frame, Payload, Tail};
-
-/// The bytes on one path of a message.
-const PATH_BYTES: u32 = 256;
-
-/// The nodes of a message.
-const NODES: u32 = 4096;
+use plan_core::limits::{MOST_BYTES, MOST_NODES};
 
 impl Source<'_> {
     ghost use Rattle.plan_text.specs.Reading.{Place, FrameRead, PayloadRead, TailRead, TokenRead, NodeRead, CountRead, Took, TookKeyword, Refuses, unread};
@@ -39,7 +34,7 @@ impl Source<'_> {
     // write PAT7 payload else tail | read PAT7 COUNT tail else tail
     #[cycle(message)]
     fn frame(&mut self, above: u32) -> Result<Frame, PlanError>
-        requires { above ≤ 256 }
+        requires { above ≤ MOST_BYTES }
         ensures read { IfOk result (λ it. FrameRead above (frame_tree it) (place self.old) (place self.new)) }
         ensures refused { IfErr result (λ e. Refuses (place self.old) (expect.frame above ∷ []) e) }
         ensures left { unread self.new.tokens ≤ unread self.old.tokens }
@@ -55,7 +50,7 @@ impl Source<'_> {
     // PAT7 payload else tail
     #[cycle(message)]
     fn write(&mut self, above: u32) -> Result<Frame, PlanError>
-        requires { above ≤ 256 }
+        requires { above ≤ MOST_BYTES }
         ensures read { IfOk result (λ it. (start : Place) → TookKeyword keywords.Write start (place self.old) →
             FrameRead above (frame_tree it) start (place self.new)) }
         ensures refused { IfErr result (λ e. (start : Place) → TookKeyword keywords.Write start (place self.old) →
@@ -76,7 +71,7 @@ impl Source<'_> {
     // PAT7 COUNT tail else tail
     #[cycle(message)]
     fn read(&mut self, above: u32) -> Result<Frame, PlanError>
-        requires { above ≤ 256 }
+        requires { above ≤ MOST_BYTES }
         ensures read { IfOk result (λ it. (start : Place) → TookKeyword keywords.Read start (place self.old) →
             FrameRead above (frame_tree it) start (place self.new)) }
         ensures refused { IfErr result (λ e. (start : Place) → TookKeyword keywords.Read start (place self.old) →
@@ -99,7 +94,7 @@ impl Source<'_> {
     // PAT8 payload else tail | tail
     #[cycle(message)]
     fn payload(&mut self, above: u32) -> Result<Payload, PlanError>
-        requires { above ≤ 256 }
+        requires { above ≤ MOST_BYTES }
         ensures read { IfOk result (λ it. PayloadRead above (payload_tree it) (place self.old) (place self.new)) }
         ensures refused { IfErr result (λ e. Refuses (place self.old) (expect.payload above ∷ []) e) }
         ensures left { unread self.new.tokens ≤ unread self.old.tokens }
@@ -114,7 +109,7 @@ impl Source<'_> {
     // The payload that begins with this word on this line.
     #[cycle(message)]
     fn byte(&mut self, word: &[u8], line: u64, above: u32) -> Result<Payload, PlanError>
-        requires { above ≤ 256 }
+        requires { above ≤ MOST_BYTES }
         ensures read { IfOk result (λ it. (start : Place) → start.tokens ≡
             spec.next (spec.word word.now) line (place self.old).tokens → start.nodes ≡ (place self.old).nodes →
             PayloadRead above (payload_tree it) start (place self.new)) }
@@ -140,7 +135,7 @@ impl Source<'_> {
     // stop | again frame
     #[cycle(message)]
     fn tail(&mut self, above: u32) -> Result<Tail, PlanError>
-        requires { above ≤ 256 }
+        requires { above ≤ MOST_BYTES }
         ensures read { IfOk result (λ it. TailRead above (tail_tree it) (place self.old) (place self.new)) }
         ensures refused { IfErr result (λ e. Refuses (place self.old) (expect.tail above ∷ []) e) }
         ensures left { unread self.new.tokens ≤ unread self.old.tokens }
@@ -152,7 +147,7 @@ impl Source<'_> {
     // The tail that begins with this token.
     #[cycle(message)]
     fn tail_from(&mut self, token: Token<'_>, above: u32) -> Result<Tail, PlanError>
-        requires { above ≤ 256 }
+        requires { above ≤ MOST_BYTES }
         ensures read { IfOk result (λ it. (start : Place) → Took token.entry start (place self.old) →
             TailRead above (tail_tree it) start (place self.new)) }
         ensures refused { IfErr result (λ e. (start : Place) → Took token.entry start (place self.old) →
@@ -171,7 +166,7 @@ impl Source<'_> {
 
     // PAT7 as a header below `above` bytes.
     fn header(&mut self, above: u32) -> Result<Address, PlanError>
-        requires { above ≤ 256 }
+        requires { above ≤ MOST_BYTES }
         ensures read { IfOk result (λ it. NodeRead (address_word it) above (place self.old) (place self.new)) }
         ensures write_refused { IfErr result (λ e. Refuses (place self.old) (expect.write_address above ∷ []) e) }
         ensures read_refused { IfErr result (λ e. Refuses (place self.old) (expect.read_address above ∷ []) e) }
@@ -190,13 +185,13 @@ impl Source<'_> {
 
     // One more node, of one byte below `above` bytes, at a token on this line.
     fn add_node(&mut self, above: u32, line: u64) -> Result<(), PlanError>
-        requires { above ≤ 256 }
-        ensures added { OnOk result ((above < 256) × (self.old.nodes < 4096) × (self.new.nodes ≡ self.old.nodes + 1)) }
+        requires { above ≤ MOST_BYTES }
+        ensures added { OnOk result ((above < MOST_BYTES) × (self.old.nodes < MOST_NODES) × (self.new.nodes ≡ self.old.nodes + 1)) }
         ensures refused { IfErr result (λ e. (e ≡ PlanError.TooLong line) ×
             (expect.byte_refusal above self.old.nodes ≡ Some build.TooLong)) }
         ensures same { self.new.tokens ≡ self.old.tokens }
     {
-        if self.nodes >= NODES || above >= PATH_BYTES {
+        if self.nodes >= MOST_NODES || above >= MOST_BYTES {
             return Err(PlanError::TooLong(line));
         }
         self.nodes += 1;
@@ -205,7 +200,7 @@ impl Source<'_> {
 
     // COUNT below a header.
     fn count(&mut self, header: u32) -> Result<Count, PlanError>
-        requires { header ≤ 256 }
+        requires { header ≤ MOST_BYTES }
         ensures read { IfOk result (λ it. CountRead it header (place self.old) (place self.new)) }
         ensures refused { IfErr result (λ e. Refuses (place self.old) (expect.count header ∷ []) e) }
         ensures left { unread self.new.tokens ≤ unread self.old.tokens }
@@ -220,7 +215,7 @@ impl Source<'_> {
         let Some(count) = ends.count() else {
             return Err(PlanError::BadCount(token.line));
         };
-        if header + count.greatest() as u32 > PATH_BYTES {
+        if header + count.greatest() as u32 > MOST_BYTES {
             return Err(PlanError::TooLong(token.line));
         }
         Ok(count)

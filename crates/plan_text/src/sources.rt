@@ -3,6 +3,7 @@
 ghost use Rattle.std.specs.Prelude.{◌≡◌, ◌<◌, ◌≤◌, ◌+◌, List, ℕ, ◌∷◌, Some, IfOk, IfErr, OnOk};
 ghost use Rattle.plan_core.specs.Contents.{Contents};
 ghost use Rattle.plan_core.specs.NameBytes.{name_bytes};
+ghost use Rattle.plan_core.specs.declared.limits.TheConstants.{MOST_NODES};
 ghost use Rattle.plan_text.specs.Refusals as expect;
 ghost use Rattle.plan_text.specs.Tokens as spec;
 ghost use Rattle.plan_text.specs.Canonical.{interrupt_word};
@@ -20,7 +21,7 @@ pub(crate) struct Source<'a> {
     pub(crate) alloc: Global,
     pub(crate) tokens: Tokens<'a>,
     pub(crate) nodes: u32,
-    ghost nodes_fit: { nodes ≤ 4096 },
+    ghost nodes_fit: { nodes ≤ MOST_NODES },
 }
 
 /// A name, with the line of its token.
