@@ -1,6 +1,6 @@
 //! Rehearses a plan: its starters play on a bench, each in a thread of its own, and put the same bit wherever they may
-//! choose. `starters` reads who starts, `filling` says what is put, `players` plays one seat, `rounds` all of them, and `runs`
-//! reads and writes.
+//! choose. `starters` reads who starts, `filling` says what is put, `players` plays one seat, `rounds` all of them, and
+//! `runs` reads and writes.
 #![tactic(auto)]
 
 pub mod filling;

@@ -8,7 +8,7 @@ ghost use Rattle.bench_run.specs.Players.{IsInStep};
 use crate::filling::filled;
 use crate::gates::Gate;
 use crate::patience::{MOST_LOOKS, Patience};
-use bus_bench::{Bench, Seat, Sight};
+use bus_bench::{Bench, MOST_SLOTS, Seat, Sight};
 use message_tree::Item;
 use std::time::Clock;
 
@@ -128,9 +128,6 @@ impl<'a> Player<'a> {
         }
     }
 }
-
-// The most slots of a run.
-const MOST_SLOTS: u32 = 2_560;
 
 // What a player does that has put, and is told this.
 fn stage_after(sight: Sight) -> Stage

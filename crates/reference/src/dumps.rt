@@ -123,8 +123,8 @@ fn read_definitions(
     Ok(None)
 }
 
-// The `$var` from one place to its `$end` at another has type, size, code and reference. The first signal of one bit with the
-// name of a line is this line.
+// The `$var` from one place to its `$end` at another has type, size, code and reference. The first signal of one bit with
+// the name of a line is this line.
 fn declare(
     tokens: &[Token<'_>],
     at: usize,

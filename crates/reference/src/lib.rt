@@ -1,7 +1,8 @@
-//! The rules of the bus as plain and slow programs: all texts of a participant, all runs of a set, one play of a set, and what
-//! a recorded wire shows. `commands` has the five commands from the bytes of their files to what they write, and the answers
-//! of seats to a script, over lists of words alone; there a pair is walked slot by slot. The crates `test_reference`,
-//! `test_benches` and `trials` compare the other crates with them. They are for small plans, and nothing is made fast.
+//! The rules of the bus as plain and slow programs: all texts of a participant, all runs of a set, one play of a set,
+//! and what a recorded wire shows. `commands` has the five commands from the bytes of their files to what they write,
+//! and the answers of seats to a script, over lists of words alone; there a pair is walked slot by slot. The crates
+//! `test_reference`, `test_benches` and `trials` compare the other crates with them. They are for small plans, and
+//! nothing is made fast.
 #![tactic(auto)]
 
 pub mod benches;

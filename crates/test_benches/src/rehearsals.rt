@@ -63,8 +63,8 @@ const LATER: u32 = 10;
 /// The slot before the last one, in which two are.
 const NEXT_TO_LAST: u32 = 17;
 
-// Each seat raises a flag before its first slot, again before a later one, and before the one next to the last, and waits for
-// the flags of the others that are live.
+// Each seat raises a flag before its first slot, again before a later one, and before the one next to the last, and waits
+// for the flags of the others that are live.
 #[derive(Drop)]
 struct Flags {
     seats: u64,

@@ -1,5 +1,5 @@
-// Builders and plans, by the calls that a reader of texts does not make: what is refused, what is told beforehand, and what a
-// plan then holds. A script has a call on each line, and what is to come of it.
+// Builders and plans, by the calls that a reader of texts does not make: what is refused, what is told beforehand, and
+// what a plan then holds. A script has a call on each line, and what is to come of it.
 
 use message_tree::{Address, Frame, Pattern, Payload, Tail};
 use plan_core::{BuildError, Builder, Name, NameError, Participant, Plan, Sends};

@@ -63,7 +63,8 @@ fn thieves_in_threads<R: Threads + Sync>(
     rt: &R,
     thieves: Vec<Thief>,
 ) -> Result<Vec<Ended>, AllocError>
-    ensures { (q : Queue) → All (λ thief. thief.queue ≡ q) thieves.items → IfOk result (λ v. All (λ e. e.thief.queue ≡ q) v.items) }
+    ensures { (q : Queue) → All (λ thief. thief.queue ≡ q) thieves.items →
+        IfOk result (λ v. All (λ e. e.thief.queue ≡ q) v.items) }
 {
     thread::map_vec(
         rt,
@@ -88,7 +89,8 @@ fn everyone<R: Threads + Sync>(
         rt,
         move || -> Result<Vec<Ended>, AllocError>
             requires { IsSync R.row }
-            ensures { (q : Queue) → All (λ thief. thief.queue ≡ q) thieves.items → IfOk result (λ v. All (λ e. e.thief.queue ≡ q) v.items) }
+            ensures { (q : Queue) → All (λ thief. thief.queue ≡ q) thieves.items →
+                IfOk result (λ v. All (λ e. e.thief.queue ≡ q) v.items) }
         { thieves_in_threads(rt, thieves) },
         move || -> (Owner, u64, u64)
             ensures { result.0.queue ≡ owner.queue }

@@ -1,5 +1,5 @@
-// Dumps made from a seed, in which tokens are put in, taken out or changed: the reader gives the samples or the refusal, with
-// its line, that the plain program gives.
+// Dumps made from a seed, in which tokens are put in, taken out or changed: the reader gives the samples or the refusal,
+// with its line, that the plain program gives.
 
 use crate::captures::{push_word, read, wire_words};
 use crate::generated::{Dice, plan_words};

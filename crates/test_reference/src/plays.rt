@@ -7,11 +7,19 @@ use reference::play_out;
 use std::alloc::{AllocError, Global};
 use std::test::Fail;
 
-const THREE: &str =
-    "plan 1 message m write 1001000 11110000 stop else stop else stop ; message n write 1001000 11001111 stop else stop else stop ; message o write 1001000 1100xxxx stop else stop else stop ; controller a m ; controller b n ; controller c o ;";
+const THREE: &str = "plan 1
+message m write 1001000 11110000 stop else stop else stop ;
+message n write 1001000 11001111 stop else stop else stop ;
+message o write 1001000 1100xxxx stop else stop else stop ;
+controller a m ;
+controller b n ;
+controller c o ;";
 
-const RANGES: &str =
-    "plan 2 message m read 1001000 1..2 stop else stop ; message n read 1001000 2 stop else stop ; controller a m ; controller b n ;";
+const RANGES: &str = "plan 2
+message m read 1001000 1..2 stop else stop ;
+message n read 1001000 2 stop else stop ;
+controller a m ;
+controller b n ;";
 
 // How a play is to end: so many slots, the last of them a STOP, these winners, and the slot in which the first starter lost.
 #[derive(Clone, Copy)]

@@ -9,7 +9,7 @@ ghost use Rattle.std.specs.Prelude.{◌≡◌, All, length};
 use anyhow::Result;
 use bench_run::rounds::play_all;
 use bench_run::{NoGate, filled};
-use bus_bench::{Bench, Seat, open_bench};
+use bus_bench::{Bench, MOST_SLOTS, Seat, open_bench};
 use cert_check::{Accepted, accept_certificate};
 use plan_text::read_plan;
 use std::alloc::{AllocError, Global};
@@ -48,9 +48,6 @@ const LONG: Load = Load {
     runs: 10,
     is_timed: true,
 };
-
-// No run has more slots.
-const MOST_SLOTS: usize = 2_560;
 
 fn main(rt: HostRuntime) -> Result<()> {
     let alloc = rt.alloc();
@@ -146,7 +143,7 @@ fn compare<R: Clock + Print + Threads + Wait + Sync>(
 ) -> Result<()> {
     let starters = first_numbers(alloc, count)?;
     // The targets acknowledge each byte.
-    let answers = vec![in alloc; false; 2560]?;
+    let answers = vec![in alloc; false; MOST_SLOTS]?;
     let (mut slots, mut turns, mut threads) = (0usize, 0.0, 0.0);
     for _ in 0..load.runs {
         let (found, seconds) = by_turns(

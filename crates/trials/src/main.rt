@@ -3,8 +3,8 @@
 //! documents. Then it changes bytes and words of their files, and compares what twire says with the plain programs. Each
 //! changed case comes from a seed, so a run can be repeated: `trials [CASES [SEED]]`.
 //!
-//! Where memory can be refused, as `tests/scarce.sh` does, it runs the cases with each allocation refused in turn instead, and
-//! the calls without memory with all of them refused.
+//! Where memory can be refused, as `tests/scarce.sh` does, it runs the cases with each allocation refused in turn instead,
+//! and the calls without memory with all of them refused.
 //!
 //! The cases stand in `data/cases`; docs/TESTING.md says how they are written.
 #![tactic(auto)]

@@ -3,9 +3,10 @@
 ghost use Rattle.std.specs.Prelude.{◌≡◌};
 
 use crate::scarcity::{Refused, Scarcity};
-use crate::scripts::{MOST_SLOTS, bits_of, certificate_of, numbers_of, put_all, see_all};
+use crate::scripts::{bits_of, certificate_of, numbers_of, put_all, see_all};
 use crate::sittings::Sitting;
 use anyhow::{Result, anyhow};
+use bus_bench::MOST_SLOTS;
 use capture_check::{Follower, Listener, Watch};
 use cert_check::{accept_certificate, accept_plan, check_fault, check_pair};
 use certificate::{Cert, CertText, Fault, read_cert};
@@ -400,8 +401,8 @@ fn name(alloc: Global, text: &str) -> Result<Name> {
     }
 }
 
-// The owner takes a number, a thief the second; a number is left; the owner takes it and finds the end; the thief is missing;
-// all are back.
+// The owner takes a number, a thief the second; a number is left; the owner takes it and finds the end; the thief is
+// missing; all are back.
 fn is_queue_quiet(alloc: Global) -> Result<bool> {
     let (mut owner, mut thieves) = open_queue(alloc, 3, 1)?;
     let none = Vec::new(alloc);

@@ -2,7 +2,7 @@
 
 use crate::sittings::{End, Sitting};
 use bench_run::filled;
-use bus_bench::{FinishFault, Offered, Played, Put, Sight};
+use bus_bench::{FinishFault, MOST_SLOTS, Offered, Played, Put, Sight};
 use cert_check::{Accepted, accept_certificate};
 use message_tree::{Bit, Item};
 use plan_core::Plan;
@@ -123,9 +123,6 @@ enum Line<'a> {
     Unknown,
 }
 
-// No run has more slots.
-pub const MOST_SLOTS: u32 = 2_560;
-
 impl Table<'_, '_> {
     // Writes each line with its answer.
     fn play(&mut self, alloc: Global, script: &str, page: &mut String) -> Result<(), AllocError> {
@@ -234,7 +231,7 @@ fn ended<'a>(alloc: Global, sitting: Sitting<'a>, count: usize) -> Result<End<'a
 fn plays(rest: &str) -> Option<Line<'_>> {
     let (how, fill) = rest.split_once(" with ")?;
     if how == "on" {
-        return Some(Line::Plays(MOST_SLOTS, fill));
+        return Some(Line::Plays(MOST_SLOTS as u32, fill));
     }
     let (count, _) = how.split_once(' ')?;
     Some(Line::Plays(count.parse().ok()?, fill))
