@@ -6,9 +6,11 @@ use Rattle.atomic_table.specs.Seated.{TableId}
 use Rattle.atomic_table.specs.Table.{Me}
 use Rattle.plays.specs.declared.starters.OpenError.{OpenError}
 use Rattle.plays.specs.declared.starters.OpenError.TheVariants.{NoMemory}
+use Rattle.bus_bench.specs.Rule.{SLOTS, opening}
 use Rattle.bus_bench.specs.Seats.{BenchName, Player, fresh}
 use Rattle.bus_bench.specs.Tickets.{ticket_bench}
 use Rattle.bus_bench.specs.declared.hands.Hand.{Hand}
+use Rattle.bus_bench.specs.declared.hands.Setup.{Setup}
 use Rattle.bus_bench.specs.declared.hands.Role.TheVariants.{Host}
 
 -- a bench with this plan, these starters and these answers, its host, and a fresh seat for each starter, in order
@@ -31,3 +33,9 @@ pub record IsHanding (bench : BenchName) (count : ℕ) (id : TableId) (me : Me U
   pub hosts : me.0.role ≡ Host
   pub out : me.0.seat ≡ count
   pub none_back : me.0.back ≡ []
+
+-- A table that was told this setup, with a word for each slot, and the host's ticket for it. Only private contracts and
+-- proofs use this.
+abbrev pub IsLaid : Setup → TableId → Setup → TableId → Me Unit Hand → Type 0
+IsLaid setup id key ticket_id me =
+    (id.words ≡ SLOTS) × (key ≡ setup) × (ticket_id ≡ id) × (me ≡ (opening setup, []))

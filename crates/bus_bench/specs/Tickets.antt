@@ -28,6 +28,10 @@ bench_name id setup = record { wire = id; plan = Some setup.plan.now; starters =
 abbrev pub setup_of : Setup → Terms → Setup
 setup_of key terms = record { plan = key.plan; starters = terms.starters; answers = terms.answers }
 
+-- the bench of a table that was told this, with what the bench keeps of that
+abbrev pub bench_on : TableId → Setup → Terms → BenchName
+bench_on id key terms = bench_name id (setup_of key terms)
+
 -- its table was told this setup, and has a word for each slot
 pub record IsBench (id : TableId) (key setup : Setup) : Type 0 where
   pub told : key ≡ setup

@@ -1,10 +1,12 @@
 // Finishing a bench.
 
-ghost use Rattle.std.specs.Prelude.{◌≡◌, ◌≤◌, ℕ, true, All, [], ◌∷◌, ◌++◌, if◌then◌else◌, IfOk, OnOk, IfErr, length, vec_capacity};
+ghost use Rattle.std.specs.Prelude.{◌≡◌, ◌≤◌, ℕ, true, All, [], ◌∷◌, ◌++◌, if◌then◌else◌, length, vec_capacity};
+ghost use Rattle.std.specs.Prelude.{IfOk, OnOk, IfErr};
 ghost use Rattle.std.specs.List.{list_all};
-ghost use Rattle.bus_bench.specs.Finishing.{IsFinished, IsFinishFault, AreAll, is_done, has_won, winners, IsRunLength, HasBack, IsGivenBack, RunIs, IsReadOut};
+ghost use Rattle.bus_bench.specs.Finishing.{IsFinished, IsFinishFault, AreAll, is_done, has_won, winners, IsRunLength};
+ghost use Rattle.bus_bench.specs.Finishing.{HasBack, IsGivenBack, RunIs, IsReadOut};
 ghost use Rattle.bus_bench.specs.Rule.{SLOTS};
-ghost use Rattle.bus_bench.specs.Tickets.{IsBench, bench_name, ticket_bench, setup_of};
+ghost use Rattle.bus_bench.specs.Tickets.{IsBench, bench_on, ticket_bench, setup_of};
 ghost use Rattle.bus_bench.specs.declared.hands.Role.TheVariants as Role;
 
 use crate::errors::FinishFault;
@@ -140,9 +142,11 @@ fn read_all<'a>(bench: Bench<'a>, host: Host, seats: Vec<Seat<'a>>, mut played: 
 // The host takes these seats back.
 fn take_back<'a>(wire: &Wire<'a>, terms: &Terms, ticket: &mut Ticket, seats: Vec<Seat<'a>>)
     requires bench { IsBench wire.now.shared.table_id wire.now.shared.key (setup_of wire.now.shared.key terms.now) }
-    requires host { HasBack (bench_name wire.now.shared.table_id (setup_of wire.now.shared.key terms.now)) [] ticket.old.table_id ticket.old.me }
-    requires seats { All (λ seat. seat.bench ≡ bench_name wire.now.shared.table_id (setup_of wire.now.shared.key terms.now)) seats.items }
-    ensures { HasBack (bench_name wire.now.shared.table_id (setup_of wire.now.shared.key terms.now)) seats.entry.items ticket.new.table_id ticket.new.me }
+    requires host { HasBack (bench_on wire.now.shared.table_id wire.now.shared.key terms.now) []
+        ticket.old.table_id ticket.old.me }
+    requires seats { All (λ seat. seat.bench ≡ bench_on wire.now.shared.table_id wire.now.shared.key terms.now) seats.items }
+    ensures { HasBack (bench_on wire.now.shared.table_id wire.now.shared.key terms.now) seats.entry.items
+        ticket.new.table_id ticket.new.me }
 {
     for seat in seats {
         give_back(wire, terms, ticket, seat);
@@ -153,8 +157,9 @@ fn give_back<'a>(wire: &Wire<'a>, terms: &Terms, ticket: &mut Ticket, seat: Seat
     requires bench { IsBench wire.now.shared.table_id wire.now.shared.key (setup_of wire.now.shared.key terms.now) }
     requires host { ticket.old.me.0.role ≡ Role.Host }
     requires slots { ticket.old.me.1 ≡ [] }
-    requires named { bench_name wire.now.shared.table_id (setup_of wire.now.shared.key terms.now) ≡ ticket_bench ticket.old.table_id ticket.old.me }
-    requires seat { seat.bench ≡ bench_name wire.now.shared.table_id (setup_of wire.now.shared.key terms.now) }
+    requires named { bench_on wire.now.shared.table_id wire.now.shared.key terms.now ≡
+        ticket_bench ticket.old.table_id ticket.old.me }
+    requires seat { seat.bench ≡ bench_on wire.now.shared.table_id wire.now.shared.key terms.now }
     ensures same { ticket.new.table_id ≡ ticket.old.table_id }
     ensures hand { IsGivenBack seat.entry ticket.old.me ticket.new.me }
 {
@@ -181,7 +186,8 @@ fn read_wire<'a>(
     requires bench { IsBench wire.now.shared.table_id wire.now.shared.key (setup_of wire.now.shared.key terms.now) }
     requires host { ticket.old.me.0.role ≡ Role.Host }
     requires slots { ticket.old.me.1 ≡ [] }
-    requires named { bench_name wire.now.shared.table_id (setup_of wire.now.shared.key terms.now) ≡ ticket_bench ticket.old.table_id ticket.old.me }
+    requires named { bench_on wire.now.shared.table_id wire.now.shared.key terms.now ≡
+        ticket_bench ticket.old.table_id ticket.old.me }
     requires all { length ticket.old.me.0.back ≡ length ticket.old.me.0.starters }
     requires run { (count ≤ SLOTS) × RunIs ticket.old.me.0 count }
     requires items { (items.old.items ≡ []) × (SLOTS ≤ vec_capacity items.old) }

@@ -8,8 +8,8 @@ ghost use Rattle.cert_check.specs.Holds.{accepted_plan};
 ghost use Rattle.plays.specs.Games.{IsGame};
 ghost use Rattle.plays.specs.Starters.{starters_refusal};
 ghost use Rattle.bus_bench.specs.Hands.{setup_game};
-ghost use Rattle.bus_bench.specs.Opening.{IsHanding, IsOpened, IsOpenRefusal};
-ghost use Rattle.bus_bench.specs.Rule.{SLOTS, opening};
+ghost use Rattle.bus_bench.specs.Opening.{IsHanding, IsLaid, IsOpened, IsOpenRefusal};
+ghost use Rattle.bus_bench.specs.Rule.{SLOTS};
 ghost use Rattle.bus_bench.specs.Seats.{fresh};
 
 use crate::hands::{Setup, Terms};
@@ -44,7 +44,8 @@ pub fn open_bench<'a>(
     ensures host { IfOk result (λ r. r.1 ≡ r.0) }
     ensures seats { IfOk result (λ r. All (λ seat. seat.bench ≡ r.0) r.2.items) }
     ensures fit { IfOk result (λ _. starters_refusal (plan_contents (accepted_plan accepted.now)) starters.now ≡ None) }
-    ensures refused { IfErr result (IsOpenRefusal (starters_refusal (plan_contents (accepted_plan accepted.now)) starters.now)) }
+    ensures refused { IfErr result (IsOpenRefusal
+        (starters_refusal (plan_contents (accepted_plan accepted.now)) starters.now)) }
 {
     let plan = accepted.plan();
     check_starters(plan, starters)?;
@@ -97,7 +98,8 @@ fn bits(alloc: Global, answers: &[bool]) -> Result<Vec<bool>, AllocError>
 // The words of the bench, all zero, and the host's ticket.
 fn lay<'a>(alloc: Global, setup: &Setup<'a>) -> Result<(Wire<'a>, Ticket), AllocError>
     requires { IsGame (setup_game setup.now) }
-    ensures { IfOk result (λ r. (r.0.shared.table_id.words ≡ SLOTS) × (r.0.shared.key ≡ setup.now) × (r.1.table_id ≡ r.0.shared.table_id) × (r.1.me ≡ (opening setup.now, []))) }
+    ensures { IfOk result (λ r.
+        IsLaid setup.now r.0.shared.table_id r.0.shared.key r.1.table_id r.1.me) }
 {
     let words = no_puts(alloc)?;
     Table::of_words(alloc, words.as_slice(), setup)

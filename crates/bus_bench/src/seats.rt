@@ -21,7 +21,7 @@ pub struct Bench<'a> {
 
 impl<'a> Model for Bench<'a> {
     ghost use Rattle.bus_bench.specs.Seats.{BenchName};
-    ghost use Rattle.bus_bench.specs.Tickets.{bench_name, setup_of, IsBench};
+    ghost use Rattle.bus_bench.specs.Tickets.{bench_on, setup_of, IsBench};
     ghost use Rattle.std.specs.Coded.{codes};
     ghost use Rattle.plan_core.specs.contracts.plans.Plan as plan;
 
@@ -29,7 +29,7 @@ impl<'a> Model for Bench<'a> {
 
     ghost coded = { Prim.hlevel (codes, plan.the_row.coded) };
 
-    ghost view = { λ b. bench_name b.wire.shared.table_id (setup_of b.wire.shared.key b.terms) };
+    ghost view = { λ b. bench_on b.wire.shared.table_id b.wire.shared.key b.terms };
 
     ghost invariant = { λ b. IsBench b.wire.shared.table_id b.wire.shared.key (setup_of b.wire.shared.key b.terms) };
 }
