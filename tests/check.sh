@@ -317,7 +317,7 @@ run "hints on a plan from standard input" check /dev/stdin --hints always <again
 want 2 "" "refused P3 line 2"
 run "hints never" check again.plan --hints never
 run "hints never, before the command" --hints never check again.plan
-run "hints never behind the command, and always before it" --hints always check again.plan --hints never
+run "hints never after the command, and always before it" --hints always check again.plan --hints never
 run "hints where no terminal is" check again.plan --hints auto
 run "no word on hints" check again.plan
 want 0 "safe: 1 pairs" ""

@@ -255,7 +255,7 @@ cut_short() { truncate -s 10 long; }
 cut_here() { truncate -s "$position" long; }
 grow_by_a_controller() { cut_here && printf '\ncontroller c m ;\n' >>long; }
 grow_by_a_time() { cut_here && printf '\n$end #160 #159\n' >>long; }
-grow_behind_its_end() { printf '\ncontroller c m n ;\n' >>long; }
+grow_after_its_end() { printf '\ncontroller c m n ;\n' >>long; }
 remove() { rm long; }
 
 changed long_plan cut_short 3 check long
@@ -270,8 +270,8 @@ changed long_plan cut_short 3 bench long cert a/m,b/n
 judge "bench, a plan that is cut while it is read" 0 "$played" ""
 changed long_plan grow_by_a_controller 3 check long
 judge "check a plan that grows where it is read" 0 "safe: 3 pairs" ""
-changed long_plan grow_behind_its_end 3 check long
-judge "check a plan that grows behind what was read" 0 "safe: 5 pairs" ""
+changed long_plan grow_after_its_end 3 check long
+judge "check a plan that grows after what was read" 0 "safe: 5 pairs" ""
 changed long_plan remove 3 check long
 judge "check a plan that is removed while it is read" 0 "$safe" ""
 

@@ -17,7 +17,8 @@ ghost use Rattle.plan_core.specs.Runs.{IsReached, HasEnded, Whole};
 ghost use Rattle.plan_text.specs.declared.errors.PlanError.{PlanError};
 ghost use Rattle.plan_text.specs.Grammar.{Spells};
 ghost use Rattle.plan_text.specs.Refusals.{First};
-ghost use Rattle.cert_check.specs.Accepts.{IsCertified, IsRefuted, IsMistaken, IsJudged, IsAnswer, Judges, Answers, FoundSafe};
+ghost use Rattle.cert_check.specs.Accepts.{IsCertified, IsRefuted, IsMistaken, IsJudged, IsAnswer, Judges};
+ghost use Rattle.cert_check.specs.Accepts.{Answers, FoundSafe};
 ghost use Rattle.cert_check.specs.Holds.{accepted_plan};
 ghost use Rattle.cert_check.specs.Judged.{IsRight};
 

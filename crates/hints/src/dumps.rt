@@ -65,8 +65,8 @@ fn push_found(alloc: Global, lines: &mut Lines, found: &Found) -> Result<(), All
     let (before, rest) = part.split_at(found.before.min(part.len()));
     let rest = first_line(rest);
     let end = rest.iter().position(|byte| is_white(*byte));
-    let (token, behind) = rest.split_at(end.unwrap_or(rest.len()).min(rest.len()));
-    push_marked(alloc, lines, last_line(before), token, behind)
+    let (token, after) = rest.split_at(end.unwrap_or(rest.len()).min(rest.len()));
+    push_marked(alloc, lines, last_line(before), token, after)
 }
 
 // The first token that is wrong, if it is the one that was refused.

@@ -8,7 +8,7 @@ const BEFORE: usize = 40;
 
 const PLACE: usize = 32;
 
-const BEHIND: usize = 32;
+const AFTER: usize = 32;
 
 /// How many bytes before and after the beginning of a place are enough to show it.
 pub(crate) const MARGIN: usize = 128;
@@ -16,21 +16,21 @@ pub(crate) const MARGIN: usize = 128;
 // What stands where bytes are left out.
 const CUT: &str = "..";
 
-/// Shows the bytes of one line before the place, the place, and what follows it in the line, and below it what is meant. What
-/// is long is cut, and what does not print is written as `\x` and two digits.
+/// Shows the bytes of one line before the place, the place, and what follows it in the line, and below it what is meant.
+/// What is long is cut, and what does not print is written as `\x` and two digits.
 pub(crate) fn push_marked(
     alloc: Global,
     lines: &mut Lines,
     before: &[u8],
     place: &[u8],
-    behind: &[u8],
+    after: &[u8],
 ) -> Result<(), AllocError> {
     let mut shown = String::new(alloc);
     push_last(&mut shown, before)?;
     let column = shown.len();
     push_first(&mut shown, place, PLACE)?;
     let width = shown.len().saturating_sub(column);
-    push_first(&mut shown, behind.trim_ascii_end(), BEHIND)?;
+    push_first(&mut shown, after.trim_ascii_end(), AFTER)?;
     lines.detail(shown.as_str())?;
     let mut marks = String::new(alloc);
     push_times(&mut marks, ' ', column)?;
@@ -57,7 +57,7 @@ fn push_last(shown: &mut String, bytes: &[u8]) -> Result<(), AllocError> {
     Ok(())
 }
 
-// The first bytes of a place, or of what stands behind it.
+// The first bytes of a place, or of what follows it.
 fn push_first(shown: &mut String, bytes: &[u8], most: usize) -> Result<(), AllocError> {
     for byte in bytes.iter().take(most) {
         push_byte(shown, *byte)?;

@@ -54,8 +54,8 @@ fn push_place(
     lines.say(head.as_str())?;
     let before = text.get(..place.start).unwrap_or(b"".as_slice());
     let at = text.get(place.start..place.end).unwrap_or(b"".as_slice());
-    let behind = text.get(place.end..).unwrap_or(b"".as_slice());
-    push_marked(alloc, lines, last_line(before), at, first_line(behind))?;
+    let after = text.get(place.end..).unwrap_or(b"".as_slice());
+    push_marked(alloc, lines, last_line(before), at, first_line(after))?;
     if at.is_empty() {
         lines.say("the text ends here")?;
     }

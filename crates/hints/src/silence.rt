@@ -87,7 +87,7 @@ fn cause(seen: &Seen) -> Option<&'static str> {
     } else if seen.idle == 0 {
         Some("the two lines are never HIGH together, so the bus is never known to be free")
     } else if seen.exchanged == 0 {
-        Some("behind a free bus SDA never falls while SCL stays HIGH")
+        Some("the bus is free at times, but SDA never falls there while SCL stays HIGH")
     } else {
         None
     }

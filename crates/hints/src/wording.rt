@@ -18,23 +18,23 @@ fn fixed(wrong: Wrong) -> &'static str {
         Wrong::NoCommand => {
             "before '$enddefinitions $end' only commands can stand, as '$var wire 1 ! scl $end'"
         }
-        Wrong::EarlyChanges => "value changes can stand only behind '$enddefinitions $end'",
+        Wrong::EarlyChanges => "value changes can stand only after '$enddefinitions $end'",
         Wrong::EndOfNothing => "nothing is open here that '$end' could end",
         Wrong::ShortVar => {
             "this '$var' lacks something: '$var TYPE SIZE CODE NAME $end' is expected"
         }
         Wrong::BlockInBlock => "the block of value changes before it needs its own '$end' first",
-        Wrong::BadTime => "behind '#' a number below 2 to the power 64 is expected, digits alone",
+        Wrong::BadTime => "after '#' a number below 2 to the power 64 is expected, digits alone",
         Wrong::TimeBack(_) => "times never go back",
-        Wrong::NoCode => "a code is expected directly behind the level, as in '1!'",
+        Wrong::NoCode => "a code is expected directly after the level, as in '1!'",
         Wrong::BadCode => "a code is made of characters from '!' to '~' alone",
         Wrong::NineStates => {
             "this is one of VHDL's nine states, and only '0', '1', 'x' and 'z' are read: have the dump written with four states (GHDL: --vcd-4states)"
         }
         Wrong::BadVector => {
-            "behind 'b' digits '0', '1', 'x' or 'z' are expected, and then a space and a code, as in 'b01 !'"
+            "after 'b' digits '0', '1', 'x' or 'z' are expected, and then a space and a code, as in 'b01 !'"
         }
-        Wrong::NoValue => "a value is expected directly behind this letter, as in 'r1.5 !'",
+        Wrong::NoValue => "a value is expected directly after this letter, as in 'r1.5 !'",
         Wrong::Stray =>
             "expected here: a time as '#10', a change as '1!' or 'b01 !', or a command as '$comment'",
         Wrong::Unended(opened) => unended(opened),
@@ -45,7 +45,7 @@ fn unended(opened: Opened) -> &'static str {
     match opened {
         Opened::Command => "this command goes on to the end of the file: its '$end' is missing",
         Opened::Var => "this '$var' goes on to the end of the file: its '$end' is missing",
-        Opened::EndDefinitions => "this needs an '$end' behind it",
+        Opened::EndDefinitions => "this needs an '$end' after it",
         Opened::Block => {
             "this block of value changes goes on to the end of the file: its '$end' is missing"
         }

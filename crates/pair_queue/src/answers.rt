@@ -4,7 +4,7 @@
 #[must_use]
 #[derive(Clone, Copy, Debug, Drop, PartialEq, Eq)]
 pub enum Take {
-    /// The number of a pair, which nobody else gets.
+    /// A number, of a pair or of two senders, which nobody else gets.
     Pair(u32),
     /// All numbers had been taken at one moment of the call. The thief has ended: each later answer is this one.
     Empty,

@@ -57,7 +57,8 @@ pub fn safe_plans_go_on()
     ensures next { (plan : Contents) (s live : Set) (u : List Item) →
         SendsItsMessages plan → IsSafe plan → IsReached plan s u live → (HasEnded u → ⊥) → HasNext plan u live }
     ensures answers { (plan : Contents) (s live : Set) (u : List Item) (p : ℕ) (b c : Bool) →
-        SendsItsMessages plan → IsSafe plan → IsReached plan s u live → In p live → Offers plan p u (Heard b) → IsRound plan u live (λ _. Heard c) }
+        SendsItsMessages plan → IsSafe plan → IsReached plan s u live → In p live → Offers plan p u (Heard b) →
+        IsRound plan u live (λ _. Heard c) }
     ensures header { (plan : Contents) (s live : Set) (u : List Item) (p q : ℕ) →
         IsSafe plan → IsReached plan s u live → length u ≡ 8 → IsInterrupt plan p → In p live → In q live → q ≡ p }
 {}

@@ -42,7 +42,8 @@ pub struct Plan {
     pub(crate) participants: Vec<Participant>,
     pub(crate) pairs: PairTable,
     pub ghost limits: { IsWithinLimits (contents_of messages.entries controllers.entries interrupts.entries nevers.items) },
-    pub ghost numbered: { participants.items ≡ participants_of (contents_of messages.entries controllers.entries interrupts.entries nevers.items) },
+    pub ghost numbered: { participants.items ≡
+        participants_of (contents_of messages.entries controllers.entries interrupts.entries nevers.items) },
     pub ghost paired: { IsPairTable nevers.items participants.items pairs },
 }
 

@@ -16,7 +16,8 @@ use message_tree::{Address, Count, Frame, Payload, Tail};
 use plan_core::limits::{MOST_BYTES, MOST_NODES};
 
 impl Source<'_> {
-    ghost use Rattle.plan_text.specs.Reading.{Place, FrameRead, PayloadRead, TailRead, TokenRead, NodeRead, CountRead, Took, TookKeyword, Refuses, unread};
+    ghost use Rattle.plan_text.specs.Reading.{Place, FrameRead, PayloadRead, TailRead, TokenRead, NodeRead, CountRead};
+    ghost use Rattle.plan_text.specs.Reading.{Took, TookKeyword, Refuses, unread};
     ghost use Rattle.plan_text.specs.Sources.{place};
 
     /// The frame of a whole message.
@@ -186,7 +187,8 @@ impl Source<'_> {
     // One more node, of one byte below `above` bytes, at a token on this line.
     fn add_node(&mut self, above: u32, line: u64) -> Result<(), PlanError>
         requires { above ≤ MOST_BYTES }
-        ensures added { OnOk result ((above < MOST_BYTES) × (self.old.nodes < MOST_NODES) × (self.new.nodes ≡ self.old.nodes + 1)) }
+        ensures added { OnOk result ((above < MOST_BYTES) × (self.old.nodes < MOST_NODES)
+            × (self.new.nodes ≡ self.old.nodes + 1)) }
         ensures refused { IfErr result (λ e. (e ≡ PlanError.TooLong line) ×
             (expect.byte_refusal above self.old.nodes ≡ Some build.TooLong)) }
         ensures same { self.new.tokens ≡ self.old.tokens }

@@ -40,7 +40,8 @@ pub fn words_tell_slots()
         arrivals_in (word_of game.starters puts (length v)) ≤ count_in game.starters among }
     ensures complete { (game : Game) (puts : Puts) (v u : List Item) (among live : Set) →
         IsGame game → Passes game puts v among u live →
-        ((arrivals_in (word_of game.starters puts (length v)) ≡ count_in game.starters among) ↔ HavePut puts among (length v)) }
+        ((arrivals_in (word_of game.starters puts (length v)) ≡ count_in game.starters among)
+        ↔ HavePut puts among (length v)) }
     ensures shown { (game : Game) (puts : Puts) (v u : List Item) (among live : Set) →
         IsGame game → Passes game puts v among u live → HavePut puts among (length v) →
         IsWire among (put_in game puts (length v))

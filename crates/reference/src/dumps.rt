@@ -74,9 +74,9 @@ fn tokens_of<'a>(alloc: Global, text: &'a [u8]) -> Result<Vec<Token<'a>>, AllocE
             left = rest;
         } else {
             let length = left.iter().position(is_white).unwrap_or(left.len());
-            let (token, behind) = left.split_at(length.min(left.len()));
+            let (token, after) = left.split_at(length.min(left.len()));
             tokens.push(Token { text: token, line })?;
-            left = behind;
+            left = after;
         }
     }
     Ok(tokens)

@@ -66,7 +66,7 @@ impl Word<'_> {
     }
 }
 
-// What stands behind the last word.
+// What follows the last word.
 #[derive(Clone, Copy, Debug)]
 enum Ending {
     // The end of the text, on this line.
@@ -208,9 +208,9 @@ fn words_of<'a>(alloc: Global, text: &'a [u8], dots: bool) -> Result<Reading<'a>
             line = line.saturating_add(u64::from(*first == b'\n'));
             left = rest;
         } else if length > 0 {
-            let (word, behind) = left.split_at(length.min(left.len()));
+            let (word, after) = left.split_at(length.min(left.len()));
             words.push(Word { text: word, line })?;
-            left = behind;
+            left = after;
         } else {
             ending = Ending::Byte(Refusal::At { code: 3, line });
             break;

@@ -84,7 +84,7 @@ fn turn_to_see(
         assert_eq!(rt; sight, Sight::Waiting);
     } else {
         let Some(shown) = ending.wire.get(player.seen as usize).copied() else {
-            assert!(rt; false, "a slot behind the end");
+            assert!(rt; false, "a slot after the end");
             return;
         };
         let has_lost = lost(ending, player.number) == Some(player.seen);

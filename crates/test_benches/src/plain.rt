@@ -206,7 +206,7 @@ fn a_bench_plays_generated_plans_as_the_plain_program_does(rt: HostRuntime) -> R
         slots = slots.saturating_add(assert_played(&rt, alloc, &accepted, &case, &mut dice)?);
     }
     assert_eq!(rt; most, 8);
-    // Most runs get behind their first header.
+    // Most runs get past their first header.
     assert!(rt; slots > 300 * 15, "{slots}");
     Ok(())
 }

@@ -47,7 +47,7 @@ fn push_count(text: &mut String, bits: &mut Dice) -> Result<(), AllocError> {
     text.push_str(count)
 }
 
-// A header with what is sent behind it. Says how many bytes of it a target may refuse.
+// A header with what is sent after it. Says how many bytes of it a target may refuse.
 fn push_bytes(text: &mut String, makes: &mut Makes<'_>) -> Result<u32, AllocError> {
     if makes.shape.throw(3) == 0 {
         text.push_str("read ")?;

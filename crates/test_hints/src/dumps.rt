@@ -103,7 +103,7 @@ hint: this '$var' lacks something: '$var TYPE SIZE CODE NAME $end' is expected
     )
 }
 
-// A token of 40 bytes behind 51 others, and bytes that do not print.
+// A token of 40 bytes after 51 others, and bytes that do not print.
 #[test]
 fn long_lines_are_cut_and_odd_bytes_escaped(rt: HostRuntime) -> Result<(), Fail> {
     expect_after(
@@ -128,11 +128,11 @@ fn each_way_to_be_wrong_has_its_words(rt: HostRuntime) -> Result<(), Fail> {
         ),
         (
             "#1a",
-            "hint: behind '#' a number below 2 to the power 64 is expected, digits alone\n",
+            "hint: after '#' a number below 2 to the power 64 is expected, digits alone\n",
         ),
         (
             "1",
-            "hint: a code is expected directly behind the level, as in '1!'\n",
+            "hint: a code is expected directly after the level, as in '1!'\n",
         ),
         (
             "b1 \x7f",
@@ -140,11 +140,11 @@ fn each_way_to_be_wrong_has_its_words(rt: HostRuntime) -> Result<(), Fail> {
         ),
         (
             "b12 !",
-            "hint: behind 'b' digits '0', '1', 'x' or 'z' are expected, and then a space and a code, as in 'b01 !'\n",
+            "hint: after 'b' digits '0', '1', 'x' or 'z' are expected, and then a space and a code, as in 'b01 !'\n",
         ),
         (
             "r",
-            "hint: a value is expected directly behind this letter, as in 'r1.5 !'\n",
+            "hint: a value is expected directly after this letter, as in 'r1.5 !'\n",
         ),
         ("b1", "hint: the file ends before the code of this change\n"),
         (

@@ -63,7 +63,7 @@ hint: expected here: a count from 1 to 255
 }
 
 #[test]
-fn a_character_of_no_token_is_marked_behind_a_comment(rt: HostRuntime) -> Result<(), Fail> {
+fn a_character_of_no_token_is_marked_after_a_comment(rt: HostRuntime) -> Result<(), Fail> {
     expect(
         &rt,
         rt.alloc(),
@@ -77,7 +77,7 @@ hint: expected here: ';' or a name (a letter, then letters, digits and '_', 32 a
 }
 
 #[test]
-fn an_item_is_expected_behind_an_item(rt: HostRuntime) -> Result<(), Fail> {
+fn an_item_is_expected_after_an_item(rt: HostRuntime) -> Result<(), Fail> {
     expect(
         &rt,
         rt.alloc(),

@@ -70,6 +70,20 @@ hint: the names of the two lines are given with --scl NAME and --sda NAME
     )
 }
 
+// Both lines are HIGH, and then fall at once, which is no START by either name.
+#[test]
+fn a_free_bus_on_which_sda_never_falls_alone_is_told(rt: HostRuntime) -> Result<(), Fail> {
+    expect_after(
+        &rt,
+        rt.alloc(),
+        "#0 1! 1\" #5 0! 0\" #9 1!",
+        "hint: the capture has 3 samples of the two lines, and no START on a free bus
+hint: the bus is free at times, but SDA never falls there while SCL stays HIGH
+hint: the names of the two lines are given with --scl NAME and --sda NAME
+",
+    )
+}
+
 #[test]
 fn two_signals_of_one_name_are_told(rt: HostRuntime) -> Result<(), Fail> {
     expect(

@@ -130,7 +130,7 @@ fn push_many_nodes(alloc: Global, text: &mut String) -> Result<(), AllocError> {
     push_write(text, 239, "00000000", tail.as_str())
 }
 
-// A write of so many data bytes, at least one, of which this is the last. The tail stands behind it and behind each
+// A write of so many data bytes, at least one, of which this is the last. The tail stands after it and after each
 // refusal.
 fn push_write(text: &mut String, bytes: u32, last: &str, tail: &str) -> Result<(), AllocError> {
     text.push_str("write 1001000")?;

@@ -116,7 +116,7 @@ enum Line<'a> {
     Puts(usize, Put),
     Sees(usize),
     /// So many slots are played, or as many as there are. For open bits each starter sends its character of these, the
-    /// first one again behind the last.
+    /// first one again after the last.
     Plays(u32, &'a str),
     /// The seats of these starters are given back, in this order.
     Finish(&'a str),
