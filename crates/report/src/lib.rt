@@ -12,7 +12,5 @@ pub mod telling;
 pub use captures::run_capture;
 pub use certificates::{run_certify, run_verify};
 pub use checks::run_check;
-pub use run_parts::{
-    Input, Opened, Output, RunError, Status, Watched, read_within, write_report,
-};
+pub use run_parts::{Input, Opened, Output, RunError, Status, Watched, read_within, write_report};
 pub use verdicts::{Gate, NoGate};
