@@ -6,9 +6,10 @@ use Rattle.std.specs.List.{count_by}
 use Rattle.plan_core.specs.Lawful.{In}
 use Rattle.plays.specs.declared.puts.Put.{Put}
 use Rattle.plays.specs.declared.puts.Put.TheVariants.{Drive, Listen, Again, Stop, Claim}
+use Rattle.plays.specs.declared.tally.TheConstants.{ZERO, AGAIN, STOP, LISTEN, CLAIM}
 use Rattle.plays.specs.Games.{those}
 use Rattle.plays.specs.Plays.{Puts}
-use Rattle.plays.specs.Words.{contribution_of, word_of, arrivals_in, zeros_in}
+use Rattle.plays.specs.Words.{contribution_of, word_of, arrivals_in, zeros_in, field}
 use Rattle.plays.proofs.PlayLemmas.{or_true}
 use Rattle.plays.proofs.WordLemmas.{first_in, later_in}
 
@@ -110,7 +111,7 @@ passes t (Some x) = t x
 unfoldable pub counted : (Put → Bool) → List ℕ → Puts → ℕ → ℕ
 counted t xs puts k = count_by (λ p. passes t (slice_get (puts p) k)) xs
 
-parts : (o : Option Put) → contribution_of o ≡ tally (passes any_put o) + 1024 * tally (passes zero_put o) + 1048576 * tally (passes again_put o) + 1073741824 * tally (passes stop_put o) + 1099511627776 * tally (passes listen_put o) + 1125899906842624 * tally (passes claim_put o)
+parts : (o : Option Put) → contribution_of o ≡ tally (passes any_put o) + ZERO * tally (passes zero_put o) + AGAIN * tally (passes again_put o) + STOP * tally (passes stop_put o) + LISTEN * tally (passes listen_put o) + CLAIM * tally (passes claim_put o)
 unfolding passes tally any_put zero_put again_put stop_put listen_put claim_put
 parts None = refl
 parts (Some (Drive true)) = refl
@@ -124,7 +125,7 @@ counted_cons : (t : Put → Bool) (y : ℕ) (ys : List ℕ) (puts : Puts) (k : �
 unfolding counted
 counted_cons t y ys puts k = count_cons (λ p. passes t (slice_get (puts p) k)) y ys
 
-pub word_is_counts : (xs : List ℕ) (puts : Puts) (k : ℕ) → word_of xs puts k ≡ counted any_put xs puts k + 1024 * counted zero_put xs puts k + 1048576 * counted again_put xs puts k + 1073741824 * counted stop_put xs puts k + 1099511627776 * counted listen_put xs puts k + 1125899906842624 * counted claim_put xs puts k
+pub word_is_counts : (xs : List ℕ) (puts : Puts) (k : ℕ) → word_of xs puts k ≡ counted any_put xs puts k + ZERO * counted zero_put xs puts k + AGAIN * counted again_put xs puts k + STOP * counted stop_put xs puts k + LISTEN * counted listen_put xs puts k + CLAIM * counted claim_put xs puts k
 unfolding counted
 word_is_counts [] puts k = refl
 word_is_counts (y ∷ ys) puts k =
@@ -146,12 +147,12 @@ word_is_counts (y ∷ ys) puts k =
 pub record Fields (word a z g s l c : ℕ) : Type 0 where
   pub arrivals : arrivals_in word ≡ a
   pub zeros : zeros_in word ≡ z
-  pub agains : word / 1048576 % 1024 ≡ g
-  pub stops : word / 1073741824 % 1024 ≡ s
-  pub listens : word / 1099511627776 % 1024 ≡ l
-  pub claims : word / 1125899906842624 % 1024 ≡ c
+  pub agains : field AGAIN word ≡ g
+  pub stops : field STOP word ≡ s
+  pub listens : field LISTEN word ≡ l
+  pub claims : field CLAIM word ≡ c
 
-fields_of : (word a z g s l c : ℕ) → word ≡ a + 1024 * z + 1048576 * g + 1073741824 * s + 1099511627776 * l + 1125899906842624 * c →
+fields_of : (word a z g s l c : ℕ) → word ≡ a + ZERO * z + AGAIN * g + STOP * s + LISTEN * l + CLAIM * c →
     a ≤ 64 → z ≤ 64 → g ≤ 64 → s ≤ 64 → l ≤ 64 → c ≤ 64 → Fields word a z g s l c
 fields_of word a z g s l c e ha hz hg hs hl hc =
     let q1 : word / 1024 ≡ z + 1024 * g + 1048576 * s + 1073741824 * l + 1099511627776 * c = omega arith in

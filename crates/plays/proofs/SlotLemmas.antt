@@ -12,10 +12,11 @@ use Rattle.plan_core.specs.Rounds.{IsSlot, is_item, survivors}
 use Rattle.plan_core.proofs.Model.{survived, survives}
 use Rattle.plays.specs.declared.puts.Put.{Put}
 use Rattle.plays.specs.declared.puts.Put.TheVariants.{Drive, Listen, Again, Stop, Claim}
+use Rattle.plays.specs.declared.tally.TheConstants.{AGAIN, STOP, LISTEN, CLAIM}
 use Rattle.plays.specs.Games.{Game, those, answer_at, IsGame}
 use Rattle.plays.specs.Plays.{item_of, Puts, HavePut, put_in, Goes, here, slot, Leads, IsPlay}
 pub use Rattle.plays.specs.Words.{count_in}
-use Rattle.plays.specs.Words.{word_of, arrivals_in, zeros_in, shown_in, left_in}
+use Rattle.plays.specs.Words.{word_of, arrivals_in, zeros_in, field, shown_in, left_in}
 use Rattle.plays.proofs.PlayLemmas.{either, was_in, is_prefix, heard_is_the_answer}
 use Rattle.plays.proofs.FieldLemmas.{count_same, count_none, count_some, count_less, any_put, zero_put, again_put, stop_put, listen_put, claim_put, passes, counted, fields}
 
@@ -283,44 +284,44 @@ module _ (word : ℕ) (b : Bool) where
   shows_zero z = let e = is_some_here (zeros_in word) z in record { shown = rw e refl; zeros = e }
 
   module _ (z : zeros_in word ≡ 0) where
-    shows_again : 0 < word / 1048576 % 1024 → Shows word b item.Again
+    shows_again : 0 < field AGAIN word → Shows word b item.Again
     unfolding zero_item
-    shows_again g = let e = is_none (zeros_in word) z in let d = is_some_here (word / 1048576 % 1024) g in record { shown = rw (e, d) refl; zeros = e }
+    shows_again g = let e = is_none (zeros_in word) z in let d = is_some_here (field AGAIN word) g in record { shown = rw (e, d) refl; zeros = e }
 
-    module _ (g : word / 1048576 % 1024 ≡ 0) where
-      shows_stop : 0 < word / 1073741824 % 1024 → Shows word b item.Stop
+    module _ (g : field AGAIN word ≡ 0) where
+      shows_stop : 0 < field STOP word → Shows word b item.Stop
       unfolding zero_item
-      shows_stop s = let e = is_none (zeros_in word) z in let d = is_none (word / 1048576 % 1024) g in let f = is_some_here (word / 1073741824 % 1024) s in record { shown = rw (e, d, f) refl; zeros = e }
+      shows_stop s = let e = is_none (zeros_in word) z in let d = is_none (field AGAIN word) g in let f = is_some_here (field STOP word) s in record { shown = rw (e, d, f) refl; zeros = e }
 
-      module _ (s : word / 1073741824 % 1024 ≡ 0) where
-        shows_heard : 0 < word / 1099511627776 % 1024 → Shows word b (item.Heard b)
+      module _ (s : field STOP word ≡ 0) where
+        shows_heard : 0 < field LISTEN word → Shows word b (item.Heard b)
         unfolding zero_item
         shows_heard l =
             let e = is_none (zeros_in word) z in
-            let d = is_none (word / 1048576 % 1024) g in
-            let f = is_none (word / 1073741824 % 1024) s in
-            let h = is_some_here (word / 1099511627776 % 1024) l in
+            let d = is_none (field AGAIN word) g in
+            let f = is_none (field STOP word) s in
+            let h = is_some_here (field LISTEN word) l in
             record { shown = rw (e, d, f, h) refl; zeros = e }
 
-        module _ (l : word / 1099511627776 % 1024 ≡ 0) where
-          shows_claim : 0 < word / 1125899906842624 % 1024 → Shows word b item.Claim
+        module _ (l : field LISTEN word ≡ 0) where
+          shows_claim : 0 < field CLAIM word → Shows word b item.Claim
           unfolding zero_item
           shows_claim c =
               let e = is_none (zeros_in word) z in
-              let d = is_none (word / 1048576 % 1024) g in
-              let f = is_none (word / 1073741824 % 1024) s in
-              let h = is_none (word / 1099511627776 % 1024) l in
-              let i = is_some_here (word / 1125899906842624 % 1024) c in
+              let d = is_none (field AGAIN word) g in
+              let f = is_none (field STOP word) s in
+              let h = is_none (field LISTEN word) l in
+              let i = is_some_here (field CLAIM word) c in
               record { shown = rw (e, d, f, h, i) refl; zeros = e }
 
-          shows_one : word / 1125899906842624 % 1024 ≡ 0 → Shows word b (item.Sent true)
+          shows_one : field CLAIM word ≡ 0 → Shows word b (item.Sent true)
           unfolding zero_item
           shows_one c =
               let e = is_none (zeros_in word) z in
-              let d = is_none (word / 1048576 % 1024) g in
-              let f = is_none (word / 1073741824 % 1024) s in
-              let h = is_none (word / 1099511627776 % 1024) l in
-              let i = is_none (word / 1125899906842624 % 1024) c in
+              let d = is_none (field AGAIN word) g in
+              let f = is_none (field STOP word) s in
+              let h = is_none (field LISTEN word) l in
+              let i = is_none (field CLAIM word) c in
               record { shown = rw (e, d, f, h, i) refl; zeros = e }
 
 module _ (game : Game) (puts : Puts) (among : Set) (k : ℕ) (few : length game.starters ≤ 64) (f : Filled game puts among k) where

@@ -1,7 +1,7 @@
 // The word of one slot, which counts the puts of that slot: all that knows of bits in words.
 
-ghost use Rattle.std.specs.Prelude.{◌≡◌, ◌<◌, ◌/◌, ◌%◌, nat_lt};
-ghost use Rattle.plays.specs.Words.{contribution, arrivals_in, shown_in, left_in};
+ghost use Rattle.std.specs.Prelude.{◌≡◌, ◌<◌, nat_lt};
+ghost use Rattle.plays.specs.Words.{contribution, arrivals_in, field, shown_in, left_in};
 ghost use Rattle.plays.specs.Tallies.{word_in};
 
 use crate::puts::Put;
@@ -94,14 +94,14 @@ impl Tally {
     // what the field counts in which `one` is one put
     fn count(&self, one: u64) -> u32
         requires { 0 < one }
-        ensures { result ≡ word_in self.now / one % 1024 }
+        ensures { result ≡ field one (word_in self.now) }
     {
         (self.word / one % FIELD) as u32
     }
 
     fn has(&self, one: u64) -> bool
         requires { 0 < one }
-        ensures { result ≡ nat_lt 0 (word_in self.now / one % 1024) }
+        ensures { result ≡ nat_lt 0 (field one (word_in self.now)) }
     {
         0 < self.count(one)
     }
