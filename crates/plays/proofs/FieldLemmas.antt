@@ -82,25 +82,17 @@ count_less f g (y ∷ ys) q h i a b = elim (or_true (y == q) (those ys q) i) [
 unfoldable pub any_put : Put → Bool
 any_put x = true
 
-unfoldable pub zero_put : Put → Bool
-zero_put (Drive false) = true
-zero_put _ = false
+-- the field in which a put counts besides the first, from the low end on; that of a 1 is the first itself
+unfoldable pub field_of : Put → ℕ
+field_of (Drive true) = 0
+field_of (Drive false) = 1
+field_of Again = 2
+field_of Stop = 3
+field_of Listen = 4
+field_of Claim = 5
 
-unfoldable pub again_put : Put → Bool
-again_put Again = true
-again_put _ = false
-
-unfoldable pub stop_put : Put → Bool
-stop_put Stop = true
-stop_put _ = false
-
-unfoldable pub listen_put : Put → Bool
-listen_put Listen = true
-listen_put _ = false
-
-unfoldable pub claim_put : Put → Bool
-claim_put Claim = true
-claim_put _ = false
+unfoldable pub counts_in : ℕ → Put → Bool
+counts_in n x = field_of x == n
 
 -- a test of what is put, if anything
 unfoldable pub passes : (Put → Bool) → Option Put → Bool
@@ -111,8 +103,8 @@ passes t (Some x) = t x
 unfoldable pub counted : (Put → Bool) → List ℕ → Puts → ℕ → ℕ
 counted t xs puts k = count_by (λ p. passes t (slice_get (puts p) k)) xs
 
-parts : (o : Option Put) → contribution_of o ≡ tally (passes any_put o) + ZERO * tally (passes zero_put o) + AGAIN * tally (passes again_put o) + STOP * tally (passes stop_put o) + LISTEN * tally (passes listen_put o) + CLAIM * tally (passes claim_put o)
-unfolding passes tally any_put zero_put again_put stop_put listen_put claim_put
+parts : (o : Option Put) → contribution_of o ≡ tally (passes any_put o) + ZERO * tally (passes (counts_in 1) o) + AGAIN * tally (passes (counts_in 2) o) + STOP * tally (passes (counts_in 3) o) + LISTEN * tally (passes (counts_in 4) o) + CLAIM * tally (passes (counts_in 5) o)
+unfolding passes tally any_put counts_in field_of
 parts None = refl
 parts (Some (Drive true)) = refl
 parts (Some (Drive false)) = refl
@@ -125,7 +117,7 @@ counted_cons : (t : Put → Bool) (y : ℕ) (ys : List ℕ) (puts : Puts) (k : �
 unfolding counted
 counted_cons t y ys puts k = count_cons (λ p. passes t (slice_get (puts p) k)) y ys
 
-pub word_is_counts : (xs : List ℕ) (puts : Puts) (k : ℕ) → word_of xs puts k ≡ counted any_put xs puts k + ZERO * counted zero_put xs puts k + AGAIN * counted again_put xs puts k + STOP * counted stop_put xs puts k + LISTEN * counted listen_put xs puts k + CLAIM * counted claim_put xs puts k
+pub word_is_counts : (xs : List ℕ) (puts : Puts) (k : ℕ) → word_of xs puts k ≡ counted any_put xs puts k + ZERO * counted (counts_in 1) xs puts k + AGAIN * counted (counts_in 2) xs puts k + STOP * counted (counts_in 3) xs puts k + LISTEN * counted (counts_in 4) xs puts k + CLAIM * counted (counts_in 5) xs puts k
 unfolding counted
 word_is_counts [] puts k = refl
 word_is_counts (y ∷ ys) puts k =
@@ -135,11 +127,11 @@ word_is_counts (y ∷ ys) puts k =
       word_is_counts ys puts k,
       sum_by-cons (λ (p : ℕ). contribution_of (slice_get (puts p) k)) y ys,
       counted_cons any_put y ys puts k,
-      counted_cons zero_put y ys puts k,
-      counted_cons again_put y ys puts k,
-      counted_cons stop_put y ys puts k,
-      counted_cons listen_put y ys puts k,
-      counted_cons claim_put y ys puts k,
+      counted_cons (counts_in 1) y ys puts k,
+      counted_cons (counts_in 2) y ys puts k,
+      counted_cons (counts_in 3) y ys puts k,
+      counted_cons (counts_in 4) y ys puts k,
+      counted_cons (counts_in 5) y ys puts k,
     )
 
 -- ---- each field reads back
@@ -166,7 +158,7 @@ few_of : (t : Put → Bool) (xs : List ℕ) (puts : Puts) (k : ℕ) → length x
 unfolding counted
 few_of t xs puts k few = omega (arith, count_by-le-length (λ p. passes t (slice_get (puts p) k)) xs)
 
-pub fields : (xs : List ℕ) (puts : Puts) (k : ℕ) → length xs ≤ 64 → Fields (word_of xs puts k) (counted any_put xs puts k) (counted zero_put xs puts k) (counted again_put xs puts k) (counted stop_put xs puts k) (counted listen_put xs puts k) (counted claim_put xs puts k)
+pub fields : (xs : List ℕ) (puts : Puts) (k : ℕ) → length xs ≤ 64 → Fields (word_of xs puts k) (counted any_put xs puts k) (counted (counts_in 1) xs puts k) (counted (counts_in 2) xs puts k) (counted (counts_in 3) xs puts k) (counted (counts_in 4) xs puts k) (counted (counts_in 5) xs puts k)
 fields xs puts k few =
     fields_of (word_of xs puts k) _ _ _ _ _ _ (word_is_counts xs puts k)
-    (few_of any_put xs puts k few) (few_of zero_put xs puts k few) (few_of again_put xs puts k few) (few_of stop_put xs puts k few) (few_of listen_put xs puts k few) (few_of claim_put xs puts k few)
+    (few_of any_put xs puts k few) (few_of (counts_in 1) xs puts k few) (few_of (counts_in 2) xs puts k few) (few_of (counts_in 3) xs puts k few) (few_of (counts_in 4) xs puts k few) (few_of (counts_in 5) xs puts k few)

@@ -18,7 +18,7 @@ use Rattle.plays.specs.Plays.{item_of, Puts, HavePut, put_in, Goes, here, slot, 
 pub use Rattle.plays.specs.Words.{count_in}
 use Rattle.plays.specs.Words.{word_of, arrivals_in, zeros_in, field, shown_in, left_in}
 use Rattle.plays.proofs.PlayLemmas.{either, was_in, is_prefix, heard_is_the_answer}
-use Rattle.plays.proofs.FieldLemmas.{count_same, count_none, count_some, count_less, any_put, zero_put, again_put, stop_put, listen_put, claim_put, passes, counted, fields}
+use Rattle.plays.proofs.FieldLemmas.{count_same, count_none, count_some, count_less, any_put, field_of, counts_in, passes, counted, fields}
 
 -- ---- the first slot after a state
 
@@ -131,75 +131,35 @@ open_slot game puts u live play =
 
 -- ---- a complete slot
 
-zero_item : Item → Bool
-zero_item (item.Sent false) = true
-zero_item _ = false
+-- the field in which a put of this item counts
+item_field : Item → ℕ
+item_field (item.Sent true) = 0
+item_field (item.Sent false) = 1
+item_field item.Again = 2
+item_field item.Stop = 3
+item_field (item.Heard b) = 4
+item_field item.Claim = 5
 
-again_item : Item → Bool
-again_item item.Again = true
-again_item _ = false
-
-stop_item : Item → Bool
-stop_item item.Stop = true
-stop_item _ = false
-
-heard_item : Item → Bool
-heard_item (item.Heard b) = true
-heard_item _ = false
-
-claim_item : Item → Bool
-claim_item item.Claim = true
-claim_item _ = false
+is_in : ℕ → Item → Bool
+is_in n w = item_field w == n
 
 -- t tells of a put what i tells of its item
 Tells : List Bool → ℕ → (Put → Bool) → (Item → Bool) → Type 0
 Tells answers k t i = (x : Put) → t x ≡ i (item_of answers k x)
 
 module _ (answers : List Bool) (k : ℕ) where
-  zero_tells : Tells answers k zero_put zero_item
-  unfolding Tells zero_item zero_put
-  zero_tells (Drive true) = refl
-  zero_tells (Drive false) = refl
-  zero_tells Listen = refl
-  zero_tells Again = refl
-  zero_tells Stop = refl
-  zero_tells Claim = refl
+  same_field : (x : Put) → field_of x ≡ item_field (item_of answers k x)
+  unfolding field_of item_field
+  same_field (Drive true) = refl
+  same_field (Drive false) = refl
+  same_field Listen = refl
+  same_field Again = refl
+  same_field Stop = refl
+  same_field Claim = refl
 
-  again_tells : Tells answers k again_put again_item
-  unfolding Tells again_item again_put
-  again_tells (Drive true) = refl
-  again_tells (Drive false) = refl
-  again_tells Listen = refl
-  again_tells Again = refl
-  again_tells Stop = refl
-  again_tells Claim = refl
-
-  stop_tells : Tells answers k stop_put stop_item
-  unfolding Tells stop_item stop_put
-  stop_tells (Drive true) = refl
-  stop_tells (Drive false) = refl
-  stop_tells Listen = refl
-  stop_tells Again = refl
-  stop_tells Stop = refl
-  stop_tells Claim = refl
-
-  listen_tells : Tells answers k listen_put heard_item
-  unfolding Tells heard_item listen_put
-  listen_tells (Drive true) = refl
-  listen_tells (Drive false) = refl
-  listen_tells Listen = refl
-  listen_tells Again = refl
-  listen_tells Stop = refl
-  listen_tells Claim = refl
-
-  claim_tells : Tells answers k claim_put claim_item
-  unfolding Tells claim_item claim_put
-  claim_tells (Drive true) = refl
-  claim_tells (Drive false) = refl
-  claim_tells Listen = refl
-  claim_tells Again = refl
-  claim_tells Stop = refl
-  claim_tells Claim = refl
+  tells : (n : ℕ) → Tells answers k (counts_in n) (is_in n)
+  unfolding Tells counts_in is_in
+  tells n x = ap (λ m. m == n) (same_field x)
 
 -- all of among have put in slot k, and of the others nobody
 record Filled (game : Game) (puts : Puts) (among : Set) (k : ℕ) : Type 0 where
@@ -235,8 +195,8 @@ module _ (game : Game) (puts : Puts) (among : Set) (k : ℕ) (f : Filled game pu
     unfolding counted
     some_counted p j e = count_some (λ p. passes t (slice_get (puts p) k)) game.starters p (f.started p j) (passes_item p j ∙ e)
 
-stays_with_zero : (a : Bool) (x : Item) → a ≡ true → (a && is_item x (item.Sent false)) ≡ zero_item x
-unfolding zero_item
+stays_with_zero : (a : Bool) (x : Item) → a ≡ true → (a && is_item x (item.Sent false)) ≡ is_in 1 x
+unfolding is_in item_field
 stays_with_zero true (item.Sent false) e = refl
 stays_with_zero true (item.Sent true) e = refl
 stays_with_zero true (item.Heard false) e = refl
@@ -250,14 +210,14 @@ gone_is_gone : (a b : Bool) → a ≡ false → (a && b) ≡ false
 gone_is_gone false b e = refl
 gone_is_gone true b e = cc
 
-only_zero : (w : Item) → zero_item w ≡ true → w ≡ item.Sent false
-unfolding zero_item
+only_zero : (w : Item) → is_in 1 w ≡ true → w ≡ item.Sent false
+unfolding is_in item_field
 only_zero (item.Sent false) e = refl
 only_zero _ e = cc
 
-not_zero : (w : Item) → zero_item w ≡ false → w ≢ item.Sent false
-unfolding zero_item
-not_zero w e d = let k : zero_item w ≡ true = ap zero_item d in cc
+not_zero : (w : Item) → is_in 1 w ≡ false → w ≢ item.Sent false
+unfolding is_in item_field
+not_zero w e d = let k : is_in 1 w ≡ true = ap (is_in 1) d in cc
 
 taken : (b : Bool) (x y : ℕ) → b ≡ false → (if b then x else y) ≡ y
 taken false x y e = refl
@@ -276,26 +236,26 @@ is_some_here n e = grind (arith, nat_tests)
 -- what the word shows, and how many it leaves, where the wire's item is w
 record Shows (word : ℕ) (b : Bool) (w : Item) : Type 0 where
   shown : shown_in word b ≡ w
-  zeros : (zeros_in word == 0) ≡ (if zero_item w then false else true)
+  zeros : (zeros_in word == 0) ≡ (if is_in 1 w then false else true)
 
 module _ (word : ℕ) (b : Bool) where
   shows_zero : 0 < zeros_in word → Shows word b (item.Sent false)
-  unfolding zero_item
+  unfolding is_in item_field
   shows_zero z = let e = is_some_here (zeros_in word) z in record { shown = rw e refl; zeros = e }
 
   module _ (z : zeros_in word ≡ 0) where
     shows_again : 0 < field AGAIN word → Shows word b item.Again
-    unfolding zero_item
+    unfolding is_in item_field
     shows_again g = let e = is_none (zeros_in word) z in let d = is_some_here (field AGAIN word) g in record { shown = rw (e, d) refl; zeros = e }
 
     module _ (g : field AGAIN word ≡ 0) where
       shows_stop : 0 < field STOP word → Shows word b item.Stop
-      unfolding zero_item
+      unfolding is_in item_field
       shows_stop s = let e = is_none (zeros_in word) z in let d = is_none (field AGAIN word) g in let f = is_some_here (field STOP word) s in record { shown = rw (e, d, f) refl; zeros = e }
 
       module _ (s : field STOP word ≡ 0) where
         shows_heard : 0 < field LISTEN word → Shows word b (item.Heard b)
-        unfolding zero_item
+        unfolding is_in item_field
         shows_heard l =
             let e = is_none (zeros_in word) z in
             let d = is_none (field AGAIN word) g in
@@ -305,7 +265,7 @@ module _ (word : ℕ) (b : Bool) where
 
         module _ (l : field LISTEN word ≡ 0) where
           shows_claim : 0 < field CLAIM word → Shows word b item.Claim
-          unfolding zero_item
+          unfolding is_in item_field
           shows_claim c =
               let e = is_none (zeros_in word) z in
               let d = is_none (field AGAIN word) g in
@@ -315,7 +275,7 @@ module _ (word : ℕ) (b : Bool) where
               record { shown = rw (e, d, f, h, i) refl; zeros = e }
 
           shows_one : field CLAIM word ≡ 0 → Shows word b (item.Sent true)
-          unfolding zero_item
+          unfolding is_in item_field
           shows_one c =
               let e = is_none (zeros_in word) z in
               let d = is_none (field AGAIN word) g in
@@ -330,55 +290,55 @@ module _ (game : Game) (puts : Puts) (among : Set) (k : ℕ) (few : length game.
 
   -- all of among put just w
   module _ (w : Item) (some : (p : ℕ) × In p among × (put_in game puts k p ≡ w)) where
-    some_put : (t : Put → Bool) (i : Item → Bool) → Tells game.answers k t i → i w ≡ true → 0 < counted t game.starters puts k
-    some_put t i tells e = some_counted game puts among k f t i tells some.0 some.1 (ap i some.2 ∙ e)
+    some_put : (n : ℕ) → is_in n w ≡ true → 0 < counted (counts_in n) game.starters puts k
+    some_put n e = some_counted game puts among k f (counts_in n) (is_in n) (tells game.answers k n) some.0 some.1 (ap (is_in n) some.2 ∙ e)
 
     module _ (all : (p : ℕ) → In p among → put_in game puts k p ≡ w) where
-      none_put : (t : Put → Bool) (i : Item → Bool) → Tells game.answers k t i → i w ≡ false → counted t game.starters puts k ≡ 0
-      none_put t i tells e = none_counted game puts among k f t i tells (λ p j. ap i (all p j) ∙ e)
+      none_put : (n : ℕ) → is_in n w ≡ false → counted (counts_in n) game.starters puts k ≡ 0
+      none_put n e = none_counted game puts among k f (counts_in n) (is_in n) (tells game.answers k n) (λ p j. ap (is_in n) (all p j) ∙ e)
 
   -- a 1 is put, or listened for, or whatever else: no 0 is
   exactly : (w : Item) → w ≢ item.Sent false → ((p : ℕ) → In p among → (put_in game puts k p ≡ w) ⊎ ((put_in game puts k p ≡ item.Sent true) × (w ≡ item.Sent false))) → (p : ℕ) → In p among → put_in game puts k p ≡ w
   exactly w n all p i = elim (all p i) [ inl e ↦ e | inr e ↦ absurd (n e.1) ]
 
   shows : (w : Item) → (p : ℕ) × In p among × (put_in game puts k p ≡ w) → ((p : ℕ) → In p among → (put_in game puts k p ≡ w) ⊎ ((put_in game puts k p ≡ item.Sent true) × (w ≡ item.Sent false))) → Shows word (answer_at game.answers k) w
-  unfolding word zero_item again_item stop_item heard_item claim_item
+  unfolding word is_in item_field
   shows (item.Sent false) some all =
       let x = fields game.starters puts k few in
-      let z = some_put (item.Sent false) some zero_put zero_item (zero_tells game.answers k) refl in
+      let z = some_put (item.Sent false) some 1 refl in
       shows_zero word (answer_at game.answers k) (omega (arith, x.zeros, z))
   shows (item.Sent true) some all =
       let x = fields game.starters puts k few in
       let n = none_put (item.Sent true) some (exactly (item.Sent true) (λ e. cc) all) in
-      shows_one word (answer_at game.answers k) (x.zeros ∙ n zero_put zero_item (zero_tells game.answers k) refl) (x.agains ∙ n again_put again_item (again_tells game.answers k) refl) (x.stops ∙ n stop_put stop_item (stop_tells game.answers k) refl) (x.listens ∙ n listen_put heard_item (listen_tells game.answers k) refl) (x.claims ∙ n claim_put claim_item (claim_tells game.answers k) refl)
+      shows_one word (answer_at game.answers k) (x.zeros ∙ n 1 refl) (x.agains ∙ n 2 refl) (x.stops ∙ n 3 refl) (x.listens ∙ n 4 refl) (x.claims ∙ n 5 refl)
   shows (item.Heard c) some all =
       let x = fields game.starters puts k few in
       let n = none_put (item.Heard c) some (exactly (item.Heard c) (λ e. cc) all) in
-      let l = some_put (item.Heard c) some listen_put heard_item (listen_tells game.answers k) refl in
+      let l = some_put (item.Heard c) some 4 refl in
       subst (λ (b : Bool). Shows word (answer_at game.answers k) (item.Heard b)) (heard_is_the_answer game.answers k (get_or (puts some.0) k Listen) c some.2)
-      (shows_heard word (answer_at game.answers k) (x.zeros ∙ n zero_put zero_item (zero_tells game.answers k) refl) (x.agains ∙ n again_put again_item (again_tells game.answers k) refl) (x.stops ∙ n stop_put stop_item (stop_tells game.answers k) refl) (omega (arith, x.listens, l)))
+      (shows_heard word (answer_at game.answers k) (x.zeros ∙ n 1 refl) (x.agains ∙ n 2 refl) (x.stops ∙ n 3 refl) (omega (arith, x.listens, l)))
   shows item.Again some all =
       let x = fields game.starters puts k few in
       let n = none_put item.Again some (exactly item.Again (λ e. cc) all) in
-      let g = some_put item.Again some again_put again_item (again_tells game.answers k) refl in
-      shows_again word (answer_at game.answers k) (x.zeros ∙ n zero_put zero_item (zero_tells game.answers k) refl) (omega (arith, x.agains, g))
+      let g = some_put item.Again some 2 refl in
+      shows_again word (answer_at game.answers k) (x.zeros ∙ n 1 refl) (omega (arith, x.agains, g))
   shows item.Stop some all =
       let x = fields game.starters puts k few in
       let n = none_put item.Stop some (exactly item.Stop (λ e. cc) all) in
-      let g = some_put item.Stop some stop_put stop_item (stop_tells game.answers k) refl in
-      shows_stop word (answer_at game.answers k) (x.zeros ∙ n zero_put zero_item (zero_tells game.answers k) refl) (x.agains ∙ n again_put again_item (again_tells game.answers k) refl) (omega (arith, x.stops, g))
+      let g = some_put item.Stop some 3 refl in
+      shows_stop word (answer_at game.answers k) (x.zeros ∙ n 1 refl) (x.agains ∙ n 2 refl) (omega (arith, x.stops, g))
   shows item.Claim some all =
       let x = fields game.starters puts k few in
       let n = none_put item.Claim some (exactly item.Claim (λ e. cc) all) in
-      let g = some_put item.Claim some claim_put claim_item (claim_tells game.answers k) refl in
-      shows_claim word (answer_at game.answers k) (x.zeros ∙ n zero_put zero_item (zero_tells game.answers k) refl) (x.agains ∙ n again_put again_item (again_tells game.answers k) refl) (x.stops ∙ n stop_put stop_item (stop_tells game.answers k) refl) (x.listens ∙ n listen_put heard_item (listen_tells game.answers k) refl) (omega (arith, x.claims, g))
+      let g = some_put item.Claim some 5 refl in
+      shows_claim word (answer_at game.answers k) (x.zeros ∙ n 1 refl) (x.agains ∙ n 2 refl) (x.stops ∙ n 3 refl) (x.listens ∙ n 4 refl) (omega (arith, x.claims, g))
 
   -- who stays live where somebody put a 0 are those who did
-  zeros_left : count_in game.starters (survivors among (put_in game puts k) (item.Sent false)) ≡ counted zero_put game.starters puts k
-  unfolding counted zero_item
-  zeros_left = count_same (survivors among (put_in game puts k) (item.Sent false)) (λ p. passes zero_put (slice_get (puts p) k)) game.starters (λ p i. elim (either (among p)) [
-    | inl there ↦ stays_with_zero (among p) (put_in game puts k p) there ∙ sym (passes_item game puts among k f zero_put zero_item (zero_tells game.answers k) p there)
-    | inr out ↦ gone_is_gone (among p) (is_item (put_in game puts k p) (item.Sent false)) out ∙ sym (passes_none zero_put (slice_get (puts p) k) (f.others p i out))
+  zeros_left : count_in game.starters (survivors among (put_in game puts k) (item.Sent false)) ≡ counted (counts_in 1) game.starters puts k
+  unfolding counted is_in item_field
+  zeros_left = count_same (survivors among (put_in game puts k) (item.Sent false)) (λ p. passes (counts_in 1) (slice_get (puts p) k)) game.starters (λ p i. elim (either (among p)) [
+    | inl there ↦ stays_with_zero (among p) (put_in game puts k p) there ∙ sym (passes_item game puts among k f (counts_in 1) (is_in 1) (tells game.answers k 1) p there)
+    | inr out ↦ gone_is_gone (among p) (is_item (put_in game puts k p) (item.Sent false)) out ∙ sym (passes_none (counts_in 1) (slice_get (puts p) k) (f.others p i out))
   ])
 
   -- and all of them else
@@ -388,13 +348,13 @@ module _ (game : Game) (puts : Puts) (among : Set) (k : ℕ) (few : length game.
     | inr out ↦ gone_is_gone (among p) (is_item (put_in game puts k p) w) out ∙ sym out
   ])
 
-  left_of : (w : Item) → (p : ℕ) × In p among × (put_in game puts k p ≡ w) → ((p : ℕ) → In p among → (put_in game puts k p ≡ w) ⊎ ((put_in game puts k p ≡ item.Sent true) × (w ≡ item.Sent false))) → (x : Bool) → zero_item w ≡ x →
+  left_of : (w : Item) → (p : ℕ) × In p among × (put_in game puts k p ≡ w) → ((p : ℕ) → In p among → (put_in game puts k p ≡ w) ⊎ ((put_in game puts k p ≡ item.Sent true) × (w ≡ item.Sent false))) → (x : Bool) → is_in 1 w ≡ x →
       count_in game.starters (survivors among (put_in game puts k) w) ≡ left_in word (count_in game.starters among)
-  unfolding word zero_item
+  unfolding word is_in item_field
   left_of w some all true e =
       let z = (shows w some all).zeros in
       let n : (zeros_in word == 0) ≡ false = z ∙ ap (λ (b : Bool). if b then false else true) e in
-      let x : zeros_in word ≡ counted zero_put game.starters puts k = (fields game.starters puts k few).zeros in
+      let x : zeros_in word ≡ counted (counts_in 1) game.starters puts k = (fields game.starters puts k few).zeros in
       let d : w ≡ item.Sent false = only_zero w e in
       subst (λ (y : Item). count_in game.starters (survivors among (put_in game puts k) y) ≡ left_in word (count_in game.starters among)) (sym d)
       (zeros_left ∙ sym x ∙ sym (taken (zeros_in word == 0) (count_in game.starters among) (zeros_in word) n))
@@ -438,7 +398,7 @@ complete_slot game puts v u among live is play led goes f =
       is_shown = sym x.shown;
       have_put = f.have_put;
       is_slot = f.is_slot;
-      left = left_of game puts among k is.few filled f.shown w.some w.all (zero_item f.shown) refl;
+      left = left_of game puts among k is.few filled f.shown w.some w.all (is_in 1 f.shown) refl;
       led = slot f.shown led f.have_put f.is_slot;
       goes = f.goes;
     }
