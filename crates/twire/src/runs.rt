@@ -101,11 +101,7 @@ fn check<R: Files + Input + Print + Eprint + AllocGlobal + Threads + Sync>(
         workers,
         &report::NoGate,
     );
-    let status = status_of(rt, ended);
-    if hints {
-        advise_on_plan(rt, plan, ended);
-    }
-    Ok(status)
+    Ok(told(rt, plan, ended, hints))
 }
 
 fn certify<R: Files + Input + Print + Eprint + AllocGlobal>(
@@ -116,11 +112,7 @@ fn certify<R: Files + Input + Print + Eprint + AllocGlobal>(
     let mut plan = open(rt, plan)?;
     let mut out = Watched::new(io::writer(rt));
     let ended = run_certify(rt.alloc(), &mut plan, &mut out);
-    let status = status_of(rt, ended);
-    if hints {
-        advise_on_plan(rt, plan, ended);
-    }
-    Ok(status)
+    Ok(told(rt, plan, ended, hints))
 }
 
 fn verify<R: Files + Input + Print + Eprint + AllocGlobal>(
@@ -132,11 +124,7 @@ fn verify<R: Files + Input + Print + Eprint + AllocGlobal>(
     let (mut plan, mut cert) = open_both(rt, plan, cert)?;
     let mut out = Watched::new(io::writer(rt));
     let ended = run_verify(rt.alloc(), &mut plan, &mut cert, &mut out);
-    let status = status_of(rt, ended);
-    if hints {
-        advise_on_plan(rt, plan, ended);
-    }
-    Ok(status)
+    Ok(told(rt, plan, ended, hints))
 }
 
 fn capture<R: Files + Input + Print + Eprint + AllocGlobal + Threads + Sync>(
@@ -180,11 +168,21 @@ fn bench<R: Files + Input + Print + Eprint + AllocGlobal + Threads + Wait + Cloc
         answers,
         &NoGate,
     );
+    Ok(told(rt, plan, ended, hints))
+}
+
+// The status of a run over a plan that has ended, with the line of a refusal, and hints on it where they are wanted.
+fn told<R: Files + Input + Eprint + AllocGlobal>(
+    rt: &R,
+    plan: Source<R::File, R::Reader>,
+    ended: Result<Status, RunError>,
+    hints: bool,
+) -> u8 {
     let status = status_of(rt, ended);
     if hints {
         advise_on_plan(rt, plan, ended);
     }
-    Ok(status)
+    status
 }
 
 // The status of a run that has ended, with the line of a refusal.
