@@ -1,6 +1,6 @@
 // Devices that fail: where they are called no more, and what `Watched` says of them. And how often a reader is called.
 
-use faulty_devices::{FaultyReader, FaultyWriter};
+use fixtures::{FaultyReader, FaultyWriter};
 use report::run_capture;
 use run_parts::{Input, Output, RunError, Watched, read_within};
 use std::alloc::Global;

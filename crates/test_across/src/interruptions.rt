@@ -1,6 +1,6 @@
 // Devices whose calls a signal interrupts, up to the last turn.
 
-use faulty_devices::{FaultyReader, FaultyWriter, Interrupted};
+use fixtures::{FaultyReader, FaultyWriter, Interrupted};
 use run_parts::devices::watched::TURNS;
 use run_parts::{Input, Output, RunError, Watched, read_within, write_report};
 use std::test::Fail;

@@ -1,5 +1,6 @@
 // What several workers find, and that they really work in threads of their own.
 
+use fixtures::Yields;
 use plan_core::Plan;
 use plan_text::read_plan;
 use report::{Watched, run_check};
@@ -227,36 +228,27 @@ fn a_check_uses_all_its_workers(rt: HostRuntime) {
     }
 }
 
-// Yields now and then, as a mixed count of the calls says.
+// A gate that yields at random.
 #[derive(Drop)]
-struct Yields {
-    calls: AtomicU64,
+struct YieldingGate {
+    yields: Yields,
 }
 
-impl Yields {
-    fn pass(&self) {
-        let call = self.calls.fetch_add(1, Ordering::SeqCst);
-        if call.wrapping_mul(0x9e37_79b9_7f4a_7c15) >> 62 == 0 {
-            thread::yield_now();
-        }
-    }
-}
-
-impl Gate for Yields {
+impl Gate for YieldingGate {
     fn before(&self, _worker: u32, _pair: u32) {
-        self.pass();
+        self.yields.pass();
     }
 
     fn after(&self, _worker: u32, _pair: u32) {
-        self.pass();
+        self.yields.pass();
     }
 }
 
 #[test]
 fn workers_that_yield_at_random_find_the_same(rt: HostRuntime) -> Result<(), Fail> {
     let alloc = rt.alloc();
-    let gate = Yields {
-        calls: AtomicU64::new(0),
+    let gate = YieldingGate {
+        yields: Yields::new(),
     };
     for text in [FORTY, CLASHING] {
         let plan = read_plan(alloc, text.as_bytes())?;

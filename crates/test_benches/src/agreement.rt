@@ -1,10 +1,10 @@
 // A bench whose seats are asked in a random order plays what the plain play says.
 
-use crate::dice::Dice;
 use crate::sittings::Sitting;
 use bench_run::filled;
 use bus_bench::{OpenError, Put, PutError, Sight};
 use cert_check::{Accepted, accept_plan};
+use fixtures::Dice;
 use message_tree::Item;
 use pair_walk::{Outcome, walk};
 use plan_core::Plan;

@@ -5,7 +5,6 @@
 #[cfg(test)]
 mod agreement;
 #[cfg(test)]
-mod dice;
 #[cfg(test)]
 mod plain;
 #[cfg(test)]

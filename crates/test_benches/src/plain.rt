@@ -1,28 +1,15 @@
 // Worked plans and generated ones, played on a bench and by the plain program.
 
 use crate::agreement::{Case, accepted, assert_played};
-use crate::dice::Dice;
 use crate::safe_plans::safe_plan;
+use fixtures::Dice;
+use fixtures::plans::{RANGES, THREE_WRITERS};
 use plan_core::Plan;
 use plan_text::read_plan;
 use reference::lawful_sets;
 use std::alloc::{AllocError, Global};
 use std::process::Abort;
 use std::test::Fail;
-
-const THREE: &str = "plan 1
-message m write 1001000 11110000 stop else stop else stop ;
-message n write 1001000 11001111 stop else stop else stop ;
-message o write 1001000 1100xxxx stop else stop else stop ;
-controller a m ;
-controller b n ;
-controller c o ;";
-
-const RANGES: &str = "plan 2
-message m read 1001000 1..2 stop else stop ;
-message n read 1001000 2 stop else stop ;
-controller a m ;
-controller b n ;";
 
 // Safe plans with few participants.
 const PLANS: [&str; 14] = [
@@ -49,7 +36,7 @@ controller b n ;",
 message m write 1111110 stop else again read 1001000 1 stop else stop ;
 controller a m ;
 interrupt t 1001000 ;",
-    THREE,
+    THREE_WRITERS,
     "plan 2
 message m write 1001000 stop else stop ;
 message n write 1001000 0000000x stop else stop else stop ;

@@ -1,6 +1,8 @@
 // That a rehearsal is played in threads of their own, and the same whatever the order in which they run.
 
 use bench_run::{Gate, run_bench};
+use fixtures::Yields;
+use fixtures::plans::THREE_WRITERS;
 use report::{RunError, Status, Watched};
 use std::alloc::Global;
 use std::sync::Wait;
@@ -15,15 +17,6 @@ const MOST_TURNS: u32 = 1_000_000;
 
 /// How often a bench is played by players that yield at random.
 const RUNS: u32 = 200;
-
-const THREE_WRITERS: &str = "plan 1
-message m write 1001000 11110000 stop else stop else stop ;
-message n write 1001000 11001111 stop else stop else stop ;
-message o write 1001000 1100xxxx stop else stop else stop ;
-controller a m ;
-controller b n ;
-controller c o ;
-";
 
 const THREE_PROOFS: &str = "cert 1
 pairs 3
@@ -168,35 +161,26 @@ fn seats_that_were_given_back_are_played_by_turns(rt: HostRuntime) -> Result<(),
     Ok(())
 }
 
-// Yields now and then, as a mixed count of the calls says.
+// A gate that yields at random.
 #[derive(Drop)]
-struct Yields {
-    calls: AtomicU64,
+struct YieldingGate {
+    yields: Yields,
 }
 
-impl Yields {
-    fn pass(&self) {
-        let call = self.calls.fetch_add(1, Ordering::SeqCst);
-        if call.wrapping_mul(0x9e37_79b9_7f4a_7c15) >> 62 == 0 {
-            thread::yield_now();
-        }
-    }
-}
-
-impl Gate for Yields {
+impl Gate for YieldingGate {
     fn before(&self, _seat: u32, _slot: u32) {
-        self.pass();
+        self.yields.pass();
     }
 
     fn after(&self, _seat: u32, _slot: u32) {
-        self.pass();
+        self.yields.pass();
     }
 }
 
 #[test]
 fn players_that_yield_at_random_play_the_same(rt: HostRuntime) -> Result<(), Fail> {
-    let gate = Yields {
-        calls: AtomicU64::new(0),
+    let gate = YieldingGate {
+        yields: Yields::new(),
     };
     for _ in 0..RUNS {
         let (answer, text) = rehearse(&rt, rt.alloc(), &gate)?;

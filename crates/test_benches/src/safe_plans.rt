@@ -1,6 +1,6 @@
 // Safe plans made from a seed: messages of which many have one shape and differ in their bits.
 
-use crate::dice::Dice;
+use fixtures::Dice;
 use pair_walk::first_fault;
 use plan_core::Plan;
 use plan_text::read_plan;

@@ -1,8 +1,9 @@
 // Dumps made from a seed, most of them of texts of a generated plan: what is read, heard and explained of them is what the
 // plain programs find.
 
-use crate::generated::{Dice, plan_words};
+use crate::generated::plan_words;
 use capture_check::{Event, Transaction, Until, events, explain, transactions};
+use fixtures::Dice;
 use message_tree::Item;
 use plan_core::Plan;
 use plan_text::read_plan;

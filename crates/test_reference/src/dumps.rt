@@ -2,7 +2,8 @@
 // with its line, that the plain program gives.
 
 use crate::captures::{push_word, read, wire_words};
-use crate::generated::{Dice, plan_words};
+use crate::generated::plan_words;
+use fixtures::Dice;
 use plan_text::read_plan;
 use reference::{Word, dump_words_of, samples_of};
 use std::alloc::{AllocError, Global};

@@ -1,5 +1,6 @@
 // Worked plans and plans made from a seed, on which `walk`, the plain check and the runs of each pair agree.
 
+use fixtures::Dice;
 use message_tree::{Item, Kind};
 use pair_walk::{Outcome, walk};
 use plan_core::Plan;
@@ -7,24 +8,6 @@ use plan_text::read_plan;
 use reference::{commands, first_meeting, play};
 use std::alloc::{AllocError, Global};
 use std::test::Fail;
-
-// A linear congruential generator.
-#[derive(Drop)]
-pub struct Dice {
-    pub state: u64,
-}
-
-impl Dice {
-    // A number below `sides`, or 0.
-    pub fn throw(&mut self, sides: u32) -> u32 {
-        self.state = self
-            .state
-            .wrapping_mul(6_364_136_223_846_793_005)
-            .wrapping_add(1_442_695_040_888_963_407);
-        let high = (self.state >> 33) as u32;
-        if sides == 0 { 0 } else { high % sides }
-    }
-}
 
 // Few addresses, so that headers often agree.
 fn address(dice: &mut Dice) -> &'static str {

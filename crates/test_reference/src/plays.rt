@@ -1,25 +1,12 @@
 // What the plain play says of worked plans.
 
+use fixtures::plans::{RANGES, THREE_WRITERS};
 use message_tree::Item;
 use plan_core::Plan;
 use plan_text::read_plan;
 use reference::play_out;
 use std::alloc::{AllocError, Global};
 use std::test::Fail;
-
-const THREE: &str = "plan 1
-message m write 1001000 11110000 stop else stop else stop ;
-message n write 1001000 11001111 stop else stop else stop ;
-message o write 1001000 1100xxxx stop else stop else stop ;
-controller a m ;
-controller b n ;
-controller c o ;";
-
-const RANGES: &str = "plan 2
-message m read 1001000 1..2 stop else stop ;
-message n read 1001000 2 stop else stop ;
-controller a m ;
-controller b n ;";
 
 // How a play is to end: so many slots, the last of them a STOP, these winners, and the slot in which the first starter lost.
 #[derive(Clone, Copy)]
@@ -58,9 +45,9 @@ fn ends_so(
 #[test]
 fn the_plain_program_plays_worked_plans(rt: HostRuntime) -> Result<(), Fail> {
     for (text, choices, acknowledged, slots, won, lost) in [
-        (THREE, u64::MAX, 18, 19, [1, 2].as_slice(), Some(11)),
-        (THREE, 0, 18, 19, [2].as_slice(), Some(11)),
-        (THREE, 0, 0, 10, [0, 1, 2].as_slice(), None),
+        (THREE_WRITERS, u64::MAX, 18, 19, [1, 2].as_slice(), Some(11)),
+        (THREE_WRITERS, 0, 18, 19, [2].as_slice(), Some(11)),
+        (THREE_WRITERS, 0, 0, 10, [0, 1, 2].as_slice(), None),
         (RANGES, u64::MAX, 9, 28, [1].as_slice(), Some(17)),
         (RANGES, 0, 9, 28, [0, 1].as_slice(), None),
     ] {

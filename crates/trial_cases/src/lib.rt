@@ -5,7 +5,6 @@
 pub mod blocks;
 pub mod cases;
 pub mod commands;
-pub mod dice;
 pub mod errors;
 pub mod files;
 pub mod mutations;

@@ -1,6 +1,6 @@
 // Texts that are changed in some places: a byte here, a word there.
 
-use crate::dice::Dice;
+use fixtures::Dice;
 use std::alloc::{AllocError, Global};
 
 const BYTES: [u8; 47] = *b" \n\t\r\x0b\x0c;#.$!\"01234578xXzZbBrRlhsSPDEa_Azcv%\x00\x7f\x80\xe9'";
@@ -155,9 +155,9 @@ pub fn mutated(
     dice: &mut Dice,
 ) -> Result<Vec<u8>, AllocError> {
     let mut text = copied(alloc, text)?;
-    let changes = dice.throw(3).saturating_mul(dice.throw(2));
+    let changes = dice.index(3).saturating_mul(dice.index(2));
     for _ in 0..=changes {
-        text = match dice.throw(3) {
+        text = match dice.index(3) {
             0 => with_a_bit_changed(alloc, &text, dice)?,
             1 => with_bytes_changed(alloc, &text, dice)?,
             _ => with_words_changed(alloc, &text, words, dice)?,
@@ -168,7 +168,7 @@ pub fn mutated(
 
 // Another digit of a pattern in the place of the next one after some place.
 fn with_a_bit_changed(alloc: Global, text: &[u8], dice: &mut Dice) -> Result<Vec<u8>, AllocError> {
-    let (before, rest) = text.split_at(dice.throw(text.len().saturating_add(1)).min(text.len()));
+    let (before, rest) = text.split_at(dice.index(text.len().saturating_add(1)).min(text.len()));
     let place = rest.iter().position(is_bit).unwrap_or(0);
     let (between, rest) = rest.split_at(place.min(rest.len()));
     let mut changed = copied(alloc, before)?;
@@ -191,11 +191,11 @@ pub fn copied(alloc: Global, text: &[u8]) -> Result<Vec<u8>, AllocError> {
 }
 
 fn with_bytes_changed(alloc: Global, text: &[u8], dice: &mut Dice) -> Result<Vec<u8>, AllocError> {
-    let (before, rest) = text.split_at(dice.throw(text.len().saturating_add(1)).min(text.len()));
-    let few = dice.throw(8).min(rest.len());
+    let (before, rest) = text.split_at(dice.index(text.len().saturating_add(1)).min(text.len()));
+    let few = dice.index(8).min(rest.len());
     let (some, behind) = rest.split_at(few);
     let mut changed = copied(alloc, before)?;
-    match dice.throw(8) {
+    match dice.index(8) {
         // one byte in the place of another, or before it
         0 | 1 => {
             changed.push(dice.pick(&BYTES, b'?'))?;
@@ -206,7 +206,7 @@ fn with_bytes_changed(alloc: Global, text: &[u8], dice: &mut Dice) -> Result<Vec
             changed.extend_from_slice(rest)?;
         }
         3 => {
-            changed.push(u8::try_from(dice.throw(256)).unwrap_or(0))?;
+            changed.push(u8::try_from(dice.index(256)).unwrap_or(0))?;
             changed.extend_from_slice(rest.get(1..).unwrap_or(b""))?;
         }
         4 => changed.extend_from_slice(rest.get(1..).unwrap_or(b""))?,
@@ -216,7 +216,7 @@ fn with_bytes_changed(alloc: Global, text: &[u8], dice: &mut Dice) -> Result<Vec
             changed.extend_from_slice(rest)?;
         }
         // the end of the text, now and then
-        _ if dice.throw(4) > 0 => {
+        _ if dice.index(4) > 0 => {
             changed.extend_from_slice(behind)?;
             changed.extend_from_slice(some)?;
         }
@@ -263,11 +263,11 @@ fn with_words_changed(
     dice: &mut Dice,
 ) -> Result<Vec<u8>, AllocError> {
     let pieces = pieces_of(alloc, text)?;
-    let place = dice.throw(pieces.len());
+    let place = dice.index(pieces.len());
     let other = dice.pick(&pieces, b"");
     let similar = similar_piece(&pieces, place, dice);
     let stray = dice.pick(words, "?").as_bytes();
-    let way = dice.throw(10);
+    let way = dice.index(10);
     let mut changed = Vec::new(alloc);
     for (k, piece) in pieces.iter().enumerate() {
         if k != place {

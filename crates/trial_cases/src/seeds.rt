@@ -2,8 +2,8 @@
 
 use crate::cases::{Asked, Case};
 use crate::commands::Command;
-use crate::dice::Dice;
 use crate::mutations::{CERT_WORDS, DUMP_WORDS, LABELS, PLAN_WORDS, copied, mutated};
+use fixtures::Dice;
 use reference::commands;
 use std::alloc::{AllocError, Global};
 
@@ -60,9 +60,9 @@ impl<'a> Seeds<'a> {
 pub fn next_case(alloc: Global, seeds: &Seeds<'_>, dice: &mut Dice) -> Result<Asked, AllocError> {
     let plan = text_from(dice, &seeds.plans);
     let second = Vec::new(alloc);
-    match dice.throw(5) {
+    match dice.index(5) {
         0 => {
-            let workers = if dice.throw(16) == 0 { 3 } else { 1 };
+            let workers = if dice.index(16) == 0 { 3 } else { 1 };
             let command = Command::Check { workers };
             let plan = any_plan(alloc, seeds, plan, dice)?;
             Ok(Asked {
@@ -88,7 +88,7 @@ pub fn next_case(alloc: Global, seeds: &Seeds<'_>, dice: &mut Dice) -> Result<As
 
 // One of these, or an empty text where there is none.
 fn text_from<'a>(dice: &mut Dice, texts: &[&'a [u8]]) -> &'a [u8] {
-    match texts.get(dice.throw(texts.len())) {
+    match texts.get(dice.index(texts.len())) {
         Some(text) => text,
         None => b"",
     }
@@ -101,7 +101,7 @@ fn any_plan(
     plan: &[u8],
     dice: &mut Dice,
 ) -> Result<Vec<u8>, AllocError> {
-    if dice.throw(4) == 0 {
+    if dice.index(4) == 0 {
         let refused = text_from(dice, &seeds.refused);
         return maybe_mutated(alloc, refused, &PLAN_WORDS, 7, dice);
     }
@@ -116,7 +116,7 @@ fn maybe_mutated(
     often: usize,
     dice: &mut Dice,
 ) -> Result<Vec<u8>, AllocError> {
-    if dice.throw(8) < often {
+    if dice.index(8) < often {
         mutated(alloc, text, words, dice)
     } else {
         copied(alloc, text)
@@ -130,7 +130,7 @@ fn verify_case(
     plan: &[u8],
     dice: &mut Dice,
 ) -> Result<Asked, AllocError> {
-    let cert = if dice.throw(3) == 0 {
+    let cert = if dice.index(3) == 0 {
         let cert = text_from(dice, &seeds.certs);
         maybe_mutated(alloc, cert, &CERT_WORDS, 6, dice)?
     } else {
@@ -154,7 +154,7 @@ fn capture_case(
     dice: &mut Dice,
 ) -> Result<Asked, AllocError> {
     let dump = text_from(dice, &seeds.dumps);
-    let (scl, sda) = match dice.throw(16) {
+    let (scl, sda) = match dice.index(16) {
         0 => (dice.pick(&NAMES, ""), dice.pick(&NAMES, "")),
         _ if is_named_by_probes(dump) => ("D0", "D1"),
         _ => ("scl", "sda"),
@@ -182,7 +182,7 @@ fn bench_case(
     dice: &mut Dice,
 ) -> Result<Asked, AllocError> {
     let plan = maybe_mutated(alloc, plan, &PLAN_WORDS, 2, dice)?;
-    let cert = if dice.throw(16) == 0 {
+    let cert = if dice.index(16) == 0 {
         let other = text_from(dice, &seeds.certs);
         copied(alloc, other)?
     } else {
@@ -191,7 +191,7 @@ fn bench_case(
     Ok(Asked {
         command: Command::Bench {
             starters: starters(alloc, &plan, dice)?,
-            fill: dice.throw(2) == 1,
+            fill: dice.index(2) == 1,
             answers: answers(alloc, dice)?,
         },
         plan,
@@ -203,20 +203,20 @@ fn bench_case(
 // is a thread, and no slot is complete before all have come.
 fn starters(alloc: Global, plan: &[u8], dice: &mut Dice) -> Result<String, AllocError> {
     let labels = commands::labels(alloc, plan)?;
-    let first = dice.throw(labels.len());
+    let first = dice.index(labels.len());
     let mut text = String::new(alloc);
-    for k in 0..dice.throw(3).saturating_add(1).min(labels.len()) {
+    for k in 0..dice.index(3).saturating_add(1).min(labels.len()) {
         if k > 0 {
             text.push(',')?;
         }
-        let label = match dice.throw(24) {
+        let label = match dice.index(24) {
             0 => dice.pick(&LABELS, ""),
-            1 => label_at(&labels, dice.throw(labels.len())),
+            1 => label_at(&labels, dice.index(labels.len())),
             _ => label_at(&labels, first.saturating_add(k) % labels.len().max(1)),
         };
         text.push_str(label)?;
     }
-    if dice.throw(8) > 0 {
+    if dice.index(8) > 0 {
         return Ok(text);
     }
     match String::from_utf8(mutated(alloc, text.as_bytes(), &LABELS, dice)?) {
@@ -235,8 +235,8 @@ fn label_at(labels: &[String], k: usize) -> &str {
 // Targets mostly acknowledge.
 fn answers(alloc: Global, dice: &mut Dice) -> Result<String, AllocError> {
     let mut text = String::new(alloc);
-    for _ in 0..dice.throw(60) {
-        text.push(if dice.throw(6) == 0 { '1' } else { '0' })?;
+    for _ in 0..dice.index(60) {
+        text.push(if dice.index(6) == 0 { '1' } else { '0' })?;
     }
     Ok(text)
 }

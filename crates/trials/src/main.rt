@@ -22,6 +22,7 @@ mod sittings;
 
 use answers::{is_spelt_alike, said};
 use anyhow::{Result, anyhow};
+use fixtures::Dice;
 use modes::{MODES, try_case};
 use quiet::{Quiet, are_others_quiet};
 use reference::commands::Answer;
@@ -35,7 +36,6 @@ use std::thread::Threads;
 use std::time::Clock;
 use std::{env, io};
 use trial_cases::cases::{Asked, Case, said_plainly};
-use trial_cases::dice::Dice;
 use trial_cases::files::{FILES, push_cases};
 use trial_cases::seeds::{Seeds, next_case};
 use trial_cases::tallies::Tallies;

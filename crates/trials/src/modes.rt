@@ -3,7 +3,7 @@
 use crate::answers::{answer, is_spelt_alike, run, said};
 use crate::calls::{calls_of, make};
 use anyhow::Result;
-use faulty_devices::{FaultyReader, FaultyWriter, Interrupted};
+use fixtures::{FaultyReader, FaultyWriter, Interrupted};
 use reference::commands::Answer;
 use run_parts::{Input, Output, Watched};
 use std::alloc::{AllocError, Global};
