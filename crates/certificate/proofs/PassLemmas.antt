@@ -69,7 +69,7 @@ module _ (end : ℕ) (no_digit : is_ascii_digit end ≡ false) where
 
 -- ---- wires and kinds
 
-symbol_known : (it : Item) → GoesOn it → item_of (symbol_of it) ≡ Some it
+pub symbol_known : (it : Item) → GoesOn it → item_of (symbol_of it) ≡ Some it
 symbol_known (item.Sent true) h = refl
 symbol_known (item.Sent false) h = refl
 symbol_known (item.Heard true) h = refl
@@ -78,7 +78,7 @@ symbol_known item.Again h = refl
 symbol_known item.Stop h = elim h [ ]
 symbol_known item.Claim h = elim h [ ]
 
-symbol_apart : (it : Item) → symbol_of it ≢ 32
+pub symbol_apart : (it : Item) → symbol_of it ≢ 32
 symbol_apart (item.Sent true) e = omega arith
 symbol_apart (item.Sent false) e = omega arith
 symbol_apart (item.Heard true) e = omega arith

@@ -1,5 +1,5 @@
 -- Equal texts are spellings of equal values: no spelling is the front of another.
-use Rattle.std.proofs.Common.{◌≡◌, ◌≢◌, ◌<◌, ◌≤◌, ◌+◌, ◌^◌, ℕ, suc, true, false, List, [], ◌∷◌, ◌++◌, length, drop, refl, ap, sym, ◌∙◌, arith, append_assoc, codes}
+use Rattle.std.proofs.Common.{◌≡◌, ◌≢◌, ◌<◌, ◌≤◌, ◌+◌, ◌^◌, ℕ, suc, true, false, List, [], ◌∷◌, ◌++◌, length, drop, Some, refl, ap, sym, ◌∙◌, arith, append_assoc, codes}
 use Rattle.std.specs.Prelude.{decimal, flat_map, All}
 use Rattle.std.specs.Char.{is_ascii_digit}
 use Rattle.std.specs.List.{list_all}
@@ -9,13 +9,14 @@ use Rattle.std.proofs.lemmas.Bool.Decides.{nat_tests}
 use Rattle.std.proofs.lemmas.Fmt.{decimal_is_IsNumeral, decimal_injective, decimal_digit}
 use Rattle.std.proofs.lemmas.Str.Parse.{digit_from_value}
 use Rattle.message_tree.specs.declared.items.Item.{Item}
-use Rattle.message_tree.specs.declared.items.Item.TheVariants as item
 use Rattle.message_tree.specs.declared.items.Kind.{Kind}
 use Rattle.message_tree.specs.declared.items.Kind.TheVariants as kinds
 use Rattle.message_tree.specs.Symbols.{symbol_of, wire_text, kind_word}
 use Rattle.certificate.specs.Certificates.{Certificate, proofs, flaw}
 use Rattle.certificate.specs.Proofs.{ProofTree, part, short, byte, read, again, alike}
-use Rattle.certificate.specs.Texts.{IsPrintableProof, HasPlaces, Spells, proof_text, proof_line, proofs_text, flaw_text}
+use Rattle.certificate.specs.Refusals.{item_of}
+use Rattle.certificate.specs.Texts.{IsPrintableProof, HasPlaces, GoesOn, Spells, proof_text, proof_line, proofs_text, flaw_text}
+use Rattle.certificate.proofs.PassLemmas.{symbol_known, symbol_apart}
 
 firsts : (b c : ℕ) (x y : List ℕ) → b ∷ x ≡ c ∷ y → b ≡ c
 firsts b c x y e = cc
@@ -67,63 +68,17 @@ same_number end m n x y no_digit p q e =
 
 -- ---- wires and kinds
 
--- two items with one symbol
-symbol_same : (a b : Item) → symbol_of a ≡ symbol_of b → a ≡ b
-symbol_same (item.Sent true) (item.Sent true) e = refl
-symbol_same (item.Sent true) (item.Sent false) e = absurd (omega arith)
-symbol_same (item.Sent true) (item.Heard true) e = absurd (omega arith)
-symbol_same (item.Sent true) (item.Heard false) e = absurd (omega arith)
-symbol_same (item.Sent true) _ e = absurd (omega arith)
-symbol_same (item.Sent false) (item.Sent false) e = refl
-symbol_same (item.Sent false) (item.Sent true) e = absurd (omega arith)
-symbol_same (item.Sent false) (item.Heard true) e = absurd (omega arith)
-symbol_same (item.Sent false) (item.Heard false) e = absurd (omega arith)
-symbol_same (item.Sent false) _ e = absurd (omega arith)
-symbol_same (item.Heard true) (item.Heard true) e = refl
-symbol_same (item.Heard true) (item.Heard false) e = absurd (omega arith)
-symbol_same (item.Heard true) (item.Sent true) e = absurd (omega arith)
-symbol_same (item.Heard true) (item.Sent false) e = absurd (omega arith)
-symbol_same (item.Heard true) _ e = absurd (omega arith)
-symbol_same (item.Heard false) (item.Heard false) e = refl
-symbol_same (item.Heard false) (item.Heard true) e = absurd (omega arith)
-symbol_same (item.Heard false) (item.Sent true) e = absurd (omega arith)
-symbol_same (item.Heard false) (item.Sent false) e = absurd (omega arith)
-symbol_same (item.Heard false) _ e = absurd (omega arith)
-symbol_same item.Again item.Again e = refl
-symbol_same item.Again (item.Sent true) e = absurd (omega arith)
-symbol_same item.Again (item.Sent false) e = absurd (omega arith)
-symbol_same item.Again (item.Heard true) e = absurd (omega arith)
-symbol_same item.Again (item.Heard false) e = absurd (omega arith)
-symbol_same item.Again _ e = absurd (omega arith)
-symbol_same item.Stop item.Stop e = refl
-symbol_same item.Stop (item.Sent true) e = absurd (omega arith)
-symbol_same item.Stop (item.Sent false) e = absurd (omega arith)
-symbol_same item.Stop (item.Heard true) e = absurd (omega arith)
-symbol_same item.Stop (item.Heard false) e = absurd (omega arith)
-symbol_same item.Stop _ e = absurd (omega arith)
-symbol_same item.Claim item.Claim e = refl
-symbol_same item.Claim (item.Sent true) e = absurd (omega arith)
-symbol_same item.Claim (item.Sent false) e = absurd (omega arith)
-symbol_same item.Claim (item.Heard true) e = absurd (omega arith)
-symbol_same item.Claim (item.Heard false) e = absurd (omega arith)
-symbol_same item.Claim _ e = absurd (omega arith)
+-- two items of wires with one symbol
+symbol_same : (a b : Item) → GoesOn a → GoesOn b → symbol_of a ≡ symbol_of b → a ≡ b
+symbol_same a b p q e = let is : Some a ≡ Some b = sym (symbol_known a p) ∙ ap item_of e ∙ symbol_known b q in cc
 
-symbol_apart : (a : Item) → symbol_of a ≢ 32
-symbol_apart (item.Sent true) e = omega arith
-symbol_apart (item.Sent false) e = omega arith
-symbol_apart (item.Heard true) e = omega arith
-symbol_apart (item.Heard false) e = omega arith
-symbol_apart item.Again e = omega arith
-symbol_apart item.Stop e = omega arith
-symbol_apart item.Claim e = omega arith
-
-pub same_wire : (v w : List Item) (x y : List ℕ) → wire_text v ++ (32 ∷ x) ≡ wire_text w ++ (32 ∷ y) → (v ≡ w) × (x ≡ y)
-same_wire [] [] x y e = (refl, others 32 32 x y e)
-same_wire [] (b ∷ w) x y e = absurd (symbol_apart b (sym (firsts 32 (symbol_of b) x (wire_text w ++ (32 ∷ y)) e)))
-same_wire (a ∷ v) [] x y e = absurd (symbol_apart a (firsts (symbol_of a) 32 (wire_text v ++ (32 ∷ x)) y e))
-same_wire (a ∷ v) (b ∷ w) x y e =
-    let is = symbol_same a b (firsts (symbol_of a) (symbol_of b) (wire_text v ++ (32 ∷ x)) (wire_text w ++ (32 ∷ y)) e) in
-    let rest = same_wire v w x y (others (symbol_of a) (symbol_of b) (wire_text v ++ (32 ∷ x)) (wire_text w ++ (32 ∷ y)) e) in
+pub same_wire : (v w : List Item) (x y : List ℕ) → All GoesOn v → All GoesOn w → wire_text v ++ (32 ∷ x) ≡ wire_text w ++ (32 ∷ y) → (v ≡ w) × (x ≡ y)
+same_wire [] [] x y p q e = (refl, others 32 32 x y e)
+same_wire [] (b ∷ w) x y p q e = absurd (symbol_apart b (sym (firsts 32 (symbol_of b) x (wire_text w ++ (32 ∷ y)) e)))
+same_wire (a ∷ v) [] x y p q e = absurd (symbol_apart a (firsts (symbol_of a) 32 (wire_text v ++ (32 ∷ x)) y e))
+same_wire (a ∷ v) (b ∷ w) x y p q e =
+    let is = symbol_same a b (p 0 a (omega arith)) (q 0 b (omega arith)) (firsts (symbol_of a) (symbol_of b) (wire_text v ++ (32 ∷ x)) (wire_text w ++ (32 ∷ y)) e) in
+    let rest = same_wire v w x y (λ k d within. p (suc k) d (omega arith)) (λ k d within. q (suc k) d (omega arith)) (others (symbol_of a) (symbol_of b) (wire_text v ++ (32 ∷ x)) (wire_text w ++ (32 ∷ y)) e) in
     (ap (λ (i : Item). i ∷ v) is ∙ ap (λ (is : List Item). b ∷ is) rest.0, rest.1)
 
 -- the first byte of a text
@@ -215,10 +170,10 @@ same_proofs m n ts us f g p q e =
     let is = same_number 10 m n (flat_map proof_line ts) (flat_map proof_line us) refl f g (ap (drop 13) e) in
     (is.0, same_lines ts us p q is.1)
 
-pub same_flaw : (m n : ℕ) (v w : List Item) (j k h l : Kind) → m < 2 ^ 32 → n < 2 ^ 32 → codes "cert 1\n" ++ flaw_text m v j k ≡ codes "cert 1\n" ++ flaw_text n w h l → flaw m v j k ≡ flaw n w h l
-same_flaw m n v w j k h l f g e =
+pub same_flaw : (m n : ℕ) (v w : List Item) (j k h l : Kind) → m < 2 ^ 32 → n < 2 ^ 32 → All GoesOn v → All GoesOn w → codes "cert 1\n" ++ flaw_text m v j k ≡ codes "cert 1\n" ++ flaw_text n w h l → flaw m v j k ≡ flaw n w h l
+same_flaw m n v w j k h l f g p q e =
     let pair = same_number 32 m n _ _ refl f g (ap (drop 13) e) in
-    let items = same_wire v w _ _ pair.1 in
+    let items = same_wire v w _ _ p q pair.1 in
     let one = same_kind j h _ _ items.1 in
     let two = same_kind k l _ _ (others 32 32 _ _ one.1) in
     let pair_is = pair.0 in let items_are = items.0 in let first_is = one.0 in let second_is = two.0 in
@@ -233,4 +188,4 @@ one_value text (proofs ts) (proofs us) s r =
     ap proofs (same_proofs (length ts) (length us) ts us s.printable.1 r.printable.1 s.printable.0 r.printable.0 (sym s.text_is ∙ r.text_is)).1
 one_value text (proofs ts) (flaw n w j k) s r = absurd (proofs_or_flaw (length ts) n ts w j k (sym s.text_is ∙ r.text_is))
 one_value text (flaw n w j k) (proofs us) s r = absurd (proofs_or_flaw (length us) n us w j k (sym r.text_is ∙ s.text_is))
-one_value text (flaw m v j k) (flaw n w h l) s r = same_flaw m n v w j k h l s.printable.0 r.printable.0 (sym s.text_is ∙ r.text_is)
+one_value text (flaw m v j k) (flaw n w h l) s r = same_flaw m n v w j k h l s.printable.0 r.printable.0 s.printable.2 r.printable.2 (sym s.text_is ∙ r.text_is)
