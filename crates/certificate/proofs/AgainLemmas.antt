@@ -66,21 +66,16 @@ symbol_known item.Again h = refl
 symbol_known item.Stop h = elim h [ ]
 symbol_known item.Claim h = elim h [ ]
 
-symbol_apart : (it : Item) → symbol_of it ≢ 32
-symbol_apart (item.Sent true) e = omega arith
-symbol_apart (item.Sent false) e = omega arith
-symbol_apart (item.Heard true) e = omega arith
-symbol_apart (item.Heard false) e = omega arith
-symbol_apart item.Again e = omega arith
-symbol_apart item.Stop e = omega arith
-symbol_apart item.Claim e = omega arith
+symbol_apart : (it : Item) → GoesOn it → symbol_of it ≢ 32
+symbol_apart it h e = let is : Some it ≡ item_of 32 = sym (symbol_known it h) ∙ ap item_of e in cc
 
 symbols_again : (before items : List Item) → All GoesOn items → (line : ℕ) (rest : List ℕ)
     → (after : ℕ) × (symbols_at before line (wire_text items ++ (32 ∷ rest)) ≡ Ok (before ++ items, record { line = after; rest = rest }))
 symbols_again before [] all line rest = (line, ap (λ (is : List Item). Ok (is, record { line = line; rest = rest })) (sym (append-nil before)))
 symbols_again before (it ∷ items) all line rest =
+    let first : GoesOn it = all 0 it (omega arith) in
     let others = symbols_again (before ++ it ∷ []) items (λ k d within. all (suc k) d (omega arith)) (line_after line (symbol_of it)) rest in
-    (others.0, rw (ne_eqb (symbol_of it) 32 (symbol_apart it), symbol_known it (all 0 it (omega arith))) (others.1 ∙ ap (λ (is : List Item). Ok (is, record { line = others.0; rest = rest })) (append_assoc before (it ∷ []) items)))
+    (others.0, rw (ne_eqb (symbol_of it) 32 (symbol_apart it first), symbol_known it first) (others.1 ∙ ap (λ (is : List Item). Ok (is, record { line = others.0; rest = rest })) (append_assoc before (it ∷ []) items)))
 
 pub wire_again : (items : List Item) → items ≢ [] → All GoesOn items → Again wire_at (wire_text items ++ 32 ∷ []) items
 wire_again [] some all line rest = absurd (some refl)

@@ -11,7 +11,7 @@ use Rattle.certificate.specs.Certificates.{Certificate, proofs, flaw, certificat
 use Rattle.certificate.specs.Places.{Refuses}
 use Rattle.certificate.specs.Reader.{FormFault, misplaced, too_deep, Said, announced, faulty, text_said}
 use Rattle.certificate.specs.Reading.{Fails}
-use Rattle.certificate.specs.Refusals.{First, Miscounts}
+use Rattle.certificate.specs.Refusals.{First, Miscounts, Says}
 use Rattle.certificate.specs.Texts.{Spells, proofs_text}
 use Rattle.certificate.proofs.AgainLemmas.{announced_again, faulty_again}
 use Rattle.certificate.proofs.TakesLemmas.{ok_is}
@@ -31,12 +31,16 @@ value_said : (c : Certificate) → value_of (said_of c) ≡ c
 value_said (proofs trees) = refl
 value_said (flaw pair wire first second) = refl
 
+pub said_again : (text : List ℕ) (said : Said) → Says text said → text_said text ≡ Ok said
+said_again text (announced number trees) s = ap text_said s.2 ∙ announced_again number trees s.0 s.1
+said_again text (faulty pair wire first second) s = ap text_said s.text_is ∙ faulty_again pair wire first second s.printable.0 s.printable.1 s.printable.2
+
 spelled_said : (text : List ℕ) (c : Certificate) → Spells text c → text_said text ≡ Ok (said_of c)
-spelled_said text (proofs trees) s = ap text_said s.text_is ∙ announced_again (length trees) trees s.printable.1 s.printable.0
-spelled_said text (flaw pair wire first second) s = ap text_said s.text_is ∙ faulty_again pair wire first second s.printable.0 s.printable.1 s.printable.2
+spelled_said text (proofs trees) s = said_again text (announced (length trees) trees) (s.printable.1, s.printable.0, s.text_is)
+spelled_said text (flaw pair wire first second) s = said_again text (faulty pair wire first second) s
 
 miscount_said : (text : List ℕ) (m : Miscounts text) → text_said text ≡ Ok (announced m.number m.trees)
-miscount_said text m = ap text_said m.text_is ∙ announced_again m.number m.trees m.number_fits m.printable
+miscount_said text m = said_again text (announced m.number m.trees) (m.number_fits, m.printable, m.text_is)
 
 pub one_value : (text : List ℕ) (c d : Certificate) → Spells text c → Spells text d → c ≡ d
 one_value text c d s r = sym (value_said c) ∙ ap value_of (ok_is (said_of c) (said_of d) (sym (spelled_said text c s) ∙ spelled_said text d r)) ∙ value_said d

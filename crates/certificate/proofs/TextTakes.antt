@@ -8,10 +8,10 @@ use Rattle.std.proofs.lemmas.List.{nil_from_length}
 use Rattle.std.proofs.lemmas.List.Elements.{All-cons, All-nil}
 use Rattle.certificate.specs.declared.proofs.Token.{Token}
 use Rattle.certificate.specs.declared.proofs.Token.TheVariants as token
-use Rattle.certificate.specs.Certificates.{flaw}
 use Rattle.certificate.specs.Proofs.{ProofTree, part, short, byte, read, again, alike}
 use Rattle.certificate.specs.Reader.{misplaced, Place, ◌>>=◌, known, byte_at, this_at, each_at, number_at, is_place, bit_place_at, token_of_letter, token_at, spaced, node_in, proof_at, line_at, lines_in, lines_at, fault_at, Said, announced, faulty, pairs_at, flaw_at, proofs_from, start, text_said}
-use Rattle.certificate.specs.Texts.{IsPrintableProof, HasPlaces, height, Spells, proof_text, proof_line, proofs_text, fault_text}
+use Rattle.certificate.specs.Refusals.{Says}
+use Rattle.certificate.specs.Texts.{IsPrintableProof, HasPlaces, height, proof_text, proof_line, fault_text}
 use Rattle.certificate.proofs.TakesLemmas.{bind_ok, known_ok, test_ok, chosen, ok_is, byte_takes, this_takes, each_takes, number_takes, fault_takes}
 
 -- ---- tokens
@@ -161,11 +161,6 @@ pairs_take at x e =
     let number = number_takes 10 word.0 x word.2 in
     (each_takes (codes "airs ") at word.0 word.1 ∙ ap (λ (t : List ℕ). codes "airs " ++ t) number.0, number.1)
 
--- what is said is spelled so; as many proofs as are announced are not asked for
-abbrev pub IsSaid : List ℕ → Said → Type 0
-IsSaid text (announced number trees) = (number < 2 ^ 32) × All (IsPrintableProof 512) trees × (text ≡ codes "cert 1\n" ++ proofs_text number trees)
-IsSaid text (faulty pair wire first second) = Spells text (flaw pair wire first second)
-
 -- the front of a text, up to the letter with which its second line begins
 pub front_takes : (text : List ℕ) (at : Place) (x : ℕ × Place) → each_at (codes "cert 1\n") (start text) ≡ Ok at → byte_at at ≡ Ok x → text ≡ codes "cert 1\n" ++ (x.0 ∷ x.1.rest)
 front_takes text at x version letter = each_takes (codes "cert 1\n") (start text) at version ∙ ap (λ (t : List ℕ). codes "cert 1\n" ++ t) (byte_takes at x letter)
@@ -173,7 +168,7 @@ front_takes text at x version letter = each_takes (codes "cert 1\n") (start text
 some_from : {A : Type 0} (xs : List A) → 0 < length xs → xs ≡ [] → ⊥
 some_from xs some is = let none : length xs ≡ 0 = ap length is in omega (arith, none, some)
 
-pub flaw_takes : (text : List ℕ) (at : Place) (said : Said) → text ≡ codes "cert 1\nf" ++ at.rest → flaw_at at ≡ Ok said → IsSaid text said
+pub flaw_takes : (text : List ℕ) (at : Place) (said : Said) → text ≡ codes "cert 1\nf" ++ at.rest → flaw_at at ≡ Ok said → Says text said
 unfolding flaw_at
 flaw_takes text at said front e =
     let word = bind_ok (each_at (codes "ault ") at) (λ word. number_at 32 word >>= λ pair. fault_at pair.1 >>= λ fault. if length fault.1.rest == 0 then Ok (faulty pair.0 fault.0.0 fault.0.1 fault.0.2) else Err (misplaced fault.1.line)) said e in
@@ -184,7 +179,7 @@ flaw_takes text at said front e =
     let clash = fault_takes pair.0.1 fault.0 fault.1 in
     let spelled = fault_text fault.0.0.0 fault.0.0.1 fault.0.0.2 in
     let none : fault.0.1.rest ≡ [] = nil_from_length fault.0.1.rest (eqb-true (length fault.0.1.rest) 0 end.0) in
-    subst (IsSaid text) (ok_is (faulty pair.0.0 fault.0.0.0 fault.0.0.1 fault.0.0.2) said end.1)
+    subst (Says text) (ok_is (faulty pair.0.0 fault.0.0.0 fault.0.0.1 fault.0.0.2) said end.1)
     record {
       printable = (number.1, some_from fault.0.0.0 clash.some, clash.goes_on);
       text_is =
@@ -193,7 +188,7 @@ flaw_takes text at said front e =
           ∙ ap (λ (t : List ℕ). codes "cert 1\nfault " ++ t) (number.0 ∙ ap (λ (t : List ℕ). decimal pair.0.0 ++ (32 ∷ t)) (clash.text_is ∙ ap (λ (t : List ℕ). spelled ++ t) none ∙ append-nil spelled));
     }
 
-pub text_takes : (text : List ℕ) (said : Said) → text_said text ≡ Ok said → IsSaid text said
+pub text_takes : (text : List ℕ) (said : Said) → text_said text ≡ Ok said → Says text said
 unfolding text_said
 text_takes text said e =
     let version = bind_ok (each_at (codes "cert 1\n") (start text)) (λ version. byte_at version >>= λ letter. if letter.0 == 112 then proofs_from letter.1 else if letter.0 == 102 then flaw_at letter.1 else Err (misplaced version.line)) said e in
@@ -205,7 +200,7 @@ text_takes text said e =
           let trees = bind_ok (lines_at number.0.1) (λ trees. Ok (announced number.0.0 trees)) said number.2 in
           let many = pairs_take letter.0.1 number.0 number.1 in
           let lines = lines_take (length number.0.1.rest) number.0.1.line number.0.1.rest trees.0 trees.1 in
-          subst (IsSaid text) (ok_is (announced number.0.0 trees.0) said trees.2)
+          subst (Says text) (ok_is (announced number.0.0 trees.0) said trees.2)
           (many.1, lines.1, front ∙ ap (λ (v : ℕ). codes "cert 1\n" ++ (v ∷ letter.0.1.rest)) (eqb-true letter.0.0 112 pairs.0) ∙ ap (λ (t : List ℕ). codes "cert 1\np" ++ t) many.0 ∙ ap (λ (t : List ℕ). codes "cert 1\npairs " ++ (decimal number.0.0 ++ (10 ∷ t))) lines.0)
       | inr fault ↦
           let on = test_ok (letter.0.0 == 102) (flaw_at letter.0.1) (misplaced version.0.line) said fault.1 in

@@ -233,7 +233,7 @@ flaw_at at = do
 abbrev pub start : List ℕ → Place
 start text = record { line = 1; rest = text }
 
--- the first two lines of proofs
+-- after `p`: the number of proofs, and the proofs
 abbrev pub proofs_from : Place → Result Said FormFault
 proofs_from at = do
   number ← pairs_at at

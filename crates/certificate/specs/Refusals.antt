@@ -2,9 +2,16 @@
 use Rattle.std.specs.Prelude.{◌≡◌, ◌≢◌, ℕ, ◌<◌, ◌^◌, List, ◌++◌, length, Err, codes, All}
 use Rattle.certificate.specs.declared.errors.CertFault.{CertFault}
 use Rattle.certificate.specs.declared.errors.CertFault.TheVariants.{Format, Count, TooDeep, Pair}
+use Rattle.certificate.specs.Certificates.{flaw}
 use Rattle.certificate.specs.Proofs.{ProofTree}
-use Rattle.certificate.specs.Reader.{text_said, misplaced, too_deep}
-use Rattle.certificate.specs.Texts.{IsPrintableProof, proofs_text}
+use Rattle.certificate.specs.Reader.{Said, announced, faulty, text_said, misplaced, too_deep}
+use Rattle.certificate.specs.Texts.{IsPrintableProof, Spells, proofs_text}
+
+-- What a text of this form says is what the grammar spells, except that it may announce another number of proofs.
+abbrev pub Says : List ℕ → Said → Type 0
+Says text (announced number trees) =
+    (number < 2 ^ 32) × All (IsPrintableProof 512) trees × (text ≡ codes "cert 1\n" ++ proofs_text number trees)
+Says text (faulty pair wire first second) = Spells text (flaw pair wire first second)
 
 -- the text has the form, but announces another number of proofs than it has
 pub record Miscounts (text : List ℕ) : Type 0 where
