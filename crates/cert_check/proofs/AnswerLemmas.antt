@@ -4,8 +4,7 @@ use Rattle.certificate.specs.declared.errors.CertFault.{CertFault}
 use Rattle.certificate.specs.Certificates.{Certificate, proofs, flaw}
 use Rattle.certificate.specs.Refusals.{First}
 use Rattle.certificate.specs.Texts as certificates
-use Rattle.certificate.proofs.EitherText.{not_both, one_refusal}
-use Rattle.certificate.proofs.SameText.{one_value}
+use Rattle.certificate.proofs.EitherText.{not_both, one_refusal, one_value}
 use Rattle.plan_core.specs.Contents.{Contents}
 use Rattle.plan_core.specs.Faults.{IsSafe}
 use Rattle.plan_core.specs.Lawful.{pair}

@@ -1,11 +1,7 @@
+pub mod AgainLemmas
 pub mod EitherText
-pub mod FoundLemmas
-pub mod HeadLemmas
 pub mod LineLemmas
-pub mod PassLemmas
-pub mod PlaceLemmas
 pub mod PrintLemmas
-pub mod ProofLemmas
-pub mod SameText
 pub mod Soundness
-pub mod WordLemmas
+pub mod TakesLemmas
+pub mod TextTakes

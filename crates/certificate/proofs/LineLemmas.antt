@@ -1,122 +1,82 @@
--- Lines of proofs: what has been read and what is left are the text.
-use Rattle.std.proofs.Common.{◌≡◌, ◌≢◌, ℕ, zero, suc, ◌+◌, ◌-◌, ◌*◌, ◌==◌, Bool, true, false, List, [], ◌∷◌, ◌++◌, length, Option, Some, None, refl, ap, sym, ◌∙◌, subst, arith, append_assoc, append-nil, codes, length-append}
-use Rattle.std.specs.Prelude.{Ok, Err, IfErr, decimal, flat_map, if◌then◌else◌}
-use Rattle.std.specs.Char.{is_ascii_digit}
-use Rattle.message_tree.specs.declared.items.Item.{Item}
-use Rattle.message_tree.specs.declared.items.Kind.{Kind}
-use Rattle.std.proofs.lemmas.Bool.{eq-eqb, eqb-true}
-use Rattle.std.proofs.lemmas.List.Elements.{All-push}
+-- Lines of proofs: what has been read and what is left are the text, and what is left is refused as the text is.
+use Rattle.std.proofs.Common.{◌≡◌, ℕ, zero, suc, ◌+◌, ◌<◌, ◌≤◌, List, [], ◌∷◌, ◌++◌, length, Some, refl, ap, sym, ◌∙◌, arith, append_assoc, append-nil, codes, length-append}
+use Rattle.std.specs.Prelude.{Result, Ok, Err, decimal, flat_map}
+use Rattle.std.proofs.lemmas.List.Elements.{All-push, All-nil}
 use Rattle.std.proofs.lemmas.Grind.{flat_map-append}
 use Rattle.certificate.specs.declared.errors.CertError.{CertError}
 use Rattle.certificate.specs.declared.errors.CertError.TheVariants.{Wrong, NoMemory}
-use Rattle.certificate.specs.declared.errors.CertFault.{CertFault}
 use Rattle.certificate.specs.declared.errors.CertFault.TheVariants.{Format, Count, TooDeep, Pair}
 use Rattle.certificate.specs.declared.lines.ProofLines.{ProofLines}
 use Rattle.certificate.specs.declared.values.Cert.{Cert}
-use Rattle.certificate.specs.Places.{place, LineRead, Refuses}
+use Rattle.certificate.specs.Places.{place, Refuses}
 use Rattle.certificate.specs.Proofs.{ProofTree, proof_tree}
-use Rattle.certificate.specs.Reading.{AddsProof, RefusedHere}
-use Rattle.certificate.specs.Refusals as expect
-use Rattle.certificate.specs.Refusals.{Expected, Step, First, Miscounts, refusal, whole, lines, this, proof, step, proof_step, node_step, where_true, then_expect, go_on, line_after, item_of, symbol_step, kind_of_letter, kind_step, digit_step, is_place, ends_early}
-use Rattle.certificate.specs.Texts.{IsPrintableProof, proofs_text, proof_line}
+use Rattle.certificate.specs.Reader.{FormFault, misplaced, too_deep, Place, ◌>>=◌, byte_at, each_at, line_at, lines_in, lines_at, announced, pairs_at, start, text_said}
+use Rattle.certificate.specs.Reading.{ReadSoFar, AddsProof, RefusedHere, refusal}
+use Rattle.certificate.specs.Texts.{IsPrintableProof, proof_text, proofs_text, proof_line}
+use Rattle.certificate.proofs.TextTakes.{line_takes, pairs_take, front_takes}
 
--- ---- what a text is refused for by its form
+-- ---- how many lines there may be makes no difference, where there may be as many as there are bytes
 
-abbrev IsOfForm : CertFault → Type 0
-IsOfForm (Format line) = Unit {0}
-IsOfForm (TooDeep line) = Unit {0}
-IsOfForm _ = ⊥
+-- where a byte is left, it begins a further line
+pub lines_step : (most line : ℕ) (rest : List ℕ) → 0 < length rest
+    → lines_in (suc most) line rest ≡ (line_at (record { line = line; rest = rest }) >>= λ first. lines_in most first.1.line first.1.rest >>= λ others. Ok (first.0 ∷ others))
+unfolding lines_in
+lines_step most line [] some = absurd (omega arith)
+lines_step most line (b ∷ rest) some = refl
 
-where_true_form : (test : Bool) (line : ℕ) (more : List Expected) → IfErr (where_true test line more) IsOfForm
-where_true_form true line more = tt
-where_true_form false line more = tt
+same_after : {A B : Type 0} (r : Result A FormFault) (f g : A → Result B FormFault) → ((x : A) → r ≡ Ok x → f x ≡ g x) → (r >>= f) ≡ (r >>= g)
+same_after (Ok x) f g h = h x refl
+same_after (Err fault) f g h = refl
 
-node_form : (line room n : ℕ) → IfErr (node_step line room n) IsOfForm
-node_form line zero n = tt
-node_form line (suc room) n = tt
+pub line_shortens : (at : Place) (x : ProofTree × Place) → line_at at ≡ Ok x → length x.1.rest < length at.rest
+line_shortens at x e =
+    let len = ap length (line_takes at x e).0 ∙ length-append (proof_line x.0) x.1.rest in
+    let end = length-append (proof_text x.0) (10 ∷ []) in
+    omega (arith, len, end)
 
-one_form : (s : Bool) (t : Step) (line : ℕ) → IfErr t IsOfForm → IfErr (if s then t else Err (Format line)) IsOfForm
-one_form true t line h = h
-one_form false t line h = tt
+lines_same : (m n line : ℕ) (rest : List ℕ) → length rest ≤ m → length rest ≤ n → lines_in m line rest ≡ lines_in n line rest
+unfolding lines_in
+lines_same m n line [] p q = refl
+lines_same zero n line (b ∷ rest) p q = absurd (omega arith)
+lines_same (suc m) zero line (b ∷ rest) p q = absurd (omega arith)
+lines_same (suc m) (suc n) line (b ∷ rest) p q =
+    let at : Place = record { line = line; rest = b ∷ rest } in
+    same_after (line_at at) (λ first. lines_in m first.1.line first.1.rest >>= λ others. Ok (first.0 ∷ others)) (λ first. lines_in n first.1.line first.1.rest >>= λ others. Ok (first.0 ∷ others))
+    (λ x e. let less = line_shortens at x e in ap (λ (l : Result (List ProofTree) FormFault). l >>= λ others. Ok (x.0 ∷ others)) (lines_same m n x.1.line x.1.rest (omega (arith, less)) (omega (arith, less))))
 
-or_form : (s : Bool) (es : List Expected) (t : Step) → IfErr t IsOfForm → IfErr (if s then Ok es else t) IsOfForm
-or_form true es t h = tt
-or_form false es t h = h
+-- what is made of a value is refused where the value is
+refusal_made : {A B : Type 0} (r : Result A FormFault) (f : A → B) → refusal (r >>= λ x. Ok (f x)) ≡ refusal r
+refusal_made (Ok x) f = refl
+refusal_made (Err fault) f = refl
 
-tokens_form : (es : List Expected) (line room : ℕ) (p r d s b q : Bool)
-    → IfErr (if p then Ok es else if r then node_step line room 0 else if d then node_step line room 0 else if s then node_step line room 1 else if b then node_step line room 2 else if q then node_step line room 2 else Err (Format line)) IsOfForm
-tokens_form es line room true r d s b q = tt
-tokens_form es line room false true d s b q = node_form line room 0
-tokens_form es line room false false true s b q = node_form line room 0
-tokens_form es line room false false false true b q = node_form line room 1
-tokens_form es line room false false false false true q = node_form line room 2
-tokens_form es line room false false false false false q = one_form q (node_step line room 2) line (node_form line room 2)
+-- lines are refused where what follows the first is
+lines_go_on : (at : Place) (x : ProofTree × Place) → line_at at ≡ Ok x → refusal (lines_at at) ≡ refusal (lines_at x.1)
+lines_go_on at x e =
+    let less = line_shortens at x e in
+    let more : lines_at at ≡ (lines_in (length at.rest) x.1.line x.1.rest >>= λ others. Ok (x.0 ∷ others)) =
+    lines_same (length at.rest) (suc (length at.rest)) at.line at.rest (omega arith) (omega arith) ∙ lines_step (length at.rest) at.line at.rest (omega (arith, less)) ∙ rw e refl in
+    ap refusal more ∙ refusal_made (lines_in (length at.rest) x.1.line x.1.rest) (λ others. x.0 ∷ others)
+    ∙ ap refusal (lines_same (length at.rest) (length x.1.rest) x.1.line x.1.rest (omega (arith, less)) (omega arith))
 
-proof_form : (line room b : ℕ) → IfErr (proof_step line room b) IsOfForm
-proof_form line room b = tokens_form (expect.place_digit room ∷ []) line room (b == 80) (b == 82) (b == 46) (b == 83) (b == 66) (b == 68)
+-- ---- the front of a text
 
-then_form : (s : Step) (more : List Expected) → IfErr s IsOfForm → IfErr (then_expect s more) IsOfForm
-then_form (Ok es) more h = tt
-then_form (Err fault) more h = h
-
-symbol_form : (line : ℕ) (found : Option Item) → IfErr (symbol_step line found) IsOfForm
-symbol_form line (Some it) = tt
-symbol_form line None = tt
-
-kind_form : (line : ℕ) (found : Option Kind) → IfErr (kind_step line found) IsOfForm
-kind_form line (Some k) = tt
-kind_form line None = tt
-
-step_form : (line : ℕ) (e : Expected) (b : ℕ) → IfErr (step line e b) IsOfForm
-step_form line (this value) b = where_true_form (b == value) line []
-step_form line expect.body b = or_form (b == 112) _ (where_true (b == 102) line _) (where_true_form (b == 102) line _)
-step_form line (expect.number end) b = or_form (b == 48) _ (where_true (is_ascii_digit b) line _) (where_true_form (is_ascii_digit b) line _)
-step_form line (expect.digits n end) b =
-    or_form (b == end) [] (if is_ascii_digit b then digit_step line (n * 10 + (b - 48)) end else Err (Format line))
-    (one_form (is_ascii_digit b) (digit_step line (n * 10 + (b - 48)) end) line (where_true_form _ line _))
-step_form line expect.wire b = symbol_form line (item_of b)
-step_form line expect.symbols b = or_form (b == 32) [] (symbol_step line (item_of b)) (symbol_form line (item_of b))
-step_form line expect.kind b = kind_form line (kind_of_letter b)
-step_form line (proof room) b = proof_form line room b
-step_form line (expect.place_digit room) b = one_form (is_place b) (node_step line room 0) line (node_form line room 0)
-step_form line lines b = then_form (proof_step line 512 b) _ (proof_form line 512 b)
-
-end_form : (e : Expected) (line : ℕ) (fault : CertFault) → ends_early e line ≡ Some fault → IsOfForm fault
-end_form lines line fault h = cc
-end_form _ line fault h = let is : fault ≡ Format line = cc in subst IsOfForm (sym is) tt
-
-on_form : (s : Step) (after : List Expected → Option CertFault) (fault : CertFault) → IfErr s IsOfForm → ((es : List Expected) → after es ≡ Some fault → IsOfForm fault)
-    → go_on s after ≡ Some fault → IsOfForm fault
-on_form (Ok es) after fault form rest h = rest es h
-on_form (Err e) after fault form rest h = let is : e ≡ fault = cc in subst IsOfForm is form
-
-pub refusal_form : (line : ℕ) (es : List Expected) (text : List ℕ) (fault : CertFault) → refusal line es text ≡ Some fault → IsOfForm fault
-refusal_form line [] [] fault h = cc
-refusal_form line [] (b ∷ bytes) fault h = let is : fault ≡ Format line = cc in subst IsOfForm (sym is) tt
-refusal_form line (e ∷ es) [] fault h = end_form e line fault h
-refusal_form line (e ∷ es) (b ∷ bytes) fault h =
-    on_form (step line e b) _ fault (step_form line e b) (λ next k. refusal_form (line_after line b) (next ++ es) bytes fault k) h
-
-pub first_by_form : (text : List ℕ) (fault : CertFault) → refusal 1 whole text ≡ Some fault → First text fault
-first_by_form text (Format line) h = h
-first_by_form text (TooDeep line) h = h
-first_by_form text Count h = absurd (refusal_form 1 whole text Count h)
-first_by_form text (Pair pair) h = absurd (refusal_form 1 whole text (Pair pair) h)
+pub proofs_begun : (text : List ℕ) (version after : Place) (left : ProofLines) → each_at (codes "cert 1\n") (start text) ≡ Ok version → byte_at version ≡ Ok (112, after)
+    → pairs_at after ≡ Ok (left.number, place left.source) → left.seen ≡ 0 → ReadSoFar text [] left
+unfolding text_said
+proofs_begun text version after left front letter pairs none = record {
+  printable = All-nil (IsPrintableProof 512);
+  counted = sym none;
+  text_is =
+      front_takes text version (112, after) front letter
+      ∙ ap (λ (t : List ℕ). codes "cert 1\np" ++ t) (pairs_take after (left.number, place left.source) pairs).0
+      ∙ ap (λ (t : List ℕ). codes "cert 1\npairs " ++ t) (sym (append_assoc (decimal left.number) (10 ∷ []) left.source.rest.now));
+  refusal_is = rw (front, letter, pairs) (refusal_made (lines_at (place left.source)) (announced left.number));
+}
 
 -- ---- the next line
 
-then_on : (s : Step) (more es : List Expected) (after : List Expected → Option CertFault)
-    → go_on (then_expect s more) (λ next. after (next ++ es)) ≡ go_on s (λ next. after (next ++ (more ++ es)))
-then_on (Ok next) more es after = ap after (append_assoc next more es)
-then_on (Err fault) more es after = refl
-
--- where a byte is left, it begins a further line
-pub lines_go_on : (line : ℕ) (bytes : List ℕ) (es : List Expected) → bytes ≢ [] → refusal line (lines ∷ es) bytes ≡ refusal line (proof 512 ∷ (this 10 ∷ (lines ∷ es))) bytes
-lines_go_on line [] es some = absurd (some refl)
-lines_go_on line (b ∷ bytes) es some = then_on (proof_step line 512 b) (this 10 ∷ (lines ∷ [])) es (λ next. refusal (line_after line b) next bytes)
-
 -- a proof after others
-pub proofs_more : (number : ℕ) (trees : List ProofTree) (tree : ProofTree) → codes "cert 1\n" ++ proofs_text number (trees ++ tree ∷ []) ≡ (codes "cert 1\n" ++ proofs_text number trees) ++ proof_line tree
+proofs_more : (number : ℕ) (trees : List ProofTree) (tree : ProofTree) → codes "cert 1\n" ++ proofs_text number (trees ++ tree ∷ []) ≡ (codes "cert 1\n" ++ proofs_text number trees) ++ proof_line tree
 proofs_more number trees tree =
     let more : flat_map proof_line (trees ++ tree ∷ []) ≡ flat_map proof_line trees ++ proof_line tree =
     flat_map-append proof_line trees (tree ∷ []) ∙ ap (λ (t : List ℕ). flat_map proof_line trees ++ t) (append-nil (proof_line tree)) in
@@ -124,29 +84,33 @@ proofs_more number trees tree =
     ∙ ap (λ (t : List ℕ). codes "cert 1\npairs " ++ t) (sym (append_assoc (decimal number) (10 ∷ flat_map proof_line trees) (proof_line tree)))
 
 -- one more proof has been read
-pub line_added : (old new : ProofLines) (it : Cert) → old.source.rest.now ≢ [] → new.number ≡ old.number → new.seen ≡ old.seen + 1
-    → LineRead (proof_tree it) (place old.source) (place new.source) → AddsProof it old new
-line_added old new it some number seen read = λ text trees so_far. record {
-  printable = All-push (IsPrintableProof 512) trees (proof_tree it) so_far.printable read.printable;
-  counted = let len = length-append trees (proof_tree it ∷ []) in omega (arith, len, so_far.counted);
-  text_is =
-      so_far.text_is
-      ∙ ap (λ (t : List ℕ). (codes "cert 1\n" ++ proofs_text old.number trees) ++ t) read.reads.rest_is
-      ∙ sym (append_assoc (codes "cert 1\n" ++ proofs_text old.number trees) (proof_line (proof_tree it)) new.source.rest.now)
-      ∙ ap (λ (t : List ℕ). t ++ new.source.rest.now) (sym (proofs_more old.number trees (proof_tree it)))
-      ∙ ap (λ n. (codes "cert 1\n" ++ proofs_text n (trees ++ proof_tree it ∷ [])) ++ new.source.rest.now) (sym number);
-  refusal_is = so_far.refusal_is ∙ lines_go_on old.source.line old.source.rest.now [] some ∙ read.reads.leads (lines ∷ []);
-}
+pub line_added : (old new : ProofLines) (it : Cert) → new.number ≡ old.number → new.seen ≡ old.seen + 1 → line_at (place old.source) ≡ Ok (proof_tree it, place new.source) → AddsProof it old new
+line_added old new it number seen read = λ text trees so_far.
+    let taken = line_takes (place old.source) (proof_tree it, place new.source) read in
+    record {
+      printable = All-push (IsPrintableProof 512) trees (proof_tree it) so_far.printable taken.1;
+      counted = let len = length-append trees (proof_tree it ∷ []) in omega (arith, len, so_far.counted);
+      text_is =
+          so_far.text_is
+          ∙ ap (λ (t : List ℕ). (codes "cert 1\n" ++ proofs_text old.number trees) ++ t) taken.0
+          ∙ sym (append_assoc (codes "cert 1\n" ++ proofs_text old.number trees) (proof_line (proof_tree it)) new.source.rest.now)
+          ∙ ap (λ (t : List ℕ). t ++ new.source.rest.now) (sym (proofs_more old.number trees (proof_tree it)))
+          ∙ ap (λ n. (codes "cert 1\n" ++ proofs_text n (trees ++ proof_tree it ∷ [])) ++ new.source.rest.now) (sym number);
+      refusal_is = so_far.refusal_is ∙ lines_go_on (place old.source) (proof_tree it, place new.source) read;
+    }
+
+lines_refused : (at : Place) (fault : FormFault) → 0 < length at.rest → line_at at ≡ Err fault → refusal (lines_at at) ≡ Some fault
+lines_refused at fault some e =
+    ap refusal (lines_same (length at.rest) (suc (length at.rest)) at.line at.rest (omega arith) (omega arith) ∙ lines_step (length at.rest) at.line at.rest some) ∙ rw e refl
+
+refused_text : {A : Type 0} (r : Result A FormFault) (fault : FormFault) → refusal r ≡ Some fault → r ≡ Err fault
+refused_text (Ok x) fault e = cc
+refused_text (Err other) fault e = let is : other ≡ fault = cc in ap Err is
 
 -- the next proof is refused
-pub line_refused : (left : ProofLines) (e : CertError) → left.source.rest.now ≢ [] → Refuses (place left.source) (proof 512 ∷ (this 10 ∷ [])) e → RefusedHere left e
-line_refused left NoMemory some refused = λ text trees so_far. tt
-line_refused left (Wrong fault) some refused = λ text trees so_far.
-    first_by_form text fault (so_far.refusal_is ∙ lines_go_on left.source.line left.source.rest.now [] some ∙ refused (lines ∷ []))
-
-pub none_left : (bytes : List ℕ) (at_end : Bool) → at_end ≡ (length bytes == 0) → at_end ≡ true → bytes ≡ []
-none_left [] at_end is h = refl
-none_left (b ∷ bytes) at_end is h = let none : length (b ∷ bytes) ≡ 0 = eqb-true (length (b ∷ bytes)) 0 (sym is ∙ h) in absurd (omega arith)
-
-pub some_left : (bytes : List ℕ) (at_end : Bool) → at_end ≡ (length bytes == 0) → at_end ≡ false → bytes ≢ []
-some_left bytes at_end is h e = let none : (length bytes == 0) ≡ true = eq-eqb (length bytes) 0 (ap length e) in cc
+pub line_refused : (left : ProofLines) (e : CertError) → 0 < length left.source.rest.now → Refuses (line_at (place left.source)) e → RefusedHere left e
+line_refused left NoMemory some h = λ text trees so_far. tt
+line_refused left (Wrong (Format line)) some h = λ text trees so_far. refused_text (text_said text) (misplaced line) (so_far.refusal_is ∙ lines_refused (place left.source) (misplaced line) some h)
+line_refused left (Wrong (TooDeep line)) some h = λ text trees so_far. refused_text (text_said text) (too_deep line) (so_far.refusal_is ∙ lines_refused (place left.source) (too_deep line) some h)
+line_refused left (Wrong Count) some h = absurd h
+line_refused left (Wrong (Pair i)) some h = absurd h

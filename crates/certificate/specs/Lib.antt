@@ -3,6 +3,7 @@ pub mod Places
 pub mod Printing
 pub mod Proofs
 pub mod Proves
+pub mod Reader
 pub mod Reading
 pub mod Refusals
 pub mod Texts

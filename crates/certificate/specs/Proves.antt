@@ -6,7 +6,7 @@ use Rattle.message_tree.specs.declared.bits.Bit.TheVariants.{One}
 use Rattle.message_tree.specs.Bits.{SplitAt}
 use Rattle.message_tree.specs.Counts.{Meet}
 use Rattle.message_tree.specs.Patterns.{pattern_bits}
-use Rattle.message_tree.specs.Texts.{Language, Sender, message, interrupt, write_header, read_header}
+use Rattle.message_tree.specs.Texts.{Sender, message, interrupt, write_header, read_header}
 use Rattle.message_tree.specs.Trees as tree
 use Rattle.message_tree.specs.Trees.{FrameTree, PayloadTree, TailTree}
 use Rattle.certificate.specs.Proofs.{ProofTree, part, short, byte, read, again, alike}

@@ -1,5 +1,5 @@
 -- What a certificate says as far as it has been read: the proofs so far, of which each stands on a line of its own.
-use Rattle.std.specs.Prelude.{◌≡◌, ◌⊎◌, ℕ, Result, MatchResult, List, [], ◌∷◌, ◌++◌, length, codes, All}
+use Rattle.std.specs.Prelude.{◌≡◌, ◌⊎◌, ℕ, Option, Some, None, Result, Ok, Err, MatchResult, List, [], ◌∷◌, ◌++◌, length, codes, All}
 use Rattle.certificate.specs.declared.errors.CertError.{CertError}
 use Rattle.certificate.specs.declared.errors.CertError.TheVariants.{Wrong, NoMemory}
 use Rattle.certificate.specs.declared.errors.CertFault.{CertFault}
@@ -9,9 +9,10 @@ use Rattle.certificate.specs.declared.lines.ProofLines.{ProofLines}
 use Rattle.certificate.specs.declared.values.Cert.{Cert}
 use Rattle.certificate.specs.declared.values.CertText.{CertText}
 use Rattle.certificate.specs.Certificates.{Certificate, certificate_of, proofs, flaw}
-use Rattle.certificate.specs.Places.{unread}
+use Rattle.certificate.specs.Places.{place, unread}
 use Rattle.certificate.specs.Proofs.{ProofTree, proof_tree}
-use Rattle.certificate.specs.Refusals.{First, refusal, whole, lines}
+use Rattle.certificate.specs.Reader.{FormFault, text_said, lines_at}
+use Rattle.certificate.specs.Refusals.{First}
 use Rattle.certificate.specs.Texts.{IsPrintableProof, Spells, proofs_text}
 
 -- what was refused is the first refusal of the text, or memory was
@@ -27,12 +28,17 @@ AnswersValue answer value = MatchResult answer (λ it. certificate_of it ≡ val
 abbrev pub AnswersFault : Result CertText CertError → CertFault → Type 0
 AnswersFault answer fault = MatchResult answer (λ it. ⊥) (λ e. (e ≡ NoMemory) ⊎ (e ≡ Wrong fault))
 
+-- what is refused, if anything
+abbrev pub refusal : {A : Type 0} → Result A FormFault → Option FormFault
+refusal (Ok said) = None
+refusal (Err fault) = Some fault
+
 -- These proofs and what is left make up the text, and what is left is refused where and as the text is.
 pub record ReadSoFar (text : List ℕ) (trees : List ProofTree) (left : ProofLines) : Type 0 where
   pub printable : All (IsPrintableProof 512) trees
   pub counted : length trees ≡ left.seen
   pub text_is : text ≡ (codes "cert 1\n" ++ proofs_text left.number trees) ++ left.source.rest.now
-  pub refusal_is : refusal 1 whole text ≡ refusal left.source.line (lines ∷ []) left.source.rest.now
+  pub refusal_is : refusal (text_said text) ≡ refusal (lines_at (place left.source))
 
 -- the bytes that are left
 abbrev pub bytes_left : ProofLines → ℕ

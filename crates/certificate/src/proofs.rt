@@ -1,8 +1,7 @@
 // The grammar of proofs.
 
-ghost use Rattle.std.specs.Prelude.{◌≡◌, ◌≤◌, ℕ, [], ◌∷◌, IfOk, IfErr, box_value};
+ghost use Rattle.std.specs.Prelude.{◌<◌, OnOk, box_value};
 ghost use Rattle.certificate.specs.Proofs.{proof_tree};
-ghost use Rattle.certificate.specs.Refusals as expect;
 
 use crate::errors::CertError;
 use crate::sources::Source;
@@ -30,30 +29,38 @@ pub(crate) enum Token {
 }
 
 impl Source<'_> {
-    ghost use Rattle.std.specs.Prelude.{◌++◌, codes};
-    ghost use Rattle.certificate.specs.Places.{place, unread, Reads, Refuses, TokenRead, ProofRead, BelowRead, PlaceRead};
-    ghost use Rattle.certificate.specs.Places as places;
+    ghost use Rattle.certificate.specs.Places.{place, unread, Gives};
+    ghost use Rattle.certificate.specs.Reader.{bit_place_at, token_at, node_at, spaced, proof_at, line_at};
 
     /// A proof and the end of its line.
+    #[tactic(auto, unfolding(crate::specs::Reader::line_at))]
     pub(crate) fn proof_line(&mut self, alloc: Global) -> Result<Cert, CertError>
-        ensures read { IfOk result (λ it. places.LineRead (proof_tree it) (place self.old) (place self.new)) }
-        ensures refused { IfErr result (λ e. Refuses (place self.old) (expect.proof 512 ∷ (expect.this 10 ∷ [])) e) }
+        ensures read { Gives proof_tree result (line_at (place self.old)) (place self.new) }
+        ensures less { OnOk result (unread self.new < unread self.old) }
     {
         let proof = self.proof(alloc, PATH_NODES)?;
         self.this(b'\n')?;
         Ok(proof)
     }
 
-    // A token, and what its node has below it. There is room for so many nodes on a path.
+    // A proof. There is room for so many nodes on a path.
     #[cycle(proof)]
     fn proof(&mut self, alloc: Global, room: u32) -> Result<Cert, CertError>
-        ensures read { IfOk result (λ it. ProofRead room (proof_tree it) (place self.old) (place self.new)) }
-        ensures refused { IfErr result (λ e. Refuses (place self.old) (expect.proof room ∷ []) e) }
+        ensures { Gives proof_tree result (proof_at room (place self.old)) (place self.new) }
     {
         let token = self.token()?;
         let Some(room) = room.checked_sub(1) else {
             return Err(self.too_deep());
         };
+        self.node(alloc, token, room)
+    }
+
+    // What a node with this token has below it, where there is room for so many nodes on a path.
+    #[cycle(proof)]
+    fn node(&mut self, alloc: Global, token: Token, room: u32) -> Result<Cert, CertError>
+        ensures { Gives proof_tree result
+            (node_at (spaced (proof_at room)) token (place self.old)) (place self.new) }
+    {
         match token {
             Token::Part(place) => Ok(Cert::Part(place)),
             Token::Short => Ok(Cert::Short),
@@ -78,9 +85,8 @@ impl Source<'_> {
     // A space, and a proof.
     #[cycle(proof)]
     fn below(&mut self, alloc: Global, room: u32) -> Result<Box<Cert>, CertError>
-        ensures read { IfOk result (λ it.
-            BelowRead room (proof_tree (box_value it)) (place self.old) (place self.new)) }
-        ensures refused { IfErr result (λ e. Refuses (place self.old) (expect.this 32 ∷ (expect.proof room ∷ [])) e) }
+        ensures { Gives (λ it. proof_tree (box_value it)) result
+            (spaced (proof_at room) (place self.old)) (place self.new) }
     {
         self.this(b' ')?;
         let proof = self.proof(alloc, room)?;
@@ -89,8 +95,7 @@ impl Source<'_> {
 
     // The token of a node.
     fn token(&mut self) -> Result<Token, CertError>
-        ensures read { IfOk result (λ it. TokenRead it (place self.old) (place self.new)) }
-        ensures refused { IfErr result (λ e. (room : ℕ) → Refuses (place self.old) (expect.proof room ∷ []) e) }
+        ensures { Gives (λ it. it) result (token_at (place self.old)) (place self.new) }
     {
         let refusal = self.format();
         match self.take()? {
@@ -106,8 +111,7 @@ impl Source<'_> {
 
     // The place of a bit, `0` to `7`.
     fn bit_place(&mut self) -> Result<u8, CertError>
-        ensures read { IfOk result (λ k. PlaceRead k (place self.old) (place self.new)) }
-        ensures refused { IfErr result (λ e. (room : ℕ) → Refuses (place self.old) (expect.place_digit room ∷ []) e) }
+        ensures { Gives (λ k. k) result (bit_place_at (place self.old)) (place self.new) }
     {
         let refusal = self.format();
         match self.take()? {

@@ -1,11 +1,12 @@
 // Reading of certificate texts, whole or proof by proof.
 
-ghost use Rattle.std.specs.Prelude.{ℕ, List, [], map, IfOk, IfErr};
+ghost use Rattle.std.specs.Prelude.{◌≡◌, ℕ, List, [], map, Ok, IfOk, IfErr};
 ghost use Rattle.certificate.specs.declared.errors.CertFault.{CertFault};
 ghost use Rattle.certificate.specs.Certificates.{Certificate, certificate_of, proofs};
 ghost use Rattle.certificate.specs.Reading.{Fails, HeadRead, ReadSoFar, AnswersValue, AnswersFault};
-ghost use Rattle.certificate.specs.Places.{place, BegunProofs, BegunFlaw};
+ghost use Rattle.certificate.specs.Places.{place, Refuses};
 ghost use Rattle.certificate.specs.Proofs.{proof_tree};
+ghost use Rattle.certificate.specs.Reader.{pairs_at, flaw_at, faulty};
 ghost use Rattle.certificate.specs.Refusals.{First};
 ghost use Rattle.certificate.specs.Texts.{Spells};
 
@@ -71,6 +72,7 @@ pub enum Head<'a> {
 ///
 /// C1 at the line where these two lines break the form, or at the line after a fault where the text goes on after it.
 /// `NoMemory` where memory is refused for the wire of a fault before that.
+#[tactic(auto, using(crate::proofs::EitherText::fails_from), unfolding(crate::specs::Reader::text_said))]
 pub fn read_head(alloc: Global, text: &[u8]) -> Result<Head<'_>, CertError>
     ensures read { IfOk result (λ head. HeadRead text.now head) }
     ensures refused { IfErr result (λ e. Fails text.now e) }
@@ -79,26 +81,33 @@ pub fn read_head(alloc: Global, text: &[u8]) -> Result<Head<'_>, CertError>
     source.each(b"cert 1\n")?;
     let refusal = source.format();
     match source.take()? {
-        b'p' => proof_lines(source),
-        b'f' => flaw(alloc, source),
+        b'p' => Ok(Head::Proofs(proof_lines(source)?)),
+        b'f' => {
+            let (pair, fault) = flaw(alloc, source)?;
+            Ok(Head::Flaw(pair, fault))
+        }
         _ => Err(refusal),
     }
 }
 
 // `airs`, and how many there are.
-fn proof_lines(mut source: Source<'_>) -> Result<Head<'_>, CertError>
-    ensures read { IfOk result (λ head. (text : List ℕ) → BegunProofs text (place source.entry) → HeadRead text head) }
-    ensures refused { IfErr result (λ e. (text : List ℕ) → BegunProofs text (place source.entry) → Fails text e) }
+#[tactic(auto, unfolding(crate::specs::Reader::pairs_at))]
+fn proof_lines(mut source: Source<'_>) -> Result<ProofLines<'_>, CertError>
+    ensures read { IfOk result (λ left. pairs_at (place source.entry) ≡ Ok (left.number, place left.source)) }
+    ensures none_seen { IfOk result (λ left. left.seen ≡ 0) }
+    ensures refused { IfErr result (Refuses (pairs_at (place source.entry))) }
 {
     source.each(b"airs ")?;
     let number = source.number(b'\n')?;
-    Ok(Head::Proofs(ProofLines::new(source, number)))
+    Ok(ProofLines::new(source, number))
 }
 
 // `ault`, its pair, its wire and its kinds, and the end of the text.
-fn flaw(alloc: Global, mut source: Source<'_>) -> Result<Head<'_>, CertError>
-    ensures read { IfOk result (λ head. (text : List ℕ) → BegunFlaw text (place source.entry) → HeadRead text head) }
-    ensures refused { IfErr result (λ e. (text : List ℕ) → BegunFlaw text (place source.entry) → Fails text e) }
+#[tactic(auto, unfolding(crate::specs::Reader::flaw_at))]
+fn flaw(alloc: Global, mut source: Source<'_>) -> Result<(u32, Fault), CertError>
+    ensures read { IfOk result (λ it. flaw_at (place source.entry)
+        ≡ Ok (faulty it.0 it.1.wire.items it.1.first it.1.second)) }
+    ensures refused { IfErr result (Refuses (flaw_at (place source.entry))) }
 {
     source.each(b"ault ")?;
     let pair = source.number(b' ')?;
@@ -106,5 +115,5 @@ fn flaw(alloc: Global, mut source: Source<'_>) -> Result<Head<'_>, CertError>
     if !source.is_at_end() {
         return Err(source.format());
     }
-    Ok(Head::Flaw(pair, fault))
+    Ok((pair, fault))
 }

@@ -14,8 +14,8 @@ pub(crate) struct Source<'a> {
 }
 
 impl<'a> Source<'a> {
-    ghost use Rattle.certificate.specs.Places.{place, unread, ByteTaken, Reads, Refuses};
-    ghost use Rattle.certificate.specs.Refusals.{this, each};
+    ghost use Rattle.certificate.specs.Places.{place, unread, Gives, Passes};
+    ghost use Rattle.certificate.specs.Reader.{byte_at, this_at, each_at};
 
     /// A whole text.
     pub(crate) fn new(text: &'a [u8]) -> Self
@@ -50,9 +50,7 @@ impl<'a> Source<'a> {
 
     /// Takes the next byte.
     pub(crate) fn take(&mut self) -> Result<u8, CertError>
-        ensures taken { IfOk result (λ b. ByteTaken b (place self.old) (place self.new)) }
-        ensures at_end { IfErr result (λ e. ((place self.old).rest ≡ [])
-            × (e ≡ CertError.Wrong (Format (place self.old).line))) }
+        ensures read { Gives (λ b. b) result (byte_at (place self.old)) (place self.new) }
         ensures less { OnOk result (unread self.new < unread self.old) }
         ensures left { unread self.new ≤ unread self.old }
     {
@@ -68,8 +66,7 @@ impl<'a> Source<'a> {
 
     /// This byte.
     pub(crate) fn this(&mut self, byte: u8) -> Result<(), CertError>
-        ensures read { OnOk result (Reads (byte ∷ []) (place self.old) (this byte ∷ []) (place self.new) []) }
-        ensures refused { IfErr result (λ e. Refuses (place self.old) (this byte ∷ []) e) }
+        ensures read { Passes result (this_at byte (place self.old)) (place self.new) }
         ensures less { OnOk result (unread self.new < unread self.old) }
         ensures left { unread self.new ≤ unread self.old }
     {
@@ -82,8 +79,7 @@ impl<'a> Source<'a> {
 
     /// Each of these bytes.
     pub(crate) fn each(&mut self, bytes: &[u8]) -> Result<(), CertError>
-        ensures read { OnOk result (Reads bytes.now (place self.old) (each bytes.now) (place self.new) []) }
-        ensures refused { IfErr result (λ e. Refuses (place self.old) (each bytes.now) e) }
+        ensures read { Passes result (each_at bytes.now (place self.old)) (place self.new) }
         ensures left { unread self.new ≤ unread self.old }
     {
         for byte in bytes {

@@ -4,9 +4,7 @@ ghost use Rattle.std.specs.Prelude.{◌≡◌, ◌≢◌, ◌<◌, ◌≤◌, �
 ghost use Rattle.std.specs.Prelude.{decimal, All, IfOk, IfErr, MatchOption};
 ghost use Rattle.std.specs.Char.{is_ascii_digit};
 ghost use Rattle.message_tree.specs.Symbols.{wire_text, kind_word};
-ghost use Rattle.certificate.specs.Refusals as expect;
-ghost use Rattle.certificate.specs.Refusals.{item_of, kind_of_letter, fault_expected};
-ghost use Rattle.certificate.specs.Texts.{GoesOn, fault_text};
+ghost use Rattle.certificate.specs.Reader.{item_of, kind_of_letter};
 
 use crate::errors::CertError;
 use crate::sources::Source;
@@ -15,14 +13,12 @@ use message_tree::{Item, Kind};
 use std::alloc::Global;
 
 impl Source<'_> {
-    ghost use Rattle.certificate.specs.Places.{place, unread, Reads, Refuses, DigitsRead};
+    ghost use Rattle.certificate.specs.Places.{place, unread, parts_of, Gives};
+    ghost use Rattle.certificate.specs.Reader.{number_at, digits_at, wire_at, fault_at, kind_at};
 
     /// A decimal number without leading zeros, below 2 to the power 32, and the byte that ends it.
     pub(crate) fn number(&mut self, end: u8) -> Result<u32, CertError>
-        requires { is_ascii_digit end ≡ false }
-        ensures read { IfOk result (λ n. Reads (decimal n ++ end ∷ [])
-            (place self.old) (expect.number end ∷ []) (place self.new) []) }
-        ensures refused { IfErr result (λ e. Refuses (place self.old) (expect.number end ∷ []) e) }
+        ensures { Gives (λ n. n) result (number_at end (place self.old)) (place self.new) }
     {
         let refusal = self.format();
         match self.take()? {
@@ -37,11 +33,8 @@ impl Source<'_> {
 
     // What follows the digits of this number, and the byte that ends it.
     fn digits(&mut self, first: u32, end: u8) -> Result<u32, CertError>
-        requires positive { 0 < first }
-        requires no_digit { is_ascii_digit end ≡ false }
-        ensures read { IfOk result (λ n. DigitsRead first n end
-            (place self.old) (expect.digits first end ∷ []) (place self.new)) }
-        ensures refused { IfErr result (λ e. Refuses (place self.old) (expect.digits first end ∷ []) e) }
+        ensures { Gives (λ n. n) result
+            (digits_at first end (place self.old).line (place self.old).rest) (place self.new) }
     {
         let mut number = first;
         'digits: loop {
@@ -59,11 +52,7 @@ impl Source<'_> {
 
     /// One or more symbols of items that a wire goes on with, and a space.
     pub(crate) fn wire(&mut self, alloc: Global) -> Result<Vec<Item>, CertError>
-        ensures read { IfOk result (λ it. Reads (wire_text it.items ++ 32 ∷ [])
-            (place self.old) (expect.wire ∷ []) (place self.new) []) }
-        ensures some { IfOk result (λ it. it.items ≢ []) }
-        ensures goes_on { IfOk result (λ it. All GoesOn it.items) }
-        ensures refused { IfErr result (λ e. Refuses (place self.old) (expect.wire ∷ []) e) }
+        ensures { Gives (λ it. it.items) result (wire_at (place self.old)) (place self.new) }
     {
         let refusal = self.format();
         let Some(first) = item_of(self.take()?) else {
@@ -85,12 +74,9 @@ impl Source<'_> {
     }
 
     /// A wire, two kinds and the end of the line.
+    #[tactic(auto, unfolding(crate::specs::Reader::fault_at))]
     pub(crate) fn fault(&mut self, alloc: Global) -> Result<Fault, CertError>
-        ensures read { IfOk result (λ it. Reads (fault_text it.wire.items it.first it.second)
-            (place self.old) fault_expected (place self.new) []) }
-        ensures some { IfOk result (λ it. it.wire.items ≢ []) }
-        ensures goes_on { IfOk result (λ it. All GoesOn it.wire.items) }
-        ensures refused { IfErr result (λ e. Refuses (place self.old) fault_expected e) }
+        ensures { Gives parts_of result (fault_at (place self.old)) (place self.new) }
     {
         let wire = self.wire(alloc)?;
         let first = self.kind()?;
@@ -106,9 +92,7 @@ impl Source<'_> {
 
     /// The word of a kind.
     pub(crate) fn kind(&mut self) -> Result<Kind, CertError>
-        ensures read { IfOk result (λ kind. Reads (kind_word kind)
-            (place self.old) (expect.kind ∷ []) (place self.new) []) }
-        ensures refused { IfErr result (λ e. Refuses (place self.old) (expect.kind ∷ []) e) }
+        ensures { Gives (λ kind. kind) result (kind_at (place self.old)) (place self.new) }
     {
         let refusal = self.format();
         let Some(kind) = kind_of_letter(self.take()?) else {

@@ -1,5 +1,4 @@
-use Rattle.certificate.proofs.EitherText.{not_both, one_refusal, one_of_both}
-use Rattle.certificate.proofs.SameText.{one_value}
+use Rattle.certificate.proofs.EitherText.{not_both, one_refusal, one_of_both, one_value}
 use Rattle.certificate.proofs.laws.texts_have_one_reading.Goals as goal
 
 pub returns-clause-one_value : goal.returns-clause-one_value

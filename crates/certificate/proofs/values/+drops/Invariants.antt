@@ -1,5 +1,5 @@
 -- How much there is left to let go of: four for each unit of weight, and a rank for each function.
-use Rattle.std.proofs.Common.{ℕ, ◌+◌, ◌*◌, ◌≤◌}
+use Rattle.std.proofs.Common.{◌+◌, ◌*◌, ◌≤◌}
 use Rattle.certificate.specs.Drops.{weight, node_weight}
 use Rattle.certificate.specs.Proofs.{proof_tree}
 use Rattle.certificate.proofs.values.+drops.Given as goal
