@@ -1,5 +1,6 @@
 -- What a certificate says as far as it has been read: the proofs so far, of which each stands on a line of its own.
-use Rattle.std.specs.Prelude.{◌≡◌, ◌⊎◌, ℕ, Option, Some, None, Result, Ok, Err, MatchResult, List, [], ◌∷◌, ◌++◌, length, codes, All}
+use Rattle.std.specs.Prelude.{◌≡◌, ◌⊎◌, ℕ, Option, Some, None, Result, Ok, Err, MatchResult, List, [], ◌∷◌, ◌++◌}
+use Rattle.std.specs.Prelude.{length, codes, All}
 use Rattle.certificate.specs.declared.errors.CertError.{CertError}
 use Rattle.certificate.specs.declared.errors.CertError.TheVariants.{Wrong, NoMemory}
 use Rattle.certificate.specs.declared.errors.CertFault.{CertFault}

@@ -1,5 +1,5 @@
-// What a proof is worth, and that a text has one reading. Each function is a law: it does nothing, and its contract is
-// the theorem.
+// What a proof is worth, how a text is read, and that it has one reading. Each function is a law: it does nothing, and
+// its contract is the theorem.
 
 ghost use Rattle.std.specs.Prelude.{◌≡◌, ◌⊎◌, ℕ, List, Ok};
 ghost use Rattle.message_tree.specs.Texts.{Sender, SenderText};

@@ -1,6 +1,6 @@
 // What is left of a certificate text, byte by byte.
 
-ghost use Rattle.std.specs.Prelude.{◌≡◌, ◌<◌, ◌≤◌, ◌+◌, ◌^◌, [], ◌∷◌, ◌==◌, length, IfOk, IfErr, OnOk};
+ghost use Rattle.std.specs.Prelude.{◌≡◌, ◌<◌, ◌≤◌, ◌+◌, ◌^◌, ◌==◌, length, OnOk};
 ghost use Rattle.certificate.specs.declared.errors.CertFault.TheVariants.{Format, TooDeep};
 
 use crate::errors::{CertError, CertFault};

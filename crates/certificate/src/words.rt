@@ -1,9 +1,7 @@
 // Numbers, wires and kinds.
 
-ghost use Rattle.std.specs.Prelude.{◌≡◌, ◌≢◌, ◌<◌, ◌≤◌, ◌^◌, ◌+◌, ◌*◌, ◌-◌, ◌&&◌, [], ◌∷◌, ◌++◌, nat_lt, true, false};
-ghost use Rattle.std.specs.Prelude.{decimal, All, IfOk, IfErr, MatchOption};
+ghost use Rattle.std.specs.Prelude.{◌≡◌, ◌<◌, ◌^◌, ◌+◌, ◌*◌, ◌-◌, ◌&&◌, nat_lt, true, false, MatchOption};
 ghost use Rattle.std.specs.Char.{is_ascii_digit};
-ghost use Rattle.message_tree.specs.Symbols.{wire_text, kind_word};
 ghost use Rattle.certificate.specs.Reader.{item_of, kind_of_letter};
 
 use crate::errors::CertError;
@@ -13,7 +11,7 @@ use message_tree::{Item, Kind};
 use std::alloc::Global;
 
 impl Source<'_> {
-    ghost use Rattle.certificate.specs.Places.{place, unread, parts_of, Gives};
+    ghost use Rattle.certificate.specs.Places.{place, parts_of, Gives};
     ghost use Rattle.certificate.specs.Reader.{number_at, digits_at, wire_at, fault_at, kind_at};
 
     /// A decimal number without leading zeros, below 2 to the power 32, and the byte that ends it.
