@@ -13,7 +13,7 @@ use message_tree::Item;
 use std::time::Clock;
 
 /// What a player does next.
-#[derive(Clone, Copy, Debug, Drop, PartialEq, Eq)]
+#[derive(Clone, Copy, Drop, PartialEq, Eq)]
 pub(crate) enum Stage {
     /// It puts in its slot.
     Puts,

@@ -48,7 +48,7 @@ fn push_wrong<F: Read + Seek + Drop>(
 }
 
 // A token that is wrong, and the part of the file in which it stands.
-#[derive(Debug, Drop)]
+#[derive(Drop)]
 struct Found {
     wrong: Wrong,
     place: Place,
@@ -104,7 +104,7 @@ fn is_of(wrong: Wrong, place: Place, refusal: VcdError) -> bool {
 }
 
 // Looks for the first token that is wrong.
-#[derive(Debug, Drop)]
+#[derive(Drop)]
 struct Tracer {
     judge: Judge,
     found: Option<(Wrong, Place)>,

@@ -3,7 +3,7 @@
 use crate::tokens::Place;
 
 /// Why a token cannot stand in its place.
-#[derive(Clone, Copy, Debug, PartialEq, Eq)]
+#[derive(Clone, Copy)]
 pub(crate) enum Wrong {
     /// Before the end of the definitions: no command.
     NoCommand,
@@ -36,7 +36,7 @@ pub(crate) enum Wrong {
 }
 
 /// What the end of a dump can leave open.
-#[derive(Clone, Copy, Debug, PartialEq, Eq)]
+#[derive(Clone, Copy)]
 pub(crate) enum Opened {
     Command,
     Var,
@@ -46,7 +46,7 @@ pub(crate) enum Opened {
 }
 
 /// What a token says.
-#[derive(Clone, Copy, Debug, PartialEq, Eq)]
+#[derive(Clone, Copy)]
 pub(crate) enum Said {
     Nothing,
     /// It is the name of a signal, and whether this is one of one bit.
@@ -57,7 +57,7 @@ pub(crate) enum Said {
 }
 
 // What the next token belongs to, and where that began.
-#[derive(Clone, Copy, Debug)]
+#[derive(Clone, Copy)]
 enum Doing {
     Nothing,
     Skipping(Place),
@@ -69,7 +69,7 @@ enum Doing {
 }
 
 /// What the tokens of a dump have said so far.
-#[derive(Clone, Copy, Debug)]
+#[derive(Clone, Copy)]
 pub(crate) struct Judge {
     doing: Doing,
     // where a block of value changes began that has not ended
@@ -286,7 +286,7 @@ fn vector(digits: &[u8]) -> Said {
     let mut found = Said::Nothing;
     for digit in digits {
         if !is_level(*digit) {
-            found = if is_further_state(*digit) && found == Said::Nothing {
+            found = if is_further_state(*digit) && matches!(found, Said::Nothing) {
                 Said::Wrong(Wrong::NineStates)
             } else {
                 Said::Wrong(Wrong::BadVector)

@@ -11,7 +11,7 @@ const COMPARED: usize = 64;
 const OTHERS: usize = 1_000;
 
 /// The names that are nearest to a wanted one.
-#[derive(Debug, Drop)]
+#[derive(Drop)]
 pub(crate) struct Nearest {
     wanted: Vec<u8>,
     // each with its distance, the nearest first

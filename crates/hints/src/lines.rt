@@ -3,7 +3,7 @@
 use std::alloc::{AllocError, Global};
 
 /// Lines of text, each of which begins with `hint:`.
-#[derive(Debug, Drop)]
+#[derive(Drop)]
 pub(crate) struct Lines {
     text: String,
 }

@@ -28,7 +28,7 @@ impl<'a> Names<'a> {
 }
 
 // The signals of one bit that a dump declares.
-#[derive(Debug, Drop)]
+#[derive(Drop)]
 struct Declared {
     alloc: Global,
     judge: Judge,

@@ -3,7 +3,7 @@
 use std::alloc::{AllocError, Global};
 
 /// A word, a `;`, or a character that belongs to no token: where it begins in the text, and where it ends.
-#[derive(Clone, Copy, Debug, PartialEq, Eq)]
+#[derive(Clone, Copy)]
 pub(crate) struct Piece {
     pub(crate) start: usize,
     pub(crate) end: usize,

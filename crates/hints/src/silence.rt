@@ -29,7 +29,7 @@ pub fn on_silence<F: Read + Seek + Drop>(
 }
 
 // What the capture shows of the two lines.
-#[derive(Clone, Copy, Debug)]
+#[derive(Clone, Copy)]
 struct Seen {
     samples: u64,
     // samples with both levels known, and with both HIGH
@@ -125,7 +125,7 @@ fn look<F: Read + Seek>(alloc: Global, file: &mut F, names: Names<'_>) -> io::Re
 }
 
 // The samples of a capture, counted and followed with the two lines exchanged.
-#[derive(Debug, Drop)]
+#[derive(Drop)]
 struct Looking {
     alloc: Global,
     reader: Reader,
@@ -216,7 +216,7 @@ fn count(seen: &mut Seen, scl: Level, sda: Level) {
 }
 
 // Counts the signals of one bit that have the names of the two lines.
-#[derive(Debug, Drop)]
+#[derive(Drop)]
 struct Counting {
     judge: Judge,
     scl: Vec<u8>,

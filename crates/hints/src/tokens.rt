@@ -8,7 +8,7 @@ use std::io;
 const KEPT: usize = 256;
 
 /// Where a token begins: how many bytes stand before it, and on which line it is.
-#[derive(Clone, Copy, Debug, PartialEq, Eq)]
+#[derive(Clone, Copy)]
 pub(crate) struct Place {
     pub(crate) offset: u64,
     pub(crate) line: u64,
@@ -21,7 +21,7 @@ pub(crate) trait Sink {
 }
 
 /// Cuts blocks into tokens and hands these on.
-#[derive(Debug, Drop)]
+#[derive(Drop)]
 pub(crate) struct Cutter<L> {
     sink: L,
     // the first bytes of the token that has not ended, and where it began

@@ -16,7 +16,7 @@ use plan_core::{Name, NameError};
 use std::alloc::Global;
 
 /// What is left of a plan text, and how many nodes of the message have been read.
-#[derive(Debug, Drop)]
+#[derive(Drop)]
 pub(crate) struct Source<'a> {
     pub(crate) alloc: Global,
     pub(crate) tokens: Tokens<'a>,

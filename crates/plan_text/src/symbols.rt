@@ -8,7 +8,7 @@ ghost use Rattle.plan_text.specs.Tokens as tokens;
 use crate::errors::PlanError;
 
 /// A word that the grammar has in fixed places.
-#[derive(Clone, Copy, Debug, PartialEq, Eq)]
+#[derive(Clone, Copy)]
 pub(crate) enum Keyword {
     Plan,
     Message,
@@ -23,7 +23,7 @@ pub(crate) enum Keyword {
 }
 
 /// What stands at one place of a plan text, after the white space and the comments before it.
-#[derive(Clone, Copy, Debug)]
+#[derive(Clone, Copy)]
 pub(crate) enum Symbol<'a> {
     /// A maximal run of letters, digits and `_`, and of `.` where dots count as parts of words, that is a keyword.
     Keyword(Keyword),
@@ -40,7 +40,7 @@ pub(crate) enum Symbol<'a> {
 }
 
 /// A symbol with its line.
-#[derive(Clone, Copy, Debug)]
+#[derive(Clone, Copy)]
 pub(crate) struct Token<'a> {
     pub(crate) symbol: Symbol<'a>,
     pub(crate) line: u64,

@@ -8,7 +8,7 @@ ghost use Rattle.plan_text.specs.Tokens.{Dots, tokens_of, dots_now, one_later, i
 use crate::symbols::{Symbol, Token, word_symbol};
 
 /// What is left of a plan text.
-#[derive(Debug, Drop)]
+#[derive(Drop)]
 pub(crate) struct Tokens<'a> {
     rest: &'a [u8],
     line: u64,

@@ -11,7 +11,7 @@ use crate::symbols::{Keyword, Symbol};
 use crate::tokens::Tokens;
 
 /// The version of a plan text.
-#[derive(Clone, Copy, Debug, PartialEq, Eq)]
+#[derive(Clone, Copy, PartialEq, Eq)]
 pub(crate) enum Version {
     /// With neither `never` nor ranges of counts.
     One,

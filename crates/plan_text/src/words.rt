@@ -69,7 +69,7 @@ pub(crate) fn count_ends(word: &[u8]) -> Option<CountEnds<'_>>
 }
 
 /// The ends of a count, as they are written.
-#[derive(Clone, Copy, Debug)]
+#[derive(Clone, Copy)]
 pub(crate) struct CountEnds<'a> {
     least: &'a [u8],
     greatest: &'a [u8],
@@ -92,7 +92,7 @@ impl CountEnds<'_> {
 }
 
 // The bits of a word, those of the last character lowest. `known` has a 1 where the word has `0` or `1`.
-#[derive(Clone, Copy, Debug)]
+#[derive(Clone, Copy)]
 struct Mask {
     known: u8,
     value: u8,

@@ -4,7 +4,7 @@ use message_tree::{Item, Kind};
 use std::alloc::{AllocError, Global};
 
 /// What a certificate text says, or why it is none.
-#[derive(Debug, Drop)]
+#[derive(Drop)]
 pub enum Reading<'a> {
     /// The lines of the proofs, as many as the second line says.
     Proofs(Vec<&'a [u8]>),
@@ -18,7 +18,7 @@ pub enum Reading<'a> {
 }
 
 /// A fault that a certificate shows of a pair.
-#[derive(Debug, Drop)]
+#[derive(Drop)]
 pub struct Flaw {
     pub pair: u64,
     pub wire: Vec<Item>,
@@ -27,7 +27,7 @@ pub struct Flaw {
 }
 
 // What is wrong with a line.
-#[derive(Clone, Copy, Debug, PartialEq, Eq)]
+#[derive(Clone, Copy, PartialEq, Eq)]
 enum Wrong {
     Format,
     TooDeep,

@@ -15,7 +15,7 @@ use std::str;
 use vcd_read::{Signal, VcdError};
 
 /// What a command answers: its status, what it writes, and why it is refused, where it is.
-#[derive(Debug, PartialEq, Drop)]
+#[derive(PartialEq, Drop)]
 pub struct Answer {
     pub status: u8,
     pub out: String,

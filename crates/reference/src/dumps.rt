@@ -6,7 +6,7 @@ use std::str;
 use vcd_read::{Level, Signal, VcdError};
 
 // A token, and the line on which it stands.
-#[derive(Clone, Copy, Debug)]
+#[derive(Clone, Copy)]
 struct Token<'a> {
     text: &'a [u8],
     line: u64,
@@ -23,7 +23,7 @@ impl Token<'_> {
 }
 
 // The codes of SCL and SDA: empty until they are declared.
-#[derive(Debug, Drop)]
+#[derive(Drop)]
 struct Codes {
     scl: Vec<u8>,
     sda: Vec<u8>,

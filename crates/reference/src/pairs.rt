@@ -8,7 +8,7 @@ use message_tree::{Item, Kind};
 use std::alloc::{AllocError, Global};
 
 /// Two senders that both have put just this wire, and what each puts next: the two must not meet.
-#[derive(Debug, Drop)]
+#[derive(Drop)]
 pub struct Clash {
     pub wire: Vec<Item>,
     pub first: Kind,
@@ -123,7 +123,7 @@ fn end_of(words: &[&[u8]], wire: &[Item]) -> Option<Place> {
 // ---- proofs
 
 // What is still to be proved.
-#[derive(Clone, Copy, Debug)]
+#[derive(Clone, Copy)]
 enum Due {
     // What the two send from these words on.
     From(usize, usize),

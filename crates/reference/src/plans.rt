@@ -4,7 +4,7 @@ use crate::senders::count_ends;
 use std::alloc::{AllocError, AllocFailed, Global};
 
 /// The items of a plan. What a message sends is kept as its words, from `write` or `read` to its last `stop`.
-#[derive(Debug, Drop)]
+#[derive(Drop)]
 pub struct Items<'a> {
     pub messages: Vec<Named<'a>>,
     pub controllers: Vec<Controller<'a>>,
@@ -14,21 +14,21 @@ pub struct Items<'a> {
 }
 
 /// A message or an interrupt, and its words: of an interrupt `interrupt` and the address.
-#[derive(Debug, Drop)]
+#[derive(Drop)]
 pub struct Named<'a> {
     pub name: &'a [u8],
     pub words: Vec<&'a [u8]>,
 }
 
 /// A controller, and the places of its messages.
-#[derive(Debug, Drop)]
+#[derive(Drop)]
 pub struct Controller<'a> {
     pub name: &'a [u8],
     pub sends: Vec<usize>,
 }
 
 /// Why a text is no plan: the number of the code, 1 for P1, and the line.
-#[derive(Clone, Copy, Debug, PartialEq, Eq)]
+#[derive(Clone, Copy, PartialEq, Eq)]
 pub enum Refusal {
     At { code: u8, line: u64 },
     NoMemory,
@@ -47,7 +47,7 @@ impl<T: Drop> From<AllocFailed<T>> for Refusal {
 }
 
 // A word, and the line on which it stands.
-#[derive(Clone, Copy, Debug)]
+#[derive(Clone, Copy)]
 struct Word<'a> {
     text: &'a [u8],
     line: u64,
@@ -67,7 +67,7 @@ impl Word<'_> {
 }
 
 // What follows the last word.
-#[derive(Clone, Copy, Debug)]
+#[derive(Clone, Copy)]
 enum Ending {
     // The end of the text, on this line.
     Text(u64),
@@ -76,7 +76,7 @@ enum Ending {
 }
 
 // The words of a text, of which so many have been read.
-#[derive(Debug, Drop)]
+#[derive(Drop)]
 struct Reading<'a> {
     words: Vec<Word<'a>>,
     ending: Ending,
@@ -311,7 +311,7 @@ fn refuse_name(name: Word<'_>, known: bool, full: bool) -> Result<(), Refusal> {
 }
 
 // What is due of a message, and how many bytes stand on the path before it.
-#[derive(Clone, Copy, Debug)]
+#[derive(Clone, Copy)]
 enum Due {
     Frame(u32),
     Payload(u32),

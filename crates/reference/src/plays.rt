@@ -7,7 +7,7 @@ use plan_core::Plan;
 use std::alloc::{AllocError, Global};
 
 /// How a play ended.
-#[derive(Debug, Drop)]
+#[derive(Drop)]
 pub struct Ending {
     pub wire: Vec<Item>,
     /// The participants that were live at the end, in the order of the starters.

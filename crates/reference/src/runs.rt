@@ -6,7 +6,7 @@ use plan_core::{Participant, Plan};
 use std::alloc::{AllocError, Global};
 
 /// Two participants that meet with items that clash, and the wire before.
-#[derive(Debug, Drop)]
+#[derive(Drop)]
 pub struct Meeting {
     pub wire: Vec<Item>,
     /// The lower number of the two.

@@ -4,7 +4,7 @@ use message_tree::Item;
 
 /// A place in the words of a sender: which word, how many of its slots lie after, and of a count how many bytes were read.
 /// After the last word all is over.
-#[derive(Clone, Copy, Debug, PartialEq, Eq)]
+#[derive(Clone, Copy)]
 pub struct Place {
     pub word: usize,
     pub slot: usize,
@@ -12,7 +12,7 @@ pub struct Place {
 }
 
 /// What a word is.
-#[derive(Clone, Copy, Debug, PartialEq, Eq)]
+#[derive(Clone, Copy, PartialEq, Eq)]
 pub enum Form {
     Write,
     Read,

@@ -9,7 +9,7 @@ use std::thread::Threads;
 use vcd_read::Reader;
 
 /// What is read of a dump, what is known of the bus, and the lines so far.
-#[derive(Debug, Drop)]
+#[derive(Drop)]
 pub(crate) struct Capture {
     pub(crate) reader: Reader,
     pub(crate) follower: Follower,

@@ -13,7 +13,7 @@ use std::alloc::{AllocError, Global};
 use std::thread::Threads;
 
 /// The lines of the transactions so far, how many of them a STOP ended, and how many of these nobody explains.
-#[derive(Debug, Drop)]
+#[derive(Drop)]
 pub(crate) struct Telling {
     pub(crate) lines: String,
     pub(crate) stopped: u64,
