@@ -1,7 +1,7 @@
 // The commands, from the bytes of their files to what they write and their status.
 
 use crate::benches::{Player, play_on};
-use crate::captures::{events_of, samples_of, transactions_of};
+use crate::captures::{Word, events_of, samples_of, transactions_of};
 use crate::certificates::{Flaw, Reading, read_certificate};
 use crate::dumps::words_of;
 use crate::pairs::{Clash, clashes_so, first_clash, is_proved, proof_of};
@@ -31,6 +31,13 @@ struct Sender {
     place: usize,
 }
 
+// The items of a plan, and who may start.
+#[derive(Drop)]
+struct Opened<'a> {
+    items: Items<'a>,
+    senders: Vec<Sender>,
+}
+
 // Two who may start together.
 #[derive(Clone, Copy)]
 struct Pair<'a> {
@@ -40,16 +47,17 @@ struct Pair<'a> {
 
 /// `twire check PLAN`.
 pub fn check(alloc: Global, plan: &[u8]) -> Result<Answer, AllocError> {
-    let items = match items_of(alloc, plan) {
-        Ok(items) => items,
-        Err(refusal) => return refused_plan(alloc, refusal),
-    };
-    let senders = senders_of(alloc, &items)?;
-    let pairs = pairs_of(alloc, &items, &senders)?;
+    match plan_opened(alloc, plan)? {
+        Ok(plan) => check_pairs(alloc, &plan, plan.pairs(alloc)?.as_slice()),
+        Err(refusal) => refused_plan(alloc, refusal),
+    }
+}
+
+fn check_pairs(alloc: Global, plan: &Opened<'_>, pairs: &[Pair<'_>]) -> Result<Answer, AllocError> {
     let mut out = String::new(alloc);
     let mut faults = 0usize;
     for (i, pair) in pairs.iter().enumerate() {
-        if let Some(clash) = clash_of(alloc, &items, pair)? {
+        if let Some(clash) = plan.clash_of(alloc, pair)? {
             faults = faults.saturating_add(1);
             push_fault(&mut out, i, pair, &clash)?;
         }
@@ -83,21 +91,23 @@ fn push_fault(
 
 /// `twire certify PLAN`.
 pub fn certify(alloc: Global, plan: &[u8]) -> Result<Answer, AllocError> {
-    let items = match items_of(alloc, plan) {
-        Ok(items) => items,
-        Err(refusal) => return refused_plan(alloc, refusal),
-    };
-    let senders = senders_of(alloc, &items)?;
-    let pairs = pairs_of(alloc, &items, &senders)?;
+    match plan_opened(alloc, plan)? {
+        Ok(plan) => certify_pairs(alloc, &plan, plan.pairs(alloc)?.as_slice()),
+        Err(refusal) => refused_plan(alloc, refusal),
+    }
+}
+
+fn certify_pairs(
+    alloc: Global,
+    plan: &Opened<'_>,
+    pairs: &[Pair<'_>],
+) -> Result<Answer, AllocError> {
     let mut proofs = format!(in alloc; "cert 1\npairs {}\n", pairs.len())?;
     for (i, pair) in pairs.iter().enumerate() {
-        if let Some(clash) = clash_of(alloc, &items, pair)? {
-            let mut out = format!(in alloc; "cert 1\nfault {i} ")?;
-            push_wire(&mut out, &clash.wire)?;
-            writeln!(out, " {} {}", word(clash.first), word(clash.second))?;
-            return answered(alloc, 1, out);
+        if let Some(clash) = plan.clash_of(alloc, pair)? {
+            return answered(alloc, 1, flaw_text(alloc, i, &clash)?);
         }
-        if let (Some(x), Some(y)) = (sent(&items, pair.x), sent(&items, pair.y)) {
+        if let (Some(x), Some(y)) = (plan.sent(pair.x), plan.sent(pair.y)) {
             proofs.push_str(proof_of(alloc, x, y)?.as_str())?;
         }
         proofs.push('\n')?;
@@ -105,65 +115,73 @@ pub fn certify(alloc: Global, plan: &[u8]) -> Result<Answer, AllocError> {
     answered(alloc, 0, proofs)
 }
 
+fn flaw_text(alloc: Global, i: usize, clash: &Clash) -> Result<String, AllocError> {
+    let mut out = format!(in alloc; "cert 1\nfault {i} ")?;
+    push_wire(&mut out, &clash.wire)?;
+    writeln!(out, " {} {}", word(clash.first), word(clash.second))?;
+    Ok(out)
+}
+
 /// `twire verify PLAN CERT`.
 pub fn verify(alloc: Global, plan: &[u8], cert: &[u8]) -> Result<Answer, AllocError> {
-    let items = match items_of(alloc, plan) {
-        Ok(items) => items,
-        Err(refusal) => return refused_plan(alloc, refusal),
-    };
-    let senders = senders_of(alloc, &items)?;
-    let pairs = pairs_of(alloc, &items, &senders)?;
-    match read_certificate(alloc, cert)? {
-        Reading::Format(line) => answered(alloc, 2, format!(in alloc; "wrong C1 line {line}\n")?),
-        Reading::TooDeep(line) => answered(alloc, 2, format!(in alloc; "wrong C3 line {line}\n")?),
-        Reading::Count => answered(alloc, 2, format!(in alloc; "wrong C2\n")?),
-        Reading::Flaw(flaw) => judge_flaw(alloc, &items, &pairs, &flaw),
-        Reading::Proofs(lines) => judge_proofs(alloc, &items, &pairs, &lines),
+    match plan_opened(alloc, plan)? {
+        Ok(plan) => verify_pairs(alloc, &plan, plan.pairs(alloc)?.as_slice(), cert),
+        Err(refusal) => refused_plan(alloc, refusal),
     }
+}
+
+fn verify_pairs(
+    alloc: Global,
+    plan: &Opened<'_>,
+    pairs: &[Pair<'_>],
+    cert: &[u8],
+) -> Result<Answer, AllocError> {
+    match read_certificate(alloc, cert)? {
+        Reading::Format(line) => judged(alloc, format!(in alloc; "wrong C1 line {line}\n")?),
+        Reading::TooDeep(line) => judged(alloc, format!(in alloc; "wrong C3 line {line}\n")?),
+        Reading::Count => judged(alloc, format!(in alloc; "wrong C2\n")?),
+        Reading::Flaw(flaw) => judge_flaw(alloc, plan, pairs, &flaw),
+        Reading::Proofs(lines) => judge_proofs(alloc, plan, pairs, &lines),
+    }
+}
+
+fn judged(alloc: Global, out: String) -> Result<Answer, AllocError> {
+    answered(alloc, 2, out)
 }
 
 fn judge_flaw(
     alloc: Global,
-    items: &Items<'_>,
+    plan: &Opened<'_>,
     pairs: &[Pair<'_>],
     flaw: &Flaw,
 ) -> Result<Answer, AllocError> {
-    let Flaw {
-        pair: number,
-        wire,
-        first,
-        second,
-    } = flaw;
-    if let Ok(place) = usize::try_from(*number)
+    let number = flaw.pair;
+    if let Ok(place) = usize::try_from(number)
         && let Some(pair) = pairs.get(place)
-        && let (Some(x), Some(y)) = (sent(items, pair.x), sent(items, pair.y))
-        && clashes_so(x, y, wire, *first, *second)
+        && let (Some(x), Some(y)) = (plan.sent(pair.x), plan.sent(pair.y))
+        && clashes_so(x, y, &flaw.wire, flaw.first, flaw.second)
     {
         return answered(alloc, 1, format!(in alloc; "accepted unsafe\n")?);
     }
-    answered(alloc, 2, format!(in alloc; "wrong C5 pair {number}\n")?)
+    judged(alloc, format!(in alloc; "wrong C5 pair {number}\n")?)
 }
 
 fn judge_proofs(
     alloc: Global,
-    items: &Items<'_>,
+    plan: &Opened<'_>,
     pairs: &[Pair<'_>],
     lines: &[&[u8]],
 ) -> Result<Answer, AllocError> {
     if lines.len() != pairs.len() {
-        return answered(alloc, 2, format!(in alloc; "wrong C2\n")?);
+        return judged(alloc, format!(in alloc; "wrong C2\n")?);
     }
-    for (i, pair) in pairs.iter().enumerate() {
-        let line: &[u8] = match lines.get(i) {
-            Some(line) => line,
-            None => b"",
-        };
-        let is_right = match (sent(items, pair.x), sent(items, pair.y)) {
+    for (i, (pair, line)) in pairs.iter().zip(lines).enumerate() {
+        let is_right = match (plan.sent(pair.x), plan.sent(pair.y)) {
             (Some(x), Some(y)) => is_proved(alloc, line, x, y)?,
             _ => false,
         };
         if !is_right {
-            return answered(alloc, 2, format!(in alloc; "wrong C5 pair {i}\n")?);
+            return judged(alloc, format!(in alloc; "wrong C5 pair {i}\n")?);
         }
     }
     answered(alloc, 0, format!(in alloc; "accepted safe\n")?)
@@ -177,22 +195,32 @@ pub fn capture(
     scl: &str,
     sda: &str,
 ) -> Result<Answer, AllocError> {
-    let items = match items_of(alloc, plan) {
-        Ok(items) => items,
-        Err(refusal) => return refused_plan(alloc, refusal),
-    };
-    let words = match words_of(alloc, dump, scl, sda) {
-        Ok(words) => words,
-        Err(refusal) => return refused_dump(alloc, refusal),
-    };
-    let senders = senders_of(alloc, &items)?;
-    let events = events_of(alloc, &samples_of(alloc, &words)?)?;
+    match plan_opened(alloc, plan)? {
+        Ok(plan) => match words_of(alloc, dump, scl, sda) {
+            Ok(words) => heard(alloc, &plan, &words),
+            Err(refusal) => refused_dump(alloc, refusal),
+        },
+        Err(refusal) => refused_plan(alloc, refusal),
+    }
+}
+
+fn heard(alloc: Global, plan: &Opened<'_>, words: &[Word]) -> Result<Answer, AllocError> {
+    let samples = samples_of(alloc, words)?;
+    let events = events_of(alloc, &samples)?;
+    explained(alloc, plan, transactions_of(alloc, &events)?.as_slice())
+}
+
+fn explained(
+    alloc: Global,
+    plan: &Opened<'_>,
+    transactions: &[Transaction],
+) -> Result<Answer, AllocError> {
     let mut out = String::new(alloc);
     let mut stopped = 0u32;
     let mut unexplained = 0u32;
-    for transaction in transactions_of(alloc, &events)? {
-        let who = who_explains(alloc, &items, &senders, &transaction)?;
-        push_transaction(&mut out, &transaction, who.as_str())?;
+    for transaction in transactions {
+        let who = plan.who_explains(alloc, transaction)?;
+        push_transaction(&mut out, transaction, who.as_str())?;
         if let Until::Stopped(_) = transaction.until {
             stopped = stopped.saturating_add(1);
             if who.is_empty() {
@@ -214,31 +242,29 @@ pub fn bench(
     fill: bool,
     answers: &str,
 ) -> Result<Answer, AllocError> {
-    let items = match items_of(alloc, plan) {
-        Ok(items) => items,
-        Err(refusal) => return refused_plan(alloc, refusal),
-    };
     let verified = verify(alloc, plan, cert)?;
     if verified.status != 0 {
         return Ok(verified);
     }
-    let senders = senders_of(alloc, &items)?;
-    match chosen(alloc, &items, &senders, starters)? {
-        Ok(chosen) => rehearsed(alloc, &items, &chosen, fill, answers),
-        Err(code) => refused(alloc, format!(in alloc; "B{code}")?),
+    match plan_opened(alloc, plan)? {
+        Ok(plan) => match plan.chosen(alloc, starters)? {
+            Ok(chosen) => rehearsed(alloc, &plan, &chosen, fill, answers),
+            Err(code) => refused(alloc, format!(in alloc; "B{code}")?),
+        },
+        Err(refusal) => refused_plan(alloc, refusal),
     }
 }
 
 fn rehearsed(
     alloc: Global,
-    items: &Items<'_>,
+    plan: &Opened<'_>,
     chosen: &[&Sender],
     fill: bool,
     answers: &str,
 ) -> Result<Answer, AllocError> {
     let mut players = Vec::new(alloc);
     for sender in chosen {
-        if let Some(words) = sent(items, sender) {
+        if let Some(words) = plan.sent(sender) {
             players.push(Player::new(words))?;
         }
     }
@@ -263,23 +289,22 @@ pub fn seats(
     starters: &str,
     answers: &str,
 ) -> Result<Answer, AllocError> {
-    let items = match items_of(alloc, plan) {
-        Ok(items) => items,
-        Err(refusal) => return refused_plan(alloc, refusal),
-    };
-    if certify(alloc, plan)?.status != 0 {
+    let certified = certify(alloc, plan)?;
+    if certified.status == 1 {
         return answered(alloc, 1, format!(in alloc; "accepted unsafe\n")?);
     }
-    let senders = senders_of(alloc, &items)?;
-    match chosen(alloc, &items, &senders, starters)? {
-        Ok(chosen) => said_by_seats(alloc, &items, &chosen, text(script), answers),
-        Err(code) => refused(alloc, format!(in alloc; "B{code}")?),
+    match plan_opened(alloc, plan)? {
+        Ok(plan) => match plan.chosen(alloc, starters)? {
+            Ok(chosen) => said_by_seats(alloc, &plan, &chosen, text(script), answers),
+            Err(code) => refused(alloc, format!(in alloc; "B{code}")?),
+        },
+        Err(refusal) => refused_plan(alloc, refusal),
     }
 }
 
 fn said_by_seats(
     alloc: Global,
-    items: &Items<'_>,
+    plan: &Opened<'_>,
     chosen: &[&Sender],
     script: &str,
     answers: &str,
@@ -291,7 +316,7 @@ fn said_by_seats(
         is_finished: false,
     };
     for sender in chosen {
-        if let Some(words) = sent(items, sender) {
+        if let Some(words) = plan.sent(sender) {
             let label = sender.label.as_str();
             bench.seats.push(Seat::new(alloc, label, words))?;
         }
@@ -302,8 +327,8 @@ fn said_by_seats(
 /// The labels of the participants, or none where the text spells no plan.
 pub fn labels(alloc: Global, plan: &[u8]) -> Result<Vec<String>, AllocError> {
     let mut labels = Vec::new(alloc);
-    if let Ok(items) = items_of(alloc, plan) {
-        for sender in senders_of(alloc, &items)? {
+    if let Ok(Opened { senders, .. }) = plan_opened(alloc, plan)? {
+        for sender in senders {
             labels.push(sender.label)?;
         }
     }
@@ -312,16 +337,20 @@ pub fn labels(alloc: Global, plan: &[u8]) -> Result<Vec<String>, AllocError> {
 
 /// The canonical spelling of a plan, or nothing where the text spells none.
 pub fn spelling(alloc: Global, plan: &[u8]) -> Result<String, AllocError> {
+    match items_of(alloc, plan) {
+        Ok(items) => spelt(alloc, &items),
+        Err(_) => Ok(String::new(alloc)),
+    }
+}
+
+fn spelt(alloc: Global, items: &Items<'_>) -> Result<String, AllocError> {
     let mut out = String::new(alloc);
-    let Ok(items) = items_of(alloc, plan) else {
-        return Ok(out);
-    };
     let Items {
         messages,
         controllers,
         interrupts,
         nevers,
-    } = &items;
+    } = items;
     for message in messages {
         write!(out, "message {}", text(message.name))?;
         push_words(&mut out, &message.words)?;
@@ -341,8 +370,8 @@ pub fn spelling(alloc: Global, plan: &[u8]) -> Result<String, AllocError> {
         out.push_str(" ;\n")?;
     }
     for (first, second) in nevers {
-        let first = controller_at(&items, *first);
-        writeln!(out, "never {first} {} ;", controller_at(&items, *second))?;
+        let first = controller_at(items, *first);
+        writeln!(out, "never {first} {} ;", controller_at(items, *second))?;
     }
     // Only a range of counts has dots.
     let is_second = !nevers.is_empty() || out.as_bytes().contains(&b'.');
@@ -365,6 +394,19 @@ fn push_words(out: &mut String, words: &[&[u8]]) -> Result<(), AllocError> {
 }
 
 // ---- senders
+
+fn plan_opened<'a>(
+    alloc: Global,
+    plan: &'a [u8],
+) -> Result<Result<Opened<'a>, Refusal>, AllocError> {
+    match items_of(alloc, plan) {
+        Ok(items) => {
+            let senders = senders_of(alloc, &items)?;
+            Ok(Ok(Opened { items, senders }))
+        }
+        Err(refusal) => Ok(Err(refusal)),
+    }
+}
 
 fn senders_of(alloc: Global, items: &Items<'_>) -> Result<Vec<Sender>, AllocError> {
     let mut senders = Vec::new(alloc);
@@ -406,76 +448,94 @@ fn controller_at<'a>(items: &Items<'a>, k: usize) -> &'a str {
     }
 }
 
-// The words of what a sender sends.
-fn sent<'a, 'b>(items: &'b Items<'a>, sender: &Sender) -> Option<&'b [&'a [u8]]> {
-    let named = match sender.controller {
-        Some(_) => items.messages.get(sender.place)?,
-        None => items.interrupts.get(sender.place)?,
-    };
-    Some(named.words.as_slice())
-}
+impl<'a> Opened<'a> {
+    // The words of what a sender sends.
+    fn sent<'b>(&'b self, sender: &Sender) -> Option<&'b [&'a [u8]]> {
+        let named = match sender.controller {
+            Some(_) => self.items.messages.get(sender.place)?,
+            None => self.items.interrupts.get(sender.place)?,
+        };
+        Some(named.words.as_slice())
+    }
 
-fn pairs_of<'a>(
-    alloc: Global,
-    items: &Items<'_>,
-    senders: &'a [Sender],
-) -> Result<Vec<Pair<'a>>, AllocError> {
-    let mut pairs = Vec::new(alloc);
-    for (i, x) in senders.iter().enumerate() {
-        for (j, y) in senders.iter().enumerate() {
-            if i < j && may_start_together(items, x, y) {
-                pairs.push(Pair { x, y })?;
+    fn pairs(&self, alloc: Global) -> Result<Vec<Pair<'_>>, AllocError> {
+        let mut pairs = Vec::new(alloc);
+        for (i, x) in self.senders.iter().enumerate() {
+            for (j, y) in self.senders.iter().enumerate() {
+                if i < j && self.may_start_together(x, y) {
+                    pairs.push(Pair { x, y })?;
+                }
             }
         }
+        Ok(pairs)
     }
-    Ok(pairs)
-}
 
-fn may_start_together(items: &Items<'_>, x: &Sender, y: &Sender) -> bool {
-    match (x.controller, y.controller) {
-        (Some(c), Some(d)) => {
-            c != d && !items.nevers.contains(&(c, d)) && !items.nevers.contains(&(d, c))
+    fn may_start_together(&self, x: &Sender, y: &Sender) -> bool {
+        let nevers = &self.items.nevers;
+        match (x.controller, y.controller) {
+            (Some(c), Some(d)) => c != d && !nevers.contains(&(c, d)) && !nevers.contains(&(d, c)),
+            _ => true,
         }
-        _ => true,
     }
-}
 
-// The senders with these labels, which commas part, or the number of the code that refuses them, 1 for B1.
-fn chosen<'a>(
-    alloc: Global,
-    items: &Items<'_>,
-    senders: &'a [Sender],
-    labels: &str,
-) -> Result<Result<Vec<&'a Sender>, u8>, AllocError> {
-    if labels.is_empty() {
-        return Ok(Err(1));
-    }
-    let mut chosen: Vec<&Sender> = Vec::new(alloc);
-    for label in labels.split(',') {
-        let Some(sender) = labelled(senders, label) else {
-            return Ok(Err(2));
-        };
-        if chosen.iter().any(|other| is_of_one(other, sender)) {
-            return Ok(Err(3));
+    // The senders with these labels, which commas part, or the number of the code that refuses them, 1 for B1.
+    fn chosen(&self, alloc: Global, labels: &str) -> Result<Result<Vec<&Sender>, u8>, AllocError> {
+        let mut chosen: Vec<&Sender> = Vec::new(alloc);
+        for label in labels.split(',') {
+            match self.next_chosen(&chosen, label) {
+                Ok(sender) => chosen.push(sender)?,
+                Err(code) => return Ok(Err(if labels.is_empty() { 1 } else { code })),
+            }
         }
-        if !chosen
-            .iter()
-            .all(|other| may_start_together(items, other, sender))
-        {
-            return Ok(Err(8));
-        }
-        chosen.push(sender)?;
+        Ok(Ok(chosen))
     }
-    Ok(Ok(chosen))
-}
 
-fn labelled<'a>(senders: &'a [Sender], label: &str) -> Option<&'a Sender> {
-    for sender in senders {
-        if sender.label.as_str() == label {
-            return Some(sender);
+    // The sender with this label, who is to start with these.
+    fn next_chosen(&self, chosen: &[&Sender], label: &str) -> Result<&Sender, u8> {
+        let sender = self.labelled(label).ok_or(2)?;
+        for other in chosen {
+            if is_of_one(other, sender) {
+                return Err(3);
+            }
+        }
+        for other in chosen {
+            if !self.may_start_together(other, sender) {
+                return Err(8);
+            }
+        }
+        Ok(sender)
+    }
+
+    fn labelled(&self, label: &str) -> Option<&Sender> {
+        for sender in &self.senders {
+            if sender.label.as_str() == label {
+                return Some(sender);
+            }
+        }
+        None
+    }
+
+    fn clash_of(&self, alloc: Global, pair: &Pair<'_>) -> Result<Option<Clash>, AllocError> {
+        match (self.sent(pair.x), self.sent(pair.y)) {
+            (Some(x), Some(y)) => first_clash(alloc, x, y),
+            _ => Ok(None),
         }
     }
-    None
+
+    // The labels of those who explain a transaction, each after a space.
+    fn who_explains(&self, alloc: Global, transaction: &Transaction) -> Result<String, AllocError> {
+        let mut who = String::new(alloc);
+        if let Until::Stopped(_) = transaction.until {
+            for sender in &self.senders {
+                if let Some(words) = self.sent(sender)
+                    && explains(words, &transaction.marks)
+                {
+                    write!(who, " {}", sender.label)?;
+                }
+            }
+        }
+        Ok(who)
+    }
 }
 
 // Both are of one controller, or one interrupt.
@@ -486,38 +546,7 @@ fn is_of_one(x: &Sender, y: &Sender) -> bool {
     }
 }
 
-fn clash_of(
-    alloc: Global,
-    items: &Items<'_>,
-    pair: &Pair<'_>,
-) -> Result<Option<Clash>, AllocError> {
-    match (sent(items, pair.x), sent(items, pair.y)) {
-        (Some(x), Some(y)) => first_clash(alloc, x, y),
-        _ => Ok(None),
-    }
-}
-
 // ---- transactions
-
-// The labels of those who explain a transaction, each after a space.
-fn who_explains(
-    alloc: Global,
-    items: &Items<'_>,
-    senders: &[Sender],
-    transaction: &Transaction,
-) -> Result<String, AllocError> {
-    let mut who = String::new(alloc);
-    if let Until::Stopped(_) = transaction.until {
-        for sender in senders {
-            if let Some(words) = sent(items, sender)
-                && explains(words, &transaction.marks)
-            {
-                write!(who, " {}", sender.label)?;
-            }
-        }
-    }
-    Ok(who)
-}
 
 // An interrupt explains by its header alone, and a message by the whole of what it sends.
 fn explains(words: &[&[u8]], marks: &[Mark]) -> bool {

@@ -4,7 +4,7 @@ use message_tree::Item;
 
 /// A place in the words of a sender: which word, how many of its slots lie after, and of a count how many bytes were read.
 /// After the last word all is over.
-#[derive(Clone, Copy)]
+#[derive(Clone, Copy, PartialEq)]
 pub struct Place {
     pub word: usize,
     pub slot: usize,
