@@ -5,7 +5,7 @@ use crate::captures::{Word, events_of, samples_of, transactions_of};
 use crate::certificates::{Flaw, Reading, read_certificate};
 use crate::dumps::words_of;
 use crate::pairs::{Clash, clashes_so, first_clash, is_proved, proof_of};
-use crate::plans::{Items, Named, Refusal, items_of};
+use crate::plans::{Controller, Items, Named, Refusal, items_of};
 use crate::seats::{Bench, Seat};
 use crate::senders::{Form, Place, START, after, at, count, form_of, may_put};
 use capture_check::{Mark, Transaction, Until};
@@ -268,17 +268,30 @@ fn rehearsed(
             players.push(Player::new(words))?;
         }
     }
-    let wire = play_on(alloc, &mut players, fill, answers)?;
-    let mut out = format!(in alloc; "wire ")?;
-    push_wire(&mut out, &wire)?;
-    out.push_str("\nwon")?;
-    for (sender, player) in chosen.iter().zip(&players) {
+    let mut out = String::new(alloc);
+    push_wire_line(&mut out, &play_on(alloc, &mut players, fill, answers)?)?;
+    push_winners(&mut out, chosen, &players)?;
+    answered(alloc, 0, out)
+}
+
+fn push_wire_line(out: &mut String, wire: &[Item]) -> Result<(), AllocError> {
+    out.push_str("wire ")?;
+    push_wire(out, wire)?;
+    out.push('\n')
+}
+
+fn push_winners(
+    out: &mut String,
+    chosen: &[&Sender],
+    players: &[Player<'_, '_>],
+) -> Result<(), AllocError> {
+    out.push_str("won")?;
+    for (sender, player) in chosen.iter().zip(players) {
         if player.is_live {
             write!(out, " {}", sender.label)?;
         }
     }
-    out.push('\n')?;
-    answered(alloc, 0, out)
+    out.push('\n')
 }
 
 /// The lines of a script with what the seats of a bench answer, for these starters of a safe plan.
@@ -345,38 +358,45 @@ pub fn spelling(alloc: Global, plan: &[u8]) -> Result<String, AllocError> {
 
 fn spelt(alloc: Global, items: &Items<'_>) -> Result<String, AllocError> {
     let mut out = String::new(alloc);
-    let Items {
-        messages,
-        controllers,
-        interrupts,
-        nevers,
-    } = items;
-    for message in messages {
+    push_items(&mut out, items)?;
+    // Only a range of counts has dots.
+    let is_second = !items.nevers.is_empty() || out.as_bytes().contains(&b'.');
+    let version = if is_second { 2 } else { 1 };
+    format!(in alloc; "plan {version}\n{out}")
+}
+
+fn push_items(out: &mut String, items: &Items<'_>) -> Result<(), AllocError> {
+    for message in &items.messages {
         write!(out, "message {}", text(message.name))?;
-        push_words(&mut out, &message.words)?;
+        push_words(out, &message.words)?;
     }
-    for controller in controllers {
-        write!(out, "controller {}", text(controller.name))?;
-        for message in &controller.sends {
-            write!(out, " {}", name_at(messages, *message))?;
-        }
-        out.push_str(" ;\n")?;
+    for controller in &items.controllers {
+        push_controller(out, &items.messages, controller)?;
     }
-    for interrupt in interrupts {
+    for interrupt in &items.interrupts {
         write!(out, "interrupt {}", text(interrupt.name))?;
         if let Some(address) = interrupt.words.get(1) {
             write!(out, " {}", text(address))?;
         }
         out.push_str(" ;\n")?;
     }
-    for (first, second) in nevers {
+    for (first, second) in &items.nevers {
         let first = controller_at(items, *first);
         writeln!(out, "never {first} {} ;", controller_at(items, *second))?;
     }
-    // Only a range of counts has dots.
-    let is_second = !nevers.is_empty() || out.as_bytes().contains(&b'.');
-    let version = if is_second { 2 } else { 1 };
-    format!(in alloc; "plan {version}\n{out}")
+    Ok(())
+}
+
+fn push_controller(
+    out: &mut String,
+    messages: &[Named<'_>],
+    controller: &Controller<'_>,
+) -> Result<(), AllocError> {
+    write!(out, "controller {}", text(controller.name))?;
+    for message in &controller.sends {
+        write!(out, " {}", name_at(messages, *message))?;
+    }
+    out.push_str(" ;\n")
 }
 
 fn push_words(out: &mut String, words: &[&[u8]]) -> Result<(), AllocError> {

@@ -109,54 +109,69 @@ const RESERVED: [&str; 10] = [
 
 /// The items of the plan that the text spells, or its first refusal.
 pub fn items_of<'a>(alloc: Global, text: &'a [u8]) -> Result<Items<'a>, Refusal> {
-    let mut reading = read_version(alloc, text)?;
     let mut items = Items {
         messages: Vec::new(alloc),
         controllers: Vec::new(alloc),
         interrupts: Vec::new(alloc),
         nevers: Vec::new(alloc),
     };
+    read_text(alloc, text, &mut items)?;
+    Ok(items)
+}
+
+fn read_text<'a>(alloc: Global, text: &'a [u8], items: &mut Items<'a>) -> Result<(), Refusal> {
+    let mut reading = read_version(alloc, text)?;
     for _ in 0..=text.len() {
         if reading.at >= reading.words.len() {
             break;
         }
-        let word = next(&mut reading)?;
-        if word.is("message") {
-            read_message(alloc, &mut reading, &mut items)?;
-        } else if word.is("controller") {
-            read_controller(alloc, &mut reading, &mut items)?;
-        } else if word.is("interrupt") {
-            read_interrupt(alloc, &mut reading, &mut items, word.text)?;
-        } else if word.is("never") && reading.second {
-            read_never(&mut reading, &mut items)?;
-        } else {
-            return Err(word.refused(3));
-        }
+        read_item(alloc, &mut reading, items)?;
     }
     match reading.ending {
-        Ending::Text(_) => Ok(items),
+        Ending::Text(_) => Ok(()),
         Ending::Byte(refusal) => Err(refusal),
+    }
+}
+
+fn read_item<'a>(
+    alloc: Global,
+    reading: &mut Reading<'a>,
+    items: &mut Items<'a>,
+) -> Result<(), Refusal> {
+    let word = next(reading)?;
+    if word.is("message") {
+        read_message(alloc, reading, items)
+    } else if word.is("controller") {
+        read_controller(alloc, reading, items)
+    } else if word.is("interrupt") {
+        read_interrupt(alloc, reading, items, word.text)
+    } else if word.is("never") && reading.second {
+        read_never(reading, items)
+    } else {
+        Err(word.refused(3))
     }
 }
 
 // Only in a text of version 2 a dot may stand, in the words after the second.
 fn read_version<'a>(alloc: Global, text: &'a [u8]) -> Result<Reading<'a>, Refusal> {
-    let mut reading = words_of(alloc, text, false)?;
-    for versions in [["plan", "plan"], ["1", "2"]] {
-        let [first, second] = versions;
-        let word = version_word(&mut reading)?;
-        if !word.is(first) && !word.is(second) {
-            return Err(word.refused(2));
-        }
-        reading.second = word.is("2");
-    }
-    if !reading.second {
-        return Ok(reading);
-    }
-    let mut reading = words_of(alloc, text, true)?;
+    let second = is_second(&mut words_of(alloc, text, false)?)?;
+    let mut reading = words_of(alloc, text, second)?;
     reading.at = 2;
-    reading.second = true;
+    reading.second = second;
     Ok(reading)
+}
+
+// Whether the text begins with `plan 2`, and not with `plan 1`.
+fn is_second(reading: &mut Reading<'_>) -> Result<bool, Refusal> {
+    let plan = version_word(reading)?;
+    if !plan.is("plan") {
+        return Err(plan.refused(2));
+    }
+    let version = version_word(reading)?;
+    if !version.is("1") && !version.is("2") {
+        return Err(version.refused(2));
+    }
+    Ok(version.is("2"))
 }
 
 fn version_word<'a>(reading: &mut Reading<'a>) -> Result<Word<'a>, Refusal> {
@@ -496,14 +511,19 @@ fn read_interrupt<'a>(
         return Err(address.refused(3));
     }
     expect(reading, ";")?;
-    let mut words = Vec::new(alloc);
-    words.push(first)?;
-    words.push(address.text)?;
-    items.interrupts.push(Named {
+    let interrupt = Named {
         name: name.text,
-        words,
-    })?;
+        words: two(alloc, first, address.text)?,
+    };
+    items.interrupts.push(interrupt)?;
     Ok(())
+}
+
+fn two<'a>(alloc: Global, x: &'a [u8], y: &'a [u8]) -> Result<Vec<&'a [u8]>, AllocError> {
+    let mut words = Vec::new(alloc);
+    words.push(x)?;
+    words.push(y)?;
+    Ok(words)
 }
 
 fn read_never(reading: &mut Reading<'_>, items: &mut Items<'_>) -> Result<(), Refusal> {

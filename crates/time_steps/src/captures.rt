@@ -6,10 +6,10 @@ use capture_check::{Event, Listener, Transaction, Watch, explain};
 use plan_core::Plan;
 use plan_text::read_plan;
 use std::alloc::{AllocError, Global};
+use std::io;
 use std::io::Read;
 use std::num::nearest_usize_to_f64;
 use std::time::{Clock, Instant};
-use std::io;
 use vcd_read::{Reader, Sample};
 
 // What `twire capture` asks of a file at once.

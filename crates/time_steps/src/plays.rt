@@ -11,11 +11,11 @@ use bus_bench::{Bench, MOST_SLOTS, Seat, open_bench};
 use cert_check::{Accepted, accept_certificate};
 use plan_text::read_plan;
 use std::alloc::{AllocError, Global};
+use std::io;
 use std::num::nearest_usize_to_f64;
 use std::sync::Wait;
 use std::thread::Threads;
 use std::time::{Clock, Instant};
-use std::io;
 use verdicts::{certificate_text, faults};
 
 const STARTERS: [u32; 3] = [2, 4, 8];

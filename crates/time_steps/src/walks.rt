@@ -7,8 +7,8 @@ use pair_walk::{Outcome, first_fault, walk};
 use plan_core::Plan;
 use plan_text::read_plan;
 use std::alloc::{AllocError, Global};
-use std::time::{Clock, Duration, Instant};
 use std::io;
+use std::time::{Clock, Duration, Instant};
 use verdicts::{certificate_text, faults};
 
 const CONTROLLERS: u32 = 32;

@@ -5,7 +5,7 @@ use reference::commands::{self, Answer};
 use std::alloc::{AllocError, Global};
 
 /// A command with its files.
-#[derive(Debug, Drop)]
+#[derive(Drop)]
 pub struct Asked {
     pub command: Command,
     pub plan: Vec<u8>,
@@ -14,7 +14,7 @@ pub struct Asked {
 }
 
 /// A case of a file, and what is to be answered.
-#[derive(Debug, Drop)]
+#[derive(Drop)]
 pub struct Case {
     pub name: String,
     pub asked: Asked,

@@ -1,10 +1,10 @@
 // Captures, and what they say.
 
+use super::readers::{expect, in_pieces, named};
 use super::texts::{
     BROKEN_DEFINITIONS, CAPTURES, COMMANDS, DEFINITIONS, SCALARS, TIMES, VECTORS, WHITE_SPACE,
     WHOLE,
 };
-use super::readers::{expect, in_pieces, named};
 use std::alloc::Global;
 use std::process::Abort;
 use std::test::Fail;
