@@ -1,12 +1,12 @@
 // How fast the steps of the commands are. With no argument it writes what each step makes, and no times, in a few seconds.
 //
 //     walks [--time] [--certify]   the pairs of large plans
-//     plays --time                 slots of a bench, by turns and in threads
+//     benches --time                 slots of a bench, by turns and in threads
 //     captures PLAN DUMP           a recorded wire, step by step
 #![tactic(auto)]
 
+mod benches;
 mod captures;
-mod plays;
 mod walks;
 
 use anyhow::Result;
@@ -24,18 +24,18 @@ fn main(rt: HostRuntime) -> Result<()> {
     match asked.as_slice() {
         [] => {
             walks::run(&rt, alloc, false, false)?;
-            plays::run(&rt, alloc, false)?;
+            benches::run(&rt, alloc, false)?;
             captures::count(&rt, alloc)
         }
         [first, ..] if first.as_str() == "walks" => {
             walks::run(&rt, alloc, has("--time"), has("--certify"))
         }
-        [first, ..] if first.as_str() == "plays" => plays::run(&rt, alloc, has("--time")),
+        [first, ..] if first.as_str() == "benches" => benches::run(&rt, alloc, has("--time")),
         [first, plan, dump] if first.as_str() == "captures" => {
             let plan = fs::read_to_string(&rt, plan.as_str())?;
             let mut dump = fs::open(&rt, dump.as_str())?;
             captures::time(&rt, alloc, plan.as_str(), &mut dump)
         }
-        _ => Ok(println!(rt; "walks [--time] [--certify], plays --time, or captures PLAN DUMP")?),
+        _ => Ok(println!(rt; "walks [--time] [--certify], benches --time, or captures PLAN DUMP")?),
     }
 }

@@ -1,7 +1,7 @@
 use Rattle.std.proofs.Common.{◌≡◌, sym, subst}
 use Rattle.std.specs.Prelude.{All}
 use Rattle.bench_run.proofs.PlayerLemmas.{all_fresh}
-use Rattle.time_steps.proofs.plays.by_turns.Goals as goal
+use Rattle.time_steps.proofs.benches.by_turns.Goals as goal
 
 pub play_by_turns-slots-requires : goal.play_by_turns-slots-requires
 play_by_turns-slots-requires g c =
