@@ -1,7 +1,7 @@
 // How fast the steps of the commands are. With no argument it writes what each step makes, and no times, in a few seconds.
 //
 //     walks [--time] [--certify]   the pairs of large plans
-//     benches --time                 slots of a bench, by turns and in threads
+//     benches --time               slots of a bench, by turns and in threads
 //     captures PLAN DUMP           a recorded wire, step by step
 #![tactic(auto)]
 
