@@ -1,13 +1,13 @@
 -- What holds of the contents of a plan.
-use Rattle.std.proofs.Common.{◌≡◌, ◌≢◌, ◌⊎◌, ◌&&◌, inl, inr, suc, zero-add, get_or, eqb, subst, true≢false, ℕ, ◌+◌, ◌-◌, ◌*◌, ◌<◌, ◌≤◌, ◌||◌, true, not, List, [], ◌∷◌, ◌++◌, length, map, Option, Some, None, slice_get, refl, sym, ◌∙◌, ap, arith, length-append, append_assoc}
-use Rattle.std.specs.List.{range_with_len, flat_map, list_any, All, AllPairs}
+use Rattle.std.proofs.Common.{◌≡◌, ◌≢◌, ◌⊎◌, ◌&&◌, inl, inr, suc, zero-add, get_or, eqb, subst, true≢false, ℕ, ◌+◌, ◌*◌, ◌<◌, ◌≤◌, ◌||◌, true, List, [], ◌∷◌, ◌++◌, length, map, Some, slice_get, refl, sym, ◌∙◌, ap, arith, length-append, append_assoc}
+use Rattle.std.specs.List.{range_with_len, list_any, All, AllPairs}
 use Rattle.std.specs.declared.vec.Vec.{Vec}
 use Rattle.std.proofs.lemmas.Bool.{eqb-true, eq-eqb, or_cases}
 use Rattle.std.proofs.lemmas.Bool.Decides.{Decides-eqb}
 use Rattle.std.proofs.lemmas.Map.Made.{IsDistinct-from_AllPairs}
 use Rattle.std.proofs.lemmas.Map.Steps.{length-le_from_distinct_below}
 use Rattle.std.proofs.lemmas.List.{length-map, get_or-map, append-nil, length_push}
-use Rattle.std.proofs.lemmas.List.Elements.{filter_agree, All-nil, All-head, All-tail, All-map, All-append, All-weaker}
+use Rattle.std.proofs.lemmas.List.Elements.{All-nil, All-head, All-tail, All-map, All-append, All-weaker}
 use Rattle.std.proofs.lemmas.List.FromFn.{length-range_with_len, get_or-range_with_len, map-range_with_len_more}
 use Rattle.std.proofs.lemmas.List.Sums.{sum_by-cons}
 use Rattle.std.proofs.lemmas.Option.{get_or_from_slice_get, slice_get_within}
@@ -19,9 +19,9 @@ use Rattle.plan_core.specs.Building.{with_sender, with_interrupt}
 use Rattle.plan_core.specs.Contents.{Contents, empty}
 use Rattle.plan_core.specs.Parts.{contents_of}
 use Rattle.plan_core.specs.Limits.{IsKnown, IsWithinLimits, sending_count}
-use Rattle.plan_core.specs.Participants.{sendings_from, participants_of, participant_count, apart, same_controller, forbidden, one_controller, forbids_both}
-use Rattle.plan_core.specs.Pairs.{partners, pairs_of}
-use Rattle.plan_core.specs.PairTables.{apart_in, joins, partners_in, pairs_below}
+use Rattle.plan_core.specs.Participants.{sendings_from, participants_of, participant_count, apart}
+use Rattle.plan_core.specs.Pairs.{pairs_of}
+use Rattle.plan_core.proofs.PairLemmas.{pairs_by-few}
 
 pub length-sendings_from : (c : ℕ) (controllers : List (List ℕ × List ℕ)) → length (sendings_from c controllers) ≡ sending_count controllers
 length-sendings_from c [] = refl
@@ -38,28 +38,12 @@ participant_count-is plan =
 pub participant_count-few : (plan : Contents) → IsWithinLimits plan → participant_count plan ≤ 544
 participant_count-few plan limits = omega (arith, participant_count-is plan, limits.controllers.sendings, limits.interrupts.count)
 
-apart_in-is : (plan : Contents) (p q : Option Participant) → one_controller p q || forbids_both plan p q ≡ apart_in plan.nevers p q
-apart_in-is plan None q = refl
-apart_in-is plan (Some (Interrupt k)) q = refl
-apart_in-is plan (Some (Sending c m)) None = refl
-apart_in-is plan (Some (Sending c m)) (Some (Interrupt k)) = refl
-apart_in-is plan (Some (Sending c m)) (Some (Sending d n)) = refl
-
-pub apart-is : (plan : Contents) (x y : ℕ) → apart plan x y ≡ apart_in plan.nevers (slice_get (participants_of plan) x) (slice_get (participants_of plan) y)
-unfolding same_controller forbidden
-apart-is plan x y = apart_in-is plan (slice_get (participants_of plan) x) (slice_get (participants_of plan) y)
-
-pub partners-is : (plan : Contents) (x : ℕ) → partners plan x ≡ partners_in plan.nevers (participants_of plan) x
-unfolding partners_in
-partners-is plan x = filter_agree (λ y. not (apart plan x y)) (joins plan.nevers (participants_of plan) x) (λ y. ap not (apart-is plan x y)) (range_with_len (x + 1) (participant_count plan - (x + 1)))
-
-flat_map-agree : {X Y : Type 0} (f g : X → List Y) → ((x : X) → f x ≡ g x) → (xs : List X) → flat_map f xs ≡ flat_map g xs
-flat_map-agree f g same [] = refl
-flat_map-agree f g same (x ∷ xs) = λ i. same x i ++ flat_map-agree f g same xs i
-
-pub pairs_of-is : (plan : Contents) → pairs_of plan ≡ pairs_below plan.nevers (participants_of plan) (participant_count plan)
-unfolding pairs_of pairs_below
-pairs_of-is plan = flat_map-agree (λ x. map (λ y. (x, y)) (partners plan x)) (λ x. map (λ y. (x, y)) (partners_in plan.nevers (participants_of plan) x)) (λ x. ap (map (λ y. (x, y))) (partners-is plan x)) (range_with_len 0 (participant_count plan))
+pub pairs_few : (plan : Contents) → IsWithinLimits plan → length (pairs_of plan) ≤ 544 * 544
+unfolding pairs_of
+pairs_few plan limits =
+    let few = participant_count-few plan limits in
+    let square : participant_count plan * participant_count plan ≤ 544 * 544 = grind (arith, few) in
+    omega (arith, pairs_by-few (apart plan) (participant_count plan) (participant_count plan), square)
 
 below_from_any : (xs : List ℕ) (n q : ℕ) → All (λ x. x < n) xs → list_any (eqb q) xs ≡ true → q < n
 below_from_any [] n q all any = absurd (true≢false (sym any))

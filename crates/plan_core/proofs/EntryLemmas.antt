@@ -7,6 +7,11 @@ use Rattle.std.specs.Map.{keys_of, values_of}
 use Rattle.std.specs.Map.Iter.{deref_pair}
 use Rattle.std.specs.Option.{option_map}
 use Rattle.std.proofs.lemmas.Option.{slice_get-map}
+use Rattle.std.specs.declared.vec.Vec.{Vec}
+use Rattle.message_tree.specs.declared.tree.Frame.{Frame}
+use Rattle.plan_core.specs.declared.names.Name.{Name}
+use Rattle.plan_core.specs.NameBytes.{name_bytes}
+use Rattle.plan_core.specs.Parts.{message_of, controller_of, interrupt_of}
 
 slice_get-map_some : {X Y : Type 0} (f : X → Y) (xs : List X) (k : ℕ) (x : X) → slice_get xs k ≡ Some x → slice_get (map f xs) k ≡ Some (f x)
 slice_get-map_some f xs k x here = slice_get-map f xs k ∙ ap (option_map f) here
@@ -34,6 +39,15 @@ module _ {X Y : Type 0} (p : Y → Bool) (f : X → Y) where
       ∙ ap (λ n. cond (nat_lt (prefix_len (λ x. not (p (f x))) xs) n) (Some (prefix_len (λ x. not (p (f x))) xs)) None) (length-map xs f)
 
 -- the names of the entries, as a plan sees them
-pub keys_of-viewed : {K V X : Type 0} (view : K × V → List ℕ × X) (name : K → List ℕ) → ((e : K × V) → (view e).0 ≡ name e.0) → (entries : List (K × V)) → keys_of (map view entries) ≡ map name (keys_of entries)
-keys_of-viewed view name same [] = refl
-keys_of-viewed view name same (e ∷ es) = λ i. same e i ∷ keys_of-viewed view name same es i
+names_of : {K V X : Type 0} (view : K × V → List ℕ × X) (name : K → List ℕ) → ((e : K × V) → (view e).0 ≡ name e.0) → (entries : List (K × V)) → keys_of (map view entries) ≡ map name (keys_of entries)
+names_of view name same [] = refl
+names_of view name same (e ∷ es) = λ i. same e i ∷ names_of view name same es i
+
+pub names_of_messages : (entries : List (Name × Frame)) → keys_of (map message_of entries) ≡ map name_bytes (keys_of entries)
+names_of_messages entries = names_of message_of name_bytes (λ e. refl) entries
+
+pub names_of_controllers : {Z : Type 0} (entries : List (Name × Vec ℕ Z)) → keys_of (map controller_of entries) ≡ map name_bytes (keys_of entries)
+names_of_controllers entries = names_of controller_of name_bytes (λ e. refl) entries
+
+pub names_of_interrupts : (entries : List (Name × ℕ)) → keys_of (map interrupt_of entries) ≡ map name_bytes (keys_of entries)
+names_of_interrupts entries = names_of interrupt_of name_bytes (λ e. refl) entries

@@ -1,5 +1,5 @@
 -- In a safe plan nobody shares an interrupt's whole header with it.
-use Rattle.std.proofs.Common.{◌≡◌, ◌≢◌, ℕ, ◌+◌, Option, Some, None, List, [], ◌∷◌, ◌++◌, length, slice_get, refl, subst, arith, inl, inr, ◌⊎◌, ◌==◌}
+use Rattle.std.proofs.Common.{◌≡◌, ◌≢◌, ℕ, Option, Some, None, List, [], ◌∷◌, ◌++◌, length, slice_get, refl, subst, arith, inl, inr, ◌==◌}
 use Rattle.std.proofs.lemmas.Bool.Decides.{nat_tests}
 use Rattle.message_tree.specs.declared.bits.Bit.{Bit}
 use Rattle.message_tree.specs.declared.bits.Bit.TheVariants.{One}
@@ -8,9 +8,8 @@ use Rattle.message_tree.specs.declared.items.Item.TheVariants.{Sent, Heard, Agai
 use Rattle.message_tree.specs.Items.{Clash}
 use Rattle.message_tree.specs.Texts.{Language, SentThen, Only}
 use Rattle.plan_core.specs.declared.plans.Participant.{Participant}
-use Rattle.plan_core.specs.declared.plans.Participant.TheVariants.{Interrupt}
 use Rattle.plan_core.specs.Contents.{Contents}
-use Rattle.plan_core.specs.Participants.{Text, TextOf, IsInterrupt, sender_at, sender_of, interrupt_sender, interrupt_bits, participants_of}
+use Rattle.plan_core.specs.Participants.{Text, TextOf, IsInterrupt, sender_at, sender_of, interrupt_sender, interrupt_bits}
 use Rattle.plan_core.specs.Lawful.{Set, In}
 use Rattle.plan_core.specs.Rounds.{Follows, Offers}
 use Rattle.plan_core.specs.Runs.{IsReached}

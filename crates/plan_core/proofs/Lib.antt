@@ -13,3 +13,5 @@ pub mod PairLaws
 pub mod LabelLaws
 pub mod KnownLemmas
 pub mod SenderLemmas
+pub mod ListLemmas
+pub mod SenderPlaceLemmas

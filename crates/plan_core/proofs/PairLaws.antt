@@ -148,20 +148,20 @@ is_never-either : (c d : ℕ) (nevers : List (ℕ × ℕ)) → list_any (names_b
 is_never-either c d [] = refl
 is_never-either c d (n ∷ nevers) = λ i. names_both-either c d n i || is_never-either c d nevers i
 
-apart-either_of : (plan : Contents) (p q : Option Participant) → (one_controller p q || forbids_both plan p q) ≡ (one_controller q p || forbids_both plan q p)
-apart-either_of plan None None = refl
-apart-either_of plan None (Some (Sending d n)) = refl
-apart-either_of plan None (Some (Interrupt k)) = refl
-apart-either_of plan (Some (Sending c m)) None = refl
-apart-either_of plan (Some (Interrupt k)) None = refl
-apart-either_of plan (Some (Interrupt k)) (Some (Interrupt j)) = refl
-apart-either_of plan (Some (Interrupt k)) (Some (Sending d n)) = refl
-apart-either_of plan (Some (Sending c m)) (Some (Interrupt k)) = refl
-apart-either_of plan (Some (Sending c m)) (Some (Sending d n)) = λ i. (let e : (c == d) ≡ (d == c) = grind (arith, nat_tests) in e i) || is_never-either c d plan.nevers i
+apart-either_of : (nevers : List (ℕ × ℕ)) (p q : Option Participant) → (one_controller p q || forbids_both nevers p q) ≡ (one_controller q p || forbids_both nevers q p)
+apart-either_of nevers None None = refl
+apart-either_of nevers None (Some (Sending d n)) = refl
+apart-either_of nevers None (Some (Interrupt k)) = refl
+apart-either_of nevers (Some (Sending c m)) None = refl
+apart-either_of nevers (Some (Interrupt k)) None = refl
+apart-either_of nevers (Some (Interrupt k)) (Some (Interrupt j)) = refl
+apart-either_of nevers (Some (Interrupt k)) (Some (Sending d n)) = refl
+apart-either_of nevers (Some (Sending c m)) (Some (Interrupt k)) = refl
+apart-either_of nevers (Some (Sending c m)) (Some (Sending d n)) = λ i. (let e : (c == d) ≡ (d == c) = grind (arith, nat_tests) in e i) || is_never-either c d nevers i
 
 pub apart-either : (plan : Contents) (x y : ℕ) → apart plan x y ≡ apart plan y x
 unfolding same_controller forbidden
-apart-either plan x y = apart-either_of plan (slice_get (participants_of plan) x) (slice_get (participants_of plan) y)
+apart-either plan x y = apart-either_of plan.nevers (slice_get (participants_of plan) x) (slice_get (participants_of plan) y)
 
 -- the members of a set of two
 in_pair : (x y p : ℕ) → In p (pair x y) → (p ≡ x) ⊎ (p ≡ y)

@@ -16,8 +16,8 @@ use Rattle.plan_core.specs.Building.{number_of, numbers_of, controller_number, m
 use Rattle.plan_core.specs.Contents.{Contents}
 use Rattle.plan_core.specs.Limits.{IsWithinLimits, sending_count}
 use Rattle.plan_core.specs.Names.{IsName}
-use Rattle.plan_core.specs.PairTables.{IsPairTable}
-use Rattle.plan_core.specs.Participants.{participants_of, sendings_from}
+use Rattle.plan_core.specs.PairTables.{are_apart, IsTable, IsPairTable}
+use Rattle.plan_core.specs.Participants.{participants_of, participant_count, sendings_from, same_controller, forbidden}
 use Rattle.plan_core.specs.Parts.{contents_of, message_of, controller_of, interrupt_of}
 use Rattle.plan_core.proofs.BuildingLemmas.{limits-message, limits-controller, limits-interrupt}
 use Rattle.plan_core.proofs.ContentsLemmas.{participant_count-few, participants_of-interrupt, length-sendings_from}
@@ -52,10 +52,11 @@ unfolding with_message
 IsNumbered-message participants plan new name frame is formed none (inl e) = record { limits = subst IsWithinLimits (sym e) (limits-message plan name frame is.limits formed none); numbered = is.numbered ∙ ap participants_of (sym e) }
 IsNumbered-message participants plan new name frame is formed none (inr e) = subst (IsNumbered participants) (sym e) is
 
--- the table of the same participants
-pub IsPairTable-same : (nevers new_nevers : List (ℕ × ℕ)) (participants new_participants : List Participant) (table : PairTable) → nevers ≡ new_nevers → participants ≡ new_participants → IsPairTable nevers participants table → IsPairTable new_nevers new_participants table
-IsPairTable-same nevers new_nevers participants new_participants table n p is =
-    subst (λ ns. IsPairTable ns new_participants table) n (subst (λ ps. IsPairTable nevers ps table) p is)
+-- the table of the participants and the nevers of a plan
+pub IsPairTable-made : (nevers : List (ℕ × ℕ)) (participants : List Participant) (plan : Contents) (table : PairTable) → nevers ≡ plan.nevers → participants ≡ participants_of plan → IsTable (are_apart nevers participants) (length participants) (length participants) table → IsPairTable plan table
+unfolding same_controller forbidden
+IsPairTable-made nevers participants plan table n p is =
+    subst (λ ns. IsTable (are_apart ns (participants_of plan)) (participant_count plan) (participant_count plan) table) n (subst (λ ps. IsTable (are_apart nevers ps) (length ps) (length ps) table) p is)
 
 -- at most 544 participants
 pub IsNumbered-few : (participants : List Participant) (plan : Contents) → IsNumbered participants plan → length participants ≤ 544

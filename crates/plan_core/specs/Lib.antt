@@ -16,3 +16,4 @@ pub mod PlanContents
 pub mod BuilderContents
 pub mod Building
 pub mod Labels
+pub mod SenderPlaces

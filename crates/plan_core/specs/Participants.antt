@@ -65,13 +65,13 @@ names_both c d never = (never.0 == c && never.1 == d) || (never.0 == d && never.
 abbrev pub is_never : Contents → ℕ → ℕ → Bool
 is_never plan c d = list_any (names_both c d) plan.nevers
 
-abbrev pub forbids_both : Contents → Option Participant → Option Participant → Bool
-forbids_both plan (Some (Sending c m)) (Some (Sending d n)) = is_never plan c d
-forbids_both plan _ _ = false
+abbrev pub forbids_both : List (ℕ × ℕ) → Option Participant → Option Participant → Bool
+forbids_both nevers (Some (Sending c m)) (Some (Sending d n)) = list_any (names_both c d) nevers
+forbids_both nevers _ _ = false
 
 -- both are sendings whose controllers stand in one `never`
 unfoldable pub forbidden : Contents → ℕ → ℕ → Bool
-forbidden plan x y = forbids_both plan (slice_get (participants_of plan) x) (slice_get (participants_of plan) y)
+forbidden plan x y = forbids_both plan.nevers (slice_get (participants_of plan) x) (slice_get (participants_of plan) y)
 
 abbrev pub one_controller : Option Participant → Option Participant → Bool
 one_controller (Some (Sending c m)) (Some (Sending d n)) = c == d

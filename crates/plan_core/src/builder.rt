@@ -90,7 +90,7 @@ impl Builder {
             with_message (builder_contents self.old) (name_bytes name) (frame_tree frame)) }
         ensures unchanged { OnErr result (builder_contents self.new ≡ builder_contents self.old) }
     {
-        match self.plan.message_refusal(&name, &frame) {
+        match self.message_refusal(&name, &frame) {
             Some(refusal) => Err(refusal),
             None => {
                 self.add_message(name, frame)?;
@@ -110,15 +110,23 @@ impl Builder {
             with_message (builder_contents self.old) (name_bytes name) (frame_tree frame)) }
         ensures unchanged { OnErr result (builder_contents self.new ≡ builder_contents self.old) }
     {
-        self.plan.add_message(name, frame)
+        push_entry(&mut self.plan.messages, name, frame)?;
+        Ok(())
     }
 
     /// Why a message of this name would be refused, whatever its frame: `Twice` where a message has this name, then
     /// `TooMany` where there are 256 messages. It takes no memory and changes nothing.
+    #[tactic(auto, unfolding(crate::specs::BuilderContents::builder_contents, crate::specs::Building::message_name_refusal))]
     pub fn message_name_refusal(&self, name: &Name) -> Option<BuildError>
         ensures { result ≡ message_name_refusal (builder_contents self.now) (name_bytes name.now) }
     {
-        self.plan.message_name_refusal(name)
+        if self.message_number(name).is_some() {
+            Some(BuildError::Twice)
+        } else if self.plan.messages() >= MOST_MESSAGES {
+            Some(BuildError::TooMany)
+        } else {
+            None
+        }
     }
 
     /// Adds a controller that may send these messages, in this order, at the end of the controllers.
@@ -135,7 +143,7 @@ impl Builder {
             with_controller (builder_contents self.old) (name_bytes name) (map name_bytes messages.now)) }
         ensures unchanged { OnErr result (builder_contents self.new ≡ builder_contents self.old) }
     {
-        match self.plan.controller_refusal(&name, messages) {
+        match self.controller_refusal(&name, messages) {
             Some(refusal) => Err(refusal),
             None => {
                 self.add_controller(name, messages)?;
@@ -156,22 +164,36 @@ impl Builder {
             with_controller (builder_contents self.old) (name_bytes name) (map name_bytes messages.now)) }
         ensures unchanged { OnErr result (builder_contents self.new ≡ builder_contents self.old) }
     {
-        self.plan.add_controller(self.alloc, name, messages)
+        let numbers = self.numbers_of(messages)?;
+        let participants = self.participants_with(&numbers)?;
+        let pairs = PairTable::new(self.alloc, &participants, &self.plan.nevers)?;
+        let plan = &mut self.plan;
+        push_entry(&mut plan.controllers, name, numbers)?;
+        plan.participants = participants;
+        plan.pairs = pairs;
+        Ok(())
     }
 
     /// Why a controller of this name would be refused, whatever its messages: `Twice` where a controller has this name,
     /// then `TooMany` where there are 32 controllers. It takes no memory and changes nothing.
+    #[tactic(auto, unfolding(crate::specs::BuilderContents::builder_contents, crate::specs::Building::controller_name_refusal))]
     pub fn controller_name_refusal(&self, name: &Name) -> Option<BuildError>
         ensures { result ≡ controller_name_refusal (builder_contents self.now) (name_bytes name.now) }
     {
-        self.plan.controller_name_refusal(name)
+        if self.controller_number(name).is_some() {
+            Some(BuildError::Twice)
+        } else if self.plan.controllers() >= MOST_CONTROLLERS {
+            Some(BuildError::TooMany)
+        } else {
+            None
+        }
     }
 
     /// Whether a controller has this name. It takes no memory and changes nothing.
     pub fn has_controller(&self, name: &Name) -> bool
         ensures { result ≡ has_name (name_bytes name.now) (builder_contents self.now).controllers }
     {
-        self.plan.controller_number(name).is_some()
+        self.controller_number(name).is_some()
     }
 
     /// Why the message of this name would be refused to a further controller that may send those in `before`: `Unknown`
@@ -181,7 +203,15 @@ impl Builder {
         ensures { result ≡ list_refusal (builder_contents self.now) (map name_bytes before.now)
             (name_bytes name.now ∷ []) }
     {
-        self.plan.sending_refusal(before, name)
+        if self.message_number(name).is_none() {
+            Some(BuildError::Unknown)
+        } else if before.contains(name) {
+            Some(BuildError::Twice)
+        } else if self.sendings() + before.len() >= MOST_SENDINGS as usize {
+            Some(BuildError::TooMany)
+        } else {
+            None
+        }
     }
 
     /// Adds an interrupt at the end of the interrupts. The low seven bits of `address` count.
@@ -195,7 +225,7 @@ impl Builder {
             with_interrupt (builder_contents self.old) (name_bytes name) (address % 128)) }
         ensures unchanged { OnErr result (builder_contents self.new ≡ builder_contents self.old) }
     {
-        match self.plan.interrupt_refusal(&name) {
+        match self.interrupt_refusal(&name) {
             Some(refusal) => Err(refusal),
             None => {
                 self.add_interrupt(name, address)?;
@@ -215,15 +245,29 @@ impl Builder {
             with_interrupt (builder_contents self.old) (name_bytes name) (address % 128)) }
         ensures unchanged { OnErr result (builder_contents self.new ≡ builder_contents self.old) }
     {
-        self.plan.add_interrupt(self.alloc, name, address % 128)
+        let interrupt = Participant::Interrupt(self.plan.interrupts());
+        let participants = copied_with(self.alloc, &self.plan.participants, interrupt)?;
+        let pairs = PairTable::new(self.alloc, &participants, &self.plan.nevers)?;
+        let plan = &mut self.plan;
+        push_entry(&mut plan.interrupts, name, address % 128)?;
+        plan.participants = participants;
+        plan.pairs = pairs;
+        Ok(())
     }
 
     /// Why an interrupt of this name would be refused, whatever its address: `Twice` where an interrupt has this name,
     /// then `TooMany` where there are 32 interrupts. It takes no memory and changes nothing.
+    #[tactic(auto, unfolding(crate::specs::BuilderContents::builder_contents, crate::specs::Building::interrupt_refusal))]
     pub fn interrupt_refusal(&self, name: &Name) -> Option<BuildError>
         ensures { result ≡ interrupt_refusal (builder_contents self.now) (name_bytes name.now) }
     {
-        self.plan.interrupt_refusal(name)
+        if self.interrupt_number(name).is_some() {
+            Some(BuildError::Twice)
+        } else if self.plan.interrupts() >= MOST_INTERRUPTS {
+            Some(BuildError::TooMany)
+        } else {
+            None
+        }
     }
 
     /// Adds that these two controllers never start together.
@@ -240,7 +284,7 @@ impl Builder {
             with_never (builder_contents self.old) (name_bytes first.now) (name_bytes second.now)) }
         ensures unchanged { OnErr result (builder_contents self.new ≡ builder_contents self.old) }
     {
-        match self.plan.never_refusal(first, second) {
+        match self.never_refusal(first, second) {
             Some(refusal) => Err(refusal),
             None => {
                 self.add_never(first, second)?;
@@ -260,16 +304,32 @@ impl Builder {
             with_never (builder_contents self.old) (name_bytes first.now) (name_bytes second.now)) }
         ensures unchanged { OnErr result (builder_contents self.new ≡ builder_contents self.old) }
     {
-        self.plan.add_never(self.alloc, first, second)
+        let c = self.controller_number(first).unwrap();
+        let d = self.controller_number(second).unwrap();
+        let nevers = copied_with(self.alloc, &self.plan.nevers, (c, d))?;
+        let pairs = PairTable::new(self.alloc, &self.plan.participants, &nevers)?;
+        let plan = &mut self.plan;
+        plan.nevers = nevers;
+        plan.pairs = pairs;
+        Ok(())
     }
 
     /// Why a `never` of these two would be refused: `Unknown` where no controller has the name `first`, then `Twice` where
     /// the names are equal, then `Unknown` where no controller has the name `second`, then `Twice` where the two stand
     /// together already, in either order. It takes no memory and changes nothing.
+    #[tactic(auto, unfolding(crate::specs::BuilderContents::builder_contents, crate::specs::PlanContents::plan_contents, crate::specs::Parts::contents_of, crate::specs::Building::never_refusal))]
     pub fn never_refusal(&self, first: &Name, second: &Name) -> Option<BuildError>
         ensures { result ≡ never_refusal (builder_contents self.now) (name_bytes first.now) (name_bytes second.now) }
     {
-        self.plan.never_refusal(first, second)
+        match self.controller_number(first) {
+            None => Some(BuildError::Unknown),
+            Some(_) if first == second => Some(BuildError::Twice),
+            Some(c) => match self.controller_number(second) {
+                None => Some(BuildError::Unknown),
+                Some(d) if is_never(&self.plan.nevers, c, d) => Some(BuildError::Twice),
+                Some(_) => None,
+            },
+        }
     }
 
     /// The plan. It takes no memory.
@@ -278,47 +338,32 @@ impl Builder {
     {
         self.plan
     }
-}
 
-impl Plan {
-    ghost use Rattle.plan_core.specs.PlanContents.{plan_contents};
-
+    #[tactic(auto, using(crate::proofs::EntryLemmas::names_of_messages), unfolding(crate::specs::BuilderContents::builder_contents, crate::specs::PlanContents::plan_contents, crate::specs::Parts::contents_of))]
     fn message_number(&self, name: &Name) -> Option<u32>
-        ensures { result ≡ number_of (name_bytes name.now) (plan_contents self.now).messages }
+        ensures { result ≡ number_of (name_bytes name.now) (builder_contents self.now).messages }
     {
-        index_of(&self.messages, name)
+        index_of(&self.plan.messages, name)
     }
 
+    #[tactic(auto, using(crate::proofs::EntryLemmas::names_of_controllers), unfolding(crate::specs::BuilderContents::builder_contents, crate::specs::PlanContents::plan_contents, crate::specs::Parts::contents_of))]
     fn controller_number(&self, name: &Name) -> Option<u32>
-        ensures { result ≡ number_of (name_bytes name.now) (plan_contents self.now).controllers }
+        ensures { result ≡ number_of (name_bytes name.now) (builder_contents self.now).controllers }
     {
-        index_of(&self.controllers, name)
+        index_of(&self.plan.controllers, name)
     }
 
+    #[tactic(auto, using(crate::proofs::EntryLemmas::names_of_interrupts), unfolding(crate::specs::BuilderContents::builder_contents, crate::specs::PlanContents::plan_contents, crate::specs::Parts::contents_of))]
     fn interrupt_number(&self, name: &Name) -> Option<u32>
-        ensures { result ≡ number_of (name_bytes name.now) (plan_contents self.now).interrupts }
+        ensures { result ≡ number_of (name_bytes name.now) (builder_contents self.now).interrupts }
     {
-        index_of(&self.interrupts, name)
-    }
-
-    // Why a message of this name is refused, whatever its frame.
-    #[tactic(auto, unfolding(crate::specs::Building::message_name_refusal))]
-    fn message_name_refusal(&self, name: &Name) -> Option<BuildError>
-        ensures { result ≡ message_name_refusal (plan_contents self.now) (name_bytes name.now) }
-    {
-        if self.message_number(name).is_some() {
-            Some(BuildError::Twice)
-        } else if self.messages() >= MOST_MESSAGES {
-            Some(BuildError::TooMany)
-        } else {
-            None
-        }
+        index_of(&self.plan.interrupts, name)
     }
 
     // Why this message is refused, apart from want of memory.
     #[tactic(auto, unfolding(crate::specs::Building::message_refusal, crate::specs::Building::message_name_refusal, crate::specs::Building::size_refusal))]
     fn message_refusal(&self, name: &Name, frame: &Frame) -> Option<BuildError>
-        ensures { result ≡ message_refusal (plan_contents self.now) (name_bytes name.now) (frame_tree frame.now) }
+        ensures { result ≡ message_refusal (builder_contents self.now) (name_bytes name.now) (frame_tree frame.now) }
     {
         match self.message_name_refusal(name) {
             Some(refusal) => Some(refusal),
@@ -329,34 +374,10 @@ impl Plan {
         }
     }
 
-    fn add_message(&mut self, name: Name, frame: Frame) -> Result<(), AllocError>
-        requires { message_refusal (plan_contents self.old) (name_bytes name) (frame_tree frame) ≡ None }
-        ensures added { OnOk result (plan_contents self.new ≡
-            with_message (plan_contents self.old) (name_bytes name) (frame_tree frame)) }
-        ensures unchanged { OnErr result (plan_contents self.new ≡ plan_contents self.old) }
-    {
-        push_entry(&mut self.messages, name, frame)?;
-        Ok(())
-    }
-
-    // Why a controller of this name is refused, whatever its messages.
-    #[tactic(auto, unfolding(crate::specs::Building::controller_name_refusal))]
-    fn controller_name_refusal(&self, name: &Name) -> Option<BuildError>
-        ensures { result ≡ controller_name_refusal (plan_contents self.now) (name_bytes name.now) }
-    {
-        if self.controller_number(name).is_some() {
-            Some(BuildError::Twice)
-        } else if self.controllers() >= MOST_CONTROLLERS {
-            Some(BuildError::TooMany)
-        } else {
-            None
-        }
-    }
-
     // Why this controller is refused, apart from want of memory.
     #[tactic(auto, unfolding(crate::specs::Building::controller_refusal, crate::specs::Building::controller_name_refusal))]
     fn controller_refusal(&self, name: &Name, messages: &[Name]) -> Option<BuildError>
-        ensures { result ≡ controller_refusal (plan_contents self.now) (name_bytes name.now)
+        ensures { result ≡ controller_refusal (builder_contents self.now) (name_bytes name.now)
             (map name_bytes messages.now) }
     {
         match self.controller_name_refusal(name) {
@@ -367,7 +388,7 @@ impl Plan {
 
     // Why this list of messages is refused, name by name.
     fn list_refusal(&self, messages: &[Name]) -> Option<BuildError>
-        ensures { result ≡ list_refusal (plan_contents self.now) [] (map name_bytes messages.now) }
+        ensures { result ≡ list_refusal (builder_contents self.now) [] (map name_bytes messages.now) }
     {
         for (i, name) in messages.iter().enumerate() {
             if let Some(refusal) = self.sending_refusal(&messages[..i], name) {
@@ -377,55 +398,19 @@ impl Plan {
         None
     }
 
-    // Why one more message is refused to a controller that may send those before.
-    fn sending_refusal(&self, before: &[Name], name: &Name) -> Option<BuildError>
-        ensures { result ≡ list_refusal (plan_contents self.now) (map name_bytes before.now)
-            (name_bytes name.now ∷ []) }
-    {
-        if self.message_number(name).is_none() {
-            Some(BuildError::Unknown)
-        } else if before.contains(name) {
-            Some(BuildError::Twice)
-        } else if self.sendings() + before.len() >= MOST_SENDINGS as usize {
-            Some(BuildError::TooMany)
-        } else {
-            None
-        }
-    }
-
     // The number of sendings of all controllers.
     fn sendings(&self) -> usize
-        ensures { result ≡ sending_count (plan_contents self.now).controllers }
+        ensures { result ≡ sending_count (builder_contents self.now).controllers }
     {
-        self.participants.len() - self.interrupts.len()
-    }
-
-    fn add_controller(
-        &mut self,
-        alloc: Global,
-        name: Name,
-        messages: &[Name],
-    ) -> Result<(), AllocError>
-        requires { controller_refusal (plan_contents self.old) (name_bytes name) (map name_bytes messages.now) ≡ None }
-        ensures added { OnOk result (plan_contents self.new ≡
-            with_controller (plan_contents self.old) (name_bytes name) (map name_bytes messages.now)) }
-        ensures unchanged { OnErr result (plan_contents self.new ≡ plan_contents self.old) }
-    {
-        let numbers = self.numbers_of(alloc, messages)?;
-        let participants = self.participants_with(alloc, &numbers)?;
-        let pairs = PairTable::new(alloc, &participants, &self.nevers)?;
-        push_entry(&mut self.controllers, name, numbers)?;
-        self.participants = participants;
-        self.pairs = pairs;
-        Ok(())
+        self.plan.participants.len() - self.plan.interrupts.len()
     }
 
     // The numbers of these messages.
-    fn numbers_of(&self, alloc: Global, messages: &[Name]) -> Result<Vec<u32>, AllocError>
-        ensures { IfOk result (λ numbers. numbers.items ≡ numbers_of (plan_contents self.now)
+    fn numbers_of(&self, messages: &[Name]) -> Result<Vec<u32>, AllocError>
+        ensures { IfOk result (λ numbers. numbers.items ≡ numbers_of (builder_contents self.now)
             (map name_bytes messages.now)) }
     {
-        let mut numbers = Vec::new(alloc);
+        let mut numbers = Vec::new(self.alloc);
         for name in messages {
             if let Some(k) = self.message_number(name) {
                 numbers.push(k)?;
@@ -435,79 +420,15 @@ impl Plan {
     }
 
     // The participants, with those of a further controller that may send these messages.
-    fn participants_with(
-        &self,
-        alloc: Global,
-        messages: &[u32],
-    ) -> Result<Vec<Participant>, AllocError>
+    fn participants_with(&self, messages: &[u32]) -> Result<Vec<Participant>, AllocError>
         ensures { IfOk result (λ participants. (name : List ℕ) →
-            participants.items ≡ participants_of (with_sender (plan_contents self.now) name messages.now)) }
+            participants.items ≡ participants_of (with_sender (builder_contents self.now) name messages.now)) }
     {
-        let mut participants = Vec::from_slice(alloc, &self.participants[..self.sendings()])?;
-        push_sendings(&mut participants, self.controllers(), messages)?;
-        push_interrupts(&mut participants, self.interrupts())?;
+        let sendings = self.sendings();
+        let mut participants = Vec::from_slice(self.alloc, &self.plan.participants[..sendings])?;
+        push_sendings(&mut participants, self.plan.controllers(), messages)?;
+        push_interrupts(&mut participants, self.plan.interrupts())?;
         Ok(participants)
-    }
-
-    // Why this interrupt is refused, apart from want of memory.
-    #[tactic(auto, unfolding(crate::specs::Building::interrupt_refusal))]
-    fn interrupt_refusal(&self, name: &Name) -> Option<BuildError>
-        ensures { result ≡ interrupt_refusal (plan_contents self.now) (name_bytes name.now) }
-    {
-        if self.interrupt_number(name).is_some() {
-            Some(BuildError::Twice)
-        } else if self.interrupts() >= MOST_INTERRUPTS {
-            Some(BuildError::TooMany)
-        } else {
-            None
-        }
-    }
-
-    fn add_interrupt(&mut self, alloc: Global, name: Name, address: u8) -> Result<(), AllocError>
-        requires allowed { interrupt_refusal (plan_contents self.old) (name_bytes name) ≡ None }
-        requires address { address < 128 }
-        ensures added { OnOk result (plan_contents self.new ≡
-            with_interrupt (plan_contents self.old) (name_bytes name) address) }
-        ensures unchanged { OnErr result (plan_contents self.new ≡ plan_contents self.old) }
-    {
-        let interrupt = Participant::Interrupt(self.interrupts());
-        let participants = copied_with(alloc, &self.participants, interrupt)?;
-        let pairs = PairTable::new(alloc, &participants, &self.nevers)?;
-        push_entry(&mut self.interrupts, name, address)?;
-        self.participants = participants;
-        self.pairs = pairs;
-        Ok(())
-    }
-
-    // Why this `never` is refused, apart from want of memory.
-    #[tactic(auto, unfolding(crate::specs::Building::never_refusal))]
-    fn never_refusal(&self, first: &Name, second: &Name) -> Option<BuildError>
-        ensures { result ≡ never_refusal (plan_contents self.now) (name_bytes first.now) (name_bytes second.now) }
-    {
-        match self.controller_number(first) {
-            None => Some(BuildError::Unknown),
-            Some(_) if first == second => Some(BuildError::Twice),
-            Some(c) => match self.controller_number(second) {
-                None => Some(BuildError::Unknown),
-                Some(d) if is_never(&self.nevers, c, d) => Some(BuildError::Twice),
-                Some(_) => None,
-            },
-        }
-    }
-
-    fn add_never(&mut self, alloc: Global, first: &Name, second: &Name) -> Result<(), AllocError>
-        requires { never_refusal (plan_contents self.old) (name_bytes first.now) (name_bytes second.now) ≡ None }
-        ensures added { OnOk result (plan_contents self.new ≡
-            with_never (plan_contents self.old) (name_bytes first.now) (name_bytes second.now)) }
-        ensures unchanged { OnErr result (plan_contents self.new ≡ plan_contents self.old) }
-    {
-        let c = self.controller_number(first).unwrap();
-        let d = self.controller_number(second).unwrap();
-        let nevers = copied_with(alloc, &self.nevers, (c, d))?;
-        let pairs = PairTable::new(alloc, &self.participants, &nevers)?;
-        self.nevers = nevers;
-        self.pairs = pairs;
-        Ok(())
     }
 }
 

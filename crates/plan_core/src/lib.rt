@@ -9,6 +9,7 @@ pub mod names;
 pub mod pair_laws;
 mod pairs;
 pub mod plans;
+mod sender_places;
 pub mod senders;
 
 pub use builder::{BuildError, Builder};

@@ -1,12 +1,12 @@
 // Which pair has which number.
 
-ghost use Rattle.std.specs.Prelude.{◌≡◌, ℕ, List, [], ◌∷◌, ◌+◌, ◌-◌, ◌*◌, ◌^◌, ◌<◌, ◌≤◌, ◌++◌, length, slice_get, Some};
+ghost use Rattle.std.specs.Prelude.{◌≡◌, ℕ, Bool, List, [], ◌∷◌, ◌+◌, ◌-◌, ◌*◌, ◌^◌, ◌<◌, ◌≤◌, ◌++◌, length, slice_get, Some};
 ghost use Rattle.std.specs.Prelude.{IfOk, OnOk};
 ghost use Rattle.std.specs.List.{list_any, slice_index_or};
 ghost use Rattle.std.specs.List.Sorted.{IsNonDecreasingBy};
-ghost use Rattle.plan_core.specs.declared.plans.Participant.{Participant};
-ghost use Rattle.plan_core.specs.PairTables.{apart_in, partners_in};
-ghost use Rattle.plan_core.specs.Participants.{names_both, one_controller};
+ghost use Rattle.plan_core.specs.Pairs.{partners_by};
+ghost use Rattle.plan_core.specs.PairTables.{never_together, are_apart};
+ghost use Rattle.plan_core.specs.Participants.{names_both, one_controller, forbids_both};
 
 use crate::limits::MOST_PARTICIPANTS;
 use crate::plans::Participant;
@@ -32,12 +32,11 @@ pub struct PairTable {
 }
 
 impl PairTable {
-    ghost use Rattle.plan_core.specs.PairTables.{IsRow, IsTableBelow, IsPairTable, Extends};
+    ghost use Rattle.plan_core.specs.PairTables.{IsRow, IsTable, Extends};
 
     /// The table of no participants.
     pub fn empty(alloc: Global) -> PairTable
-        ensures { (nevers : List (ℕ × ℕ)) (participants : List Participant) →
-            IsTableBelow nevers participants 0 result }
+        ensures { (is_apart : ℕ → ℕ → Bool) (n : ℕ) → IsTable is_apart n 0 result }
     {
         PairTable {
             rows: Vec::new(alloc),
@@ -53,7 +52,8 @@ impl PairTable {
         nevers: &[(u32, u32)],
     ) -> Result<PairTable, AllocError>
         requires { length participants.now ≤ MOST_PARTICIPANTS }
-        ensures { IfOk result (IsPairTable nevers.now participants.now) }
+        ensures { IfOk result (IsTable (are_apart nevers.now participants.now) (length participants.now)
+            (length participants.now)) }
     {
         let mut table = PairTable::empty(alloc);
         for x in 0..participants.len() {
@@ -71,8 +71,9 @@ impl PairTable {
     ) -> Result<(), AllocError>
         requires few { length participants.now ≤ MOST_PARTICIPANTS }
         requires within { x < length participants.now }
-        requires below { IsTableBelow nevers.now participants.now x self.old }
-        ensures { OnOk result (IsTableBelow nevers.now participants.now (x + 1) self.new) }
+        requires below { IsTable (are_apart nevers.now participants.now) (length participants.now) x self.old }
+        ensures { OnOk result (IsTable (are_apart nevers.now participants.now) (length participants.now) (x + 1)
+            self.new) }
     {
         let row = self.make_row(participants, nevers, x)?;
         self.rows.push(row)?;
@@ -89,8 +90,9 @@ impl PairTable {
     ) -> Result<Row, AllocError>
         requires few { length participants.now ≤ MOST_PARTICIPANTS }
         requires within { x < length participants.now }
-        requires below { IsTableBelow nevers.now participants.now x self.old }
-        ensures row { IfOk result (IsRow nevers.now participants.now self.new.partners.items x) }
+        requires below { IsTable (are_apart nevers.now participants.now) (length participants.now) x self.old }
+        ensures row { IfOk result (IsRow (are_apart nevers.now participants.now) (length participants.now)
+            self.new.partners.items x) }
         ensures rows { self.new.rows ≡ self.old.rows }
         ensures count { self.new.count ≡ self.old.count }
         ensures partners { OnOk result (Extends self.old.partners.items self.new.partners.items
@@ -135,7 +137,8 @@ fn push_partners(
 ) -> Result<(), AllocError>
     requires few { length participants.now ≤ MOST_PARTICIPANTS }
     requires within { x < length participants.now }
-    ensures { OnOk result (all.new.items ≡ all.old.items ++ partners_in nevers.now participants.now x) }
+    ensures { OnOk result (all.new.items ≡ all.old.items ++
+        partners_by (are_apart nevers.now participants.now) (length participants.now) x) }
 {
     // The sendings of one controller stand side by side, so the answer for the last one is kept.
     let own = participants[x];
@@ -160,8 +163,8 @@ fn is_apart_after(
     apart: bool,
     other: Participant,
 ) -> bool
-    requires { apart ≡ apart_in nevers.now (Some own) (Some last) }
-    ensures { result ≡ apart_in nevers.now (Some own) (Some other) }
+    requires { apart ≡ never_together nevers.now (Some own) (Some last) }
+    ensures { result ≡ never_together nevers.now (Some own) (Some other) }
 {
     if is_one_controller(last, other) {
         apart
@@ -172,22 +175,13 @@ fn is_apart_after(
 
 // Whether the two never start together.
 fn is_apart(nevers: &[(u32, u32)], x: Participant, y: Participant) -> bool
-    ensures { result ≡ apart_in nevers.now (Some x) (Some y) }
+    ensures { result ≡ never_together nevers.now (Some x) (Some y) }
 {
-    match (x, y) {
-        (
-            Participant::Sending { controller, .. },
-            Participant::Sending {
-                controller: other,
-                ..
-            },
-        ) => controller == other || is_never(nevers, controller, other),
-        _ => false,
-    }
+    is_one_controller(x, y) || forbids_both(nevers, x, y)
 }
 
-// Whether both are sendings of one controller.
-fn is_one_controller(x: Participant, y: Participant) -> bool
+/// Whether both are sendings of one controller.
+pub fn is_one_controller(x: Participant, y: Participant) -> bool
     ensures { result ≡ one_controller (Some x) (Some y) }
 {
     match (x, y) {
@@ -198,6 +192,22 @@ fn is_one_controller(x: Participant, y: Participant) -> bool
                 ..
             },
         ) => controller == other,
+        _ => false,
+    }
+}
+
+/// Whether both are sendings whose controllers one `never` names.
+pub fn forbids_both(nevers: &[(u32, u32)], x: Participant, y: Participant) -> bool
+    ensures { result ≡ forbids_both nevers.now (Some x) (Some y) }
+{
+    match (x, y) {
+        (
+            Participant::Sending { controller, .. },
+            Participant::Sending {
+                controller: other,
+                ..
+            },
+        ) => is_never(nevers, controller, other),
         _ => false,
     }
 }

@@ -7,11 +7,11 @@ ghost use Rattle.message_tree.specs.Trees.{frame_tree};
 ghost use Rattle.plan_core.specs.NameBytes.{name_bytes};
 ghost use Rattle.plan_core.specs.Parts.{contents_of};
 ghost use Rattle.plan_core.specs.Limits.{IsKnown, IsWithinLimits};
-ghost use Rattle.plan_core.specs.Participants.{participants_of, participant_count, forbidden};
+ghost use Rattle.plan_core.specs.Participants.{participants_of, participant_count, forbidden, same_controller};
 ghost use Rattle.plan_core.specs.PairTables.{IsPairTable};
 
 use crate::names::Name;
-use crate::pairs::{PairTable, is_never, last_begun};
+use crate::pairs::{PairTable, forbids_both, is_one_controller, last_begun};
 use indexmap::IndexMap;
 use message_tree::Frame;
 
@@ -44,7 +44,7 @@ pub struct Plan {
     pub ghost limits: { IsWithinLimits (contents_of messages.entries controllers.entries interrupts.entries nevers.items) },
     pub ghost numbered: { participants.items ≡
         participants_of (contents_of messages.entries controllers.entries interrupts.entries nevers.items) },
-    pub ghost paired: { IsPairTable nevers.items participants.items pairs },
+    pub ghost paired: { IsPairTable (contents_of messages.entries controllers.entries interrupts.entries nevers.items) pairs },
 }
 
 impl Plan {
@@ -154,22 +154,24 @@ impl Plan {
         self.participants[i as usize]
     }
 
+    /// Whether both are sendings of one controller.
+    #[tactic(auto, unfolding(crate::specs::Participants::same_controller))]
+    pub fn same_controller(&self, x: u32, y: u32) -> bool
+        requires x_within { x < participant_count (plan_contents self.now) }
+        requires y_within { y < participant_count (plan_contents self.now) }
+        ensures { result ≡ same_controller (plan_contents self.now) x y }
+    {
+        is_one_controller(self.participant(x), self.participant(y))
+    }
+
     /// Whether both are sendings whose controllers one `never` names.
+    #[tactic(auto, unfolding(crate::specs::PlanContents::plan_contents, crate::specs::Parts::contents_of, crate::specs::Participants::forbidden))]
     pub fn forbids(&self, x: u32, y: u32) -> bool
         requires x_within { x < participant_count (plan_contents self.now) }
         requires y_within { y < participant_count (plan_contents self.now) }
         ensures { result ≡ forbidden (plan_contents self.now) x y }
     {
-        match (self.participant(x), self.participant(y)) {
-            (
-                Participant::Sending { controller, .. },
-                Participant::Sending {
-                    controller: other,
-                    ..
-                },
-            ) => is_never(&self.nevers, controller, other),
-            _ => false,
-        }
+        forbids_both(&self.nevers, self.participant(x), self.participant(y))
     }
 
     /// The number of pairs.

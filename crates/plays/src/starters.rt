@@ -2,11 +2,11 @@
 
 ghost use Rattle.std.specs.Prelude.{◌≡◌, ◌<◌, Some, None, All, IfOk, IfErr};
 ghost use Rattle.std.specs.List.{list_any};
-ghost use Rattle.plan_core.specs.Participants.{participant_count, same_controller, forbidden};
+ghost use Rattle.plan_core.specs.Participants.{participant_count, forbidden};
 ghost use Rattle.plan_core.specs.PlanContents.{plan_contents};
 ghost use Rattle.plays.specs.Starters.{shares_controller, refusal_behind, starters_refusal};
 
-use plan_core::{Participant, Plan};
+use plan_core::Plan;
 use thiserror::Error;
 
 /// Why a bench is not opened.
@@ -72,7 +72,7 @@ fn sends_already(plan: &Plan, before: &[u32], starter: u32) -> bool
     ensures { result ≡ list_any (λ y. shares_controller (plan_contents plan.now) y starter) before.now }
 {
     for other in before {
-        if *other == starter || is_same_controller(plan, *other, starter) {
+        if *other == starter || plan.same_controller(*other, starter) {
             return true;
         }
     }
@@ -91,22 +91,4 @@ fn is_forbidden(plan: &Plan, before: &[u32], starter: u32) -> bool
         }
     }
     false
-}
-
-// Whether both are sendings of one controller.
-fn is_same_controller(plan: &Plan, x: u32, y: u32) -> bool
-    requires x_within { x < participant_count (plan_contents plan.now) }
-    requires y_within { y < participant_count (plan_contents plan.now) }
-    ensures { result ≡ same_controller (plan_contents plan.now) x y }
-{
-    match (plan.participant(x), plan.participant(y)) {
-        (
-            Participant::Sending { controller, .. },
-            Participant::Sending {
-                controller: other,
-                ..
-            },
-        ) => controller == other,
-        _ => false,
-    }
 }

@@ -1,38 +1,35 @@
-use Rattle.std.proofs.Common.{◌≡◌, true, false, [], ◌∷◌, ◌+◌, ◌-◌, ◌<◌, ◌++◌, length, get_or, Some, arith, sym, ◌∙◌, ap, append_assoc}
+use Rattle.std.proofs.Common.{◌≡◌, Bool, true, false, not, cond, [], ◌∷◌, ◌<◌, ◌++◌, length, arith, sym, ◌∙◌, ap, append_assoc, append-nil}
 use Rattle.std.proofs.lemmas.Option.{slice_get-get_or}
 use Rattle.std.specs.Vec.{vec_items}
 use Rattle.plan_core.specs.declared.plans.Participant.TheVariants.{Sending}
-use Rattle.plan_core.specs.PairTables.{apart_in, partners_in, partners_among}
-use Rattle.plan_core.proofs.PairLemmas.{partners_among-joined, partners_among-apart}
+use Rattle.plan_core.specs.Pairs.{partners_by}
+use Rattle.plan_core.specs.PairTables.{never_together, are_apart}
+use Rattle.plan_core.proofs.PairLemmas.{partners-more}
 use Rattle.plan_core.proofs.pairs.push_partners.Goals as goal
 use Rattle.plan_core.proofs.pairs.push_partners.Goals.{then-not-apart+in_ok-push, else-not-apart}
 
 pub loop-y-preserved : goal.loop-y-preserved
 loop-y-preserved c =
-    let participants = c.args.participants.now in
-    let nevers = c.args.nevers.now in
-    let d = Sending 0 0 in
-    let own = get_or participants c.args.x d in
-    let other = get_or participants c.loop-y.y d in
-    let lt : c.args.x < c.loop-y.y = omega arith in
-    let at_x = slice_get-get_or participants c.args.x d c.requires.within in
-    let at_y = slice_get-get_or participants c.loop-y.y d c.loop-y-test.true in
+    let is_apart = are_apart c.args.nevers.now c.args.participants.now in
+    let old = c.args.all.now.items in
+    let y = c.loop-y.y in
+    let so_far = partners_by is_apart y c.args.x in
+    let lt : c.args.x < y = omega arith in
+    let at_x = slice_get-get_or c.args.participants.now c.args.x (Sending 0 0) c.requires.within in
+    let at_y = slice_get-get_or c.args.participants.now y (Sending 0 0) c.loop-y-test.true in
+    let is : is_apart c.args.x y ≡ c.is_apart_after-apart.result = (λ i. never_together c.args.nevers.now (at_x i) (at_y i)) ∙ sym c.is_apart_after-apart.ensures in
+    let more = λ (b : Bool) (e : c.is_apart_after-apart.result ≡ b). append_assoc old so_far (cond (not b) (y ∷ []) []) ∙ ap (λ xs. old ++ xs) (sym (partners-more is_apart c.args.x y b lt (is ∙ e))) in
     record {
       kept = c.is_apart_after-apart.ensures;
       items = elim c.if-not-apart.branch [
         | then-not-apart+in_ok-push w ↦
-            let free : apart_in nevers (Some own) (Some other) ≡ false = sym c.is_apart_after-apart.ensures ∙ w.if-not-apart.true in
-            ap vec_items w.all-is ∙ w.in_ok-push.ensures.items ∙ ap (λ xs. xs ++ c.loop-y.y ∷ []) c.loop-y.invariant.items ∙ append_assoc c.args.all.now.items _ _
-            ∙ ap (λ xs. c.args.all.now.items ++ xs) (sym (partners_among-joined nevers participants c.args.x c.loop-y.y own other at_x at_y lt free))
+            ap vec_items w.all-is ∙ w.in_ok-push.ensures.items ∙ ap (λ xs. xs ++ y ∷ []) c.loop-y.invariant.items ∙ more false w.if-not-apart.true
         | else-not-apart w ↦
-            let held : apart_in nevers (Some own) (Some other) ≡ true = sym c.is_apart_after-apart.ensures ∙ w.if-not-apart.false in
-            ap vec_items w.all-is ∙ c.loop-y.invariant.items
-            ∙ ap (λ xs. c.args.all.now.items ++ xs) (sym (partners_among-apart nevers participants c.args.x c.loop-y.y own other at_x at_y lt held))
+            ap vec_items w.all-is ∙ c.loop-y.invariant.items ∙ sym (append-nil (old ++ so_far)) ∙ more true w.if-not-apart.false
       ];
     }
 
 pub returns : goal.returns
-unfolding partners_in
 returns c =
     let size : c.loop-y.y ≡ length c.args.participants.now = omega arith in
-    c.loop-y.invariant.items ∙ ap (λ y. c.args.all.now.items ++ partners_among c.args.nevers.now c.args.participants.now c.args.x (c.args.x + 1) (y - (c.args.x + 1))) size
+    c.loop-y.invariant.items ∙ ap (λ y. c.args.all.now.items ++ partners_by (are_apart c.args.nevers.now c.args.participants.now) y c.args.x) size

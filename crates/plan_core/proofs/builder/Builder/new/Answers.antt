@@ -1,7 +1,8 @@
-use Rattle.std.proofs.Common.{sym, ◌∙◌, ap, subst, length}
+use Rattle.std.proofs.Common.{sym, ◌∙◌, ap, subst}
 use Rattle.plan_core.specs.Limits.{IsWithinLimits}
-use Rattle.plan_core.specs.PairTables.{AreRows}
-use Rattle.plan_core.specs.Participants.{participants_of}
+use Rattle.plan_core.specs.Contents.{empty}
+use Rattle.plan_core.specs.PairTables.{IsPairTable}
+use Rattle.plan_core.specs.Participants.{participants_of, apart}
 use Rattle.plan_core.specs.BuilderContents.{builder_contents}
 use Rattle.plan_core.specs.PlanContents.{plan_contents}
 use Rattle.plan_core.proofs.ContentsLemmas.{contents_of-empty, empty_within}
@@ -13,7 +14,7 @@ invariant_of-result c =
     record {
       limits = subst IsWithinLimits (sym is_empty) empty_within;
       numbered = c.new-5.ensures.items ∙ ap participants_of (sym is_empty);
-      paired = subst (λ n. AreRows c.new-4.result.items c.new-5.result.items n c.empty.result.rows.items c.empty.result.partners.items c.empty.result.count) (sym (ap length c.new-5.ensures.items)) (c.empty.ensures c.new-4.result.items c.new-5.result.items);
+      paired = subst (λ plan. IsPairTable plan c.empty.result) (sym is_empty) (c.empty.ensures (apart empty) 0);
     }
 
 pub returns : goal.returns

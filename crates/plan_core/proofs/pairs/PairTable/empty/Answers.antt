@@ -1,10 +1,8 @@
 use Rattle.std.proofs.Common.{ap, arith, length, refl}
-use Rattle.plan_core.specs.PairTables.{pairs_below}
 use Rattle.plan_core.proofs.pairs.PairTable.empty.Goals as goal
 
 pub returns : goal.returns
-unfolding pairs_below
-returns c nevers participants = record {
+returns c is_apart n = record {
   sized = ap length c.new.ensures.items;
   row = λ x d h. absurd (omega (arith, h));
   pairs = refl;

@@ -8,11 +8,11 @@ use Rattle.plan_core.specs.Building.{has_name, list_refusal}
 use Rattle.plan_core.specs.Contents.{Contents}
 use Rattle.plan_core.specs.Limits.{sending_count}
 use Rattle.plan_core.specs.NameBytes.{name_bytes}
-use Rattle.plan_core.specs.PlanContents.{plan_contents}
+use Rattle.plan_core.specs.BuilderContents.{builder_contents}
 use Rattle.plan_core.specs.declared.builder.BuildError.TheVariants.{Twice, Unknown, TooMany}
 use Rattle.plan_core.specs.declared.names.Name.{Name}
 use Rattle.plan_core.proofs.StepLemmas.{list_any-map}
-use Rattle.plan_core.proofs.plans.Plan.sending_refusal.Goals as goal
+use Rattle.plan_core.proofs.builder.Builder.sending_refusal.Goals as goal
 
 -- the answer, by the three tests
 answer : (plan : Contents) (before : List (List ℕ)) (name : List ℕ) (known twice many : Bool) → has_name name plan.messages ≡ known → list_any (λ other. bytes_eq other name) before ≡ twice → nat_le 512 (sending_count plan.controllers + length before) ≡ many → (if not known then Some Unknown else if twice then Some Twice else if many then Some TooMany else None) ≡ list_refusal plan before (name ∷ [])
@@ -25,7 +25,7 @@ among before name b is = list_any-map (λ other. bytes_eq other name) name_bytes
 
 pub returns-then-contains : goal.returns-then-contains
 returns-then-contains c =
-    let plan = plan_contents c.args.self.now in
+    let plan = builder_contents c.args.self.now in
     let before = map name_bytes c.args.before.now in
     let name = name_bytes c.args.name.now in
     let known : has_name name plan.messages ≡ true = ap is_some (sym c.message_number.ensures) ∙ c.if-is_none.ensures in
@@ -34,7 +34,7 @@ returns-then-contains c =
 
 pub returns-then-sendings-before : goal.returns-then-sendings-before
 returns-then-sendings-before c =
-    let plan = plan_contents c.args.self.now in
+    let plan = builder_contents c.args.self.now in
     let before = map name_bytes c.args.before.now in
     let name = name_bytes c.args.name.now in
     let known : has_name name plan.messages ≡ true = ap is_some (sym c.message_number.ensures) ∙ c.if-is_none.ensures in
@@ -44,7 +44,7 @@ returns-then-sendings-before c =
 
 pub returns-else-sendings-before : goal.returns-else-sendings-before
 returns-else-sendings-before c =
-    let plan = plan_contents c.args.self.now in
+    let plan = builder_contents c.args.self.now in
     let before = map name_bytes c.args.before.now in
     let name = name_bytes c.args.name.now in
     let known : has_name name plan.messages ≡ true = ap is_some (sym c.message_number.ensures) ∙ c.if-is_none.ensures in

@@ -4,14 +4,14 @@ use Rattle.std.specs.Vec.{vec_items}
 use Rattle.std.proofs.lemmas.List.{append-nil}
 use Rattle.plan_core.specs.Building.{number_of, numbers_of}
 use Rattle.plan_core.specs.NameBytes.{name_bytes}
-use Rattle.plan_core.specs.PlanContents.{plan_contents}
+use Rattle.plan_core.specs.BuilderContents.{builder_contents}
 use Rattle.plan_core.proofs.StepLemmas.{numbers_of-more}
-use Rattle.plan_core.proofs.plans.Plan.numbers_of.Goals as goal
-use Rattle.plan_core.proofs.plans.Plan.numbers_of.Goals.{in-Some+in_ok-push, in_default}
+use Rattle.plan_core.proofs.builder.Builder.numbers_of.Goals as goal
+use Rattle.plan_core.proofs.builder.Builder.numbers_of.Goals.{in-Some+in_ok-push, in_default}
 
 pub loop-name-preserved : goal.loop-name-preserved
 loop-name-preserved c =
-    let plan = plan_contents c.args.self.now in
+    let plan = builder_contents c.args.self.now in
     let messages = c.args.messages.now in
     let i = c.loop-name.name-index in
     let name = c.name-item.result in

@@ -1,26 +1,28 @@
-use Rattle.std.proofs.Common.{◌≡◌, ◌⊎◌, inl, inr, position, sym, ◌∙◌, ap, refl}
+use Rattle.std.proofs.Common.{◌≡◌, ◌⊎◌, inl, inr, position, sym, ◌∙◌, ap}
 use Rattle.std.specs.Str.{bytes_eq}
 use Rattle.message_tree.specs.Trees.{frame_tree}
 use Rattle.plan_core.specs.NameBytes.{name_bytes}
 use Rattle.plan_core.specs.Building.{with_message}
-use Rattle.plan_core.specs.Parts.{contents_of, message_of}
+use Rattle.plan_core.specs.Participants.{same_controller, forbidden}
+use Rattle.plan_core.specs.Parts.{contents_of}
+use Rattle.plan_core.specs.BuilderContents.{builder_contents}
 use Rattle.plan_core.specs.PlanContents.{plan_contents}
 use Rattle.plan_core.proofs.BuildingLemmas.{either, message_allowed}
-use Rattle.plan_core.proofs.EntryLemmas.{keys_of-viewed}
+use Rattle.plan_core.proofs.EntryLemmas.{names_of_messages}
 use Rattle.plan_core.proofs.PlanLemmas.{limits_of, participants_are}
 use Rattle.plan_core.proofs.StepLemmas.{IsNumbered-message, contents_of-message, contents_of-messages}
-use Rattle.plan_core.proofs.plans.Plan.add_message.Goals as goal
+use Rattle.plan_core.proofs.builder.Builder.add_message.Goals as goal
 
 pub push_entry-requires : goal.push_entry-requires
-unfolding plan_contents contents_of
+unfolding builder_contents plan_contents contents_of
 push_entry-requires c =
-    ap (position (bytes_eq (name_bytes c.args.name))) (sym (keys_of-viewed message_of name_bytes (λ e. refl) c.args.self.now.messages.entries))
+    ap (position (bytes_eq (name_bytes c.args.name))) (sym (names_of_messages c.args.self.now.plan.messages.entries))
     ∙ (message_allowed _ _ _ c.requires).0
 
 pub invariant_of-self : goal.invariant_of-self
-unfolding plan_contents
+unfolding builder_contents plan_contents contents_of same_controller forbidden
 invariant_of-self c =
-    let plan = c.args.self.now in
+    let plan = c.args.self.now.plan in
     let controllers = plan.controllers.entries in
     let interrupts = plan.interrupts.entries in
     let nevers = plan.nevers.items in
@@ -34,7 +36,7 @@ invariant_of-self c =
     record { limits = numbered.limits; numbered = numbered.numbered; paired = plan.paired }
 
 pub returns-clause-added : goal.returns-clause-added
-unfolding plan_contents
+unfolding builder_contents plan_contents
 returns-clause-added c =
-    let plan = c.args.self.now in
+    let plan = c.args.self.now.plan in
     contents_of-message plan.messages.entries plan.controllers.entries plan.interrupts.entries plan.nevers.items _ c.args.name c.args.frame c.in_ok-push_entry.ensures.added
