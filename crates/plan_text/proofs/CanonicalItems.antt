@@ -1,5 +1,5 @@
 -- The items of a canonical spelling fit the plan one after the other.
-use Rattle.std.proofs.Common.{◌≡◌, ◌≢◌, ◌<◌, ◌≤◌, ◌+◌, ℕ, Bool, true, false, ◌||◌, not, cond, List, [], ◌∷◌, ◌++◌, length, get_or, map, position, Option, Some, None, is_some, unwrap_or, refl, ap, sym, ◌∙◌, subst, arith, append_assoc, length-append}
+use Rattle.std.proofs.Common.{◌≡◌, ◌≢◌, ◌<◌, ◌≤◌, ◌+◌, ℕ, Bool, true, false, not, cond, List, [], ◌∷◌, ◌++◌, length, get_or, map, position, Option, Some, None, is_some, unwrap_or, refl, ap, sym, ◌∙◌, subst, arith, append_assoc, length-append}
 use Rattle.std.specs.Prelude.{All, AllPairs, nat_lt, nat_le, if◌then◌else◌}
 use Rattle.std.specs.List.{list_any, cons_option, position_or_len}
 use Rattle.std.specs.Map.{keys_of}
@@ -21,7 +21,7 @@ use Rattle.plan_core.specs.Limits.{AreNames, IsWithinLimits, sending_count}
 use Rattle.plan_core.specs.Names.{IsName}
 use Rattle.plan_core.specs.Participants.{names_both, is_never}
 use Rattle.plan_core.specs.declared.builder.BuildError.{BuildError}
-use Rattle.plan_core.specs.declared.builder.BuildError.TheVariants.{Twice, TooMany, TooLong}
+use Rattle.plan_core.specs.declared.builder.BuildError.TheVariants.{Twice, TooMany}
 
 -- ---- a list around one of its elements
 

@@ -30,7 +30,7 @@ higher_digit n d i small =
     let half : (n * 2 + d) / 2 ≡ n = omega arith in
     bit_at-suc (n * 2 + d) i ∙ ap (λ m. bit_at m i) half
 
-bits_below_push : (k known value a b : ℕ) → a < 2 → b < 2 → bits_below (suc k) (known * 2 + a) (value * 2 + b) ≡ bits_below k known value ++ (bit_from a b ∷ [])
+pub bits_below_push : (k known value a b : ℕ) → a < 2 → b < 2 → bits_below (suc k) (known * 2 + a) (value * 2 + b) ≡ bits_below k known value ++ (bit_from a b ∷ [])
 bits_below_push zero known value a b small low = rw (lowest_digit known a small, lowest_digit value b low) refl
 bits_below_push (suc k) known value a b small low =
     rw (higher_digit known a k small, higher_digit value b k low, bits_below_push k known value a b small low) refl

@@ -1,9 +1,9 @@
 pub mod Canonical
 pub mod Tokens
 pub mod Words
+pub mod Values
 pub mod Grammar
+pub mod Reader
 pub mod Refusals
 pub mod Reading
-pub mod Sources
-pub mod Items
-pub mod Readers
+pub mod Places

@@ -1,21 +1,16 @@
 // The items of a plan text, a function for each of them, and the plan that they make up.
 
-ghost use Rattle.std.specs.Prelude.{◌≡◌, ◌<◌, ◌≤◌, ◌⊎◌, ℕ, [], ◌∷◌, Some, None, false, Ok, IfOk, IfErr, OnOk};
-ghost use Rattle.std.specs.Prelude.{MatchResult, IsTrue, map};
+ghost use Rattle.std.specs.Prelude.{◌≡◌, ◌⊎◌, [], map, true, false, not, Some, None, Ok, IfOk, IfErr, OnOk, MatchResult};
 ghost use Rattle.plan_core.specs.Building.{list_refusal};
+ghost use Rattle.plan_core.specs.Contents.{Contents};
 ghost use Rattle.plan_core.specs.NameBytes.{name_bytes};
 ghost use Rattle.plan_core.specs.PlanContents.{plan_contents};
-ghost use Rattle.plan_core.specs.Contents.{Contents};
 ghost use Rattle.plan_core.specs.declared.builder.BuildError.{BuildError};
-ghost use Rattle.plan_text.specs.declared.symbols.Keyword.TheVariants as keywords;
-ghost use Rattle.plan_text.specs.declared.versions.Version.TheVariants as versions;
-ghost use Rattle.plan_text.specs.declared.versions.Version.{Version};
-ghost use Rattle.plan_text.specs.Grammar.{Spells, SpellsNames};
-ghost use Rattle.plan_text.specs.Items.{ItemRead, RestRead};
-ghost use Rattle.plan_text.specs.Reading.{Fails, left, unread};
-ghost use Rattle.plan_text.specs.Refusals.{First, refusal, item_refusal, refused_at};
-ghost use Rattle.plan_text.specs.Refusals as expect;
-ghost use Rattle.plan_text.specs.Tokens as spec;
+ghost use Rattle.plan_text.specs.Grammar.{Spells};
+ghost use Rattle.plan_text.specs.Places.{Refuses};
+ghost use Rattle.plan_text.specs.Reader.{text_read, message_at, controller_at, sendings_from, interrupt_at, never_at};
+ghost use Rattle.plan_text.specs.Reader.{item_at, is_end, refused_at};
+ghost use Rattle.plan_text.specs.Refusals.{First};
 
 use crate::errors::PlanError;
 use crate::sources::Source;
@@ -43,10 +38,10 @@ pub fn read_plan(alloc: Global, text: &[u8]) -> Result<Plan, PlanError>
     read(alloc, text)
 }
 
-// The same, by the first two clauses.
+// The same, by the definition of reading.
 fn read(alloc: Global, text: &[u8]) -> Result<Plan, PlanError>
-    ensures spelled { IfOk result (λ plan. Spells text.now (plan_contents plan)) }
-    ensures refused { IfErr result (λ e. (e ≡ PlanError.NoMemory) ⊎ First text.now e) }
+    ensures read { IfOk result (λ plan. text_read text.now ≡ Ok (plan_contents plan)) }
+    ensures refused { IfErr result (Refuses (text_read text.now)) }
 {
     let (version, tokens) = read_version(text)?;
     let mut reader = Reader {
@@ -67,20 +62,19 @@ struct Reader<'a> {
 }
 
 impl<'a> Reader<'a> {
-    ghost use Rattle.plan_text.specs.Readers.{so_far, ahead};
+    ghost use Rattle.plan_text.specs.Places.{so_far, ahead, Passes, Gives};
 
     // message NAME frame ; | controller NAME NAME* ; | interrupt NAME ADDR7 ; | never NAME NAME ;
     // It answers whether there was an item before the end of the text.
+    #[tactic(auto, unfolding(crate::specs::Reader::item_at))]
     fn item(&mut self) -> Result<bool, PlanError>
-        ensures read { IfOk result (λ more. IsTrue more → ItemRead self.old.version (so_far self.old) (ahead self.old)
-            (so_far self.new) (ahead self.new)) }
-        ensures at_end { IfOk result (λ more. more ≡ false →
-            (so_far self.new ≡ so_far self.old) × ((line : ℕ) × (ahead self.old ≡ spec.last spec.text_end line))) }
-        ensures refused { IfErr result (λ e. Fails e (item_refusal self.old.version (so_far self.old)
-            (ahead self.old))) }
+        ensures read { IfOk result (λ more. more ≡ true →
+            item_at self.old.version (so_far self.old) (ahead self.old) ≡ Ok (so_far self.new, ahead self.new)) }
+        ensures more { IfOk result (λ more. is_end (ahead self.old).tokens ≡ not more) }
+        ensures same { IfOk result (λ more. more ≡ false → so_far self.new ≡ so_far self.old) }
+        ensures refused { IfErr result (Refuses (item_at self.old.version (so_far self.old) (ahead self.old))) }
+        ensures further { IfErr result (λ e. is_end (ahead self.old).tokens ≡ false) }
         ensures version { self.new.version ≡ self.old.version }
-        ensures less { IfOk result (λ more. IsTrue more → unread self.new.source.tokens <
-            unread self.old.source.tokens) }
     {
         let token = self.source.next();
         match token.symbol {
@@ -95,13 +89,10 @@ impl<'a> Reader<'a> {
     }
 
     // NAME frame ;
+    #[tactic(auto, unfolding(crate::specs::Reader::message_at))]
     fn message(&mut self) -> Result<(), PlanError>
-        ensures read { OnOk result ((version : Version) → RestRead keywords.Message version (so_far self.old)
-            (ahead self.old) (so_far self.new) (ahead self.new)) }
-        ensures refused { IfErr result (λ e. Fails e (refusal (so_far self.old) (ahead self.old) 0
-            (expect.message_name ∷ expect.frame 0 ∷ expect.item_end ∷ []))) }
+        ensures read { Passes result (message_at (so_far self.old) (ahead self.old)) (so_far self.new, ahead self.new) }
         ensures version { self.new.version ≡ self.old.version }
-        ensures left { unread self.new.source.tokens ≤ unread self.old.source.tokens }
     {
         let named = self.source.name()?;
         allowed(self.builder.message_name_refusal(&named.name), named.line)?;
@@ -112,13 +103,11 @@ impl<'a> Reader<'a> {
     }
 
     // NAME NAME* ;
+    #[tactic(auto, unfolding(crate::specs::Reader::controller_at))]
     fn controller(&mut self) -> Result<(), PlanError>
-        ensures read { OnOk result ((version : Version) → RestRead keywords.Controller version (so_far self.old)
-            (ahead self.old) (so_far self.new) (ahead self.new)) }
-        ensures refused { IfErr result (λ e. Fails e (refusal (so_far self.old) (ahead self.old) 0
-            (expect.controller_name ∷ expect.messages_after [] ∷ []))) }
+        ensures read { Passes result (controller_at (so_far self.old) (ahead self.old))
+            (so_far self.new, ahead self.new) }
         ensures version { self.new.version ≡ self.old.version }
-        ensures left { unread self.new.source.tokens ≤ unread self.old.source.tokens }
     {
         let named = self.source.name()?;
         allowed(
@@ -133,14 +122,10 @@ impl<'a> Reader<'a> {
 
     // NAME* ; with the names of messages that one controller may send.
     fn sendings(&mut self) -> Result<Vec<Name>, PlanError>
-        ensures read { IfOk result (λ it. (between : spec.Tokens) ×
-            SpellsNames (map name_bytes it.items) (ahead self.old) between ×
-            ((line : ℕ) × (between ≡ spec.next spec.semicolon line (ahead self.new)))) }
+        ensures read { Gives (λ it. map name_bytes it.items) result
+            (sendings_from (so_far self.old) [] (ahead self.old).tokens (ahead self.old).nodes) (ahead self.new) }
         ensures known { IfOk result (λ it. list_refusal (so_far self.old) [] (map name_bytes it.items) ≡ None) }
-        ensures refused { IfErr result (λ e. Fails e (refusal (so_far self.old) (ahead self.old) 0
-            (expect.messages_after [] ∷ []))) }
         ensures same { (so_far self.new ≡ so_far self.old) × (self.new.version ≡ self.old.version) }
-        ensures left { unread self.new.source.tokens ≤ unread self.old.source.tokens }
     {
         let mut messages = Vec::new(self.source.alloc);
         'names: loop {
@@ -158,13 +143,11 @@ impl<'a> Reader<'a> {
     }
 
     // NAME ADDR7 ;
+    #[tactic(auto, unfolding(crate::specs::Reader::interrupt_at))]
     fn interrupt(&mut self) -> Result<(), PlanError>
-        ensures read { OnOk result ((version : Version) → RestRead keywords.Interrupt version (so_far self.old)
-            (ahead self.old) (so_far self.new) (ahead self.new)) }
-        ensures refused { IfErr result (λ e. Fails e (refusal (so_far self.old) (ahead self.old) 0
-            (expect.interrupt_name ∷ expect.known_address ∷ expect.item_end ∷ []))) }
+        ensures read { Passes result (interrupt_at (so_far self.old) (ahead self.old))
+            (so_far self.new, ahead self.new) }
         ensures version { self.new.version ≡ self.old.version }
-        ensures left { unread self.new.source.tokens ≤ unread self.old.source.tokens }
     {
         let named = self.source.name()?;
         allowed(self.builder.interrupt_refusal(&named.name), named.line)?;
@@ -175,13 +158,10 @@ impl<'a> Reader<'a> {
     }
 
     // NAME NAME ;
+    #[tactic(auto, unfolding(crate::specs::Reader::never_at))]
     fn never(&mut self) -> Result<(), PlanError>
-        ensures read { OnOk result (RestRead keywords.Never versions.Two (so_far self.old) (ahead self.old)
-            (so_far self.new) (ahead self.new)) }
-        ensures refused { IfErr result (λ e. Fails e (refusal (so_far self.old) (ahead self.old) 0
-            (expect.first_controller ∷ expect.item_end ∷ []))) }
+        ensures read { Passes result (never_at (so_far self.old) (ahead self.old)) (so_far self.new, ahead self.new) }
         ensures version { self.new.version ≡ self.old.version }
-        ensures left { unread self.new.source.tokens ≤ unread self.old.source.tokens }
     {
         let first = self.source.name()?;
         if !self.builder.has_controller(&first.name) {

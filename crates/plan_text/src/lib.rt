@@ -2,8 +2,10 @@
 //!
 //! A text is cut into tokens, one at a time, each with its line (`tokens`, `symbols`). Its first two say its version
 //! (`versions`). What a single word says is in `words`, the parts of items that are one token in `sources`. `messages` has
-//! a function for each rule of the grammar of a message, `items` one for each kind of item. `laws` says of every text
-//! that it has one reading, and of every plan that its canonical spelling is one of its spellings.
+//! a function for each rule of the grammar of a message, `items` one for each kind of item. `specs/Reader.antt` defines
+//! what a text is read as, and each function that reads is proved equal to its rule there. `laws` says that this is what
+//! the grammar spells, of every text that it has one reading, and of every plan that its canonical spelling is one of its
+//! spellings.
 #![tactic(auto)]
 
 pub mod errors;

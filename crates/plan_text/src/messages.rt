@@ -1,69 +1,56 @@
-// The grammar of messages, a function for each of its rules.
+// The grammar of messages, a function for each of its rules. Room is how many bytes a path may still have.
 
-ghost use Rattle.std.specs.Prelude.{◌≡◌, ◌<◌, ◌≤◌, ◌+◌, [], ◌∷◌, Some, IfOk, IfErr, OnOk};
+ghost use Rattle.std.specs.Prelude.{◌≡◌, ◌≤◌, ◌+◌, IfOk};
+ghost use Rattle.message_tree.specs.Counts.{greatest_of};
 ghost use Rattle.message_tree.specs.Trees.{frame_tree, payload_tree, tail_tree};
-ghost use Rattle.plan_text.specs.declared.symbols.Keyword.TheVariants as keywords;
-ghost use Rattle.plan_text.specs.Canonical.{address_word};
-ghost use Rattle.plan_text.specs.Refusals as expect;
-ghost use Rattle.plan_text.specs.Tokens as spec;
-ghost use Rattle.plan_core.specs.declared.builder.BuildError.TheVariants as build;
+ghost use Rattle.plan_core.specs.declared.limits.TheConstants.{MOST_BYTES};
+ghost use Rattle.plan_text.specs.Reader.{token_as, address_in, frame_at, count_at, else_at};
 
 use crate::errors::PlanError;
 use crate::sources::Source;
 use crate::symbols::{Keyword, Symbol, Token};
 use crate::words::{address, count_ends, pattern};
-use message_tree::{Address, Count, Frame, Payload, Tail};
+use message_tree::{Address, Count, Frame, Pattern, Payload, Tail};
 use plan_core::limits::{MOST_BYTES, MOST_NODES};
 
 impl Source<'_> {
-    ghost use Rattle.plan_text.specs.Reading.{Place, FrameRead, PayloadRead, TailRead, TokenRead, NodeRead, CountRead};
-    ghost use Rattle.plan_text.specs.Reading.{Took, TookKeyword, Refuses, unread};
-    ghost use Rattle.plan_text.specs.Sources.{place};
+    ghost use Rattle.plan_text.specs.Places.{place, before, Passes, Gives, Finds, node_at, tail_at, payload_at};
+    ghost use Rattle.plan_text.specs.Places.{write_at, read_at, byte_at};
 
     /// The frame of a whole message.
     pub(crate) fn message_frame(&mut self) -> Result<Frame, PlanError>
-        ensures read { IfOk result (λ it. FrameRead 0 (frame_tree it)
-            (record { tokens = (place self.old).tokens; nodes = 0 }) (place self.new)) }
-        ensures refused { IfErr result (λ e. Refuses (record { tokens = (place self.old).tokens; nodes = 0 })
-            (expect.frame 0 ∷ []) e) }
-        ensures left { unread self.new.tokens ≤ unread self.old.tokens }
+        ensures { Gives frame_tree result (frame_at MOST_BYTES (record (place self.old) { nodes = 0 }))
+            (place self.new) }
     {
         self.nodes = 0;
-        self.frame(0)
+        self.frame(MOST_BYTES)
     }
 
     // write PAT7 payload else tail | read PAT7 COUNT tail else tail
     #[cycle(message)]
-    fn frame(&mut self, above: u32) -> Result<Frame, PlanError>
-        requires { above ≤ MOST_BYTES }
-        ensures read { IfOk result (λ it. FrameRead above (frame_tree it) (place self.old) (place self.new)) }
-        ensures refused { IfErr result (λ e. Refuses (place self.old) (expect.frame above ∷ []) e) }
-        ensures left { unread self.new.tokens ≤ unread self.old.tokens }
+    fn frame(&mut self, room: u32) -> Result<Frame, PlanError>
+        ensures { Gives frame_tree result (frame_at room (place self.old)) (place self.new) }
     {
-        let token = self.tokens.next();
+        let token = self.next();
         match token.symbol {
-            Symbol::Keyword(Keyword::Write) => self.write(above),
-            Symbol::Keyword(Keyword::Read) => self.read(above),
+            Symbol::Keyword(Keyword::Write) => self.write(room),
+            Symbol::Keyword(Keyword::Read) => self.read(room),
             _ => Err(token.unexpected()),
         }
     }
 
     // PAT7 payload else tail
     #[cycle(message)]
-    fn write(&mut self, above: u32) -> Result<Frame, PlanError>
-        requires { above ≤ MOST_BYTES }
-        ensures read { IfOk result (λ it. (start : Place) → TookKeyword keywords.Write start (place self.old) →
-            FrameRead above (frame_tree it) start (place self.new)) }
-        ensures refused { IfErr result (λ e. (start : Place) → TookKeyword keywords.Write start (place self.old) →
-            Refuses start (expect.frame above ∷ []) e) }
-        ensures left { unread self.new.tokens ≤ unread self.old.tokens }
+    fn write(&mut self, room: u32) -> Result<Frame, PlanError>
+        ensures { Gives frame_tree result (write_at room (place self.old)) (place self.new) }
     {
-        let address = self.header(above)?;
-        let acked = self.payload(above + 1)?;
+        let header = self.header()?;
+        let below = self.node(room, header.line)?;
+        let acked = self.payload(below)?;
         self.else_word()?;
-        let refused = self.tail(above + 1)?;
+        let refused = self.tail(below)?;
         Ok(Frame::Write {
-            address,
+            address: header.address,
             acked: Box::new(self.alloc, acked)?,
             refused,
         })
@@ -71,21 +58,17 @@ impl Source<'_> {
 
     // PAT7 COUNT tail else tail
     #[cycle(message)]
-    fn read(&mut self, above: u32) -> Result<Frame, PlanError>
-        requires { above ≤ MOST_BYTES }
-        ensures read { IfOk result (λ it. (start : Place) → TookKeyword keywords.Read start (place self.old) →
-            FrameRead above (frame_tree it) start (place self.new)) }
-        ensures refused { IfErr result (λ e. (start : Place) → TookKeyword keywords.Read start (place self.old) →
-            Refuses start (expect.frame above ∷ []) e) }
-        ensures left { unread self.new.tokens ≤ unread self.old.tokens }
+    fn read(&mut self, room: u32) -> Result<Frame, PlanError>
+        ensures { Gives frame_tree result (read_at room (place self.old)) (place self.new) }
     {
-        let address = self.header(above)?;
-        let count = self.count(above + 1)?;
-        let after = self.tail(above + 1 + count.greatest() as u32)?;
+        let header = self.header()?;
+        let below = self.node(room, header.line)?;
+        let count = self.count(below)?;
+        let after = self.tail(below - count.greatest() as u32)?;
         self.else_word()?;
-        let refused = self.tail(above + 1)?;
+        let refused = self.tail(below)?;
         Ok(Frame::Read {
-            address,
+            address: header.address,
             count,
             after,
             refused,
@@ -94,38 +77,30 @@ impl Source<'_> {
 
     // PAT8 payload else tail | tail
     #[cycle(message)]
-    fn payload(&mut self, above: u32) -> Result<Payload, PlanError>
-        requires { above ≤ MOST_BYTES }
-        ensures read { IfOk result (λ it. PayloadRead above (payload_tree it) (place self.old) (place self.new)) }
-        ensures refused { IfErr result (λ e. Refuses (place self.old) (expect.payload above ∷ []) e) }
-        ensures left { unread self.new.tokens ≤ unread self.old.tokens }
+    fn payload(&mut self, room: u32) -> Result<Payload, PlanError>
+        ensures { Gives payload_tree result (payload_at room (place self.old)) (place self.new) }
     {
-        let token = self.tokens.next();
+        let token = self.next();
         match token.symbol {
-            Symbol::Word(word) => self.byte(word, token.line, above),
-            _ => Ok(Payload::Last(self.tail_from(token, above)?)),
+            Symbol::Word(word) => {
+                let Some(bits) = pattern(word) else {
+                    return Err(token.unexpected());
+                };
+                self.byte(bits, token.line, room)
+            }
+            _ => Ok(Payload::Last(self.tail_from(token, room)?)),
         }
     }
 
-    // The payload that begins with this word on this line.
+    // The payload that begins with this data byte on this line.
     #[cycle(message)]
-    fn byte(&mut self, word: &[u8], line: u64, above: u32) -> Result<Payload, PlanError>
-        requires { above ≤ MOST_BYTES }
-        ensures read { IfOk result (λ it. (start : Place) → start.tokens ≡
-            spec.next (spec.word word.now) line (place self.old).tokens → start.nodes ≡ (place self.old).nodes →
-            PayloadRead above (payload_tree it) start (place self.new)) }
-        ensures refused { IfErr result (λ e. (start : Place) →
-            start.tokens ≡ spec.next (spec.word word.now) line (place self.old).tokens →
-            start.nodes ≡ (place self.old).nodes → Refuses start (expect.payload above ∷ []) e) }
-        ensures left { unread self.new.tokens ≤ unread self.old.tokens }
+    fn byte(&mut self, bits: Pattern, line: u64, room: u32) -> Result<Payload, PlanError>
+        ensures { Gives payload_tree result (byte_at room bits line (place self.old)) (place self.new) }
     {
-        let Some(bits) = pattern(word) else {
-            return Err(PlanError::Unexpected(line));
-        };
-        self.add_node(above, line)?;
-        let acked = self.payload(above + 1)?;
+        let below = self.node(room, line)?;
+        let acked = self.payload(below)?;
         self.else_word()?;
-        let refused = self.tail(above + 1)?;
+        let refused = self.tail(below)?;
         Ok(Payload::Byte {
             bits,
             acked: Box::new(self.alloc, acked)?,
@@ -135,79 +110,64 @@ impl Source<'_> {
 
     // stop | again frame
     #[cycle(message)]
-    fn tail(&mut self, above: u32) -> Result<Tail, PlanError>
-        requires { above ≤ MOST_BYTES }
-        ensures read { IfOk result (λ it. TailRead above (tail_tree it) (place self.old) (place self.new)) }
-        ensures refused { IfErr result (λ e. Refuses (place self.old) (expect.tail above ∷ []) e) }
-        ensures left { unread self.new.tokens ≤ unread self.old.tokens }
+    fn tail(&mut self, room: u32) -> Result<Tail, PlanError>
+        ensures { Gives tail_tree result (tail_at room (place self.old)) (place self.new) }
     {
-        let token = self.tokens.next();
-        self.tail_from(token, above)
+        let token = self.next();
+        self.tail_from(token, room)
     }
 
     // The tail that begins with this token.
     #[cycle(message)]
-    fn tail_from(&mut self, token: Token<'_>, above: u32) -> Result<Tail, PlanError>
-        requires { above ≤ MOST_BYTES }
-        ensures read { IfOk result (λ it. (start : Place) → Took token.entry start (place self.old) →
-            TailRead above (tail_tree it) start (place self.new)) }
-        ensures refused { IfErr result (λ e. (start : Place) → Took token.entry start (place self.old) →
-            Refuses start (expect.tail above ∷ []) e) }
-        ensures left { unread self.new.tokens ≤ unread self.old.tokens }
+    fn tail_from(&mut self, token: Token<'_>, room: u32) -> Result<Tail, PlanError>
+        ensures { Gives tail_tree result (tail_at room (before token.entry (place self.old))) (place self.new) }
     {
         match token.symbol {
             Symbol::Keyword(Keyword::Stop) => Ok(Tail::Stop),
             Symbol::Keyword(Keyword::Again) => {
-                let frame = self.frame(above)?;
+                let frame = self.frame(room)?;
                 Ok(Tail::Again(Box::new(self.alloc, frame)?))
             }
             _ => Err(token.unexpected()),
         }
     }
 
-    // PAT7 as a header below `above` bytes.
-    fn header(&mut self, above: u32) -> Result<Address, PlanError>
-        requires { above ≤ MOST_BYTES }
-        ensures read { IfOk result (λ it. NodeRead (address_word it) above (place self.old) (place self.new)) }
-        ensures write_refused { IfErr result (λ e. Refuses (place self.old) (expect.write_address above ∷ []) e) }
-        ensures read_refused { IfErr result (λ e. Refuses (place self.old) (expect.read_address above ∷ []) e) }
-        ensures left { unread self.new.tokens ≤ unread self.old.tokens }
+    // PAT7
+    fn header(&mut self) -> Result<Header, PlanError>
+        ensures { Finds (λ it. it.address) (λ it. it.line) result (token_as address_in (place self.old))
+            (place self.new) }
     {
-        let token = self.tokens.next();
+        let token = self.next();
         let Symbol::Word(word) = token.symbol else {
             return Err(token.unexpected());
         };
         let Some(address) = address(word) else {
             return Err(token.unexpected());
         };
-        self.add_node(above, token.line)?;
-        Ok(address)
+        Ok(Header {
+            address,
+            line: token.line,
+        })
     }
 
-    // One more node, of one byte below `above` bytes, at a token on this line.
-    fn add_node(&mut self, above: u32, line: u64) -> Result<(), PlanError>
-        requires { above ≤ MOST_BYTES }
-        ensures added { OnOk result ((above < MOST_BYTES) × (self.old.nodes < MOST_NODES)
-            × (self.new.nodes ≡ self.old.nodes + 1)) }
-        ensures refused { IfErr result (λ e. (e ≡ PlanError.TooLong line) ×
-            (expect.byte_refusal above self.old.nodes ≡ Some build.TooLong)) }
-        ensures same { self.new.tokens ≡ self.old.tokens }
+    // One more node with its token on this line, and the room below it.
+    fn node(&mut self, room: u32, line: u64) -> Result<u32, PlanError>
+        ensures read { Gives (λ below. below) result (node_at room line (place self.old)) (place self.new) }
+        ensures less { IfOk result (λ below. room ≡ below + 1) }
     {
-        if self.nodes >= MOST_NODES || above >= MOST_BYTES {
+        if room == 0 || self.nodes >= MOST_NODES {
             return Err(PlanError::TooLong(line));
         }
         self.nodes += 1;
-        Ok(())
+        Ok(room - 1)
     }
 
-    // COUNT below a header.
-    fn count(&mut self, header: u32) -> Result<Count, PlanError>
-        requires { header ≤ MOST_BYTES }
-        ensures read { IfOk result (λ it. CountRead it header (place self.old) (place self.new)) }
-        ensures refused { IfErr result (λ e. Refuses (place self.old) (expect.count header ∷ []) e) }
-        ensures left { unread self.new.tokens ≤ unread self.old.tokens }
+    // COUNT
+    fn count(&mut self, room: u32) -> Result<Count, PlanError>
+        ensures read { Gives (λ it. it) result (count_at room (place self.old)) (place self.new) }
+        ensures fits { IfOk result (λ it. greatest_of it ≤ room) }
     {
-        let token = self.tokens.next();
+        let token = self.next();
         let Symbol::Word(word) = token.symbol else {
             return Err(token.unexpected());
         };
@@ -217,7 +177,7 @@ impl Source<'_> {
         let Some(count) = ends.count() else {
             return Err(PlanError::BadCount(token.line));
         };
-        if header + count.greatest() as u32 > MOST_BYTES {
+        if count.greatest() as u32 > room {
             return Err(PlanError::TooLong(token.line));
         }
         Ok(count)
@@ -225,15 +185,19 @@ impl Source<'_> {
 
     // else
     fn else_word(&mut self) -> Result<(), PlanError>
-        ensures read { OnOk result (TokenRead (spec.keyword keywords.Else) expect.else_word (place self.old)
-            (place self.new)) }
-        ensures refused { IfErr result (λ e. Refuses (place self.old) (expect.else_word ∷ []) e) }
-        ensures left { unread self.new.tokens ≤ unread self.old.tokens }
+        ensures { Passes result (else_at (place self.old)) (place self.new) }
     {
-        let token = self.tokens.next();
+        let token = self.next();
         match token.symbol {
             Symbol::Keyword(Keyword::Else) => Ok(()),
             _ => Err(token.unexpected()),
         }
     }
+}
+
+// An address, with the line of its token.
+#[derive(Clone, Copy)]
+struct Header {
+    address: Address,
+    line: u64,
 }

@@ -1,12 +1,10 @@
 // What is left of a plan text, and the parts of items that are one token.
 
-ghost use Rattle.std.specs.Prelude.{◌≡◌, ◌<◌, ◌≤◌, ◌+◌, List, ℕ, ◌∷◌, Some, IfOk, IfErr, OnOk};
-ghost use Rattle.plan_core.specs.Contents.{Contents};
+ghost use Rattle.std.specs.Prelude.{◌≡◌, ◌≤◌, ◌<◌, ℕ, IfOk};
 ghost use Rattle.plan_core.specs.NameBytes.{name_bytes};
 ghost use Rattle.plan_core.specs.declared.limits.TheConstants.{MOST_NODES};
-ghost use Rattle.plan_text.specs.Refusals as expect;
-ghost use Rattle.plan_text.specs.Tokens as spec;
-ghost use Rattle.plan_text.specs.Canonical.{interrupt_word};
+ghost use Rattle.plan_text.specs.Reader.{Place, token_as, name_in, known_address_at, end_at};
+ghost use Rattle.plan_text.specs.Reading.{left};
 
 use crate::errors::PlanError;
 use crate::symbols::{Symbol, Token};
@@ -32,12 +30,11 @@ pub(crate) struct Named {
 }
 
 impl<'a> Source<'a> {
-    ghost use Rattle.plan_text.specs.Items.{name_refusal};
-    ghost use Rattle.plan_text.specs.Reading.{Fails, left, unread, taken, with_token};
+    ghost use Rattle.plan_text.specs.Places.{place, before, Passes, Gives, Finds};
 
     /// The whole of these tokens.
     pub(crate) fn new(alloc: Global, tokens: Tokens<'a>) -> Self
-        ensures { result.tokens ≡ tokens.entry }
+        ensures { place result ≡ record { tokens = left tokens.entry; nodes = 0 } }
     {
         Source {
             alloc,
@@ -48,20 +45,17 @@ impl<'a> Source<'a> {
 
     /// The next token.
     pub(crate) fn next(&mut self) -> Token<'a>
-        ensures left { left self.old.tokens ≡ with_token result (left self.new.tokens) }
-        ensures shorter { unread self.new.tokens + taken result.symbol ≤ unread self.old.tokens }
+        ensures { place self.old ≡ before result (place self.new) }
     {
         self.tokens.next()
     }
 
     /// NAME
     pub(crate) fn name(&mut self) -> Result<Named, PlanError>
-        ensures read { IfOk result (λ it. left self.old.tokens ≡
-            spec.next (spec.word (name_bytes it.name)) it.line (left self.new.tokens)) }
-        ensures refused { IfErr result (λ e. Fails e (name_refusal (left self.old.tokens))) }
-        ensures left { unread self.new.tokens ≤ unread self.old.tokens }
+        ensures { Finds (λ it. name_bytes it.name) (λ it. it.line) result (token_as name_in (place self.old))
+            (place self.new) }
     {
-        let token = self.tokens.next();
+        let token = self.next();
         let name = self.name_of(token)?;
         Ok(Named {
             name,
@@ -71,11 +65,8 @@ impl<'a> Source<'a> {
 
     /// The NAME that this token is.
     pub(crate) fn name_of(&self, token: Token<'_>) -> Result<Name, PlanError>
-        ensures read { IfOk result (λ it. (rest : spec.Tokens) →
-            with_token token.entry rest ≡ spec.next (spec.word (name_bytes it)) token.entry.line rest) }
-        ensures refused { IfErr result (λ e. (rest : spec.Tokens) →
-            Fails e (name_refusal (with_token token.entry rest))) }
-        ensures taken { OnOk result (taken token.entry.symbol ≡ 1) }
+        ensures { (after : Place) → Finds name_bytes (λ it. token.entry.line) result
+            (token_as name_in (before token.entry after)) after }
     {
         let Symbol::Word(word) = token.symbol else {
             return Err(token.unexpected());
@@ -92,13 +83,10 @@ impl<'a> Source<'a> {
 
     /// ADDR7
     pub(crate) fn interrupt_address(&mut self) -> Result<u8, PlanError>
-        ensures read { IfOk result (λ it. (it < 128) × ((line : ℕ) ×
-            (left self.old.tokens ≡ spec.next (spec.word (interrupt_word it)) line (left self.new.tokens)))) }
-        ensures refused { IfErr result (λ e. (plan : Contents) (nodes : ℕ) (more : List expect.Expected) →
-            expect.refusal plan (left self.old.tokens) nodes (expect.known_address ∷ more) ≡ Some e) }
-        ensures left { unread self.new.tokens ≤ unread self.old.tokens }
+        ensures read { Gives (λ it. it) result (known_address_at (place self.old)) (place self.new) }
+        ensures small { IfOk result (λ it. it < 128) }
     {
-        let token = self.tokens.next();
+        let token = self.next();
         let Symbol::Word(word) = token.symbol else {
             return Err(token.unexpected());
         };
@@ -110,13 +98,9 @@ impl<'a> Source<'a> {
 
     /// `;`
     pub(crate) fn semicolon(&mut self) -> Result<(), PlanError>
-        ensures read { OnOk result ((line : ℕ) × (left self.old.tokens ≡
-            spec.next spec.semicolon line (left self.new.tokens))) }
-        ensures refused { IfErr result (λ e. (plan : Contents) (nodes : ℕ) (more : List expect.Expected) →
-            expect.refusal plan (left self.old.tokens) nodes (expect.item_end ∷ more) ≡ Some e) }
-        ensures left { unread self.new.tokens ≤ unread self.old.tokens }
+        ensures { Passes result (end_at (place self.old)) (place self.new) }
     {
-        let token = self.tokens.next();
+        let token = self.next();
         match token.symbol {
             Symbol::Semicolon => Ok(()),
             _ => Err(token.unexpected()),

@@ -48,7 +48,7 @@ pub(crate) struct Token<'a> {
 
 impl<'a> Token<'a> {
     ghost use Rattle.plan_text.specs.Reading.{unexpected_at, with_token};
-    ghost use Rattle.plan_text.specs.Refusals.{no_version};
+    ghost use Rattle.plan_text.specs.Reader.{no_version};
 
     /// The refusal of this token where the grammar does not allow it.
     pub(crate) fn unexpected(&self) -> PlanError

@@ -17,7 +17,7 @@ pub(crate) struct Tokens<'a> {
 }
 
 impl<'a> Tokens<'a> {
-    ghost use Rattle.plan_text.specs.Reading.{unread, taken, with_token, left_of, left, BeginsHere};
+    ghost use Rattle.plan_text.specs.Reading.{unread, with_token, left_of, left, BeginsHere};
 
     /// The tokens of a whole text, with no dots in words.
     pub(crate) fn new(text: &'a [u8]) -> Self
@@ -45,7 +45,6 @@ impl<'a> Tokens<'a> {
             left_of dots self.old ≡ with_token result (left_of (one_later dots) self.new) }
         ensures left { left self.old ≡ with_token result (left self.new) }
         ensures dots { self.new.dots ≡ self.old.dots }
-        ensures shorter { unread self.new + taken result.symbol ≤ unread self.old }
     {
         self.skip_blank();
         let line = self.line;

@@ -1,10 +1,10 @@
 // The first two tokens of a plan text, which say its version.
 
-ghost use Rattle.std.specs.Prelude.{◌≡◌, Some, None, is_some, IfOk, IfErr, IfSome};
-ghost use Rattle.plan_text.specs.Grammar.{version_word, Begins};
-ghost use Rattle.plan_text.specs.Refusals.{is_version, version_refusal};
+ghost use Rattle.std.specs.Prelude.{◌≡◌, Ok, Err, IfOk, IfErr};
+ghost use Rattle.plan_text.specs.Grammar.{dots_of};
+ghost use Rattle.plan_text.specs.Reader.{version_of, version_at, after_one};
 ghost use Rattle.plan_text.specs.Reading.{left};
-ghost use Rattle.plan_text.specs.Tokens as spec;
+ghost use Rattle.plan_text.specs.Tokens.{tokens_of, no_dots};
 
 use crate::errors::PlanError;
 use crate::symbols::{Keyword, Symbol};
@@ -21,8 +21,9 @@ pub(crate) enum Version {
 
 /// Reads `plan` and the version, and gives the tokens after them.
 pub(crate) fn read_version(text: &[u8]) -> Result<(Version, Tokens<'_>), PlanError>
-    ensures begins { IfOk result (λ it. Begins text.now it.0 (left it.1)) }
-    ensures refused { IfErr result (λ e. version_refusal (spec.tokens_of spec.no_dots 1 text.now) ≡ Some e) }
+    ensures version { IfOk result (λ it. version_at (tokens_of no_dots 1 text.now) ≡ Ok it.0) }
+    ensures rest { IfOk result (λ it. left it.1 ≡ after_one (after_one (tokens_of (dots_of it.0) 1 text.now))) }
+    ensures refused { IfErr result (λ e. version_at (tokens_of no_dots 1 text.now) ≡ Err e) }
 {
     let mut tokens = Tokens::new(text);
     let first = tokens.next();
@@ -44,8 +45,7 @@ pub(crate) fn read_version(text: &[u8]) -> Result<(Version, Tokens<'_>), PlanErr
 }
 
 fn version_of(word: &[u8]) -> Option<Version>
-    ensures form { is_some result ≡ is_version (spec.word word.now) }
-    ensures word { IfSome result (λ version. word.now ≡ version_word version) }
+    ensures { result ≡ version_of word.now }
 {
     match word {
         b"1" => Some(Version::One),

@@ -1,11 +1,11 @@
-use Rattle.plan_text.specs.Grammar.{SpellsFront}
-use Rattle.plan_text.specs.Reading.{unread}
-use Rattle.plan_text.specs.Readers.{so_far, ahead}
+use Rattle.std.proofs.Common.{◌≡◌}
+use Rattle.plan_text.specs.Places.{so_far, ahead}
+use Rattle.plan_text.specs.Reader.{items_at, text_read, size}
 use Rattle.plan_text.proofs.items.read.Given as goal
 
--- the items so far make up the plan so far
+-- what is left is read as the text is
 abbrev pub invariant-loop-reader : goal.invariant-loop-reader
-invariant-loop-reader l = SpellsFront l.text l.reader.version (so_far l.reader) (ahead l.reader)
+invariant-loop-reader l = items_at l.reader.version (so_far l.reader) (ahead l.reader) ≡ text_read l.text
 
 abbrev pub decreases-loop-reader : goal.decreases-loop-reader
-decreases-loop-reader l = unread l.reader.source.tokens
+decreases-loop-reader l = size (ahead l.reader).tokens

@@ -1,6 +1,5 @@
-use Rattle.plan_text.proofs.ReadLemmas.{one_plan}
+use Rattle.plan_text.proofs.ReadLemmas.{one_plan, answered}
 use Rattle.plan_text.proofs.RefusedLemmas.{first_same, spelled_not_refused}
-use Rattle.plan_text.proofs.EitherItems.{answered}
 use Rattle.plan_text.proofs.laws.texts_have_one_reading.Goals as goal
 
 pub returns-clause-one_plan : goal.returns-clause-one_plan

@@ -1,10 +1,12 @@
-use Rattle.std.proofs.Common.{◌≡◌, false}
-use Rattle.std.proofs.Common.{refl}
-use Rattle.plan_core.specs.Names.{is_name}
-use Rattle.plan_text.proofs.ItemLemmas.{no_name}
+use Rattle.std.proofs.Common.{sym, ap, ◌∙◌, inr, refl}
+use Rattle.std.specs.Prelude.{Err}
+use Rattle.plan_text.specs.declared.errors.PlanError.{PlanError}
+use Rattle.plan_text.specs.Places.{before}
+use Rattle.plan_text.specs.Reader.{name_in}
+use Rattle.plan_text.proofs.NameLemmas.{no_name_in}
+use Rattle.plan_text.proofs.StepLemmas.{word_missed}
 use Rattle.plan_text.proofs.sources.Source.name_of.Goals as goal
 
-pub returns-in_default-from_utf8-clause-refused : goal.returns-in_default-from_utf8-clause-refused
-returns-in_default-from_utf8-clause-refused c = λ rest.
-    let none : is_name c.in-Word.word.now ≡ false = no_name c.in-Word.word.now c.in_default-from_utf8.ensures.cases.0 in
-    rw (c.unexpected-in_default-from_utf8.ensures, c.in-Word.is, none) refl
+pub returns-in_default-from_utf8 : goal.returns-in_default-from_utf8
+returns-in_default-from_utf8 c = λ after.
+    inr (word_missed c.args.token (before c.args.token after) after refl c.in-Word.word c.in-Word.is name_in (no_name_in c.in-Word.word.now c.in_default-from_utf8.ensures.cases.0) ∙ ap (λ (e : PlanError). Err e) (sym c.unexpected-in_default-from_utf8.ensures))
