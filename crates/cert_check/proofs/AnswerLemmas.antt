@@ -23,7 +23,8 @@ use Rattle.cert_check.specs.declared.answers.AcceptError.TheVariants.{Plan, NoMe
 use Rattle.cert_check.specs.Accepts.{IsCertified, IsRefuted, IsMistaken, Contradicts, Judges, IsJudged, IsAnswer, Answers, AnswersBytes, FoundSafe}
 use Rattle.cert_check.specs.Judged.{IsAnswered, IsRight}
 use Rattle.cert_check.specs.Refused.{refused_with}
-use Rattle.cert_check.proofs.Checked.{at_get, certified_is_safe, not_wrong, wrong_once}
+use Rattle.plan_core.proofs.ListLemmas.{at_get}
+use Rattle.cert_check.proofs.Checked.{certified_is_safe, not_wrong, wrong_once}
 
 -- ---- what the parts answer is right
 

@@ -1,25 +1,24 @@
 -- Proofs of all pairs make a plan safe.
-use Rattle.std.proofs.Common.{◌≡◌, ℕ, zero, suc, ◌+◌, ◌<◌, Option, Some, unwrap_or, List, [], ◌∷◌, length, get_or, slice_get, ◌++◌, refl, ap, sym, ◌∙◌, subst, arith, inl, inr, ◌⊎◌, ◌↔◌}
+use Rattle.std.proofs.Common.{◌≡◌, ℕ, zero, suc, ◌<◌, Option, Some, unwrap_or, List, [], ◌∷◌, length, get_or, slice_get, ◌++◌, refl, ap, sym, ◌∙◌, subst, arith, inl, inr, ◌⊎◌, ◌↔◌}
 use Rattle.message_tree.specs.declared.items.Item.{Item}
 use Rattle.message_tree.specs.declared.items.Kind.{Kind}
 use Rattle.message_tree.specs.Items.{kind_of, KindsClash}
 use Rattle.message_tree.specs.Texts.{Sender, SenderText}
-use Rattle.std.proofs.Common.{map}
-use Rattle.std.proofs.lemmas.List.{length-map}
 use Rattle.std.proofs.lemmas.Bool.{cases_lt}
-use Rattle.certificate.specs.declared.values.Cert.{Cert}
 use Rattle.certificate.specs.declared.errors.CertFault.{CertFault}
 use Rattle.certificate.specs.declared.errors.CertFault.TheVariants.{Format, Count, TooDeep, Pair}
-use Rattle.certificate.specs.Proofs.{ProofTree, proof_tree}
+use Rattle.certificate.specs.Proofs.{ProofTree}
 use Rattle.certificate.specs.Proves.{Proves}
 use Rattle.certificate.proofs.Soundness.{sound}
 use Rattle.plan_core.specs.Contents.{Contents}
 use Rattle.plan_core.specs.Faults.{OffersKind, IsFaulty, IsSafe}
 use Rattle.plan_core.specs.Lawful.{pair}
 use Rattle.plan_core.specs.Pairs.{pairs_of}
-use Rattle.plan_core.specs.Participants.{Text, TextOf, sender_at, participant_count}
+use Rattle.plan_core.specs.Participants.{Text, TextOf, sender_at}
+use Rattle.plan_core.proofs.ListLemmas.{some_at}
+use Rattle.plan_core.proofs.SenderPlaceLemmas.{pair_within}
 use Rattle.plan_core.proofs.Model.{safe_by_pairs, in_pair, still_in, fault_of_pair, may_clash}
-use Rattle.plan_core.proofs.PairLaws.{to_pairs, from_pairs, parts_of_IsPair}
+use Rattle.plan_core.proofs.PairLaws.{to_pairs, parts_of_IsPair}
 use Rattle.cert_check.specs.PairFaults.{IsPairFault}
 use Rattle.cert_check.specs.Wires.{GoesOnWith, ClashAfter}
 use Rattle.cert_check.specs.Proved.{ProvesPair, Certifies, IsWrong}
@@ -29,23 +28,6 @@ module _ {X : Type 0} where
   get_at [] k x h e = absurd (omega arith)
   get_at (y ∷ xs) zero x h e = ap Some e
   get_at (y ∷ xs) (suc k) x h e = get_at xs k x (omega arith) e
-
-  pub at_get : (xs : List X) (k : ℕ) (x : X) → slice_get xs k ≡ Some x → (k < length xs) × (get_or xs k x ≡ x)
-  at_get [] k x e = cc
-  at_get (y ∷ xs) zero x e = (omega arith, cc)
-  at_get (y ∷ xs) (suc k) x e = let r = at_get xs k x e in (omega (arith, r.0), r.1)
-
-  pub some_at : (xs : List X) (k : ℕ) → k < length xs → (x : X) × (slice_get xs k ≡ Some x)
-  some_at [] k h = absurd (omega arith)
-  some_at (y ∷ xs) zero h = (y, refl)
-  some_at (y ∷ xs) (suc k) h = some_at xs k (omega arith)
-
--- what the list of pairs has at a place
-pub pair_within : (plan : Contents) (i x y : ℕ) → slice_get (pairs_of plan) i ≡ Some (x, y) → (x < y) × (y < participant_count plan)
-pair_within plan i x y e =
-    let at = at_get (pairs_of plan) i (x, y) e in
-    let parts = from_pairs plan x y (i, at.0, at.1) in
-    (parts.0, parts.1)
 
 -- the two of one place
 pub same_pair : (plan : Contents) (i x y v w : ℕ) → slice_get (pairs_of plan) i ≡ Some (x, y) → slice_get (pairs_of plan) i ≡ Some (v, w) → (x ≡ v) × (y ≡ w)

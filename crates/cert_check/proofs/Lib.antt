@@ -1,4 +1,5 @@
 pub mod Checked
 pub mod WireLemmas
 pub mod TallyLemmas
+pub mod MemoLemmas
 pub mod AnswerLemmas

@@ -3,9 +3,10 @@ use Rattle.std.proofs.Common.{◌≡◌, ℕ, zero, suc, ◌+◌, ◌-◌, ◌<�
 use Rattle.certificate.specs.Proofs.{ProofTree}
 use Rattle.plan_core.specs.Contents.{Contents}
 use Rattle.plan_core.specs.Pairs.{pairs_of}
-use Rattle.cert_check.specs.Judged.{FirstOf}
+use Rattle.std.proofs.lemmas.Bool.{cases_lt, lt-ltb}
+use Rattle.cert_check.specs.Judged.{FirstOf, next_after}
 use Rattle.cert_check.specs.Proved.{ProvesPair}
-use Rattle.cert_check.proofs.Checked.{at_get}
+use Rattle.plan_core.proofs.ListLemmas.{at_get}
 
 module _ {X : Type 0} where
   -- what stands in a list with one more
@@ -74,5 +75,31 @@ module _ (plan : Contents) (trees : List ProofTree) (tree : ProofTree) where
   pub counted : (n m : ℕ) → n ≡ min (length trees) (2 ^ 64 - 1) → m ≡ min (n + 1) (2 ^ 64 - 1) → m ≡ min (length (trees ++ tree ∷ [])) (2 ^ 64 - 1)
   counted n m e f = let more = length-append trees (tree ∷ []) in omega arith
 
+-- ---- the pair that is next
+
+next_is : (pairs n i : ℕ) (u : Option ℕ) → next_after pairs u n ≡ Some i → u ≡ None
+next_is pairs n i None e = refl
+next_is pairs n i (Some j) e = cc
+
+none_next : (pairs n : ℕ) → next_after pairs None n ≡ None → pairs ≤ n
+none_next pairs n e = elim (cases_lt n pairs) [ inl less ↦ let some : next_after pairs None n ≡ Some n = rw (lt-ltb n pairs less) refl in cc | inr le ↦ le ]
+
 pub first_is : (plan : Contents) (trees : List ProofTree) (o p : Option ℕ) → o ≡ p → FirstOf plan trees o → FirstOf plan trees p
 first_is plan trees o p e f = subst (FirstOf plan trees) e f
+
+module _ (plan : Contents) (trees : List ProofTree) (tree : ProofTree) (u : Option ℕ) (n : ℕ) (first : FirstOf plan trees u) where
+  -- the next pair is not proved
+  pub unproved_next : (i : ℕ) → next_after (length (pairs_of plan)) u n ≡ Some i → i ≡ length trees → i < length (pairs_of plan) → (ProvesPair plan i tree → ⊥) → FirstOf plan (trees ++ tree ∷ []) (Some i)
+  unproved_next i next here within refuted = next_unproved plan trees tree i here within (first_is plan trees u None (next_is (length (pairs_of plan)) n i u next) first) refuted
+
+  -- the next pair is proved
+  pub proved_next : (i : ℕ) → next_after (length (pairs_of plan)) u n ≡ Some i → i ≡ length trees → ProvesPair plan i tree → FirstOf plan (trees ++ tree ∷ []) u
+  proved_next i next here proves =
+      let none = next_is (length (pairs_of plan)) n i u next in
+      first_is plan (trees ++ tree ∷ []) None u (sym none) (next_proved plan trees tree i here (first_is plan trees u None none first) proves)
+
+-- no pair is next
+pub spare : (plan : Contents) (trees : List ProofTree) (tree : ProofTree) (u : Option ℕ) (n : ℕ) → FirstOf plan trees u → next_after (length (pairs_of plan)) u n ≡ None → n ≤ length trees → FirstOf plan (trees ++ tree ∷ []) u
+spare plan trees tree (Some i) n first next le = still_first plan trees tree i first
+spare plan trees tree None n first next le =
+    let past = none_next (length (pairs_of plan)) n next in no_further_pair plan trees tree (omega (arith, past, le)) first

@@ -25,6 +25,7 @@ ghost use Rattle.cert_check.specs.Judged.{IsRight};
 use crate::accepted::Accepted;
 use crate::answers::{AcceptError, Answer};
 use crate::faults::check_fault;
+use crate::remembered::{judge_next, no_lines};
 use crate::tallies::Tally;
 use certificate::{CertError, CertFault, Fault, Head, ProofLines, read_head};
 use plan_core::Plan;
@@ -34,7 +35,9 @@ use std::alloc::{AllocError, Global};
 /// Whether the certificate proves that the plan is safe, or shows that it is not.
 ///
 /// The plan is read first, then the certificate, one proof at a time: a proof is read, its pair is checked, and the
-/// proof is dropped. So it takes memory for the plan and for one proof, however long the certificate is.
+/// proof is dropped. The place of its line in the text is remembered for the two senders: where the text has the same line
+/// for a further pair of them, nothing is read again. So it takes memory for the plan, for one proof, and for the places of
+/// lines (16 bytes for each two messages or interrupts, 1.3 MB at most), however long the certificate is.
 ///
 /// Where it answers `Safe`, no run of the bus has a fault, whatever participants start together and whatever the
 /// targets return: no repeated START or STOP meets another's data bit or each other (UM10204, 3.1.8), no controller
@@ -94,7 +97,7 @@ pub fn accept(alloc: Global, plan: &[u8], cert: &[u8]) -> Result<Answer, AcceptE
 }
 
 /// The same for a plan that was read: it comes back accepted where `accept` answers `Safe`, and else the answer comes
-/// back. It takes memory for one proof.
+/// back. It takes memory for one proof, and for the places of lines.
 pub fn accept_certificate(
     alloc: Global,
     plan: Plan,
@@ -112,7 +115,7 @@ pub fn accept_certificate(
     }
 }
 
-/// The answer of `accept` for a plan that was read. It takes memory for one proof.
+/// The answer of `accept` for a plan that was read. It takes memory for one proof, and for the places of lines.
 pub fn check_certificate(alloc: Global, plan: &Plan, cert: &[u8]) -> Result<Answer, AllocError>
     ensures { IfOk result (IsAnswer (plan_contents plan.now) cert.now) }
 {
@@ -142,15 +145,15 @@ fn judge_cert(alloc: Global, plan: &Plan, cert: &[u8]) -> Result<Answer, CertErr
     }
 }
 
-// The proofs that are left, each of them dropped before the next is read.
+// The proofs that are left, each of them dropped before the next is read. The memory for what is remembered is asked for
+// before the first is read.
 fn judge_proofs(alloc: Global, plan: &Plan, mut lines: ProofLines<'_>) -> Result<Answer, CertError>
     ensures { (text : List ℕ) → ReadSoFar text [] lines.entry →
         MatchResult result (IsJudged (plan_contents plan.now) text) (Fails text) }
 {
     let mut tally = Tally::new();
-    while let Some(proof) = lines.next_proof(alloc)? {
-        tally.add(plan, &proof);
-    }
+    let mut known = no_lines(alloc, plan.sender_places())?;
+    'lines: while judge_next(alloc, plan, &mut lines, &mut tally, &mut known)? {}
     Ok(match tally.fault(plan) {
         None => Answer::Safe,
         Some(fault) => Answer::Wrong(fault),

@@ -44,7 +44,7 @@ fn fault_of(plan: &Plan, certs: &[Cert]) -> Option<CertFault>
 {
     let mut tally = Tally::new();
     for cert in certs {
-        tally.add(plan, cert);
+        tally.add(plan, tally.is_proved(plan, cert));
     }
     tally.fault(plan)
 }

@@ -1,7 +1,8 @@
 // The proofs of a certificate, counted and checked as they come.
 
-ghost use Rattle.std.specs.Prelude.{◌≡◌, ◌∷◌, [], ◌++◌, List, MatchOption};
+ghost use Rattle.std.specs.Prelude.{◌≡◌, ◌<◌, ◌∷◌, [], ◌++◌, length, List, IfSome, MatchOption};
 ghost use Rattle.certificate.specs.Proofs.{ProofTree, proof_tree};
+ghost use Rattle.plan_core.specs.Pairs.{pairs_of};
 ghost use Rattle.plan_core.specs.PlanContents.{plan_contents};
 
 use crate::pairs::check_pair;
@@ -18,7 +19,7 @@ pub(crate) struct Tally {
 }
 
 impl Tally {
-    ghost use Rattle.cert_check.specs.Judged.{Tallies, FirstOf};
+    ghost use Rattle.cert_check.specs.Judged.{Tallies, TellsNext, next_pair};
     ghost use Rattle.cert_check.specs.Proved.{Certifies, IsWrong};
 
     /// The tally of no proofs.
@@ -32,32 +33,42 @@ impl Tally {
         }
     }
 
-    /// One more proof.
-    pub(crate) fn add(&mut self, plan: &Plan, cert: &Cert)
-        ensures { (trees : List ProofTree) → Tallies (plan_contents plan.now) trees self.old →
-            Tallies (plan_contents plan.now) (trees ++ proof_tree cert.now ∷ []) self.new }
-    {
-        self.unproved = self.first_unproved(plan, cert);
-        self.proofs = self.proofs.saturating_add(1);
-    }
-
-    // The first pair whose proof does not prove it, with this proof as the next.
-    fn first_unproved(&self, plan: &Plan, cert: &Cert) -> Option<u32>
-        ensures { (trees : List ProofTree) → Tallies (plan_contents plan.now) trees self.now →
-            FirstOf (plan_contents plan.now) (trees ++ proof_tree cert.now ∷ []) result }
+    /// The pair that the next proof is to prove. There is none where all pairs have one, and where a proof before does not
+    /// prove its pair.
+    pub(crate) fn next_pair(&self, plan: &Plan) -> Option<u32>
+        ensures pair { result ≡ next_pair (plan_contents plan.now) self.now }
+        ensures within { IfSome result (λ i. i < length (pairs_of (plan_contents plan.now))) }
+        ensures number { IfSome result (λ i.
+            (trees : List ProofTree) → Tallies (plan_contents plan.now) trees self.now → i ≡ length trees) }
     {
         match self.unproved {
-            Some(i) => Some(i),
-            None if self.proofs < u64::from(plan.pair_count()) => {
-                let i = self.proofs as u32;
-                if check_pair(plan, i, cert) {
-                    None
-                } else {
-                    Some(i)
-                }
-            }
-            None => None,
+            None if self.proofs < u64::from(plan.pair_count()) => Some(self.proofs as u32),
+            _ => None,
         }
+    }
+
+    /// Whether this proof proves the pair that is next.
+    pub(crate) fn is_proved(&self, plan: &Plan, cert: &Cert) -> bool
+        ensures { TellsNext (plan_contents plan.now) self.now (proof_tree cert.now) result }
+    {
+        match self.next_pair(plan) {
+            Some(i) => check_pair(plan, i, cert),
+            None => false,
+        }
+    }
+
+    /// One more proof, which proves the pair that is next or does not.
+    pub(crate) fn add(&mut self, plan: &Plan, proves: bool)
+        ensures { (trees : List ProofTree) (tree : ProofTree) → Tallies (plan_contents plan.now) trees self.old →
+            TellsNext (plan_contents plan.now) self.old tree proves →
+            Tallies (plan_contents plan.now) (trees ++ tree ∷ []) self.new }
+    {
+        match self.next_pair(plan) {
+            None => {}
+            Some(_) if proves => {}
+            Some(i) => self.unproved = Some(i),
+        }
+        self.proofs = self.proofs.saturating_add(1);
     }
 
     /// What is wrong with these proofs, where no more come.

@@ -100,13 +100,18 @@ fault_again items first second some all line rest =
     let text : fault_text items first second ++ rest ≡ (wire_text items ++ 32 ∷ []) ++ (kind_word first ++ (32 ∷ (kind_word second ++ last))) = simp append_assoc refl in
     (two.0 + 1, ap (λ (t : List ℕ). fault_at (record { line = line; rest = t })) text ∙ rw (wire.1, one.1, two.1) refl)
 
--- ---- proofs
+-- ---- proofs, which stand on one line
 
-place_again : (k : ℕ) → k < 8 → Again token_at (80 ∷ decimal k) (token.Part k)
+-- from a line on, these bytes are read as this value, and what follows them is left on the same line
+abbrev pub AgainHere : {A : Type 0} → (Place → Reads A) → List ℕ → A → Type 0
+AgainHere reader bytes value =
+    (line : ℕ) (rest : List ℕ) → reader (record { line = line; rest = bytes ++ rest }) ≡ Ok (value, record { line = line; rest = rest })
+
+place_again : (k : ℕ) → k < 8 → AgainHere token_at (80 ∷ decimal k) (token.Part k)
 place_again k small line rest =
     let is : is_place (48 + k) ≡ true = grind (arith, nat_tests) in
     let back : (48 + k) - 48 ≡ k = omega arith in
-    (line_after line (48 + k), rw (decimal_digit k (omega arith), is, back) refl)
+    rw (decimal_digit k (omega arith), is, back, ne_eqb (48 + k) 10 (λ e. omega arith)) refl
 
 -- two proofs below a node
 two_text : (p q : ProofTree) (rest : List ℕ) → (proof_text p ++ (32 ∷ proof_text q)) ++ rest ≡ proof_text p ++ (32 ∷ (proof_text q ++ rest))
@@ -120,30 +125,31 @@ some_height (again p) = omega arith
 some_height (byte p q) = omega arith
 some_height (read p q) = omega arith
 
-pub proof_again : (room : ℕ) (tree : ProofTree) → HasPlaces tree → height tree ≤ room → Again (proof_at room) (proof_text tree) tree
+pub proof_again : (room : ℕ) (tree : ProofTree) → HasPlaces tree → height tree ≤ room → AgainHere (proof_at room) (proof_text tree) tree
 unfolding node_in
-proof_again (suc room) (part k) places path line rest = let token = place_again k places line rest in (token.0, rw token.1 refl)
-proof_again (suc room) short places path line rest = (line, refl)
-proof_again (suc room) alike places path line rest = (line, refl)
-proof_again (suc room) (again frames) places path line rest =
-    let under = proof_again room frames places (omega arith) line rest in (under.0, rw under.1 refl)
+proof_again (suc room) (part k) places path line rest = rw (place_again k places line rest) refl
+proof_again (suc room) short places path line rest = refl
+proof_again (suc room) alike places path line rest = refl
+proof_again (suc room) (again frames) places path line rest = rw (proof_again room frames places (omega arith) line rest) refl
 proof_again (suc room) (byte p q) places path line rest =
     let first = proof_again room p places.0 (omega arith) line (32 ∷ (proof_text q ++ rest)) in
-    let second = proof_again room q places.1 (omega arith) first.0 rest in
-    (second.0, rw (two_text p q rest, first.1, second.1) refl)
+    let second = proof_again room q places.1 (omega arith) line rest in
+    rw (two_text p q rest, first, second) refl
 proof_again (suc room) (read p q) places path line rest =
     let first = proof_again room p places.0 (omega arith) line (32 ∷ (proof_text q ++ rest)) in
-    let second = proof_again room q places.1 (omega arith) first.0 rest in
-    (second.0, rw (two_text p q rest, first.1, second.1) refl)
+    let second = proof_again room q places.1 (omega arith) line rest in
+    rw (two_text p q rest, first, second) refl
 proof_again zero tree places path line rest = absurd (omega (arith, some_height tree, path))
 
 -- ---- lines
 
-line_again : (tree : ProofTree) → IsPrintableProof 512 tree → Again line_at (proof_line tree) tree
+-- a line is read, and what follows it is left on the next
+pub line_again : (tree : ProofTree) → IsPrintableProof 512 tree → (line : ℕ) (rest : List ℕ)
+    → line_at (record { line = line; rest = proof_line tree ++ rest }) ≡ Ok (tree, record { line = line + 1; rest = rest })
 unfolding line_at
 line_again tree printable line rest =
     let proof = proof_again 512 tree printable.places printable.path line (10 ∷ rest) in
-    (proof.0 + 1, ap (λ (t : List ℕ). line_at (record { line = line; rest = t })) (append_assoc (proof_text tree) (10 ∷ []) rest) ∙ rw proof.1 refl)
+    ap (λ (t : List ℕ). line_at (record { line = line; rest = t })) (append_assoc (proof_text tree) (10 ∷ []) rest) ∙ rw proof refl
 
 pub lines_again : (trees : List ProofTree) (most line : ℕ) → All (IsPrintableProof 512) trees → length (flat_map proof_line trees) ≤ most → lines_in most line (flat_map proof_line trees) ≡ Ok trees
 unfolding lines_in
@@ -154,8 +160,8 @@ lines_again (t ∷ trees) (suc most) line all fits =
     let len = length-append (proof_line t) (flat_map proof_line trees) in
     let end = length-append (proof_text t) (10 ∷ []) in
     let first = line_again t (all 0 t (omega arith)) line (flat_map proof_line trees) in
-    let others = lines_again trees most first.0 (λ k d within. all (suc k) d (omega arith)) (omega (arith, fits, len, end)) in
-    lines_step most line (flat_map proof_line (t ∷ trees)) (omega (arith, len, end)) ∙ rw (first.1, others) refl
+    let others = lines_again trees most (line + 1) (λ k d within. all (suc k) d (omega arith)) (omega (arith, fits, len, end)) in
+    lines_step most line (flat_map proof_line (t ∷ trees)) (omega (arith, len, end)) ∙ rw (first, others) refl
 
 -- ---- texts
 

@@ -1,18 +1,18 @@
 -- Lines of proofs: what has been read and what is left are the text, and what is left is refused as the text is.
-use Rattle.std.proofs.Common.{◌≡◌, ℕ, zero, suc, ◌+◌, ◌<◌, ◌≤◌, List, [], ◌∷◌, ◌++◌, length, Some, refl, ap, sym, ◌∙◌, arith, append_assoc, append-nil, codes, length-append}
+use Rattle.std.proofs.Common.{◌≡◌, ℕ, zero, suc, ◌+◌, ◌-◌, ◌<◌, ◌≤◌, List, [], ◌∷◌, ◌++◌, length, take, Some, refl, ap, sym, ◌∙◌, arith, append_assoc, append-nil, codes, length-append}
 use Rattle.std.specs.Prelude.{Result, Ok, Err, decimal, flat_map}
 use Rattle.std.proofs.lemmas.List.Elements.{All-push, All-nil}
 use Rattle.std.proofs.lemmas.Grind.{flat_map-append}
+use Rattle.std.proofs.Math.Seq.{take-append_seam}
 use Rattle.certificate.specs.declared.errors.CertError.{CertError}
 use Rattle.certificate.specs.declared.errors.CertError.TheVariants.{Wrong, NoMemory}
 use Rattle.certificate.specs.declared.errors.CertFault.TheVariants.{Format, Count, TooDeep, Pair}
 use Rattle.certificate.specs.declared.lines.ProofLines.{ProofLines}
-use Rattle.certificate.specs.declared.values.Cert.{Cert}
 use Rattle.certificate.specs.Places.{place, Refuses}
-use Rattle.certificate.specs.Proofs.{ProofTree, proof_tree}
+use Rattle.certificate.specs.Proofs.{ProofTree}
 use Rattle.certificate.specs.Reader.{FormFault, misplaced, too_deep, Place, ◌>>=◌, byte_at, each_at, line_at, lines_in, lines_at, announced, pairs_at, start, text_said}
-use Rattle.certificate.specs.Reading.{ReadSoFar, AddsProof, RefusedHere, refusal}
-use Rattle.certificate.specs.Texts.{IsPrintableProof, proof_text, proofs_text, proof_line}
+use Rattle.certificate.specs.Reading.{ReadSoFar, AddsTree, RefusedHere, refusal}
+use Rattle.certificate.specs.Texts.{IsPrintableProof, SpellsLine, proof_text, proofs_text, proof_line}
 use Rattle.certificate.proofs.TextTakes.{line_takes, pairs_take, front_takes}
 
 -- ---- how many lines there may be makes no difference, where there may be as many as there are bytes
@@ -84,19 +84,30 @@ proofs_more number trees tree =
     ∙ ap (λ (t : List ℕ). codes "cert 1\npairs " ++ t) (sym (append_assoc (decimal number) (10 ∷ flat_map proof_line trees) (proof_line tree)))
 
 -- one more proof has been read
-pub line_added : (old new : ProofLines) (it : Cert) → new.number ≡ old.number → new.seen ≡ old.seen + 1 → line_at (place old.source) ≡ Ok (proof_tree it, place new.source) → AddsProof it old new
-line_added old new it number seen read = λ text trees so_far.
-    let taken = line_takes (place old.source) (proof_tree it, place new.source) read in
+pub line_added : (old new : ProofLines) (tree : ProofTree) → new.number ≡ old.number → new.seen ≡ old.seen + 1 → line_at (place old.source) ≡ Ok (tree, place new.source) → AddsTree tree old new
+line_added old new tree number seen read = λ text trees so_far.
+    let taken = line_takes (place old.source) (tree, place new.source) read in
     record {
-      printable = All-push (IsPrintableProof 512) trees (proof_tree it) so_far.printable taken.1;
-      counted = let len = length-append trees (proof_tree it ∷ []) in omega (arith, len, so_far.counted);
+      printable = All-push (IsPrintableProof 512) trees tree so_far.printable taken.1;
+      counted = let len = length-append trees (tree ∷ []) in omega (arith, len, so_far.counted);
       text_is =
           so_far.text_is
           ∙ ap (λ (t : List ℕ). (codes "cert 1\n" ++ proofs_text old.number trees) ++ t) taken.0
-          ∙ sym (append_assoc (codes "cert 1\n" ++ proofs_text old.number trees) (proof_line (proof_tree it)) new.source.rest.now)
-          ∙ ap (λ (t : List ℕ). t ++ new.source.rest.now) (sym (proofs_more old.number trees (proof_tree it)))
-          ∙ ap (λ n. (codes "cert 1\n" ++ proofs_text n (trees ++ proof_tree it ∷ [])) ++ new.source.rest.now) (sym number);
-      refusal_is = so_far.refusal_is ∙ lines_go_on (place old.source) (proof_tree it, place new.source) read;
+          ∙ sym (append_assoc (codes "cert 1\n" ++ proofs_text old.number trees) (proof_line tree) new.source.rest.now)
+          ∙ ap (λ (t : List ℕ). t ++ new.source.rest.now) (sym (proofs_more old.number trees tree))
+          ∙ ap (λ n. (codes "cert 1\n" ++ proofs_text n (trees ++ tree ∷ [])) ++ new.source.rest.now) (sym number);
+      refusal_is = so_far.refusal_is ∙ lines_go_on (place old.source) (tree, place new.source) read;
+    }
+
+-- the bytes of a line that was read
+pub line_spelled : (at after : Place) (tree : ProofTree) (bytes : List ℕ) → line_at at ≡ Ok (tree, after) → bytes ≡ take (length at.rest - length after.rest) at.rest → SpellsLine bytes tree
+line_spelled at after tree bytes read e =
+    let taken = line_takes at (tree, after) read in
+    let len : length at.rest ≡ length (proof_line tree) + length after.rest = ap length taken.0 ∙ length-append (proof_line tree) after.rest in
+    let n : length at.rest - length after.rest ≡ length (proof_line tree) = omega (arith, len) in
+    record {
+      printable = taken.1;
+      text_is = e ∙ ap (λ (n : ℕ). take n at.rest) n ∙ ap (take (length (proof_line tree))) taken.0 ∙ take-append_seam (proof_line tree) after.rest;
     }
 
 lines_refused : (at : Place) (fault : FormFault) → 0 < length at.rest → line_at at ≡ Err fault → refusal (lines_at at) ≡ Some fault

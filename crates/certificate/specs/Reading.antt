@@ -6,6 +6,7 @@ use Rattle.certificate.specs.declared.errors.CertError.TheVariants.{Wrong, NoMem
 use Rattle.certificate.specs.declared.errors.CertFault.{CertFault}
 use Rattle.certificate.specs.declared.read.Head.{Head}
 use Rattle.certificate.specs.declared.read.Head.TheVariants.{Proofs, Flaw}
+use Rattle.certificate.specs.declared.lines.Line.{Line}
 use Rattle.certificate.specs.declared.lines.ProofLines.{ProofLines}
 use Rattle.certificate.specs.declared.values.Cert.{Cert}
 use Rattle.certificate.specs.declared.values.CertText.{CertText}
@@ -50,11 +51,17 @@ abbrev pub HeadRead : List ℕ → Head → Type 0
 HeadRead text (Proofs left) = ReadSoFar text [] left
 HeadRead text (Flaw pair fault) = Spells text (flaw pair fault.wire.items fault.first fault.second)
 
+-- the bytes of a line that was read
+abbrev pub line_bytes : Line → List ℕ
+line_bytes line = line.bytes.now
+
 -- one more proof has been read
+abbrev pub AddsTree : ProofTree → ProofLines → ProofLines → Type 0
+AddsTree tree old new =
+    (text : List ℕ) (trees : List ProofTree) → ReadSoFar text trees old → ReadSoFar text (trees ++ tree ∷ []) new
+
 abbrev pub AddsProof : Cert → ProofLines → ProofLines → Type 0
-AddsProof proof old new =
-    (text : List ℕ) (trees : List ProofTree)
-    → ReadSoFar text trees old → ReadSoFar text (trees ++ proof_tree proof ∷ []) new
+AddsProof proof old new = AddsTree (proof_tree proof) old new
 
 -- the proofs so far are the whole certificate
 abbrev pub EndsHere : ProofLines → Type 0

@@ -60,6 +60,11 @@ pub record IsPrintableProof (room : ℕ) (tree : ProofTree) : Type 0 where
   pub places : HasPlaces tree
   pub path : height tree ≤ room
 
+-- the bytes are the line of a proof, with its line feed
+pub record SpellsLine (bytes : List ℕ) (tree : ProofTree) : Type 0 where
+  pub printable : IsPrintableProof 512 tree
+  pub text_is : bytes ≡ proof_line tree
+
 -- a wire goes on, so it has no STOP and no claim
 abbrev pub GoesOn : Item → Type 0
 GoesOn (item.Sent bit) = Unit {0}

@@ -16,7 +16,7 @@ pub mod values;
 mod words;
 
 pub use errors::{CertError, CertFault};
-pub use lines::ProofLines;
+pub use lines::{Line, ProofLines};
 pub use print::print_cert;
 pub use read::{Head, read_cert, read_head};
 pub use values::{Cert, CertText, Fault};

@@ -1,12 +1,21 @@
 // The proofs of a certificate text, one at a time.
 
-ghost use Rattle.std.specs.Prelude.{◌≡◌, ◌≢◌, ◌<◌, ◌+◌, ◌^◌, length, IfOk, IfErr, IfSome, IfNone, OnErr};
+ghost use Rattle.std.specs.Prelude.{◌≡◌, ◌≢◌, ◌<◌, ◌+◌, ◌^◌, true, false, length, IfOk, IfErr, IfSome, IfNone, OnErr};
 ghost use Rattle.certificate.specs.declared.errors.CertFault.TheVariants.{Count};
+ghost use Rattle.certificate.specs.Proofs.{ProofTree, proof_tree};
+ghost use Rattle.certificate.specs.Texts.{SpellsLine};
 
 use crate::errors::{CertError, CertFault};
 use crate::sources::Source;
 use crate::values::Cert;
 use std::alloc::Global;
+
+/// A line that was read, with its line feed.
+#[derive(Clone, Copy, Debug)]
+pub struct Line<'a> {
+    bytes: &'a [u8],
+    ghost some: { 0 < length bytes.now },
+}
 
 /// What is left of a certificate text whose proofs are read one at a time.
 #[derive(Debug, Drop)]
@@ -20,7 +29,7 @@ pub struct ProofLines<'a> {
 
 impl<'a> ProofLines<'a> {
     ghost use Rattle.certificate.specs.Places.{place};
-    ghost use Rattle.certificate.specs.Reading.{AddsProof, EndsHere, RefusedHere, bytes_left};
+    ghost use Rattle.certificate.specs.Reading.{AddsTree, AddsProof, EndsHere, RefusedHere, bytes_left, line_bytes};
 
     /// What is left after the first two lines, which announce this number of proofs.
     pub(crate) fn new(source: Source<'a>, number: u32) -> Self
@@ -48,24 +57,63 @@ impl<'a> ProofLines<'a> {
         ensures refused { IfErr result (λ e. RefusedHere self.old e) }
         ensures unchanged { OnErr result (self.new ≡ self.old) }
     {
+        match self.next_line(alloc)? {
+            Some((proof, _)) => Ok(Some(proof)),
+            None => Ok(None),
+        }
+    }
+
+    /// The same, and the line of the proof.
+    ///
+    /// # Errors
+    ///
+    /// As those of `next_proof`.
+    pub fn next_line(&mut self, alloc: Global) -> Result<Option<(Cert, Line<'a>)>, CertError>
+        ensures read { IfOk result (λ next. IfSome next (λ it. AddsProof it.0 self.old self.new)) }
+        ensures spelled { IfOk result (λ next. IfSome next (λ it. SpellsLine (line_bytes it.1) (proof_tree it.0))) }
+        ensures less { IfOk result (λ next. IfSome next (λ it. bytes_left self.new < bytes_left self.old)) }
+        ensures end { IfOk result (λ next. IfNone next (EndsHere self.old)) }
+        ensures refused { IfErr result (λ e. RefusedHere self.old e) }
+        ensures unchanged { OnErr result (self.new ≡ self.old) }
+    {
         if self.source.is_at_end() {
-            return self.end();
+            self.end()?;
+            return Ok(None);
         }
         let mut source = self.source;
         let proof = source.proof_line(alloc)?;
+        let line = Line {
+            bytes: self.source.until(&source),
+        };
         self.source = source;
         self.seen += 1;
-        Ok(Some(proof))
+        Ok(Some((proof, line)))
+    }
+
+    /// Takes the next line where its bytes are those of this line, and does not read them again: whatever proof they
+    /// spell is then the next one. Else nothing is taken.
+    pub fn takes_again(&mut self, line: &Line<'_>) -> bool
+        ensures read { result ≡ true →
+            (tree : ProofTree) → SpellsLine (line_bytes line.now) tree → AddsTree tree self.old self.new }
+        ensures less { result ≡ true → bytes_left self.new < bytes_left self.old }
+        ensures unchanged { result ≡ false → self.new ≡ self.old }
+    {
+        let Some(source) = self.source.after_line(line.bytes) else {
+            return false;
+        };
+        self.source = source;
+        self.seen += 1;
+        true
     }
 
     // At the end of the text.
-    fn end(&self) -> Result<Option<Cert>, CertError>
-        ensures counted { IfOk result (λ next. (next ≡ None) × (self.now.seen ≡ self.now.number)) }
+    fn end(&self) -> Result<(), CertError>
+        ensures counted { IfOk result (λ it. self.now.seen ≡ self.now.number) }
         ensures refused { IfErr result (λ e. (e ≡ CertError.Wrong Count) × (self.now.seen ≢ self.now.number)) }
     {
         if self.seen != u64::from(self.number) {
             return Err(CertError::Wrong(CertFault::Count));
         }
-        Ok(None)
+        Ok(())
     }
 }

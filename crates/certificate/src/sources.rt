@@ -1,6 +1,6 @@
 // What is left of a certificate text, byte by byte.
 
-ghost use Rattle.std.specs.Prelude.{◌≡◌, ◌<◌, ◌≤◌, ◌+◌, ◌^◌, ◌==◌, length, OnOk};
+ghost use Rattle.std.specs.Prelude.{◌≡◌, ◌<◌, ◌≤◌, ◌+◌, ◌-◌, ◌^◌, ◌==◌, ◌++◌, length, take, OnOk, IfSome};
 ghost use Rattle.certificate.specs.declared.errors.CertFault.TheVariants.{Format, TooDeep};
 
 use crate::errors::{CertError, CertFault};
@@ -75,6 +75,27 @@ impl<'a> Source<'a> {
             return Err(refusal);
         }
         Ok(())
+    }
+
+    /// The bytes before a later place.
+    pub(crate) fn until(&self, later: &Source<'a>) -> &'a [u8]
+        requires { unread later.now ≤ unread self.now }
+        ensures { result.now ≡ take (unread self.now - unread later.now) self.now.rest.now }
+    {
+        &self.rest[..self.rest.len() - later.rest.len()]
+    }
+
+    /// The place after these bytes, where they stand next: a line with its line feed.
+    pub(crate) fn after_line(&self, bytes: &[u8]) -> Option<Source<'a>>
+        requires { 0 < length bytes.now }
+        ensures bytes { IfSome result (λ after. self.now.rest.now ≡ bytes.now ++ after.rest.now) }
+        ensures line { IfSome result (λ after. after.line ≡ self.now.line + 1) }
+    {
+        let rest = self.rest.strip_prefix(bytes)?;
+        Some(Source {
+            rest,
+            line: self.line + 1,
+        })
     }
 
     /// Each of these bytes.

@@ -1,5 +1,5 @@
 -- What certify writes is accepted: of a safe plan as safe, and of another as unsafe.
-use Rattle.std.proofs.Common.{◌≡◌, ◌≢◌, ◌⊎◌, inl, inr, ℕ, zero, suc, ◌*◌, ◌^◌, ◌<◌, ◌≤◌, false, Option, Some, None, List, [], ◌∷◌, ◌++◌, length, get_or, slice_get, map, refl, subst, ap, sym, ◌∙◌, arith, length-append}
+use Rattle.std.proofs.Common.{◌≡◌, ◌≢◌, ◌⊎◌, inl, inr, ℕ, zero, suc, ◌<◌, ◌≤◌, false, Option, Some, None, List, [], ◌∷◌, ◌++◌, length, get_or, slice_get, map, refl, subst, ap, sym, ◌∙◌, arith, length-append}
 use Rattle.std.specs.Prelude.{All}
 use Rattle.std.specs.List.{AllByRecursion}
 use Rattle.std.proofs.lemmas.List.{length-map}
@@ -27,11 +27,10 @@ use Rattle.plan_core.specs.Faults.{IsSafe}
 use Rattle.plan_core.specs.Lawful.{pair}
 use Rattle.plan_core.specs.Limits.{IsWithinLimits}
 use Rattle.plan_core.specs.Pairs.{pairs_of}
-use Rattle.plan_core.specs.Participants.{message_sender, interrupt_sender, interrupt_bits, sender_of, sender_at, participants_of, participant_count, TextOf, Text}
+use Rattle.plan_core.specs.Participants.{message_sender, interrupt_sender, interrupt_bits, sender_of, sender_at, participants_of, TextOf, Text}
 use Rattle.plan_core.specs.declared.plans.Participant.{Participant}
 use Rattle.plan_core.specs.declared.plans.Participant.TheVariants.{Sending, Interrupt}
-use Rattle.plan_core.proofs.ContentsLemmas.{participant_count-few, pairs_of-is}
-use Rattle.plan_core.proofs.PairLemmas.{pairs_below-few}
+use Rattle.plan_core.proofs.ContentsLemmas.{pairs_few}
 use Rattle.plan_core.proofs.Texts.{fair_text}
 use Rattle.pair_walk.specs.Canonical.{IsCanonical}
 use Rattle.pair_walk.specs.Verdicts.{CanonicalBetween, IsVerdict}
@@ -92,13 +91,6 @@ small_participant plan limits (Some (Interrupt k)) s e = small_interrupt (slice_
 small_sender : (plan : Contents) → IsWithinLimits plan → (p : ℕ) (s : Sender) → sender_at plan p ≡ Some s → IsSmall s
 unfolding sender_at
 small_sender plan limits p s e = small_participant plan limits (slice_get (participants_of plan) p) s e
-
-pairs_few : (plan : Contents) → IsWithinLimits plan → length (pairs_of plan) < 2 ^ 32
-pairs_few plan limits =
-    let few = participant_count-few plan limits in
-    let below = pairs_below-few plan.nevers (participants_of plan) (participant_count plan) in
-    let square : participant_count plan * participant_count plan ≤ 544 * 544 = grind (arith, few) in
-    omega (arith, ap length (pairs_of-is plan), below, square)
 
 -- ---- proofs of a safe plan
 

@@ -21,9 +21,9 @@ use Rattle.verdicts.specs.declared.listed.Listed.{Listed}
 use Rattle.verdicts.specs.Entries.{is_unsafe, all_unsafe, entry, entries, listing_of, listing}
 use Rattle.verdicts.specs.Faults.{AreFaults, outcome_fault, faults_of}
 use Rattle.verdicts.specs.Known.{IsKnown, KnowsPairs}
-use Rattle.verdicts.specs.Senders.{place}
+use Rattle.plan_core.specs.SenderPlaces.{place}
 use Rattle.verdicts.specs.Verdicts.{AreVerdictsOf, IsSafeOutcome, AreSafe}
-use Rattle.verdicts.proofs.KnownLemmas.{some_at}
+use Rattle.plan_core.proofs.ListLemmas.{some_at}
 use Rattle.verdicts.proofs.TableLemmas.{verdicts_more, safe_plan, safe_verdicts}
 
 -- ---- a proof that no program has made

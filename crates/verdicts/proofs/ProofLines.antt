@@ -19,9 +19,12 @@ use Rattle.plan_core.specs.Pairs.{pairs_of}
 use Rattle.verdicts.specs.Certificates.{outcome_certificate, certificate_for, IsCertificateText}
 use Rattle.verdicts.specs.Faults.{AreFaults, outcome_fault, faults_of}
 use Rattle.verdicts.specs.Lines.{IsProofLine, AreLines, HasLine}
-use Rattle.verdicts.specs.Senders.{place, place_count}
+use Rattle.plan_core.specs.SenderPlaces.{place, place_count}
 use Rattle.verdicts.proofs.FaultLemmas.{some_cert}
-use Rattle.verdicts.proofs.KnownLemmas.{some_at, get_set_same, get_set_other, length_set, get_replicate, same_got, place_within, senders_at_place}
+use Rattle.std.proofs.lemmas.List.{length-set}
+use Rattle.plan_core.proofs.ListLemmas.{some_at, get_set_same, get_set_other, get_replicate, replicate_push}
+use Rattle.plan_core.proofs.SenderPlaceLemmas.{place_within, senders_at_place}
+use Rattle.verdicts.proofs.KnownLemmas.{same_got}
 
 -- ---- lines at their places
 
@@ -67,7 +70,7 @@ module _ (plan : Contents) (within : IsWithinLimits plan) (lines : List (Vec ℕ
 
     pub lines_more : AreLines plan (set lines q line)
     lines_more = record {
-      sized = length_set lines q line ∙ so_far.sized;
+      sized = length-set lines q line ∙ so_far.sized;
       right = λ j v w l e f. elim (cases_eq (place plan v w) q) [
         | inl same ↦
             let at : slice_get (set lines q line) (place plan v w) ≡ Some line = ap (slice_get (set lines q line)) same ∙ get_set_same lines q line line_place in
@@ -95,9 +98,6 @@ length_replicate : (n : ℕ) (x : List ℕ) → length (replicate n x) ≡ n
 length_replicate zero x = refl
 length_replicate (suc n) x = ap suc (length_replicate n x)
 
-replicate_push : (n : ℕ) (x : List ℕ) → replicate n x ++ x ∷ [] ≡ replicate (suc n) x
-replicate_push zero x = refl
-replicate_push (suc n) x = ap (λ (xs : List (List ℕ)). x ∷ xs) (replicate_push n x)
 
 pub one_empty_more : (n : ℕ) (lines more : List (Vec ℕ Global)) (line : Vec ℕ Global) → map (λ (l : Vec ℕ Global). l.items) lines ≡ replicate n [] → more ≡ lines ++ line ∷ [] → line.items ≡ [] → map (λ (l : Vec ℕ Global). l.items) more ≡ replicate (n + 1) []
 one_empty_more n lines more line e f none =

@@ -1,6 +1,7 @@
 -- For each place of two senders, a pair of them; and what is known of this pair is known of every pair at the place.
 use Rattle.std.proofs.Common.{◌≡◌, ℕ, ◌+◌, ◌<◌, Option, Some, None, List, [], ◌∷◌, ◌++◌, zero, suc, length, replicate, add-one, set, get_or, slice_get, refl, ap, sym, ◌∙◌, subst, arith, inl, inr}
 use Rattle.std.proofs.lemmas.Bool.{cases_eq}
+use Rattle.std.proofs.lemmas.List.{length-set}
 use Rattle.std.proofs.lemmas.Option.{slice_get-get_or, slice_get_within}
 use Rattle.pair_walk.proofs.Faulty.{pair_is_below}
 use Rattle.plan_core.specs.Contents.{Contents}
@@ -10,16 +11,10 @@ use Rattle.verdicts.specs.declared.known.Known.{Known}
 use Rattle.verdicts.specs.declared.known.Known.TheVariants.{NotYet, Safe, Unsafe}
 use Rattle.verdicts.specs.Known.{IsKnown, KnowsPairs}
 use Rattle.verdicts.specs.Samples.{IsPairAt, AreSamples, IsKnownAt}
-use Rattle.verdicts.specs.Senders.{place, place_count}
-use Rattle.verdicts.proofs.KnownLemmas.{some_at, get_set_same, get_set_other, length_set, get_replicate, same_got, known_at_place, place_within}
-
-none_more_of : (n : ℕ) → replicate {A = Option ℕ} n None ++ None ∷ [] ≡ replicate (suc n) None
-none_more_of zero = refl
-none_more_of (suc n) = ap (λ ks. None ∷ ks) (none_more_of n)
-
-pub none_more : (n : ℕ) (samples more : List (Option ℕ)) → samples ≡ replicate n None → more ≡ samples ++ None ∷ [] → more ≡ replicate (n + 1) None
-none_more n samples more e f =
-    rw add-one (f ∙ (ap (λ ks. ks ++ None ∷ []) e ∙ none_more_of n))
+use Rattle.plan_core.specs.SenderPlaces.{place, place_count}
+use Rattle.plan_core.proofs.ListLemmas.{some_at, get_set_same, get_set_other, get_replicate}
+use Rattle.plan_core.proofs.SenderPlaceLemmas.{place_within}
+use Rattle.verdicts.proofs.KnownLemmas.{same_got, known_at_place}
 
 pub samples_of_none : (plan : Contents) (samples : List (Option ℕ)) (n : ℕ) → samples ≡ replicate n None → length samples ≡ n → n ≡ place_count plan → AreSamples plan samples 0
 samples_of_none plan samples n all l e = record {
@@ -34,7 +29,7 @@ samples_of_none plan samples n all l e = record {
 module _ (plan : Contents) (samples : List (Option ℕ)) (n q : ℕ) (before : AreSamples plan samples n) (is_pair : n < length (pairs_of plan)) (within : q < length samples) (is_place : (x y : ℕ) → slice_get (pairs_of plan) n ≡ Some (x, y) → q ≡ place plan x y) where
   pub samples_more : AreSamples plan (set samples q (Some n)) (n + 1)
   samples_more = record {
-    sized = length_set samples q (Some n) ∙ before.sized;
+    sized = length-set samples q (Some n) ∙ before.sized;
     right = λ k i e. elim (cases_eq k q) [
       | inl here ↦
           let got : slice_get (set samples q (Some n)) q ≡ Some (Some i) = ap (slice_get (set samples q (Some n))) (sym here) ∙ e in

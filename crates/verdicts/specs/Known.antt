@@ -5,7 +5,7 @@ use Rattle.certificate.specs.declared.values.Fault.{Fault}
 use Rattle.pair_walk.specs.Verdicts.{IsFirstFaultIfAny}
 use Rattle.plan_core.specs.Contents.{Contents}
 use Rattle.plan_core.specs.Pairs.{pairs_of}
-use Rattle.verdicts.specs.Senders.{place, place_count}
+use Rattle.plan_core.specs.SenderPlaces.{place, place_count}
 use Rattle.verdicts.specs.declared.known.Known.{Known}
 use Rattle.verdicts.specs.declared.known.Known.TheVariants.{NotYet, Safe, Unsafe}
 

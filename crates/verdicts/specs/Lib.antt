@@ -5,6 +5,5 @@ pub mod Known
 pub mod Lines
 pub mod Parts
 pub mod Samples
-pub mod Senders
 pub mod Tables
 pub mod Verdicts

@@ -7,7 +7,7 @@ use Rattle.certificate.specs.Texts.{proof_line}
 use Rattle.pair_walk.specs.Verdicts.{IsSafeProof}
 use Rattle.plan_core.specs.Contents.{Contents}
 use Rattle.plan_core.specs.Pairs.{pairs_of}
-use Rattle.verdicts.specs.Senders.{place, place_count}
+use Rattle.plan_core.specs.SenderPlaces.{place, place_count}
 
 -- the line of the proof that the verdict of x and y gives
 abbrev pub IsProofLine : Contents → ℕ → ℕ → List ℕ → Type 0

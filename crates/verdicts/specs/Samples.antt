@@ -4,7 +4,7 @@ use Rattle.std.specs.Prelude.{◌≡◌, ℕ, ◌<◌, Option, Some, List, lengt
 use Rattle.plan_core.specs.Contents.{Contents}
 use Rattle.plan_core.specs.Pairs.{pairs_of}
 use Rattle.verdicts.specs.Known.{IsKnown}
-use Rattle.verdicts.specs.Senders.{place, place_count}
+use Rattle.plan_core.specs.SenderPlaces.{place, place_count}
 use Rattle.verdicts.specs.declared.known.Known.{Known}
 
 -- the senders of pair i have this place

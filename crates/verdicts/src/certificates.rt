@@ -10,7 +10,6 @@ ghost use Rattle.verdicts.specs.Faults.{AreFaults, fault_list};
 
 use crate::lines::{heading, make_line, no_lines};
 use crate::listed::Faults;
-use crate::senders::{place_of, places_of};
 use certificate::{CertText, Fault, print_cert};
 use plan_core::Plan;
 use std::alloc::{AllocError, Global};
@@ -36,11 +35,11 @@ fn proofs_text(alloc: Global, plan: &Plan) -> Result<Vec<u8>, AllocError>
     requires { IsSafe (plan_contents plan.now) }
     ensures { IfOk result (λ text. IsCertificateText (plan_contents plan.now) text.items) }
 {
-    let mut lines = no_lines(alloc, places_of(plan))?;
+    let mut lines = no_lines(alloc, plan.sender_places())?;
     let mut text = heading(alloc, plan.pair_count())?;
     for i in 0..plan.pair_count() {
         make_line(alloc, plan, &mut lines, i)?;
-        text.extend_from_slice(&lines[place_of(plan, i)])?;
+        text.extend_from_slice(&lines[plan.sender_place(i)])?;
     }
     Ok(text)
 }

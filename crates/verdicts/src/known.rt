@@ -6,7 +6,6 @@ ghost use Rattle.plan_core.specs.Pairs.{pairs_of};
 ghost use Rattle.verdicts.specs.declared.known.Known.TheVariants.{NotYet};
 ghost use Rattle.verdicts.specs.Known.{known_as, IsMemo, KnowsPair, KnowsPairs};
 
-use crate::senders::{place_of, places_of};
 use certificate::Fault;
 use pair_walk::first_fault;
 use plan_core::Plan;
@@ -28,7 +27,7 @@ pub(crate) fn known_pairs(alloc: Global, plan: &Plan) -> Result<Vec<Known>, Allo
     ensures { IfOk result (λ known.
         KnowsPairs (plan_contents plan.now) known.items (length (pairs_of (plan_contents plan.now)))) }
 {
-    let mut known = not_yet(alloc, places_of(plan))?;
+    let mut known = not_yet(alloc, plan.sender_places())?;
     for i in 0..plan.pair_count() {
         learn(alloc, plan, &mut known, i)?;
     }
@@ -44,7 +43,7 @@ fn learn(alloc: Global, plan: &Plan, known: &mut Vec<Known>, i: u32) -> Result<(
     ensures keeps { OnOk result ((j : ℕ) →
         KnowsPair (plan_contents plan.now) known.old.items j → KnowsPair (plan_contents plan.now) known.new.items j) }
 {
-    let place = place_of(plan, i);
+    let place = plan.sender_place(i);
     if let Known::NotYet = known[place] {
         known[place] = known_by(first_fault(alloc, plan, i)?);
     }

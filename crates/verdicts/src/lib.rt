@@ -14,7 +14,6 @@ pub mod listed;
 mod parts;
 mod samples;
 pub mod searches;
-mod senders;
 pub mod shared_searches;
 pub mod shared_walks;
 pub mod sharing;

@@ -9,7 +9,6 @@ ghost use Rattle.certificate.specs.Proofs.{proof_tree};
 ghost use Rattle.certificate.specs.Texts.{proof_line};
 ghost use Rattle.verdicts.specs.Lines.{IsProofLine, AreLines, HasLine};
 
-use crate::senders::place_of;
 use certificate::{Cert, CertText, print_cert};
 use pair_walk::{Outcome, walk};
 use plan_core::Plan;
@@ -39,7 +38,7 @@ pub(crate) fn make_line(
     ensures lines { OnOk result (AreLines (plan_contents plan.now) lines.new.items) }
     ensures made { OnOk result (HasLine (plan_contents plan.now) lines.new.items i) }
 {
-    let place = place_of(plan, i);
+    let place = plan.sender_place(i);
     if !lines[place].is_empty() {
         return Ok(());
     }

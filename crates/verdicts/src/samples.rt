@@ -9,7 +9,6 @@ ghost use Rattle.verdicts.specs.Samples.{AreSamples, IsKnownAt};
 
 use crate::gates::Gate;
 use crate::known::{Known, known_by};
-use crate::senders::{place_of, places_of};
 use crate::sharing::{MOST_WORKERS, share};
 use pair_walk::first_fault;
 use plan_core::Plan;
@@ -28,7 +27,7 @@ pub(crate) fn known_together<R: Threads + Sync, G: Gate + Sync>(
     ensures { IfOk result (λ known.
         KnowsPairs (plan_contents plan.now) known.items (length (pairs_of (plan_contents plan.now)))) }
 {
-    let places = places_of(plan) as u32;
+    let places = plan.sender_places() as u32;
     let samples = samples(alloc, plan)?;
     let samples = samples.as_slice();
     let known = share(
@@ -68,9 +67,9 @@ fn samples(alloc: Global, plan: &Plan) -> Result<Vec<Option<u32>>, AllocError>
     ensures { IfOk result (λ samples.
         AreSamples (plan_contents plan.now) samples.items (length (pairs_of (plan_contents plan.now)))) }
 {
-    let mut samples = no_samples(alloc, places_of(plan))?;
+    let mut samples = no_samples(alloc, plan.sender_places())?;
     for i in 0..plan.pair_count() {
-        let place = place_of(plan, i);
+        let place = plan.sender_place(i);
         samples[place] = Some(i);
     }
     Ok(samples)

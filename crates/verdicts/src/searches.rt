@@ -8,7 +8,6 @@ ghost use Rattle.verdicts.specs.Faults.{AreFaults, fault_list};
 
 use crate::known::{Known, known_pairs};
 use crate::listed::{Faults, list_if_unsafe};
-use crate::senders::place_of;
 use plan_core::Plan;
 use std::alloc::{AllocError, Global};
 
@@ -34,7 +33,7 @@ pub(crate) fn faults_known(
 {
     let mut listed = Vec::new(alloc);
     for i in 0..plan.pair_count() {
-        list_if_unsafe(&mut listed, &known, i, place_of(plan, i))?;
+        list_if_unsafe(&mut listed, &known, i, plan.sender_place(i))?;
     }
     Ok(Faults { known, listed })
 }

@@ -1,7 +1,8 @@
 use Rattle.std.proofs.Common.{arith}
 use Rattle.plan_core.specs.PlanContents.{plan_contents}
 use Rattle.plan_core.specs.Senders.{what_is_sent}
-use Rattle.cert_check.proofs.Checked.{pair_within, pair_faulty}
+use Rattle.plan_core.proofs.SenderPlaceLemmas.{pair_within}
+use Rattle.cert_check.proofs.Checked.{pair_faulty}
 use Rattle.cert_check.proofs.WireLemmas.{along}
 use Rattle.cert_check.proofs.faults.check_fault.Goals as goal
 

@@ -2,7 +2,8 @@ use Rattle.std.proofs.Common.{arith}
 use Rattle.plan_core.specs.PlanContents.{plan_contents}
 use Rattle.certificate.specs.Proofs.{proof_tree}
 use Rattle.plan_core.specs.Senders.{what_is_sent}
-use Rattle.cert_check.proofs.Checked.{pair_within, pair_proved}
+use Rattle.plan_core.proofs.SenderPlaceLemmas.{pair_within}
+use Rattle.cert_check.proofs.Checked.{pair_proved}
 use Rattle.cert_check.proofs.WireLemmas.{along}
 use Rattle.cert_check.proofs.pairs.check_pair.Goals as goal
 

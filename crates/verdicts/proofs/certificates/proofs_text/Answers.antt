@@ -10,7 +10,7 @@ pub loop-i-init : goal.loop-i-init
 loop-i-init c =
     let plan = plan_contents c.args.plan.now in
     record {
-      lines = no_line_is_made plan c.in_ok-lines.lines.items c.places_of.result c.in_ok-lines.ensures c.places_of.ensures;
+      lines = no_line_is_made plan c.in_ok-lines.lines.items c.sender_places.result c.in_ok-lines.ensures c.sender_places.ensures;
       proofs = has_none plan c.in_ok-text.text.items;
     }
 
@@ -18,7 +18,7 @@ pub index-requires : goal.index-requires
 index-requires c =
     let plan = plan_contents c.args.plan.now in
     let is_pair : c.loop-i.i < length (pairs_of plan) = omega (arith, c.loop-i-test.true, c.pair_count-i-end.ensures) in
-    omega (arith, c.make_line.new.lines.ok.0, line_place plan (limits_of c.args.plan.now) c.make_line.new.lines.items c.in_ok-make_line.ensures.lines c.loop-i.i c.place_of.result is_pair c.place_of.ensures)
+    omega (arith, c.make_line.new.lines.ok.0, line_place plan (limits_of c.args.plan.now) c.make_line.new.lines.items c.in_ok-make_line.ensures.lines c.loop-i.i c.sender_place.result is_pair c.sender_place.ensures.place)
 
 pub loop-i-preserved : goal.loop-i-preserved
 loop-i-preserved c =
@@ -29,9 +29,9 @@ loop-i-preserved c =
     let line = c.index.result.now in
     let text = c.loop-i.text.items in
     let is_pair : c.loop-i.i < length (pairs_of plan) = omega (arith, c.loop-i-test.true, c.pair_count-i-end.ensures) in
-    let there = line_place plan within lines after.lines c.loop-i.i c.place_of.result is_pair c.place_of.ensures in
-    let got = slice_get_read lines (length lines) c.place_of.result line refl there c.index.ensures in
-    let right = line_there plan within lines after.lines c.loop-i.i c.place_of.result is_pair c.place_of.ensures line got after.made in
+    let there = line_place plan within lines after.lines c.loop-i.i c.sender_place.result is_pair c.sender_place.ensures.place in
+    let got = slice_get_read lines (length lines) c.sender_place.result line refl there c.index.ensures in
+    let right = line_there plan within lines after.lines c.loop-i.i c.sender_place.result is_pair c.sender_place.ensures.place line got after.made in
     let more = c.in_ok-extend_from_slice.ensures.items ∙ ap (λ (cs : List ℕ). text ++ cs) c.deref.ensures.value in
     record {
       lines = after.lines;

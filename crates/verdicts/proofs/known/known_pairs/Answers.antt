@@ -8,11 +8,11 @@ use Rattle.verdicts.proofs.known.known_pairs.Goals as goal
 
 pub loop-i-init : goal.loop-i-init
 loop-i-init c =
-    let n = c.places_of.result in
+    let n = c.sender_places.result in
     let known = c.in_ok-known.known.items in
     let sized : length known ≡ n = ap (λ (ks : List Known). length ks) c.in_ok-known.ensures ∙ length-replicate n NotYet in
     record {
-      memo = memo_of_none (plan_contents c.args.plan.now) known n c.in_ok-known.ensures sized c.places_of.ensures;
+      memo = memo_of_none (plan_contents c.args.plan.now) known n c.in_ok-known.ensures sized c.sender_places.ensures;
       knows = λ i h x y e. absurd (omega (arith, h));
     }
 

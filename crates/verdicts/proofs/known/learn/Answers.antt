@@ -9,28 +9,28 @@ pub index-requires : goal.index-requires
 index-requires c =
     let plan = c.args.plan.now in
     let known = c.args.known.now in
-    omega (arith, known.ok.0, place_of_pair (plan_contents plan) (limits_of plan) known.items c.requires.memo c.args.i c.place_of-place.result c.requires.pair c.place_of-place.ensures)
+    omega (arith, known.ok.0, place_of_pair (plan_contents plan) (limits_of plan) known.items c.requires.memo c.args.i c.sender_place-place.result c.requires.pair c.sender_place-place.ensures.place)
 
 pub index_mut-requires : goal.index_mut-requires
 index_mut-requires c =
     let plan = c.args.plan.now in
     let known = c.args.known.now in
-    omega (arith, known.ok.0, place_of_pair (plan_contents plan) (limits_of plan) known.items c.requires.memo c.args.i c.place_of-place.result c.requires.pair c.place_of-place.ensures)
+    omega (arith, known.ok.0, place_of_pair (plan_contents plan) (limits_of plan) known.items c.requires.memo c.args.i c.sender_place-place.result c.requires.pair c.sender_place-place.ensures.place)
 
 pub returns-in_ok-first_fault : goal.returns-in_ok-first_fault
 returns-in_ok-first_fault c =
     let plan = c.args.plan.now in
-    let now = learned (plan_contents plan) (limits_of plan) c.args.known.now.items c.requires.memo c.args.i c.place_of-place.result c.requires.pair c.place_of-place.ensures c.known_by.result c.in_ok-first_fault.field-0 c.known_by.ensures c.in_ok-first_fault.ensures in
+    let now = learned (plan_contents plan) (limits_of plan) c.args.known.now.items c.requires.memo c.args.i c.sender_place-place.result c.requires.pair c.sender_place-place.ensures.place c.known_by.result c.in_ok-first_fault.field-0 c.known_by.ensures c.in_ok-first_fault.ensures in
     record { memo = now.0; knows = now.1; keeps = now.2 }
 
 pub returns-in_default : goal.returns-in_default
 returns-in_default c =
     let plan = c.args.plan.now in
     let known = c.args.known.now in
-    let within = place_of_pair (plan_contents plan) (limits_of plan) known.items c.requires.memo c.args.i c.place_of-place.result c.requires.pair c.place_of-place.ensures in
-    let got = slice_get_read known.items (length known.items) c.place_of-place.result c.index.result.now refl within c.index.ensures in
+    let within = place_of_pair (plan_contents plan) (limits_of plan) known.items c.requires.memo c.args.i c.sender_place-place.result c.requires.pair c.sender_place-place.ensures.place in
+    let got = slice_get_read known.items (length known.items) c.sender_place-place.result c.index.result.now refl within c.index.ensures in
     record {
       memo = c.requires.memo;
-      knows = was_known (plan_contents plan) (limits_of plan) known.items c.requires.memo c.args.i c.place_of-place.result c.requires.pair c.place_of-place.ensures c.index.result.now got c.in_default.not-NotYet;
+      knows = was_known (plan_contents plan) (limits_of plan) known.items c.requires.memo c.args.i c.sender_place-place.result c.requires.pair c.sender_place-place.ensures.place c.index.result.now got c.in_default.not-NotYet;
       keeps = λ j h. h;
     }

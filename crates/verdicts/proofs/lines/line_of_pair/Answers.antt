@@ -2,7 +2,7 @@ use Rattle.std.proofs.Common.{subst}
 use Rattle.plan_core.specs.PlanContents.{plan_contents}
 use Rattle.plan_core.specs.Pairs.{pairs_of}
 use Rattle.verdicts.specs.Verdicts.{IsSafeOutcome}
-use Rattle.verdicts.proofs.KnownLemmas.{some_at}
+use Rattle.plan_core.proofs.ListLemmas.{some_at}
 use Rattle.verdicts.proofs.TableLemmas.{safe_pair}
 use Rattle.verdicts.proofs.lines.line_of_pair.Goals as goal
 

@@ -1,7 +1,7 @@
 use Rattle.std.proofs.Common.{arith}
 use Rattle.plan_core.specs.PlanContents.{plan_contents}
 use Rattle.plan_core.proofs.PlanLemmas.{limits_of}
-use Rattle.verdicts.proofs.Few.{pairs_few}
+use Rattle.plan_core.proofs.ContentsLemmas.{pairs_few}
 use Rattle.verdicts.proofs.shared_walks.walked.Goals as goal
 
 pub share-requires-clause-numbers : goal.share-requires-clause-numbers

@@ -1,8 +1,0 @@
-use Rattle.std.proofs.Common.{arith}
-use Rattle.plan_core.proofs.PlanLemmas.{limits_of}
-use Rattle.verdicts.proofs.senders.senders_of.Goals as goal
-
-pub returns-clause-few : goal.returns-clause-few
-returns-clause-few c =
-    let limits = limits_of c.args.plan.now in
-    omega (arith, limits.messages.count, limits.interrupts.count, c.messages.ensures, c.interrupts.ensures)
