@@ -98,7 +98,6 @@ length_replicate : (n : ℕ) (x : List ℕ) → length (replicate n x) ≡ n
 length_replicate zero x = refl
 length_replicate (suc n) x = ap suc (length_replicate n x)
 
-
 pub one_empty_more : (n : ℕ) (lines more : List (Vec ℕ Global)) (line : Vec ℕ Global) → map (λ (l : Vec ℕ Global). l.items) lines ≡ replicate n [] → more ≡ lines ++ line ∷ [] → line.items ≡ [] → map (λ (l : Vec ℕ Global). l.items) more ≡ replicate (n + 1) []
 one_empty_more n lines more line e f none =
     rw add-one (ap (map (λ (l : Vec ℕ Global). l.items)) f ∙ (map_push (λ (l : Vec ℕ Global). l.items) lines line ∙ (ap (λ (xs : List (List ℕ)). xs ++ line.items ∷ []) e ∙ (ap (λ (x : List ℕ). replicate n [] ++ x ∷ []) none ∙ replicate_push n []))))
