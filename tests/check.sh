@@ -85,6 +85,24 @@ mkfifo plan.fifo
 cat unsafe.plan >plan.fifo &
 run "unsafe plan from a FIFO" check plan.fifo
 
+# Spellings.
+
+write_plan spelled.plan "plan 1 # probe" "interrupt t 0101010;message m" "write 1010000 stop else stop ; controller a m ;"
+spelling="plan 1
+message m write 1010000 stop else stop ;
+controller a m ;
+interrupt t 0101010 ;"
+want 0 "$spelling" ""
+run "a plan printed" print spelled.plan
+run "a plan from a pipe printed" print /dev/stdin < <(cat spelled.plan)
+printf '%s\n' "$spelling" >printed.plan
+run "a printed plan printed again" print printed.plan
+write_plan refused.plan "plan 1" "message m write 1010000 stop ;"
+want 2 "" "refused P3 line 2"
+run "a refused plan printed" print refused.plan
+want 2 "" "refused read"
+run "no plan to print" print missing.plan
+
 # Refused plans.
 
 refused() {
@@ -259,10 +277,18 @@ want 0 "$(cat "$tests/expected/certify_help.txt")" ""
 run "help on certify" certify --help
 want 0 "$(cat "$tests/expected/verify_help.txt")" ""
 run "help on verify" verify --help
+want 0 "$(cat "$tests/expected/print_help.txt")" ""
+run "help on print" print --help
 want 0 "$(cat "$tests/expected/capture_help.txt")" ""
 run "help on capture" capture --help
 want 2 "" "$(cat help.txt)"
 run "no argument"
+
+awk 'length > 80 { print FILENAME ": " $0 }' "$tests"/expected/*help.txt >out
+echo 0 >status
+: >err
+want 0 "" ""
+compare "help fits 80 columns"
 
 want 2 "" "error: an argument is not UTF-8"
 run "argument that is not UTF-8" check $'\xff.plan'

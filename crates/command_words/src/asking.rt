@@ -48,6 +48,10 @@ pub enum Request<'a> {
         fill: bool,
         answers: &'a str,
     },
+    /// The canonical spelling of a plan.
+    Print {
+        plan: &'a str,
+    },
 }
 
 /// Whether hints for people are wanted on standard error.
@@ -166,6 +170,7 @@ fn request_of<'a>(name: &str, found: Found<'a>) -> Option<Request<'a>> {
             fill: found.fill? == "1",
             answers: found.answers?,
         },
+        "print" => Request::Print { plan },
         _ => return None,
     })
 }

@@ -86,6 +86,7 @@ fn text<'a>(
         .long(id)
         .value_name(value_name)
         .default_value(default)
+        .hide_default_value(default.is_empty())
         .help(help)
 }
 
@@ -107,5 +108,8 @@ fn choice<'a>(
     values: &'a [&'a str],
     help: &'a str,
 ) -> Arg<'a> {
-    text(alloc, id, value_name, default, help).value_parser(values)
+    text(alloc, id, value_name, default, help)
+        .value_parser(values)
+        .hide_possible_values(true)
+        .hide_default_value(true)
 }

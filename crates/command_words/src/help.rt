@@ -2,15 +2,18 @@
 
 pub const VERSION: &str = "0.1.0";
 
-pub const ABOUT: &str =
-    "Checks message plans of several controllers and interrupting targets that share one two-wire (I2C) bus";
+pub const ABOUT: &str = "\
+Checks message plans of several controllers and interrupting targets that share
+one two-wire (I2C) bus";
 
 pub const AFTER_HELP: &str = "\
 A plan is a text of items, each ended by ';'. '#' begins a comment.
 
   plan 1
-  message set write 1001000 00000001 0110xxxx stop else stop else stop else stop ;
-  message get write 1001000 00000001 again read 1001000 2 stop else stop else stop else stop ;
+  message set write 1001000 00000001 0110xxxx
+    stop else stop else stop else stop ;
+  message get write 1001000 00000001 again read 1001000 2
+    stop else stop else stop else stop ;
   controller main set get ;
   controller guard get ;
   interrupt sensor 1001000 ;
@@ -19,17 +22,17 @@ A plan is a text of items, each ended by ';'. '#' begins a comment.
 bit that the controller may send as 0 or as 1. In a write the data bytes follow,
 in a read the number of bytes. What stands after 'else' is done where the target
 does not acknowledge, innermost byte first. 'again' is a repeated START. A
-'controller' lists the messages that it may start, and an 'interrupt' is a target
-that starts by itself with its own address. 'plan 2' also has ranges of read
-counts, as '2..4', and 'never main guard ;' for two controllers that never start
-together.
+'controller' lists the messages that it may start, and an 'interrupt' is a
+target that starts by itself with its own address. 'plan 2' also has ranges of
+read counts, as '2..4', and 'never main guard ;' for two controllers that never
+start together.
 
 Exit status:
-  0  the plan is safe, or was accepted as safe; a capture is explained; a bench was
-     played (or help was asked for)
+  0  the plan is safe, or was accepted as safe; a capture is explained; a bench
+     was played; a spelling was written (or help was asked for)
   1  the plan is not safe, or was accepted as unsafe; a capture is not explained
-  2  refused: the command line, the plan, the certificate, the capture, the starters
-     of a bench, a file, or want of memory";
+  2  refused: the command line, the plan, the certificate, the capture, the
+     starters of a bench, a file, or out of memory";
 
 pub const AFTER_CHECK_HELP: &str = "\
 The report has a line for each unsafe pair of participants,
@@ -60,8 +63,8 @@ order of the pairs: a proof that the two never clash. That of an unsafe plan has
 one line, with the first fault of the first pair that has one.
 
 Keep the certificate beside the plan. Whoever builds on the plan checks it by
-'twire verify', which trusts nothing that made the certificate. It speaks of this
-plan alone: change the plan, and write the certificate again.
+'twire verify', which trusts nothing that made the certificate. It speaks of
+this plan alone: change the plan, and write the certificate again.
 
 Exit status: 0 safe, 1 not safe, 2 refused.";
 
@@ -74,7 +77,7 @@ The answer is one line:
   wrong C1 line 3    the text is no certificate, from this line on
   wrong C2           another number of proofs than of pairs
   wrong C3 line 3    a proof that is more than 512 nodes deep
-  wrong C5 pair 0    the first pair that is not proved, or that has not the fault
+  wrong C5 pair 0    the first pair that is not proved, or has not the fault
 
 A wrong certificate says nothing of the plan: ask 'twire check'. An accepted one
 says nothing of devices that do not keep to the plan.
@@ -83,8 +86,8 @@ Exit status: 0 accepted safe, 1 accepted unsafe, 2 wrong or refused.";
 
 pub const AFTER_CAPTURE_HELP: &str = "\
 The capture is a value change dump (IEEE 1364-2005) with a signal of one bit for
-each of the two lines. The report has a line for each transaction, from its START
-on, with the times of the capture:
+each of the two lines. The report has a line for each transaction, from its
+START on, with the times of the capture:
 
   10-115 main/set          these participants of the plan may have sent it
   120-205 unexplained      nobody in the plan sends this
@@ -110,27 +113,27 @@ What makes such dumps:
   sigrok  two steps: record the lines, and then convert what was recorded by
           'sigrok-cli -i FILE -O vcd -o OUT'. A line has the name of its channel
   others  Icarus Verilog ($dumpfile and $dumpvars), Verilator (--trace), SystemC
-          (sc_trace) and Yosys (sim -vcd) write them. GTKWave has converters from
-          other formats, as fst2vcd
+          (sc_trace) and Yosys (sim -vcd) write them. GTKWave has converters
+          from other formats, as fst2vcd
 
-With '--hints always', and on a terminal, further lines on standard error say what
-is wrong with a refused capture, or why a report may have no transaction.
+With '--hints always', and on a terminal, further lines on standard error say
+what is wrong with a refused capture, or why a report may have no transaction.
 
 Exit status: 0 all is explained, 1 something is not, 2 refused.";
 
 pub const AFTER_BENCH_HELP: &str = "\
-The certificate is checked first. Where it is not accepted as safe, the report is
-the line of 'twire verify', with its status. Else the starters are played to the
-end of one run, and the report has two lines:
+The certificate is checked first. Where it is not accepted as safe, the report
+is the line of 'twire verify', with its status. Else the starters are played to
+the end of one run, and the report has two lines:
 
-  wire 10010000l11001111ls      the bus, slot by slot
-  won main/set guard/get        who was live at the end
+  wire 10010000l00000001l00100000ls     the bus, slot by slot
+  won guard/write_alarm                 who was live at the end
 
-A starter is a label, as 'main/set' for a message of a controller or '!sensor' for
-an interrupt. Open bits are sent as '--fill' says, and so is the acknowledge after
-which a read of a range may end: 1 ends it. '--answers' has the targets' bit for
-each slot from the first on, 0 for an acknowledge; it counts where targets drive
-the slot, and nowhere else.
+A starter is a label, as 'main/set' for a message of a controller or '!sensor'
+for an interrupt. Open bits are sent as '--fill' says, and so is the acknowledge
+after which a read of a range may end: 1 ends it. '--answers' has the targets'
+bit for each slot from the first on, 0 for an acknowledge; it counts where
+targets drive the slot, and nowhere else.
 
 Starters that cannot start together are refused on standard error with a code:
 
@@ -138,3 +141,11 @@ Starters that cannot start together are refused on standard error with a code:
   B2  no participant of the plan   B8  two that never start together
 
 Exit status: 0 played, 1 accepted unsafe, 2 wrong or refused.";
+
+pub const AFTER_PRINT_HELP: &str = "\
+Each plan has one canonical spelling: the version, the messages, the
+controllers, the interrupts and the 'never' items, each on a line of its own,
+with one space between two words and no comments. It says the same plan, so a
+certificate of the one is a certificate of the other.
+
+Exit status: 0 written, 2 refused.";

@@ -1,7 +1,8 @@
 // The commands and their arguments.
 
 use crate::help::{
-    AFTER_BENCH_HELP, AFTER_CAPTURE_HELP, AFTER_CERTIFY_HELP, AFTER_CHECK_HELP, AFTER_VERIFY_HELP,
+    AFTER_BENCH_HELP, AFTER_CAPTURE_HELP, AFTER_CERTIFY_HELP, AFTER_CHECK_HELP, AFTER_PRINT_HELP,
+    AFTER_VERIFY_HELP,
 };
 
 /// A command of the program.
@@ -35,7 +36,7 @@ pub enum Argument {
         default: &'static str,
         help: &'static str,
     },
-    /// An option that takes one of these texts.
+    /// An option that takes one of these texts. Its help names them, and the default.
     Choice {
         id: &'static str,
         value_name: &'static str,
@@ -51,22 +52,22 @@ pub const HINTS: Argument = Argument::Choice {
     value_name: "WHEN",
     default: "auto",
     values: &["auto", "always", "never"],
-    help: "Whether to say more for people, on standard error",
+    help: "Hints for people: auto (on a terminal), always, never",
 };
 
 /// The commands, in the order of the help.
-pub const COMMANDS: [Entry; 5] = [CHECK, CERTIFY, VERIFY, CAPTURE, BENCH];
+pub const COMMANDS: [Entry; 6] = [CHECK, CERTIFY, VERIFY, CAPTURE, BENCH, PRINT];
 
 const CHECK: Entry = Entry {
     name: "check",
-    about: "Check a plan: is there a fault, whoever starts together and whatever targets answer?",
+    about: "Is a plan safe, whoever starts together and whatever targets answer?",
     after_help: AFTER_CHECK_HELP,
     arguments: &[PLAN, WORKERS],
 };
 
 const CERTIFY: Entry = Entry {
     name: "certify",
-    about: "Write the certificate of a plan: a proof for each pair, or the fault of one",
+    about: "Write the certificate of a plan: a proof for each pair, or a fault",
     after_help: AFTER_CERTIFY_HELP,
     arguments: &[PLAN],
 };
@@ -80,16 +81,23 @@ const VERIFY: Entry = Entry {
 
 const CAPTURE: Entry = Entry {
     name: "capture",
-    about: "Explain a recorded bus: which participants may have sent each transaction?",
+    about: "Explain a recorded bus: who may have sent each transaction?",
     after_help: AFTER_CAPTURE_HELP,
     arguments: &[PLAN, VCD, SCL, SDA],
 };
 
 const BENCH: Entry = Entry {
     name: "bench",
-    about: "Rehearse a plan: its starters play on a bench, each in a thread of its own",
+    about: "Rehearse a plan: its starters play, each in a thread of its own",
     after_help: AFTER_BENCH_HELP,
     arguments: &[PLAN, CERT, STARTERS, FILL, ANSWERS],
+};
+
+const PRINT: Entry = Entry {
+    name: "print",
+    about: "Write the canonical spelling of a plan",
+    after_help: AFTER_PRINT_HELP,
+    arguments: &[PLAN],
 };
 
 const PLAN: Argument = Argument::Word {
@@ -104,12 +112,12 @@ const CERT: Argument = Argument::Word {
 
 const VCD: Argument = Argument::Word {
     id: "VCD",
-    help: "The file with the capture, a value change dump; /dev/stdin reads standard input",
+    help: "The capture, a value change dump; /dev/stdin reads standard input",
 };
 
 const STARTERS: Argument = Argument::Word {
     id: "STARTERS",
-    help: "Who starts together: labels of the plan's participants, joined by commas",
+    help: "Who starts together: labels of participants, joined by commas",
 };
 
 const WORKERS: Argument = Argument::Number {
@@ -138,7 +146,7 @@ const FILL: Argument = Argument::Choice {
     value_name: "BIT",
     default: "0",
     values: &["0", "1"],
-    help: "What the starters send for a bit that is open",
+    help: "What starters send for an open bit, 0 or 1 [default: 0]",
 };
 
 const ANSWERS: Argument = Argument::Text {

@@ -5,3 +5,4 @@ pub mod LineLemmas
 pub mod CheckLemmas
 pub mod CaptureLemmas
 pub mod CaptureReading
+pub mod SpellingLemmas

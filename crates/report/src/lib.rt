@@ -7,10 +7,12 @@ pub mod checks;
 mod following;
 pub mod laws;
 pub mod lines;
+pub mod spellings;
 pub mod telling;
 
 pub use captures::run_capture;
 pub use certificates::{run_certify, run_verify};
 pub use checks::run_check;
 pub use run_parts::{Input, Opened, Output, RunError, Status, Watched, read_within, write_report};
+pub use spellings::run_print;
 pub use verdicts::{Gate, NoGate};

@@ -35,7 +35,7 @@ pub fn said_plainly(alloc: Global, asked: &Asked) -> Result<Answer, AllocError> 
             fill,
             answers,
         } => commands::bench(alloc, plan, second, starters, *fill, answers),
-        Command::Spelling => spelt_plainly(alloc, plan),
+        Command::Print => spelt_plainly(alloc, plan),
         Command::Seats { starters, answers } => {
             commands::seats(alloc, plan, second, starters, answers)
         }

@@ -1,5 +1,4 @@
-// The commands of the cases, as the program takes them, and two more: `spelling`, which writes a plan in its canonical
-// spelling, and `seats`, which runs a script on the seats of a bench.
+// The commands of the cases, as the program takes them, and one more: `seats`, which runs a script on the seats of a bench.
 
 use crate::errors::CaseError;
 use std::alloc::Global;
@@ -21,7 +20,7 @@ pub enum Command {
         fill: bool,
         answers: String,
     },
-    Spelling,
+    Print,
     Seats {
         starters: String,
         answers: String,
@@ -36,7 +35,7 @@ impl Command {
             Command::Verify => "verify",
             Command::Capture { .. } => "capture",
             Command::Bench { .. } => "bench",
-            Command::Spelling => "spelling",
+            Command::Print => "print",
             Command::Seats { .. } => "seats",
         }
     }
@@ -102,7 +101,7 @@ fn other_of(alloc: Global, name: &str, options: &Options<'_>) -> Result<Command,
         },
         "certify" => Ok(Command::Certify),
         "verify" => Ok(Command::Verify),
-        "spelling" => Ok(Command::Spelling),
+        "print" => Ok(Command::Print),
         "capture" => Ok(Command::Capture {
             scl: String::from_str(alloc, options.scl)?,
             sda: String::from_str(alloc, options.sda)?,

@@ -4,9 +4,8 @@ use crate::scripts::run_seats;
 use bench_run::{NoGate, run_bench};
 use plan_text::{print_plan, read_plan};
 use reference::commands::{self, Answer};
-use report::{run_capture, run_certify, run_check, run_verify};
-use run_parts::devices::reading::READS;
-use run_parts::{Input, Output, RunError, Status, Watched, read_within, write_lines};
+use report::{run_capture, run_certify, run_check, run_print, run_verify};
+use run_parts::{Input, Output, RunError, Status, Watched};
 use std::alloc::{AllocError, Global};
 use std::sync::Wait;
 use std::thread::Threads;
@@ -48,22 +47,11 @@ pub fn run<R: Threads + Wait + Clock + Sync, I: Input, J: Input, O: Output>(
         } => run_bench(
             rt, alloc, plan, second, out, starters, *fill, answers, &NoGate,
         ),
-        Command::Spelling => run_spelling(alloc, plan, out),
+        Command::Print => run_print(alloc, plan, out),
         Command::Seats { starters, answers } => {
             run_seats(alloc, plan, second, out, starters, answers)
         }
     }
-}
-
-fn run_spelling<I: Input, O: Output>(
-    alloc: Global,
-    plan: &mut I,
-    out: &mut O,
-) -> Result<Status, RunError> {
-    let text = read_within(alloc, plan, READS)?;
-    let plan = read_plan(alloc, text.as_slice())?;
-    let spelling = print_plan(alloc, &plan)?;
-    write_lines(out, spelling.as_slice(), Status::Good)
 }
 
 /// The answer of a run that has ended so, and has written this.

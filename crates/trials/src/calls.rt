@@ -26,7 +26,7 @@ pub enum Call {
     Table,
     /// The same, by so many workers.
     TableBy(u32),
-    /// In place of `spelling`, the spelling of a plan that was built again, call by call.
+    /// In place of `print`, the spelling of a plan that was built again, call by call.
     Rebuild,
 }
 
@@ -35,7 +35,7 @@ pub fn calls_of(command: &Command) -> &'static [Call] {
     match command {
         Command::Certify => &CERTIFYING,
         Command::Verify => &VERIFYING,
-        Command::Spelling => &SPELLING,
+        Command::Print => &PRINTING,
         _ => &[],
     }
 }
@@ -49,7 +49,7 @@ const CERTIFYING: [Call; 4] = [
 
 const VERIFYING: [Call; 3] = [Call::Accept, Call::Reprint, Call::AcceptPlan];
 
-const SPELLING: [Call; 1] = [Call::Rebuild];
+const PRINTING: [Call; 1] = [Call::Rebuild];
 
 /// Makes the call, and writes what the command would write.
 pub fn make<R: Threads + Sync, O: Output>(

@@ -4,7 +4,9 @@ use crate::advice::{Counted, Source, advise_on_capture, advise_on_plan};
 use bench_run::{NoGate, run_bench};
 use command_words::{Asked, Request, When, read_words};
 use hints::Names;
-use report::{Opened, RunError, Status, Watched, run_capture, run_certify, run_check, run_verify};
+use report::{
+    Opened, RunError, Status, Watched, run_capture, run_certify, run_check, run_print, run_verify,
+};
 use std::rt::{Env, Files};
 use std::sync::Wait;
 use std::thread::Threads;
@@ -82,6 +84,7 @@ fn do_request<R: Files + Input + Print + Eprint + AllocGlobal + Threads + Wait +
             fill,
             answers,
         } => bench(rt, plan, cert, starters, fill, answers, hints),
+        Request::Print { plan } => spell(rt, plan, hints),
     }
 }
 
@@ -168,6 +171,17 @@ fn bench<R: Files + Input + Print + Eprint + AllocGlobal + Threads + Wait + Cloc
         answers,
         &NoGate,
     );
+    Ok(told(rt, plan, ended, hints))
+}
+
+fn spell<R: Files + Input + Print + Eprint + AllocGlobal>(
+    rt: &R,
+    plan: &str,
+    hints: bool,
+) -> Result<u8, RunError> {
+    let mut plan = open(rt, plan)?;
+    let mut out = Watched::new(io::writer(rt));
+    let ended = run_print(rt.alloc(), &mut plan, &mut out);
     Ok(told(rt, plan, ended, hints))
 }
 

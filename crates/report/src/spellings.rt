@@ -1,0 +1,35 @@
+// The run that writes the canonical spelling of a plan.
+
+ghost use Rattle.std.specs.Prelude.{◌≡◌, IfOk, IfErr};
+ghost use Rattle.report.specs.Spellings.{Printed};
+ghost use Rattle.run_parts.specs.PlanTexts.{RefusesPlan};
+ghost use Rattle.run_parts.specs.Runs.{ReadsText, HaltsAtText, Reports, Stops};
+
+use plan_text::{print_plan, read_plan};
+use run_parts::devices::reading::READS;
+use run_parts::{Input, Output, RunError, Status, read_within, write_lines};
+use std::alloc::Global;
+
+/// Writes the canonical spelling of the plan that the reader gives. Reading it gives the same plan. The status is `Good`.
+///
+/// # Errors
+///
+/// `Read` where the reader failed or gave no end, `Plan` with the first refusal of the plan text, and `Write` where the
+/// writer failed or took no bytes. `NoMemory` where memory is refused. Only after `Write` has a part of the spelling been
+/// written: its first bytes. After every other error the writer was not called.
+pub fn run_print<I: Input, O: Output>(
+    alloc: Global,
+    plan: &mut I,
+    out: &mut O,
+) -> Result<Status, RunError>
+    ensures report { IfOk result (λ status.
+        Reports (ReadsText I.reader) Printed O.writer plan.old out.old status plan.new out.new) }
+    ensures stops { IfErr result (λ error.
+        Stops (ReadsText I.reader) Printed O.writer (HaltsAtText I.reader RefusesPlan)
+        plan.old out.old error plan.new out.new) }
+{
+    let text = read_within(alloc, plan, READS)?;
+    let plan = read_plan(alloc, text.as_slice())?;
+    let report = print_plan(alloc, &plan)?;
+    write_lines(out, report.as_slice(), Status::Good)
+}
