@@ -1,4 +1,5 @@
 pub mod WordLemmas
+pub mod CodeLemmas
 pub mod ScanLemmas
 pub mod TokenLemmas
 pub mod PieceLemmas

@@ -88,7 +88,7 @@ impl Scanner {
         if !self.held.is_empty() {
             return self.end_held(rest);
         }
-        if rest.is_empty() {
+        if rest.is_empty() || self.dump.change_short(rest) {
             return Ok(());
         }
         let sample = self.dump.read(rest, self.line)?;
