@@ -1,5 +1,7 @@
 pub mod WordLemmas
+pub mod CodeLemmas
 pub mod ScanLemmas
+pub mod MaskLemmas
 pub mod TokenLemmas
 pub mod PieceLemmas
 pub mod FedLemmas

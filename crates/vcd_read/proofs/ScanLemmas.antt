@@ -1,10 +1,10 @@
 -- A piece is read byte by byte.
-use Rattle.std.proofs.Common.{◌≡◌, ◌<◌, ◌≤◌, ◌+◌, ◌-◌, ℕ, suc, true, false, List, [], ◌∷◌, ◌++◌, length, take, drop, get_or, Ok, Err, refl, ap, sym, ◌∙◌, arith, drop-cons, add-one, append_assoc}
+use Rattle.std.proofs.Common.{◌≡◌, ◌<◌, ◌≤◌, ◌+◌, ◌-◌, ℕ, zero, suc, true, false, List, [], ◌∷◌, ◌++◌, length, take, drop, get_or, Ok, Err, refl, ap, sym, ◌∙◌, arith, drop-cons, add-one, append_assoc}
 use Rattle.std.specs.List.{slice_range}
 use Rattle.std.proofs.Math.Seq.{take-suc}
 use Rattle.std.proofs.lemmas.List.{get_or-drop, length-drop, length-take, append-nil}
 use Rattle.vcd_read.specs.declared.scanner.Scanner.{Scanner}
-use Rattle.vcd_read.specs.Pieces.{Kept, Refused, token_ended, bytes_read, RoomForToken, RoomForSamples}
+use Rattle.vcd_read.specs.Pieces.{Kept, Refused, with_held, token_ended, bytes_read, RoomForToken, RoomForSamples}
 use Rattle.vcd_read.specs.Tokens.{is_white, line_after}
 
 -- the range with one more element
@@ -52,6 +52,38 @@ other_goes_on k bytes start at before within other =
     ap (λ held. bytes_read (record k { held = held }) (drop (at + 1) bytes))
     (ap (λ range. k.held ++ range) (range_more bytes start at before within) ∙ sym (append_assoc k.held (slice_range bytes start at) (get_or bytes at 0 ∷ [])))
     ∙ sym (other_read (record k { held = k.held ++ slice_range bytes start at }) bytes at within other)
+
+-- ---- a whole token at once
+
+abbrev pub NoWhite : List ℕ → ℕ → ℕ → Type 0
+NoWhite bytes start end = (i : ℕ) → start ≤ i → i < end → is_white (get_or bytes i 0) ≡ false
+
+held_before : (k : Kept) (bytes : List ℕ) (d start at : ℕ) → at ≡ start + d → at ≤ length bytes → NoWhite bytes start at →
+    bytes_read (with_held (slice_range bytes start at) k) (drop at bytes) ≡ bytes_read k (drop start bytes)
+held_before k bytes zero start at far within none =
+    let same : at ≡ start = omega arith in
+    rw same (ap (λ held. bytes_read (record k { held = held }) (drop start bytes)) (ap (λ range. k.held ++ range) (range_none bytes start) ∙ append-nil k.held))
+held_before k bytes (suc d) start at far within none =
+    let before : at ≡ start + d + 1 = omega arith in
+    let inside : start + d < length bytes = omega arith in
+    rw before
+    (other_goes_on k bytes start (start + d) (omega arith) inside (none (start + d) (omega arith) (omega arith))
+    ∙ held_before k bytes d start (start + d) refl (omega arith) (λ i from to. none i from (omega arith)))
+
+-- The bytes from `start` on are a token up to `white`.
+pub token_goes_on : (k next : Kept) (bytes : List ℕ) (start white line : ℕ) → start ≤ white → white < length bytes → NoWhite bytes start white → is_white (get_or bytes white 0) ≡ true →
+    token_ended (with_held (slice_range bytes start white) k) ≡ Ok next → line ≡ line_after next.line (get_or bytes white 0) →
+    bytes_read (record next { line = line }) (drop (white + 1) bytes) ≡ bytes_read k (drop start bytes)
+token_goes_on k next bytes start white line order within none is ended after =
+    ap (λ l. bytes_read (record next { line = l }) (drop (white + 1) bytes)) after
+    ∙ sym (white_read (with_held (slice_range bytes start white) k) next bytes white within is ended)
+    ∙ held_before k bytes (white - start) start white (omega arith) (omega arith) none
+
+pub token_refused : (k : Kept) (refused : Refused) (bytes : List ℕ) (start white : ℕ) → start ≤ white → white < length bytes → NoWhite bytes start white → is_white (get_or bytes white 0) ≡ true →
+    token_ended (with_held (slice_range bytes start white) k) ≡ Err refused → bytes_read k (drop start bytes) ≡ Err refused
+token_refused k refused bytes start white order within none is ended =
+    sym (held_before k bytes (white - start) start white (omega arith) (omega arith) none)
+    ∙ white_refused (with_held (slice_range bytes start white) k) refused bytes white within is ended
 
 -- ---- room
 

@@ -2,6 +2,7 @@
 use Rattle.std.proofs.Common.{◌≡◌, ◌<◌, ◌≤◌, ◌+◌, ◌-◌, ◌*◌, ◌^◌, ℕ, Bool, true, false, List, [], ◌∷◌, length, drop, get_or, Option, Some, None, refl, ap, sym, ◌∙◌, arith, ◌==◌, nat_le, drop-cons, add-one}
 use Rattle.std.specs.Prelude.{if◌then◌else◌}
 use Rattle.std.specs.List.{list_all}
+use Rattle.std.proofs.Math.Nat.{pow-le-pow_right}
 use Rattle.std.proofs.lemmas.Bool.{le-leb, leb-true, and_from, lt-ltb}
 use Rattle.std.proofs.lemmas.Bool.Decides.{nat_tests}
 use Rattle.vcd_read.specs.Tokens.{is_white, has_white}
@@ -22,6 +23,12 @@ pub number_next : (digits : List ℕ) (number i : ℕ) → i < length digits →
 number_next digits number i within low high =
     let test : is_digit (get_or digits i 0) ≡ true = and_from _ _ (le-leb 48 (get_or digits i 0) low) (le-leb (get_or digits i 0) 57 high) in
     rw (drop-cons digits i 0 within, test, add-one) refl
+
+-- fewer than 20 digits, and one more
+pub few_digits : (time i n : ℕ) → time < 10 ^ i → i < n → n < 20 → time * 10 + 9 < 2 ^ 64
+few_digits time i n small before few =
+    let at_most : 10 ^ i ≤ 10 ^ 18 = pow-le-pow_right {n = 10} (omega arith) {i = i} {j = 18} (omega arith) in
+    omega arith
 
 guarded : (test : Bool) (number : Option ℕ) → below_limit number ≡ None → below_limit (if test then number else None) ≡ None
 guarded true number h = h

@@ -1,6 +1,6 @@
 -- What a single token of a dump says (IEEE 1364-2005, 18.2.1 and 18.2.3).
 use Rattle.std.specs.Prelude.{ℕ, ◌+◌, ◌-◌, ◌*◌, ◌^◌, Bool, true, false, ◌&&◌, ◌||◌, ◌==◌, nat_lt, nat_le, not, List, []}
-use Rattle.std.specs.Prelude.{◌∷◌, Option, Some, None, codes, if◌then◌else◌}
+use Rattle.std.specs.Prelude.{◌∷◌, length, Option, Some, None, codes, if◌then◌else◌}
 use Rattle.std.specs.List.{list_all}
 use Rattle.std.specs.Str.{bytes_eq}
 use Rattle.vcd_read.specs.declared.samples.Level.{Level}
@@ -59,6 +59,19 @@ is_code_byte byte = nat_le 33 byte && nat_le byte 126
 
 abbrev pub is_code : List ℕ → Bool
 is_code bytes = not (is_empty bytes) && list_all is_code_byte bytes
+
+-- bytes as digits to the base 256, the first one lowest
+abbrev pub bytes_number : List ℕ → ℕ
+bytes_number [] = 0
+bytes_number (byte ∷ bytes) = byte + 256 * bytes_number bytes
+
+-- The number of an identifier code of at most three characters. 0 stands for a longer one, and for what is no code.
+abbrev pub code_number : List ℕ → ℕ
+code_number code = if is_code code && nat_le (length code) 3 then bytes_number code else 0
+
+-- the level that `0` or `1` stands for
+abbrev pub binary_level_of : ℕ → Option Level
+binary_level_of value = if value == 48 then Some Low else if value == 49 then Some High else None
 
 abbrev pub is_digit : ℕ → Bool
 is_digit byte = nat_le 48 byte && nat_le byte 57

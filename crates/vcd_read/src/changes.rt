@@ -1,15 +1,46 @@
 // Times and value changes: IEEE 1364-2005, 18.2.1 and 18.2.2, and the commands among them, 18.2.3.
 
-ghost use Rattle.std.specs.Prelude.{◌≡◌, ℕ, Some, None};
+ghost use Rattle.std.specs.Prelude.{◌≡◌, ℕ, Some, None, Ok, true, false};
 ghost use Rattle.vcd_read.specs.Changes.{change, change_of_code, command_among_changes, time_reached, stamp_sample};
+ghost use Rattle.vcd_read.specs.Dumps.{step};
 ghost use Rattle.vcd_read.specs.Views.{state_of, HasRoom, Leaves, Steps};
 
 use crate::dumps::{Context, Dump};
 use crate::errors::Refusal;
 use crate::samples::{Level, Sample};
-use crate::words::{Command, command_of, is_code, level_of, time_of, vector_level};
+use crate::words::{
+    Command, binary_level_of, code_number, command_of, is_code, level_of, time_of, vector_level,
+};
 
 impl Dump {
+    /// Reads a change of one value, `0` or `1`, whose code has at most three characters, as most tokens of a dump are. It
+    /// answers whether the token was such a change, and leaves any other as it is.
+    #[tactic(auto, unfolding(crate::specs::Dumps::step))]
+    #[inline(always)]
+    pub(crate) fn change_short(&mut self, token: &[u8]) -> bool
+        ensures read { result ≡ true → (line : ℕ) →
+            step (state_of self.old) token.now line ≡ Ok (state_of self.new, None) }
+        ensures left { result ≡ false → self.new ≡ self.old }
+        ensures room { (n : ℕ) → HasRoom n self.old → HasRoom n self.new }
+    {
+        let Context::Nothing = self.context else {
+            return false;
+        };
+        let Some((value, code)) = token.split_first() else {
+            return false;
+        };
+        let Some(level) = binary_level_of(*value) else {
+            return false;
+        };
+        let number = code_number(code);
+        if number == 0 || !self.defined {
+            return false;
+        }
+        self.scl.change_by_number(number, level);
+        self.sda.change_by_number(number, level);
+        true
+    }
+
     /// A token outside commands, after the definitions.
     #[inline(always)]
     pub(crate) fn change(&mut self, token: &[u8], line: u64) -> Result<Option<Sample>, Refusal>
@@ -80,6 +111,28 @@ impl Dump {
     /// The code of a change of this level, or of a real or string change.
     #[inline(always)]
     pub(crate) fn change_of_code(
+        &mut self,
+        level: Option<Level>,
+        code: &[u8],
+        line: u64,
+    ) -> Result<(), Refusal>
+        ensures state { Leaves result (change_of_code (state_of self.old) level code.now line) (state_of self.new) }
+        ensures room { (n : ℕ) → HasRoom n self.old → HasRoom n self.new }
+    {
+        let number = code_number(code);
+        if number == 0 {
+            return self.change_of_long_code(level, code, line);
+        }
+        if let Some(level) = level {
+            self.scl.change_by_number(number, level);
+            self.sda.change_by_number(number, level);
+        }
+        Ok(())
+    }
+
+    // The same of a code that has no number, or of what is no code.
+    #[inline(never)]
+    fn change_of_long_code(
         &mut self,
         level: Option<Level>,
         code: &[u8],

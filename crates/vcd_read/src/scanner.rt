@@ -5,11 +5,12 @@ ghost use Rattle.std.specs.Prelude.{IfOk, OnOk, MatchResult, Ok, Err};
 ghost use Rattle.vcd_read.specs.Pieces.{kept_at_first, kept_of, with_held, bytes_read, token_ended};
 ghost use Rattle.vcd_read.specs.Pieces.{samples_at_end, Scans, RoomForToken, RoomForSamples};
 
-use crate::bytes::{is_white, line_after};
+use crate::bytes::{is_white, line_after, whites};
 use crate::dumps::Dump;
 use crate::errors::Refusal;
 use crate::samples::Sample;
 use std::alloc::{AllocError, Global};
+use std::simd::prelude::*;
 
 /// What a reader keeps of the bytes that it was fed.
 #[derive(Debug, Drop)]
@@ -64,6 +65,30 @@ impl Scanner {
         ensures samples_room { RoomForSamples 2 self.new }
     {
         let mut start = 0;
+        let mut at = 0;
+        while piece.len() - at >= 64 {
+            let mut rest = whites(u8x64::from_slice(&piece[at..]));
+            while rest != 0 {
+                let white = at + rest.trailing_zeros() as usize;
+                self.end_token(&piece[start..white])?;
+                self.line = line_after(self.line, piece[white]);
+                start = white + 1;
+                rest &= rest - 1;
+            }
+            at += 64;
+        }
+        self.read_bytes(&piece[start..])
+    }
+
+    // The same, byte by byte.
+    fn read_bytes(&mut self, piece: &[u8]) -> Result<(), Refusal>
+        requires token_room { RoomForToken (length piece.now) self.old }
+        requires samples_room { RoomForSamples (length piece.now + 2) self.old }
+        ensures kept { Scans result (bytes_read (kept_of self.old) piece.now) (kept_of self.new) }
+        ensures token_room { RoomForToken 0 self.new }
+        ensures samples_room { RoomForSamples 2 self.new }
+    {
+        let mut start = 0;
         for (at, byte) in piece.iter().enumerate() {
             if is_white(*byte) {
                 self.end_token(&piece[start..at])?;
@@ -88,7 +113,7 @@ impl Scanner {
         if !self.held.is_empty() {
             return self.end_held(rest);
         }
-        if rest.is_empty() {
+        if rest.is_empty() || self.dump.change_short(rest) {
             return Ok(());
         }
         let sample = self.dump.read(rest, self.line)?;

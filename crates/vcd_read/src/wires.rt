@@ -1,8 +1,10 @@
 // One of the two lines of the bus, as a dump tells of it.
 
-ghost use Rattle.std.specs.Prelude.{◌≡◌, ◌≤◌, length, vec_capacity, IfOk};
+ghost use Rattle.std.specs.Prelude.{◌≡◌, ◌<◌, ◌≤◌, List, ℕ, length, vec_capacity, IfOk};
+ghost use Rattle.vcd_read.specs.Words.{is_empty, code_number};
 
 use crate::samples::Level;
+use crate::words::code_number;
 use std::alloc::{AllocError, Global};
 
 /// A line: the name that its `$var` has, the code that this `$var` gives it, and its levels.
@@ -11,9 +13,12 @@ pub(crate) struct Wire {
     name: String,
     // empty until the `$var` has come
     pub(crate) code: Vec<u8>,
+    // the number of the code, if it has one
+    number: u32,
     // before the time stamp, and now
     before: Level,
     level: Level,
+    ghost number_of_code: { number ≡ code_number code.items },
 }
 
 impl Wire {
@@ -21,7 +26,6 @@ impl Wire {
     ghost use Rattle.vcd_read.specs.Changes.{changed, settled, stays_level};
     ghost use Rattle.vcd_read.specs.Views.{line_of};
     ghost use Rattle.vcd_read.specs.States.{line_at_first};
-    ghost use Rattle.vcd_read.specs.Words.{is_empty};
 
     /// The line of this name, before the first token.
     pub(crate) fn new(alloc: Global, name: &str) -> Result<Wire, AllocError>
@@ -30,6 +34,7 @@ impl Wire {
         Ok(Wire {
             name: String::from_str(alloc, name)?,
             code: Vec::new(alloc),
+            number: 0,
             before: Level::Unknown,
             level: Level::Unknown,
         })
@@ -51,6 +56,7 @@ impl Wire {
         if self.is_missing() && reference == self.name.as_bytes() {
             self.code.clear();
             let _ = self.code.extend_from_slice(code);
+            self.number = code_number(code);
         }
     }
 
@@ -63,6 +69,19 @@ impl Wire {
         if code == self.code.as_slice() {
             self.level = level;
         }
+    }
+
+    /// A change of the code that has this number sets the level.
+    #[inline(always)]
+    pub(crate) fn change_by_number(&mut self, number: u32, level: Level)
+        requires { 0 < number }
+        ensures line { (code : List ℕ) → code_number code ≡ number →
+            line_of self.new ≡ changed code level (line_of self.old) }
+        ensures code { self.new.code ≡ self.old.code }
+    {
+        // no branch, since none would be foreseen
+        let levels = [self.level, level];
+        self.level = levels[(number == self.number) as usize];
     }
 
     /// The level now.

@@ -1,8 +1,8 @@
 // What a single token says.
 
-ghost use Rattle.std.specs.Prelude.{◌≡◌};
+ghost use Rattle.std.specs.Prelude.{◌≡◌, ◌<◌, length};
 ghost use Rattle.vcd_read.specs.Words.{command_of, named_command, is_end, level_of, vector_level};
-ghost use Rattle.vcd_read.specs.Words.{is_code, is_code_byte, time_of};
+ghost use Rattle.vcd_read.specs.Words.{is_code, is_code_byte, code_number, binary_level_of, time_of};
 
 use crate::samples::Level;
 
@@ -70,6 +70,18 @@ pub(crate) fn level_of(value: u8) -> Option<Level>
     }
 }
 
+/// The level that `0` or `1` stands for.
+#[inline(always)]
+pub(crate) fn binary_level_of(value: u8) -> Option<Level>
+    ensures { result ≡ binary_level_of value }
+{
+    match value {
+        b'0' => Some(Level::Low),
+        b'1' => Some(Level::High),
+        _ => None,
+    }
+}
+
 /// The level of the rightmost digit of a vector.
 pub(crate) fn vector_level(digits: &[u8]) -> Option<Level>
     ensures { result ≡ vector_level digits.now }
@@ -96,9 +108,55 @@ fn is_code_byte(byte: u8) -> bool
     b'!' <= byte && byte <= b'~'
 }
 
+/// The number of an identifier code of at most three characters, and 0 for any other and for what is no code.
+#[inline(always)]
+pub(crate) fn code_number(code: &[u8]) -> u32
+    ensures { result ≡ code_number code.now }
+{
+    match code {
+        [a] if is_code_byte(*a) => u32::from(*a),
+        [a, b] if is_code_byte(*a) && is_code_byte(*b) => u32::from(*a) + 256 * u32::from(*b),
+        [a, b, c] if is_code_byte(*a) && is_code_byte(*b) && is_code_byte(*c) => {
+            u32::from(*a) + 256 * (u32::from(*b) + 256 * u32::from(*c))
+        }
+        _ => 0,
+    }
+}
+
 /// The time that the digits write.
 #[inline(always)]
 pub(crate) fn time_of(digits: &[u8]) -> Option<u64>
+    ensures { result ≡ time_of digits.now }
+{
+    if digits.len() < 20 {
+        short_time_of(digits)
+    } else {
+        long_time_of(digits)
+    }
+}
+
+// The same where there are so few digits that the time fits.
+#[inline(always)]
+fn short_time_of(digits: &[u8]) -> Option<u64>
+    requires { length digits.now < 20 }
+    ensures { result ≡ time_of digits.now }
+{
+    if digits.is_empty() {
+        return None;
+    }
+    let mut time = 0u64;
+    for digit in digits {
+        if *digit < b'0' || b'9' < *digit {
+            return None;
+        }
+        time = time * 10 + u64::from(*digit - b'0');
+    }
+    Some(time)
+}
+
+// The same of any digits.
+#[inline(never)]
+fn long_time_of(digits: &[u8]) -> Option<u64>
     ensures { result ≡ time_of digits.now }
 {
     if digits.is_empty() {

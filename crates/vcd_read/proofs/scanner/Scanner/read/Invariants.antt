@@ -1,14 +1,34 @@
-use Rattle.std.proofs.Common.{◌≡◌, ◌≤◌, ◌+◌, ◌-◌, ◌++◌, length, drop}
-use Rattle.std.specs.List.{slice_range}
+use Rattle.std.proofs.Common.{◌≡◌, ◌<◌, ◌≤◌, ◌+◌, ◌-◌, ◌^◌, length, drop}
 use Rattle.vcd_read.specs.Pieces.{kept_of, bytes_read, RoomForToken, RoomForSamples}
+use Rattle.vcd_read.proofs.MaskLemmas.{Marks}
+use Rattle.vcd_read.proofs.ScanLemmas.{NoWhite}
 use Rattle.vcd_read.proofs.scanner.Scanner.read.Given as goal
 
--- With what has passed since the last white space held too, the rest of the piece is still to be read.
+-- What stands from `start` on is still to be read, and has no white space before `at`.
 abbrev pub invariant-loop-at : goal.invariant-loop-at
 invariant-loop-at l = record {
   start : l.start ≤ l.at;
-  rest : bytes_read (record (kept_of l.self) { held = l.self.held.items ++ slice_range l.piece l.start l.at }) (drop l.at l.piece)
-      ≡ bytes_read (kept_of l.fn.self) l.piece;
+  at : l.at ≤ length l.piece;
+  none : NoWhite l.piece l.start l.at;
+  rest : bytes_read (kept_of l.self) (drop l.start l.piece) ≡ bytes_read (kept_of l.fn.self) l.piece;
   token_room : RoomForToken (length l.piece - l.start) l.self;
-  samples_room : RoomForSamples (length l.piece - l.at + 2) l.self;
+  samples_room : RoomForSamples (length l.piece - l.start + 2) l.self;
 }
+
+-- The bits that are left are those of the white space from `start` on.
+abbrev pub invariant-loop-rest : goal.invariant-loop-rest
+invariant-loop-rest l = record {
+  start : l.start ≤ l.at + 64;
+  none : NoWhite l.piece l.start l.at;
+  marks : Marks l.rest l.piece l.at l.start;
+  fits : l.rest < 2 ^ 64;
+  rest : bytes_read (kept_of l.self) (drop l.start l.piece) ≡ bytes_read (kept_of l.fn.self) l.piece;
+  token_room : RoomForToken (length l.piece - l.start) l.self;
+  samples_room : RoomForSamples (length l.piece - l.start + 2) l.self;
+}
+
+abbrev pub decreases-loop-at : goal.decreases-loop-at
+decreases-loop-at l = length l.piece - l.at
+
+abbrev pub decreases-loop-rest : goal.decreases-loop-rest
+decreases-loop-rest l = l.rest

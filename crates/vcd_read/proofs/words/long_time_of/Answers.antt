@@ -2,7 +2,7 @@ use Rattle.std.proofs.Common.{◌≡◌, ◌+◌, ◌-◌, ◌*◌, length, [], 
 use Rattle.std.proofs.lemmas.List.{drop_all}
 use Rattle.vcd_read.specs.Words.{number_from}
 use Rattle.vcd_read.proofs.WordLemmas.{number_next, time_too_large, time_is}
-use Rattle.vcd_read.proofs.words.time_of.Goals as goal
+use Rattle.vcd_read.proofs.words.long_time_of.Goals as goal
 
 pub returns-in_err-checked_mul : goal.returns-in_err-checked_mul
 returns-in_err-checked_mul c =

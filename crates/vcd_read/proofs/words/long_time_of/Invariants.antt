@@ -1,6 +1,6 @@
 use Rattle.std.proofs.Common.{◌≡◌, ◌<◌, ◌^◌, drop}
 use Rattle.vcd_read.specs.Words.{number_from}
-use Rattle.vcd_read.proofs.words.time_of.Given as goal
+use Rattle.vcd_read.proofs.words.long_time_of.Given as goal
 
 -- the number so far and the digits that are left write what all digits write
 abbrev pub invariant-loop-digit : goal.invariant-loop-digit
