@@ -256,6 +256,15 @@ else
     echo "left out: a plan of 64 MiB with 32 MiB of memory (not the proved build)"
 fi
 
+# Whoever has read enough of the help closes the pipe: that is no fault.
+: >err
+for k in {1..20}; do
+    { "$twire" help 2>>err; echo "$?" >status; } | head -n 1 >out
+    [[ $(cat status) == 0 ]] || break
+done
+want 0 "$(head -n 1 "$tests/expected/help.txt")" ""
+compare "the first line of the help alone"
+
 # With a closed standard error the status is left.
 want 2 "" ""
 "$twire" check missing.plan >out 2>&-

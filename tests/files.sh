@@ -334,6 +334,19 @@ expect "capture, the plan closed standard input" 2 "" "refused read" capture /de
 expect "capture, the dump closed standard input" 2 "" "refused read" capture plan /dev/stdin <&-
 expect "bench, the plan closed standard input" 2 "" "refused read" bench /dev/stdin cert a/m <&-
 expect "bench, the certificate closed standard input" 2 "" "refused read" bench plan /dev/stdin a/m <&-
+expect "check -, standard input closed" 2 "" "refused read" check - <&-
+expect "verify, the certificate -, standard input closed" 2 "" "refused read" verify plan - <&-
+expect "verify, the certificate /dev/fd/0, standard input closed" 2 "" "refused read" verify plan /dev/fd/0 <&-
+expect "verify, the certificate the descriptor that the plan would have" 2 "" "refused read" verify plan /dev/fd/3 3<&-
+expect "capture, the dump /proc/self/fd/3, that the plan would have" 2 "" "refused read" capture plan /proc/self/fd/3 3<&-
+expect "check -" 0 "$safe" "" check - <plan
+expect "verify, the plan -" 0 "$accepted" "" verify - cert <plan
+expect "verify, the certificate -" 0 "$accepted" "" verify plan - <cert
+expect "capture, the dump -" 0 "$explained" "" capture plan - <vcd
+expect "bench, the certificate -" 0 "$played" "" bench plan - a/m,b/n <cert
+cp plan ./-
+expect "check a file that is called -" 0 "$safe" "" check ./-
+rm ./-
 expect "check a file, with closed standard input" 0 "$safe" "" check plan <&-
 expect "certify a file, with closed standard input" 0 "$proofs" "" certify plan <&-
 expect "verify files, with closed standard input" 0 "$accepted" "" verify plan cert <&-

@@ -102,17 +102,17 @@ const PRINT: Entry = Entry {
 
 const PLAN: Argument = Argument::Word {
     id: "PLAN",
-    help: "The file with the plan; /dev/stdin reads standard input",
+    help: "The file with the plan; - is standard input",
 };
 
 const CERT: Argument = Argument::Word {
     id: "CERT",
-    help: "The file with the certificate; /dev/stdin reads standard input",
+    help: "The file with the certificate; - is standard input",
 };
 
 const VCD: Argument = Argument::Word {
     id: "VCD",
-    help: "The capture, a value change dump; /dev/stdin reads standard input",
+    help: "The capture, a value change dump; - is standard input",
 };
 
 const STARTERS: Argument = Argument::Word {

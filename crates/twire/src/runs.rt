@@ -209,14 +209,14 @@ fn status_of<R: Eprint>(rt: &R, ended: Result<Status, RunError>) -> u8 {
     }
 }
 
-// Opens two files for reading, in this order. Where standard input is closed, the first file may come to stand in its place,
-// so it is looked for before that.
+// Opens two files for reading, in this order. A path as `/dev/fd/3`, or standard input that is closed, may come to name the
+// first file once that is open, so what the second path names is looked for before.
 fn open_both<R: Files + Input>(
     rt: &R,
     first: &str,
     second: &str,
 ) -> Result<(Source<R::File, R::Reader>, Source<R::File, R::Reader>), RunError> {
-    if second == STANDARD_INPUT && is_input_closed(rt) {
+    if is_missing(rt, second) {
         return Err(RunError::Read);
     }
     let first = open(rt, first)?;
@@ -226,7 +226,7 @@ fn open_both<R: Files + Input>(
 
 // Opens a file for reading.
 fn open<R: Files + Input>(rt: &R, path: &str) -> Result<Source<R::File, R::Reader>, RunError> {
-    if path == STANDARD_INPUT {
+    if is_standard_input(path) {
         return open_standard_input(rt);
     }
     match fs::open(rt, path) {
@@ -236,26 +236,36 @@ fn open<R: Files + Input>(rt: &R, path: &str) -> Result<Source<R::File, R::Reade
     }
 }
 
-// This path is standard input itself, which needs no leave to open that file.
+fn is_standard_input(path: &str) -> bool {
+    path == "-" || path == STANDARD_INPUT
+}
+
+// Standard input itself needs no leave to open the file that its path names.
 fn open_standard_input<R: Files + Input>(rt: &R) -> Result<Source<R::File, R::Reader>, RunError> {
-    if is_input_closed(rt) {
+    if is_missing(rt, STANDARD_INPUT) {
         return Err(RunError::Read);
     }
     Ok(Opened::Standard(Watched::new(rt.reader())))
 }
 
-// Where standard input is closed its path names nothing.
-fn is_input_closed(rt: &impl Files) -> bool {
-    match fs::metadata(rt, STANDARD_INPUT) {
+// Whether nothing is there. Where standard input is closed its path names nothing.
+fn is_missing(rt: &impl Files, path: &str) -> bool {
+    let path = if is_standard_input(path) {
+        STANDARD_INPUT
+    } else {
+        path
+    };
+    match fs::metadata(rt, path) {
         Err(error) => error.kind() == io::ErrorKind::NotFound,
         Ok(_) => false,
     }
 }
 
-// Prints the help or the version that was asked for.
+// Prints the help or the version that was asked for. Whoever has read enough of it, as `head` has, may close the pipe.
 fn show<R: Print>(rt: &R, text: &str) -> Result<u8, RunError> {
     match print!(rt; "{text}") {
         Ok(()) => Ok(0),
+        Err(error) if error.kind() == io::ErrorKind::BrokenPipe => Ok(0),
         Err(_) => Err(RunError::Write),
     }
 }
