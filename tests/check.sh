@@ -361,10 +361,38 @@ want 1 "$unsafe_report" ""
 run "no hints on an unsafe plan" check unsafe.plan --hints always
 want 2 "wrong C5 pair 0" ""
 run "no hints on a wrong certificate" verify unsafe.plan safe.cert --hints always
-want 2 "" "refused read"
-run "no hints on a missing file" check missing.plan --hints always
-want 2 "" "refused workers"
-run "no hints on a number of workers" check safe.plan --workers 9 --hints always
+none="No such file or directory (os error 2)"
+want 2 "" "refused read
+hint: the plan \"missing.plan\" cannot be opened:
+hint: $none"
+run "hints on a missing plan" check missing.plan --hints always
+run "hints on a missing plan with a certificate" verify missing.plan safe.cert --hints always
+want 2 "" "refused read
+hint: the certificate \"missing.cert\" cannot be opened:
+hint: $none"
+run "hints on a missing certificate" verify safe.plan missing.cert --hints always
+want 2 "" "refused read
+hint: the capture \"a\\nb.vcd\" cannot be opened:
+hint: $none"
+run "hints on a missing capture whose name has a line feed" capture safe.plan $'a\nb.vcd' --hints always
+want 2 "" "refused read
+hint: the certificate \"directory\" was opened, and cannot be read to its end
+hint: is it a directory?"
+run "hints on a directory in the place of a certificate" verify safe.plan directory --hints always
+want 2 "" "refused read
+hint: the plan is to come from standard input, which is closed"
+run "hints on closed standard input" check - --hints always <&-
+want 2 "" "refused workers
+hint: '--workers' takes 1 to 8"
+run "hints on a number of workers" check safe.plan --workers 9 --hints always
+if [[ -c /dev/full ]]; then
+    "$twire" check safe.plan --hints always >/dev/full 2>err
+    echo "$?" >status
+    : >out
+    want 2 "" "refused write
+hint: standard output is closed or full: the report is not whole"
+    compare "hints on a full device"
+fi
 
 want 2 "" "error: invalid value 'x' for '--hints <WHEN>'
   [possible values: auto, always, never]

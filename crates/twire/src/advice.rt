@@ -8,20 +8,62 @@ use std::io::{self, Read, Seek, Write};
 /// What a path of the command line names: a file, or standard input.
 pub type Source<F, S> = Opened<Watched<F>, Watched<S>>;
 
-/// After a run that reads a plan and perhaps a certificate. The source is the plan's.
+/// A file that the command line names, and what it is to be.
+#[derive(Clone, Copy)]
+pub struct Named<'a> {
+    pub what: &'static str,
+    pub path: &'a str,
+}
+
+/// After a file that cannot be opened, with the error of the system.
+pub fn advise_on_opening<R: Eprint>(rt: &R, file: Named<'_>, error: &io::Error) {
+    let Named { what, path } = file;
+    let _ = eprintln!(rt; "hint: the {what} {path:?} cannot be opened:\nhint: {error}");
+}
+
+/// After standard input, where it is closed.
+pub fn advise_on_closed_input<R: Eprint>(rt: &R, file: Named<'_>) {
+    let _ = eprintln!(rt;
+        "hint: the {} is to come from standard input, which is closed",
+        file.what
+    );
+}
+
+/// After a run that reads a plan and perhaps a certificate. The source is the plan's, and `read` the file that was read last.
 pub fn advise_on_plan<R: Eprint + AllocGlobal, F: Read + Seek + Drop, S: Drop>(
     rt: &R,
+    read: Named<'_>,
     plan: Source<F, S>,
     ended: Result<Status, RunError>,
 ) {
-    if let Err(RunError::Plan(refusal)) = ended {
-        say(rt, on_plan(rt.alloc(), file(plan), refusal));
+    match ended {
+        Err(RunError::Plan(refusal)) => say(rt, on_plan(rt.alloc(), file(plan), refusal)),
+        Err(RunError::Read) => advise_on_reading(rt, read),
+        Err(RunError::Write) => advise_on_writing(rt),
+        Err(RunError::Workers) => advise_on_workers(rt),
+        _ => {}
     }
+}
+
+fn advise_on_reading<R: Eprint>(rt: &R, file: Named<'_>) {
+    let Named { what, path } = file;
+    let _ = eprintln!(rt;
+        "hint: the {what} {path:?} was opened, and cannot be read to its end\nhint: is it a directory?"
+    );
+}
+
+fn advise_on_writing<R: Eprint>(rt: &R) {
+    let _ = eprintln!(rt; "hint: standard output is closed or full: the report is not whole");
+}
+
+fn advise_on_workers<R: Eprint>(rt: &R) {
+    let _ = eprintln!(rt; "hint: '--workers' takes 1 to 8");
 }
 
 /// After a run that explains a capture, whose report tells of no transaction where it is silent.
 pub fn advise_on_capture<R: Eprint + AllocGlobal, F: Read + Seek + Drop, S: Drop>(
     rt: &R,
+    read: Named<'_>,
     plan: Source<F, S>,
     vcd: Source<F, S>,
     names: Names<'_>,
@@ -31,7 +73,7 @@ pub fn advise_on_capture<R: Eprint + AllocGlobal, F: Read + Seek + Drop, S: Drop
     match ended {
         Err(RunError::Vcd(refusal)) => say(rt, on_dump(rt.alloc(), file(vcd), names, refusal)),
         Ok(_) if is_silent => say(rt, on_silence(rt.alloc(), file(vcd), names)),
-        _ => advise_on_plan(rt, plan, ended),
+        _ => advise_on_plan(rt, read, plan, ended),
     }
 }
 

@@ -1,11 +1,15 @@
 // What the program does, and the status that it ends with.
 
-use crate::advice::{Counted, Source, advise_on_capture, advise_on_plan};
+use crate::advice::{
+    Counted, Named, Source, advise_on_capture, advise_on_closed_input, advise_on_opening,
+    advise_on_plan,
+};
 use bench_run::{NoGate, run_bench};
 use command_words::{Asked, Request, When, read_words};
 use hints::Names;
 use report::{
-    Opened, RunError, Status, Watched, run_capture, run_certify, run_check, run_print, run_verify,
+    Input as _, Opened, RunError, Status, Watched, run_capture, run_certify, run_check, run_print,
+    run_verify,
 };
 use std::rt::{Env, Files};
 use std::sync::Wait;
@@ -43,11 +47,9 @@ fn run_words<R: Files + Env + Input + Print + Eprint + AllocGlobal + Threads + W
         Err(error) => return no_words(rt, &error),
     };
     match read_words(rt.alloc(), words.as_slice()) {
-        Ok(Asked::Run { request, hints }) => do_request(
-            rt,
-            request,
-            are_wanted(hints, on_terminal),
-        ),
+        Ok(Asked::Run { request, hints }) => {
+            Ok(do_request(rt, request, are_wanted(hints, on_terminal)))
+        }
         Ok(Asked::Show(text)) => show(rt, text.as_str()),
         Ok(Asked::Refuse(text)) => Ok(refuse(rt, text.as_str())),
         Err(_) => Err(RunError::NoMemory),
@@ -66,135 +68,186 @@ fn do_request<R: Files + Input + Print + Eprint + AllocGlobal + Threads + Wait +
     rt: &R,
     request: Request<'_>,
     hints: bool,
-) -> Result<u8, RunError> {
+) -> u8 {
     match request {
-        Request::Check { plan, workers } => check(rt, plan, workers, hints),
-        Request::Certify { plan } => certify(rt, plan, hints),
-        Request::Verify { plan, cert } => verify(rt, plan, cert, hints),
+        Request::Check { plan, workers } => check(rt, the_plan(plan), workers, hints),
+        Request::Certify { plan } => certify(rt, the_plan(plan), hints),
+        Request::Verify { plan, cert } => {
+            verify(rt, the_plan(plan), the_certificate(cert), hints)
+        }
         Request::Capture {
             plan,
             vcd,
             scl,
             sda,
-        } => capture(rt, plan, vcd, Names { scl, sda }, hints),
+        } => capture(
+            rt,
+            the_plan(plan),
+            the_capture(vcd),
+            Names { scl, sda },
+            hints,
+        ),
         Request::Bench {
             plan,
             cert,
             starters,
             fill,
             answers,
-        } => bench(rt, plan, cert, starters, fill, answers, hints),
-        Request::Print { plan } => spell(rt, plan, hints),
+        } => bench(
+            rt,
+            the_plan(plan),
+            the_certificate(cert),
+            starters,
+            fill,
+            answers,
+            hints,
+        ),
+        Request::Print { plan } => spell(rt, the_plan(plan), hints),
+    }
+}
+
+fn the_plan(path: &str) -> Named<'_> {
+    Named { what: "plan", path }
+}
+
+fn the_certificate(path: &str) -> Named<'_> {
+    Named {
+        what: "certificate",
+        path,
+    }
+}
+
+fn the_capture(path: &str) -> Named<'_> {
+    Named {
+        what: "capture",
+        path,
     }
 }
 
 fn check<R: Files + Input + Print + Eprint + AllocGlobal + Threads + Sync>(
     rt: &R,
-    plan: &str,
+    plan: Named<'_>,
     workers: u32,
     hints: bool,
-) -> Result<u8, RunError> {
-    let mut plan = open(rt, plan)?;
+) -> u8 {
+    let Some(mut reader) = open(rt, plan, hints) else {
+        return 2;
+    };
     let mut out = Watched::new(io::writer(rt));
     let ended = run_check(
         rt,
         rt.alloc(),
-        &mut plan,
+        &mut reader,
         &mut out,
         workers,
         &report::NoGate,
     );
-    Ok(told(rt, plan, ended, hints))
+    told(rt, plan, reader, ended, hints)
 }
 
 fn certify<R: Files + Input + Print + Eprint + AllocGlobal>(
     rt: &R,
-    plan: &str,
+    plan: Named<'_>,
     hints: bool,
-) -> Result<u8, RunError> {
-    let mut plan = open(rt, plan)?;
+) -> u8 {
+    let Some(mut reader) = open(rt, plan, hints) else {
+        return 2;
+    };
     let mut out = Watched::new(io::writer(rt));
-    let ended = run_certify(rt.alloc(), &mut plan, &mut out);
-    Ok(told(rt, plan, ended, hints))
+    let ended = run_certify(rt.alloc(), &mut reader, &mut out);
+    told(rt, plan, reader, ended, hints)
 }
 
 fn verify<R: Files + Input + Print + Eprint + AllocGlobal>(
     rt: &R,
-    plan: &str,
-    cert: &str,
+    plan: Named<'_>,
+    cert: Named<'_>,
     hints: bool,
-) -> Result<u8, RunError> {
-    let (mut plan, mut cert) = open_both(rt, plan, cert)?;
+) -> u8 {
+    let Some((mut reader, mut second)) = open_both(rt, plan, cert, hints) else {
+        return 2;
+    };
     let mut out = Watched::new(io::writer(rt));
-    let ended = run_verify(rt.alloc(), &mut plan, &mut cert, &mut out);
-    Ok(told(rt, plan, ended, hints))
+    let ended = run_verify(rt.alloc(), &mut reader, &mut second, &mut out);
+    let read = if second.failed() { cert } else { plan };
+    told(rt, read, reader, ended, hints)
 }
 
 fn capture<R: Files + Input + Print + Eprint + AllocGlobal + Threads + Sync>(
     rt: &R,
-    plan: &str,
-    vcd: &str,
+    plan: Named<'_>,
+    vcd: Named<'_>,
     names: Names<'_>,
     hints: bool,
-) -> Result<u8, RunError> {
-    let (mut plan, mut vcd) = open_both(rt, plan, vcd)?;
+) -> u8 {
+    let Some((mut reader, mut second)) = open_both(rt, plan, vcd, hints) else {
+        return 2;
+    };
     let mut out = Watched::new(Counted::new(io::writer(rt)));
     let Names { scl, sda } = names;
-    let ended = run_capture(rt, rt.alloc(), &mut plan, &mut vcd, &mut out, scl, sda);
+    let ended = run_capture(rt, rt.alloc(), &mut reader, &mut second, &mut out, scl, sda);
     let status = status_of(rt, ended);
     if hints {
         let is_silent = out.into_inner().is_silent();
-        advise_on_capture(rt, plan, vcd, names, ended, is_silent);
+        let read = if second.failed() { vcd } else { plan };
+        advise_on_capture(rt, read, reader, second, names, ended, is_silent);
     }
-    Ok(status)
+    status
 }
 
 fn bench<R: Files + Input + Print + Eprint + AllocGlobal + Threads + Wait + Clock + Sync>(
     rt: &R,
-    plan: &str,
-    cert: &str,
+    plan: Named<'_>,
+    cert: Named<'_>,
     starters: &str,
     fill: bool,
     answers: &str,
     hints: bool,
-) -> Result<u8, RunError> {
-    let (mut plan, mut cert) = open_both(rt, plan, cert)?;
+) -> u8 {
+    let Some((mut reader, mut second)) = open_both(rt, plan, cert, hints) else {
+        return 2;
+    };
     let mut out = Watched::new(io::writer(rt));
     let ended = run_bench(
         rt,
         rt.alloc(),
-        &mut plan,
-        &mut cert,
+        &mut reader,
+        &mut second,
         &mut out,
         starters,
         fill,
         answers,
         &NoGate,
     );
-    Ok(told(rt, plan, ended, hints))
+    let read = if second.failed() { cert } else { plan };
+    told(rt, read, reader, ended, hints)
 }
 
 fn spell<R: Files + Input + Print + Eprint + AllocGlobal>(
     rt: &R,
-    plan: &str,
+    plan: Named<'_>,
     hints: bool,
-) -> Result<u8, RunError> {
-    let mut plan = open(rt, plan)?;
+) -> u8 {
+    let Some(mut reader) = open(rt, plan, hints) else {
+        return 2;
+    };
     let mut out = Watched::new(io::writer(rt));
-    let ended = run_print(rt.alloc(), &mut plan, &mut out);
-    Ok(told(rt, plan, ended, hints))
+    let ended = run_print(rt.alloc(), &mut reader, &mut out);
+    told(rt, plan, reader, ended, hints)
 }
 
-// The status of a run over a plan that has ended, with the line of a refusal, and hints on it where they are wanted.
+// The status of a run that has ended, with the line of a refusal, and hints on it where they are wanted. `read` is the file
+// that was read last.
 fn told<R: Files + Input + Eprint + AllocGlobal>(
     rt: &R,
+    read: Named<'_>,
     plan: Source<R::File, R::Reader>,
     ended: Result<Status, RunError>,
     hints: bool,
 ) -> u8 {
     let status = status_of(rt, ended);
     if hints {
-        advise_on_plan(rt, plan, ended);
+        advise_on_plan(rt, read, plan, ended);
     }
     status
 }
@@ -211,28 +264,62 @@ fn status_of<R: Eprint>(rt: &R, ended: Result<Status, RunError>) -> u8 {
 
 // Opens two files for reading, in this order. A path as `/dev/fd/3`, or standard input that is closed, may come to name the
 // first file once that is open, so what the second path names is looked for before.
-fn open_both<R: Files + Input>(
+fn open_both<R: Files + Input + Eprint>(
     rt: &R,
-    first: &str,
-    second: &str,
-) -> Result<(Source<R::File, R::Reader>, Source<R::File, R::Reader>), RunError> {
-    if is_missing(rt, second) {
-        return Err(RunError::Read);
+    first: Named<'_>,
+    second: Named<'_>,
+    hints: bool,
+) -> Option<(Source<R::File, R::Reader>, Source<R::File, R::Reader>)> {
+    if let Some(error) = missing(rt, second.path) {
+        unopened(rt, second, &error, hints);
+        return None;
     }
-    let first = open(rt, first)?;
-    let second = open(rt, second)?;
-    Ok((first, second))
+    let first = open(rt, first, hints)?;
+    let second = open(rt, second, hints)?;
+    Some((first, second))
 }
 
-// Opens a file for reading.
-fn open<R: Files + Input>(rt: &R, path: &str) -> Result<Source<R::File, R::Reader>, RunError> {
-    if is_standard_input(path) {
-        return open_standard_input(rt);
+// Opens a file for reading. Where it cannot be opened, that is told.
+fn open<R: Files + Input + Eprint>(
+    rt: &R,
+    file: Named<'_>,
+    hints: bool,
+) -> Option<Source<R::File, R::Reader>> {
+    match opened(rt, file.path) {
+        Ok(source) => Some(source),
+        Err(error) => {
+            unopened(rt, file, &error, hints);
+            None
+        }
     }
-    match fs::open(rt, path) {
-        Ok(file) => Ok(Opened::File(Watched::new(file))),
-        Err(error) if error.kind() == io::ErrorKind::OutOfMemory => Err(RunError::NoMemory),
-        Err(_) => Err(RunError::Read),
+}
+
+// The line of the refusal of a file that cannot be opened.
+fn unopened<R: Eprint>(rt: &R, file: Named<'_>, error: &io::Error, hints: bool) {
+    if error.kind() == io::ErrorKind::OutOfMemory {
+        refused(rt, RunError::NoMemory);
+        return;
+    }
+    refused(rt, RunError::Read);
+    if !hints {
+        return;
+    }
+    if is_standard_input(file.path) {
+        advise_on_closed_input(rt, file);
+    } else {
+        advise_on_opening(rt, file, error);
+    }
+}
+
+// Standard input itself needs no leave to open the file that its path names.
+fn opened<R: Files + Input>(rt: &R, path: &str) -> io::Result<Source<R::File, R::Reader>> {
+    if !is_standard_input(path) {
+        let file = fs::open(rt, path)?;
+        return Ok(Opened::File(Watched::new(file)));
+    }
+    match missing(rt, path) {
+        Some(error) => Err(error),
+        None => Ok(Opened::Standard(Watched::new(rt.reader()))),
     }
 }
 
@@ -240,24 +327,16 @@ fn is_standard_input(path: &str) -> bool {
     path == "-" || path == STANDARD_INPUT
 }
 
-// Standard input itself needs no leave to open the file that its path names.
-fn open_standard_input<R: Files + Input>(rt: &R) -> Result<Source<R::File, R::Reader>, RunError> {
-    if is_missing(rt, STANDARD_INPUT) {
-        return Err(RunError::Read);
-    }
-    Ok(Opened::Standard(Watched::new(rt.reader())))
-}
-
-// Whether nothing is there. Where standard input is closed its path names nothing.
-fn is_missing(rt: &impl Files, path: &str) -> bool {
+// The error of the system where nothing is there. Where standard input is closed its path names nothing.
+fn missing(rt: &impl Files, path: &str) -> Option<io::Error> {
     let path = if is_standard_input(path) {
         STANDARD_INPUT
     } else {
         path
     };
     match fs::metadata(rt, path) {
-        Err(error) => error.kind() == io::ErrorKind::NotFound,
-        Ok(_) => false,
+        Err(error) if error.kind() == io::ErrorKind::NotFound => Some(error),
+        _ => None,
     }
 }
 
