@@ -1,6 +1,6 @@
 // What a single token says.
 
-ghost use Rattle.std.specs.Prelude.{◌≡◌, ◌<◌, length};
+ghost use Rattle.std.specs.Prelude.{◌≡◌, ◌<◌, length, is_some};
 ghost use Rattle.vcd_read.specs.Words.{command_of, named_command, is_end, level_of, vector_level};
 ghost use Rattle.vcd_read.specs.Words.{is_code, is_code_byte, code_number, binary_level_of, time_of};
 
@@ -62,9 +62,11 @@ pub(crate) fn is_end(token: &[u8]) -> bool
 pub(crate) fn level_of(value: u8) -> Option<Level>
     ensures { result ≡ level_of value }
 {
+    if let Some(level) = binary_level_of(value) {
+        return Some(level);
+    }
     match value {
-        b'0' => Some(Level::Low),
-        b'1' | b'z' | b'Z' => Some(Level::High),
+        b'z' | b'Z' => Some(Level::High),
         b'x' | b'X' => Some(Level::Unknown),
         _ => None,
     }
@@ -75,22 +77,31 @@ pub(crate) fn level_of(value: u8) -> Option<Level>
 pub(crate) fn binary_level_of(value: u8) -> Option<Level>
     ensures { result ≡ binary_level_of value }
 {
-    match value {
-        b'0' => Some(Level::Low),
-        b'1' => Some(Level::High),
-        _ => None,
+    if value < b'0' || b'1' < value {
+        return None;
     }
+    // no branch, since none would be foreseen
+    let levels = [Level::Low, Level::High];
+    Some(levels[(value == b'1') as usize])
 }
 
 /// The level of the rightmost digit of a vector.
 pub(crate) fn vector_level(digits: &[u8]) -> Option<Level>
     ensures { result ≡ vector_level digits.now }
 {
-    let mut rightmost = None;
-    for digit in digits {
-        rightmost = Some(level_of(*digit)?);
+    let (rightmost, others) = digits.split_last()?;
+    if others.iter().all(|digit| is_value(*digit)) {
+        level_of(*rightmost)
+    } else {
+        None
     }
-    rightmost
+}
+
+#[inline(always)]
+fn is_value(digit: u8) -> bool
+    ensures { result ≡ is_some (level_of digit) }
+{
+    (b'0' <= digit && digit <= b'1') || level_of(digit).is_some()
 }
 
 /// Whether these bytes are an identifier code.
