@@ -1,94 +1,96 @@
--- Proofs at the front of a text: a node and what is below it.
-use Rattle.std.proofs.Common.{◌≡◌, ℕ, zero, suc, ◌+◌, ◌-◌, ◌<◌, ◌≤◌, List, [], ◌∷◌, ◌++◌, length, take, refl, ap, sym, ◌∙◌, subst, arith, lit<, append_assoc, length-append}
+-- Proofs at the front of a text: a node, and what is below it.
+use Rattle.std.proofs.Common.{◌≡◌, ◌⊎◌, ℕ, ◌+◌, ◌-◌, ◌<◌, ◌≤◌, List, [], ◌∷◌, ◌++◌, length, take, drop, get_or, refl, ap, sym, ◌∙◌, arith, inl, inr, append_assoc, length-append}
 use Rattle.std.proofs.lemmas.Fmt.{decimal_digit}
 use Rattle.std.proofs.Math.Seq.{take-append_seam}
 use Rattle.message_tree.specs.declared.bits.Bit.{Bit}
 use Rattle.message_tree.specs.declared.bits.Pattern.{Pattern}
+use Rattle.message_tree.specs.declared.bits.Address.{Address}
+use Rattle.message_tree.specs.declared.counts.Count.{Count}
 use Rattle.message_tree.specs.Bits.{SplitAt}
+use Rattle.message_tree.specs.Counts.{Meet}
 use Rattle.message_tree.specs.Patterns.{pattern_bits}
-use Rattle.message_tree.specs.Texts.{Sender}
 use Rattle.message_tree.specs.Trees as tree
 use Rattle.message_tree.specs.Trees.{FrameTree, PayloadTree, TailTree}
+use Rattle.plan_text.proofs.TokenLemmas.{front_is}
 use Rattle.certificate.specs.Proofs.{ProofTree, part, short, byte, read, again, alike}
 use Rattle.certificate.specs.Proves.{ProvesFrames, ProvesPayloads, ProvesTails, ProvesHeaders, frame_header}
 use Rattle.certificate.specs.Texts.{IsPrintableProof, HasPlaces, height, proof_text, proof_line}
 use Rattle.plan_core.specs.Contents.{Contents}
 use Rattle.cert_check.specs.Proved.{ProvesPair}
 use Rattle.cert_check.specs.Quick.{Begins, BeginsSpaced, BeginsTwo, IsProvedLine}
+use Rattle.cert_check.specs.Reads.{ProvesReads}
 
--- ---- one proof
-
--- what proves more, with more room
-pub begins_so : (n m : ℕ) (P Q : ProofTree → Type 0) (text rest : List ℕ) → n ≤ m → ((tree : ProofTree) → P tree → Q tree) → Begins n P text rest → Begins m Q text rest
-begins_so n m P Q text rest le so b = record {
-  tree = b.tree;
-  printable = record { places = b.printable.places; path = omega (arith, b.printable.path, le) };
-  text_is = b.text_is;
-  proves = so b.tree b.proves;
-}
+-- ---- nodes with nothing below them
 
 -- the digit of a bit's place
-pub part_begins : (digit : ℕ) (xs ys : List Bit) (rest : List ℕ) → 48 ≤ digit → digit ≤ 55 → SplitAt xs ys (digit - 48) → Begins 1 (λ tree. ProvesHeaders tree xs ys) (80 ∷ digit ∷ rest) rest
-part_begins digit xs ys rest least most split =
+pub split_begins : (text inner : List ℕ) (xs ys : List Bit) → text ≡ 80 ∷ inner → 1 ≤ length inner → 48 ≤ get_or inner 0 0 → get_or inner 0 0 ≤ 55 → SplitAt xs ys (get_or inner 0 0 - 48)
+    → Begins 1 (λ t. ProvesHeaders t xs ys) text (take (length inner - 1) (drop 1 inner))
+split_begins text inner xs ys e some least most split =
+    let digit = get_or inner 0 0 in
+    let rest = take (length inner - 1) (drop 1 inner) in
     let small : digit - 48 < 10 = omega arith in
     let back : 48 + (digit - 48) ≡ digit = omega arith in
     record {
       tree = part (digit - 48);
       printable = record { places = omega arith; path = omega arith };
-      text_is = ap (λ (ds : List ℕ). 80 ∷ (ds ++ rest)) (sym (decimal_digit (digit - 48) small ∙ ap (λ (d : ℕ). d ∷ []) back));
+      text_is =
+          e
+          ∙ ap (λ (t : List ℕ). 80 ∷ t) (front_is inner digit some refl)
+          ∙ ap (λ (ds : List ℕ). 80 ∷ (ds ++ rest)) (sym (decimal_digit (digit - 48) small ∙ ap (λ (d : ℕ). d ∷ []) back));
       proves = split;
     }
 
-pub split_frames : (t : ProofTree) (f g : FrameTree) → ProvesHeaders t (frame_header f) (frame_header g) → ProvesFrames t f g
-split_frames (part k) f g h = h
-split_frames _ f g h = absurd h
+-- ---- nodes with one or two below them
 
-pub split_payloads : (t : ProofTree) (a b : Pattern) (x y : PayloadTree) (r s : TailTree) → ProvesHeaders t (pattern_bits a) (pattern_bits b) → ProvesPayloads t (tree.byte a x r) (tree.byte b y s)
-split_payloads (part k) a b x y r s h = h
-split_payloads _ a b x y r s h = absurd h
+module _ (below room : ℕ) (text inner rest : List ℕ) (more : room ≡ below + 1) where
+  one_begins : (P Q : ProofTree → Type 0) → text ≡ 83 ∷ 32 ∷ inner → Begins below P inner rest → ((p : ProofTree) → P p → Q (again p)) → Begins room Q text rest
+  one_begins P Q e b so = record {
+    tree = again b.tree;
+    printable = record { places = b.printable.places; path = omega (arith, b.printable.path, more) };
+    text_is = e ∙ ap (λ (t : List ℕ). 83 ∷ 32 ∷ t) b.text_is;
+    proves = so b.tree b.proves;
+  }
 
-pub short_begins : (room : ℕ) (P : ProofTree → Type 0) (rest : List ℕ) → 0 < room → P short → Begins room P (82 ∷ rest) rest
-short_begins room P rest some h = record { tree = short; printable = record { places = tt; path = omega arith }; text_is = refl; proves = h }
+  module _ (P Q R : ProofTree → Type 0) (two : BeginsTwo below P Q inner rest) where
+    two_text : inner ≡ (proof_text two.1.tree ++ (32 ∷ proof_text two.2.2.tree)) ++ rest
+    two_text =
+        two.1.text_is
+        ∙ ap (λ (t : List ℕ). proof_text two.1.tree ++ t) (two.2.1 ∙ ap (λ (t : List ℕ). 32 ∷ t) two.2.2.text_is)
+        ∙ sym (append_assoc (proof_text two.1.tree) (32 ∷ proof_text two.2.2.tree) rest)
 
-pub alike_begins : (room : ℕ) (P : ProofTree → Type 0) (rest : List ℕ) → 0 < room → P alike → Begins room P (46 ∷ rest) rest
-alike_begins room P rest some h = record { tree = alike; printable = record { places = tt; path = omega arith }; text_is = refl; proves = h }
+    byte_begins : text ≡ 66 ∷ 32 ∷ inner → ((p q : ProofTree) → P p → Q q → R (byte p q)) → Begins room R text rest
+    byte_begins e so = record {
+      tree = byte two.1.tree two.2.2.tree;
+      printable = record { places = (two.1.printable.places, two.2.2.printable.places); path = omega (arith, two.1.printable.path, two.2.2.printable.path, more) };
+      text_is = e ∙ ap (λ (t : List ℕ). 66 ∷ 32 ∷ t) two_text;
+      proves = so two.1.tree two.2.2.tree two.1.proves two.2.2.proves;
+    }
 
-pub again_begins : (below room : ℕ) (P Q : ProofTree → Type 0) (text rest : List ℕ) → room ≡ below + 1 → ((p : ProofTree) → P p → Q (again p)) → Begins below P text rest → Begins room Q (83 ∷ 32 ∷ text) rest
-again_begins below room P Q text rest e so b = record {
-  tree = again b.tree;
-  printable = record { places = b.printable.places; path = omega (arith, b.printable.path, e) };
-  text_is = ap (λ (t : List ℕ). 83 ∷ 32 ∷ t) b.text_is;
-  proves = so b.tree b.proves;
-}
+    read_begins : text ≡ 68 ∷ 32 ∷ inner → ((p q : ProofTree) → P p → Q q → R (read p q)) → Begins room R text rest
+    read_begins e so = record {
+      tree = read two.1.tree two.2.2.tree;
+      printable = record { places = (two.1.printable.places, two.2.2.printable.places); path = omega (arith, two.1.printable.path, two.2.2.printable.path, more) };
+      text_is = e ∙ ap (λ (t : List ℕ). 68 ∷ 32 ∷ t) two_text;
+      proves = so two.1.tree two.2.2.tree two.1.proves two.2.2.proves;
+    }
 
--- ---- two proofs
+  pub writes_begin : (a b : Address) (x y : PayloadTree) (r s : TailTree) → text ≡ 66 ∷ 32 ∷ inner → BeginsTwo below (λ t. ProvesPayloads t x y) (λ t. ProvesTails t r s) inner rest
+      → Begins room (λ t. ProvesFrames t (tree.write a x r) (tree.write b y s)) text rest
+  writes_begin a b x y r s e two =
+      byte_begins (λ t. ProvesPayloads t x y) (λ t. ProvesTails t r s) (λ t. ProvesFrames t (tree.write a x r) (tree.write b y s)) two e (λ p q h k. (h, k))
 
-two_text : (p q : ProofTree) (text between inner rest : List ℕ) → text ≡ proof_text p ++ between → between ≡ 32 ∷ inner → inner ≡ proof_text q ++ rest → text ≡ (proof_text p ++ (32 ∷ proof_text q)) ++ rest
-two_text p q text between inner rest d e f =
-    d ∙ ap (λ (t : List ℕ). proof_text p ++ t) (e ∙ ap (λ (t : List ℕ). 32 ∷ t) f) ∙ sym (append_assoc (proof_text p) (32 ∷ proof_text q) rest)
+  pub bytes_begin : (a b : Pattern) (x y : PayloadTree) (r s : TailTree) → text ≡ 66 ∷ 32 ∷ inner → BeginsTwo below (λ t. ProvesPayloads t x y) (λ t. ProvesTails t r s) inner rest
+      → Begins room (λ t. ProvesPayloads t (tree.byte a x r) (tree.byte b y s)) text rest
+  bytes_begin a b x y r s e two =
+      byte_begins (λ t. ProvesPayloads t x y) (λ t. ProvesTails t r s) (λ t. ProvesPayloads t (tree.byte a x r) (tree.byte b y s)) two e (λ p q h k. (h, k))
 
-module _ (below room : ℕ) (P Q R : ProofTree → Type 0) (text rest : List ℕ) (e : room ≡ below + 1) (two : BeginsTwo below P Q text rest) where
-  pub byte_begins : ((p q : ProofTree) → P p → Q q → R (byte p q)) → Begins room R (66 ∷ 32 ∷ text) rest
-  byte_begins so =
-      let first = two.1 in
-      let second = two.2.2 in
-      record {
-        tree = byte first.tree second.tree;
-        printable = record { places = (first.printable.places, second.printable.places); path = omega (arith, first.printable.path, second.printable.path, e) };
-        text_is = ap (λ (t : List ℕ). 66 ∷ 32 ∷ t) (two_text first.tree second.tree text two.0 two.2.0 rest first.text_is two.2.1 second.text_is);
-        proves = so first.tree second.tree first.proves second.proves;
-      }
+  pub reads_begin : (a b : Address) (c d : Count) (x y r s : TailTree) (between : List ℕ) → text ≡ 68 ∷ 32 ∷ inner → Begins below (λ t. ProvesReads t c d x y) inner between
+      → BeginsSpaced below (λ t. ProvesTails t r s) between rest → Begins room (λ t. ProvesFrames t (tree.read a c x r) (tree.read b d y s)) text rest
+  reads_begin a b c d x y r s between e first second =
+      read_begins (λ t. ProvesReads t c d x y) (λ t. ProvesTails t r s) (λ t. ProvesFrames t (tree.read a c x r) (tree.read b d y s)) (between, first, second) e (λ p q h k. (h, k))
 
-  pub read_begins : ((p q : ProofTree) → P p → Q q → R (read p q)) → Begins room R (68 ∷ 32 ∷ text) rest
-  read_begins so =
-      let first = two.1 in
-      let second = two.2.2 in
-      record {
-        tree = read first.tree second.tree;
-        printable = record { places = (first.printable.places, second.printable.places); path = omega (arith, first.printable.path, second.printable.path, e) };
-        text_is = ap (λ (t : List ℕ). 68 ∷ 32 ∷ t) (two_text first.tree second.tree text two.0 two.2.0 rest first.text_is two.2.1 second.text_is);
-        proves = so first.tree second.tree first.proves second.proves;
-      }
+  pub agains_begin : (f g : FrameTree) → text ≡ 83 ∷ 32 ∷ inner → Begins below (λ t. ProvesFrames t f g) inner rest → Begins room (λ t. ProvesTails t (tree.again f) (tree.again g)) text rest
+  agains_begin f g e b = one_begins (λ t. ProvesFrames t f g) (λ t. ProvesTails t (tree.again f) (tree.again g)) e b (λ p h. h)
 
 -- ---- a line
 

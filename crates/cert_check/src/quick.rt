@@ -2,7 +2,8 @@
 // the line is read and checked as ever, so nothing is refused here. The recursion goes down the messages, and no deeper than
 // a path of a proof may.
 
-ghost use Rattle.std.specs.Prelude.{◌<◌, ◌≤◌, ◌∷◌, length, IfSome};
+ghost use Rattle.std.specs.Prelude.{◌≡◌, ◌<◌, ◌∷◌, length, IfSome};
+ghost use Rattle.message_tree.specs.Codes.{code};
 ghost use Rattle.message_tree.specs.Trees.{frame_tree, payload_tree, tail_tree};
 ghost use Rattle.certificate.specs.Proves.{Proves, ProvesHeaders, ProvesFrames, ProvesPayloads, ProvesTails};
 ghost use Rattle.plan_core.specs.PlanContents.{plan_contents};
@@ -24,11 +25,9 @@ pub(crate) fn quick_line(plan: &Plan, i: u32, text: &[u8]) -> Option<usize>
     ensures { IfSome result (λ size. IsProvedLine (plan_contents plan.now) i size text.now) }
 {
     let (x, y) = plan.pair(i);
-    let rest = after_proof(&plan.sends(x), &plan.sends(y), text)?;
-    match rest {
-        [b'\n', rest @ ..] => Some(text.len() - rest.len()),
-        _ => None,
-    }
+    let end = after_proof(&plan.sends(x), &plan.sends(y), text)?;
+    let rest = after_byte(end, b'\n')?;
+    Some(text.len() - rest.len())
 }
 
 // Each of the following answers what stands after a proof at the front of the text, where one that proves these two stands
@@ -51,10 +50,30 @@ fn after_proof<'a>(s: &Sends<'_>, t: &Sends<'_>, text: &'a [u8]) -> Option<&'a [
 fn after_split<'a>(a: &[Bit; 8], b: &[Bit; 8], text: &'a [u8]) -> Option<&'a [u8]>
     ensures { IfSome result (λ rest. Begins 1 (λ tree. ProvesHeaders tree a.now b.now) text.now rest.now) }
 {
-    match text {
-        [b'P', digit @ b'0'..=b'7', rest @ ..] if are_split_at(a, b, *digit - b'0') => Some(rest),
+    let [digit, rest @ ..] = after_byte(text, b'P')? else {
+        return None;
+    };
+    match *digit {
+        k @ b'0'..=b'7' if are_split_at(a, b, k - b'0') => Some(rest),
         _ => None,
     }
+}
+
+// What stands after this byte.
+fn after_byte(text: &[u8], byte: u8) -> Option<&[u8]>
+    ensures { IfSome result (λ rest. text.now ≡ byte ∷ rest.now) }
+{
+    match text {
+        [first, rest @ ..] if *first == byte => Some(rest),
+        _ => None,
+    }
+}
+
+// What stands after this byte and a space.
+fn after_token(text: &[u8], token: u8) -> Option<&[u8]>
+    ensures { IfSome result (λ rest. text.now ≡ token ∷ code " " ∷ rest.now) }
+{
+    after_byte(after_byte(text, token)?, b' ')
 }
 
 #[cycle(after)]
@@ -63,8 +82,8 @@ fn after_frames<'a>(f: &Frame, g: &Frame, text: &'a [u8], room: u32) -> Option<&
         Begins room (λ tree. ProvesFrames tree (frame_tree f.now) (frame_tree g.now)) text.now rest.now) }
 {
     let below = room.checked_sub(1)?;
-    match text {
-        [b'B', b' ', text @ ..] => match f {
+    if let Some(text) = after_token(text, b'B') {
+        return match f {
             Frame::Write {
                 acked: x,
                 refused: r,
@@ -78,8 +97,10 @@ fn after_frames<'a>(f: &Frame, g: &Frame, text: &'a [u8], room: u32) -> Option<&
                 Frame::Read { .. } => None,
             },
             Frame::Read { .. } => None,
-        },
-        [b'D', b' ', text @ ..] => match f {
+        };
+    }
+    if let Some(text) = after_token(text, b'D') {
+        return match f {
             Frame::Read {
                 count: c,
                 after: x,
@@ -91,16 +112,13 @@ fn after_frames<'a>(f: &Frame, g: &Frame, text: &'a [u8], room: u32) -> Option<&
                     after: y,
                     refused: s,
                     ..
-                } => {
-                    let text = after_reads(c, d, x, y, text, below)?;
-                    after_refused(r, s, text, below)
-                }
+                } => after_refused(r, s, after_reads(c, d, x, y, text, below)?, below),
                 Frame::Write { .. } => None,
             },
             Frame::Write { .. } => None,
-        },
-        _ => after_split(&frame_bits(f), &frame_bits(g), text),
+        };
     }
+    after_split(&frame_bits(f), &frame_bits(g), text)
 }
 
 // What follows an acknowledge, a space, and what follows its absence.
@@ -117,8 +135,7 @@ fn after_bytes<'a>(
         BeginsTwo room (λ tree. ProvesPayloads tree (payload_tree x.now) (payload_tree y.now))
             (λ tree. ProvesTails tree (tail_tree r.now) (tail_tree s.now)) text.now rest.now) }
 {
-    let text = after_payloads(x, y, text, room)?;
-    after_refused(r, s, text, room)
+    after_refused(r, s, after_payloads(x, y, text, room)?, room)
 }
 
 // A space, and what follows where there is no acknowledge.
@@ -127,10 +144,7 @@ fn after_refused<'a>(r: &Tail, s: &Tail, text: &'a [u8], room: u32) -> Option<&'
     ensures { IfSome result (λ rest. BeginsSpaced room
         (λ tree. ProvesTails tree (tail_tree r.now) (tail_tree s.now)) text.now rest.now) }
 {
-    match text {
-        [b' ', text @ ..] => after_tails(r, s, text, room),
-        _ => None,
-    }
+    after_tails(r, s, after_byte(text, b' ')?, room)
 }
 
 // Two reads, from the first byte on.
@@ -147,11 +161,11 @@ fn after_reads<'a>(
         (λ tree. ProvesReads tree c.now d.now (tail_tree x.now) (tail_tree y.now)) text.now rest.now) }
 {
     if c.meets(d) {
-        return after_tails(x, y, text, room);
-    }
-    match text {
-        [b'R', rest @ ..] if room > 0 => Some(rest),
-        _ => None,
+        after_tails(x, y, text, room)
+    } else if room > 0 {
+        after_byte(text, b'R')
+    } else {
+        None
     }
 }
 
@@ -173,9 +187,9 @@ fn after_payloads<'a>(x: &Payload, y: &Payload, text: &'a [u8], room: u32) -> Op
                 refused: s,
             } => {
                 let below = room.checked_sub(1)?;
-                match text {
-                    [b'B', b' ', text @ ..] => after_bytes(x, y, r, s, text, below),
-                    _ => after_split(&byte_bits(a), &byte_bits(b), text),
+                match after_token(text, b'B') {
+                    Some(text) => after_bytes(x, y, r, s, text, below),
+                    None => after_split(&byte_bits(a), &byte_bits(b), text),
                 }
             }
             Payload::Last(_) => None,
@@ -196,18 +210,12 @@ fn after_tails<'a>(r: &Tail, s: &Tail, text: &'a [u8], room: u32) -> Option<&'a 
     let below = room.checked_sub(1)?;
     match r {
         Tail::Stop => match s {
-            Tail::Stop => match text {
-                [b'.', rest @ ..] => Some(rest),
-                _ => None,
-            },
+            Tail::Stop => after_byte(text, b'.'),
             Tail::Again(_) => None,
         },
         Tail::Again(f) => match s {
             Tail::Stop => None,
-            Tail::Again(g) => match text {
-                [b'S', b' ', text @ ..] => after_frames(f, g, text, below),
-                _ => None,
-            },
+            Tail::Again(g) => after_frames(f, g, after_token(text, b'S')?, below),
         },
     }
 }
