@@ -1,5 +1,5 @@
 -- Proofs at the front of a text: a node, and what is below it.
-use Rattle.std.proofs.Common.{◌≡◌, ◌⊎◌, ℕ, ◌+◌, ◌-◌, ◌<◌, ◌≤◌, List, [], ◌∷◌, ◌++◌, length, take, drop, get_or, refl, ap, sym, ◌∙◌, arith, inl, inr, append_assoc, length-append}
+use Rattle.std.proofs.Common.{◌≡◌, ℕ, ◌+◌, ◌-◌, ◌<◌, ◌≤◌, List, [], ◌∷◌, ◌++◌, length, take, drop, get_or, refl, ap, sym, ◌∙◌, arith, append_assoc, length-append}
 use Rattle.std.proofs.lemmas.Fmt.{decimal_digit}
 use Rattle.std.proofs.Math.Seq.{take-append_seam}
 use Rattle.message_tree.specs.declared.bits.Bit.{Bit}
@@ -7,14 +7,12 @@ use Rattle.message_tree.specs.declared.bits.Pattern.{Pattern}
 use Rattle.message_tree.specs.declared.bits.Address.{Address}
 use Rattle.message_tree.specs.declared.counts.Count.{Count}
 use Rattle.message_tree.specs.Bits.{SplitAt}
-use Rattle.message_tree.specs.Counts.{Meet}
-use Rattle.message_tree.specs.Patterns.{pattern_bits}
 use Rattle.message_tree.specs.Trees as tree
 use Rattle.message_tree.specs.Trees.{FrameTree, PayloadTree, TailTree}
 use Rattle.plan_text.proofs.TokenLemmas.{front_is}
-use Rattle.certificate.specs.Proofs.{ProofTree, part, short, byte, read, again, alike}
-use Rattle.certificate.specs.Proves.{ProvesFrames, ProvesPayloads, ProvesTails, ProvesHeaders, frame_header}
-use Rattle.certificate.specs.Texts.{IsPrintableProof, HasPlaces, height, proof_text, proof_line}
+use Rattle.certificate.specs.Proofs.{ProofTree, part, byte, read, again}
+use Rattle.certificate.specs.Proves.{ProvesFrames, ProvesPayloads, ProvesTails, ProvesHeaders}
+use Rattle.certificate.specs.Texts.{proof_text, proof_line}
 use Rattle.plan_core.specs.Contents.{Contents}
 use Rattle.cert_check.specs.Proved.{ProvesPair}
 use Rattle.cert_check.specs.Quick.{Begins, BeginsSpaced, BeginsTwo, IsProvedLine}
@@ -94,21 +92,22 @@ module _ (below room : ℕ) (text inner rest : List ℕ) (more : room ≡ below 
 
 -- ---- a line
 
-pub line_begins : (plan : Contents) (i size : ℕ) (P : ProofTree → Type 0) (text rest : List ℕ) → size ≡ length text - length rest → ((t : ProofTree) → P t → ProvesPair plan i t) → Begins 512 P text (10 ∷ rest)
+pub line_begins : (plan : Contents) (i size : ℕ) (P : ProofTree → Type 0) (text end rest : List ℕ) → size ≡ length text - length rest → end ≡ 10 ∷ rest → ((t : ProofTree) → P t → ProvesPair plan i t) → Begins 512 P text end
     → IsProvedLine plan i size text
-line_begins plan i size P text rest e so b =
-    let whole : text ≡ proof_line b.tree ++ rest = b.text_is ∙ sym (append_assoc (proof_text b.tree) (10 ∷ []) rest) in
-    let len : length text ≡ length (proof_line b.tree) + length rest = ap length whole ∙ length-append (proof_line b.tree) rest in
-    let end = length-append (proof_text b.tree) (10 ∷ []) in
-    let size_is : size ≡ length (proof_line b.tree) = omega (arith, len, e) in
+line_begins plan i size P text end rest e f so b =
+    let line = proof_line b.tree in
+    let whole : text ≡ line ++ rest = b.text_is ∙ ap (λ (t : List ℕ). proof_text b.tree ++ t) f ∙ sym (append_assoc (proof_text b.tree) (10 ∷ []) rest) in
+    let len : length text ≡ length line + length rest = ap length whole ∙ length-append line rest in
+    let last = length-append (proof_text b.tree) (10 ∷ []) in
+    let size_is : size ≡ length line = omega (arith, len, e) in
     record {
-      some = omega (arith, size_is, end);
-      within = omega (arith, e);
+      some = omega (arith, size_is, last);
+      within = omega (arith, len, size_is);
       proved = (
         b.tree,
         record {
           printable = b.printable;
-          text_is = ap (λ (n : ℕ). take n text) size_is ∙ ap (take (length (proof_line b.tree))) whole ∙ take-append_seam (proof_line b.tree) rest;
+          text_is = ap (λ (n : ℕ). take n text) size_is ∙ ap (take (length line)) whole ∙ take-append_seam line rest;
         },
         so b.tree b.proves,
       );

@@ -133,7 +133,7 @@ fn after_bytes<'a>(
 ) -> Option<&'a [u8]>
     ensures { IfSome result (λ rest.
         BeginsTwo room (λ tree. ProvesPayloads tree (payload_tree x.now) (payload_tree y.now))
-            (λ tree. ProvesTails tree (tail_tree r.now) (tail_tree s.now)) text.now rest.now) }
+        (λ tree. ProvesTails tree (tail_tree r.now) (tail_tree s.now)) text.now rest.now) }
 {
     after_refused(r, s, after_payloads(x, y, text, room)?, room)
 }

@@ -1,4 +1,4 @@
-use Rattle.std.proofs.Common.{length, arith}
+use Rattle.std.proofs.Common.{arith}
 use Rattle.cert_check.proofs.QuickLemmas.{split_begins}
 use Rattle.cert_check.proofs.quick.after_split.Goals as goal
 
