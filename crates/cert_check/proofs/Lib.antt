@@ -3,3 +3,4 @@ pub mod WireLemmas
 pub mod TallyLemmas
 pub mod MemoLemmas
 pub mod AnswerLemmas
+pub mod QuickLemmas

@@ -6,3 +6,4 @@ pub mod Refused
 pub mod Reads
 pub mod Wires
 pub mod Judged
+pub mod Quick

@@ -16,6 +16,7 @@ pub mod faults;
 pub mod laws;
 mod nodes;
 pub mod pairs;
+mod quick;
 mod remembered;
 mod tallies;
 

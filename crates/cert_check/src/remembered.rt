@@ -1,7 +1,9 @@
-// The lines of proofs, judged one by one. For each two senders the line that was read and proved for them is remembered:
-// where the text goes on with the same bytes for a further pair of the two, that pair is proved by them.
+// The lines of proofs, judged one by one. For each two senders the line that was proved for them is remembered: where the
+// text goes on with the same bytes for a further pair of the two, that pair is proved by them. Another line is laid beside
+// its pair as it stands, and only where that says nothing is it read.
 
-ghost use Rattle.std.specs.Prelude.{◌≡◌, ◌<◌, true, false, Some, None, length, replicate, IfOk, IfErr, OnOk};
+ghost use Rattle.std.specs.Prelude.{◌≡◌, ◌<◌, true, false, Some, None, length, replicate, IfOk, IfErr, IfSome};
+ghost use Rattle.std.specs.Prelude.{IfNone, OnOk};
 ghost use Rattle.certificate.specs.declared.lines.Line.{Line};
 ghost use Rattle.certificate.specs.Proofs.{ProofTree};
 ghost use Rattle.certificate.specs.Reading.{AddsTree, EndsHere, RefusedHere, bytes_left, line_bytes};
@@ -9,8 +11,10 @@ ghost use Rattle.certificate.specs.Texts.{SpellsLine};
 ghost use Rattle.plan_core.specs.PlanContents.{plan_contents};
 ghost use Rattle.plan_core.specs.Pairs.{pairs_of};
 ghost use Rattle.cert_check.specs.Judged.{IsMemo, AddsOne, next_pair};
+ghost use Rattle.cert_check.specs.Proved.{ProvesPair};
 
 use crate::pairs::check_pair;
+use crate::quick::quick_line;
 use crate::tallies::Tally;
 use certificate::{CertError, Line, ProofLines};
 use plan_core::Plan;
@@ -80,6 +84,11 @@ fn judge_pair<'a>(
         tally.add(plan, true);
         return Ok(true);
     }
+    if let Some(line) = take_quick(plan, i, lines) {
+        known[place] = Some(line);
+        tally.add(plan, true);
+        return Ok(true);
+    }
     let Some((proof, line)) = lines.next_line(alloc)? else {
         return Ok(false);
     };
@@ -102,6 +111,18 @@ fn is_taken(lines: &mut ProofLines<'_>, remembered: Option<Line<'_>>) -> bool
         Some(line) => lines.takes_again(&line),
         None => false,
     }
+}
+
+// The next line, taken unread, where it can be seen at once that it proves pair `i`. None says nothing.
+fn take_quick<'a>(plan: &Plan, i: u32, lines: &mut ProofLines<'a>) -> Option<Line<'a>>
+    requires { i < length (pairs_of (plan_contents plan.now)) }
+    ensures proved { IfSome result (λ line. (tree : ProofTree) × SpellsLine (line_bytes line) tree ×
+        ProvesPair (plan_contents plan.now) i tree × AddsTree tree lines.old lines.new) }
+    ensures less { IfSome result (λ line. bytes_left lines.new < bytes_left lines.old) }
+    ensures unchanged { IfNone result (lines.new ≡ lines.old) }
+{
+    let size = quick_line(plan, i, lines.rest())?;
+    Some(lines.take_line(size))
 }
 
 // A proof that no pair waits for.

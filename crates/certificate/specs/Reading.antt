@@ -42,6 +42,10 @@ pub record ReadSoFar (text : List ℕ) (trees : List ProofTree) (left : ProofLin
   pub text_is : text ≡ (codes "cert 1\n" ++ proofs_text left.number trees) ++ left.source.rest.now
   pub refusal_is : refusal (text_said text) ≡ refusal (lines_at (place left.source))
 
+-- the text that is left
+abbrev pub text_left : ProofLines → List ℕ
+text_left left = left.source.rest.now
+
 -- the bytes that are left
 abbrev pub bytes_left : ProofLines → ℕ
 bytes_left left = unread left.source

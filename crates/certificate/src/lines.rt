@@ -1,6 +1,6 @@
 // The proofs of a certificate text, one at a time.
 
-ghost use Rattle.std.specs.Prelude.{◌≡◌, ◌≢◌, ◌<◌, ◌+◌, ◌^◌, true, false, length, IfOk, IfErr, IfSome, IfNone, OnErr};
+ghost use Rattle.std.specs.Prelude.{◌≡◌, ◌≢◌, ◌<◌, ◌≤◌, ◌+◌, ◌^◌, true, false, length, take, IfOk, IfErr, IfSome, IfNone, OnErr};
 ghost use Rattle.certificate.specs.declared.errors.CertFault.TheVariants.{Count};
 ghost use Rattle.certificate.specs.Proofs.{ProofTree, proof_tree};
 ghost use Rattle.certificate.specs.Texts.{SpellsLine};
@@ -29,7 +29,7 @@ pub struct ProofLines<'a> {
 
 impl<'a> ProofLines<'a> {
     ghost use Rattle.certificate.specs.Places.{place};
-    ghost use Rattle.certificate.specs.Reading.{AddsTree, AddsProof, EndsHere, RefusedHere, bytes_left, line_bytes};
+    ghost use Rattle.certificate.specs.Reading.{AddsTree, AddsProof, EndsHere, RefusedHere, bytes_left, text_left, line_bytes};
 
     /// What is left after the first two lines, which announce this number of proofs.
     pub(crate) fn new(source: Source<'a>, number: u32) -> Self
@@ -104,6 +104,32 @@ impl<'a> ProofLines<'a> {
         self.source = source;
         self.seen += 1;
         true
+    }
+
+    /// The text that is left.
+    pub fn rest(&self) -> &'a [u8]
+        ensures { result.now ≡ text_left self.now }
+    {
+        self.source.rest()
+    }
+
+    /// Takes the next line, which has so many bytes with its line feed, and does not read them: whatever proof they spell
+    /// is then the next one.
+    pub fn take_line(&mut self, size: usize) -> Line<'a>
+        requires some { 0 < size }
+        requires within { size ≤ bytes_left self.old }
+        ensures line { line_bytes result ≡ take size (text_left self.old) }
+        ensures read { (tree : ProofTree) →
+            SpellsLine (take size (text_left self.old)) tree → AddsTree tree self.old self.new }
+        ensures less { bytes_left self.new < bytes_left self.old }
+    {
+        let source = self.source.past_line(size);
+        let line = Line {
+            bytes: self.source.until(&source),
+        };
+        self.source = source;
+        self.seen += 1;
+        line
     }
 
     // At the end of the text.

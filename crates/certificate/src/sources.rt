@@ -1,6 +1,6 @@
 // What is left of a certificate text, byte by byte.
 
-ghost use Rattle.std.specs.Prelude.{◌≡◌, ◌<◌, ◌≤◌, ◌+◌, ◌-◌, ◌^◌, ◌==◌, ◌++◌, length, take, OnOk, IfSome};
+ghost use Rattle.std.specs.Prelude.{◌≡◌, ◌<◌, ◌≤◌, ◌+◌, ◌-◌, ◌^◌, ◌==◌, ◌++◌, length, take, drop, OnOk, IfSome};
 ghost use Rattle.certificate.specs.declared.errors.CertFault.TheVariants.{Format, TooDeep};
 
 use crate::errors::{CertError, CertFault};
@@ -77,6 +77,13 @@ impl<'a> Source<'a> {
         Ok(())
     }
 
+    /// What is left.
+    pub(crate) fn rest(&self) -> &'a [u8]
+        ensures { result.now ≡ self.now.rest.now }
+    {
+        self.rest
+    }
+
     /// The bytes before a later place.
     pub(crate) fn until(&self, later: &Source<'a>) -> &'a [u8]
         requires { unread later.now ≤ unread self.now }
@@ -96,6 +103,19 @@ impl<'a> Source<'a> {
             rest,
             line: self.line + 1,
         })
+    }
+
+    /// The place after a line of so many bytes, its line feed among them.
+    pub(crate) fn past_line(&self, size: usize) -> Source<'a>
+        requires some { 0 < size }
+        requires within { size ≤ unread self.now }
+        ensures rest { result.rest.now ≡ drop size self.now.rest.now }
+        ensures line { result.line ≡ self.now.line + 1 }
+    {
+        Source {
+            rest: &self.rest[size..],
+            line: self.line + 1,
+        }
     }
 
     /// Each of these bytes.
