@@ -17,7 +17,7 @@ mod sources;
 mod symbols;
 mod tokens;
 mod versions;
-mod words;
+pub mod words;
 
 pub use errors::PlanError;
 pub use items::read_plan;

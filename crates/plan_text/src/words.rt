@@ -10,7 +10,7 @@ ghost use Rattle.plan_text.specs.Words.{count_ends};
 use message_tree::{Address, Count, Pattern};
 
 /// The eight bits of a data byte: `0`, `1` or `x`.
-pub(crate) fn pattern(word: &[u8]) -> Option<Pattern>
+pub fn pattern(word: &[u8]) -> Option<Pattern>
     ensures form { is_some result ≡ is_pattern 8 word.now }
     ensures bits { IfSome result (λ p. pattern_word p ≡ word.now) }
 {
@@ -22,7 +22,7 @@ pub(crate) fn pattern(word: &[u8]) -> Option<Pattern>
 }
 
 /// The seven bits of an address: `0`, `1` or `x`.
-pub(crate) fn address(word: &[u8]) -> Option<Address>
+pub fn address(word: &[u8]) -> Option<Address>
     ensures form { is_some result ≡ is_pattern 7 word.now }
     ensures bits { IfSome result (λ a. address_word a ≡ word.now) }
 {
@@ -50,7 +50,7 @@ pub(crate) fn known_address(word: &[u8]) -> Option<u8>
 }
 
 /// The ends of a count, each of digits alone: both are the word itself, or they stand around `..`.
-pub(crate) fn count_ends(word: &[u8]) -> Option<CountEnds<'_>>
+pub fn count_ends(word: &[u8]) -> Option<CountEnds<'_>>
     ensures { MatchOption result (count_ends word.now ≡ None)
         (λ e. count_ends word.now ≡ Some (e.least.now, e.greatest.now)) }
 {
@@ -70,7 +70,7 @@ pub(crate) fn count_ends(word: &[u8]) -> Option<CountEnds<'_>>
 
 /// The ends of a count, as they are written.
 #[derive(Clone, Copy)]
-pub(crate) struct CountEnds<'a> {
+pub struct CountEnds<'a> {
     least: &'a [u8],
     greatest: &'a [u8],
     ghost least_digits: { is_digits least.now ≡ true },
@@ -82,7 +82,7 @@ impl CountEnds<'_> {
     ghost use Rattle.plan_text.specs.Words.{in_range};
 
     /// The count, where both ends are 1 to 255 and in order.
-    pub(crate) fn count(&self) -> Option<Count>
+    pub fn count(&self) -> Option<Count>
         ensures form { is_some result ≡ in_range (self.now.least.now, self.now.greatest.now) }
         ensures value { IfSome result (λ c. (least_of c ≡ number self.now.least.now) ×
             (greatest_of c ≡ number self.now.greatest.now)) }
@@ -145,14 +145,15 @@ fn around_dots(word: &[u8]) -> Option<(&[u8], &[u8])>
     }
 }
 
-fn is_digits(word: &[u8]) -> bool
+/// Whether the word is of digits alone, and has one.
+pub fn is_digits(word: &[u8]) -> bool
     ensures { result ≡ is_digits word.now }
 {
     !word.is_empty() && word.iter().all(|byte| byte.is_ascii_digit())
 }
 
-// The number that the digits write, where it is at most 255.
-fn number(digits: &[u8]) -> Option<u8>
+/// The number that the digits write, where it is at most 255.
+pub fn number(digits: &[u8]) -> Option<u8>
     requires { is_digits digits.now ≡ true }
     ensures form { is_some result ≡ nat_le (number digits.now) 255 }
     ensures value { IfSome result (λ n. n ≡ number digits.now) }
