@@ -36,12 +36,16 @@ count_at room at = do
   count ← or_refused (count_of ends.0) (BadCount ends.1)
   if nat_le (greatest_of count) room then Ok (count, ends.2) else Err (TooLong ends.1)
 
+-- so many more bytes on a path, each in so many copies
+abbrev pub further : ℕ → ℕ → ℕ → ℕ → Place → Reads ℕ
+further room copies more line at =
+    if nat_le more room then (counted (copies * more) line at >>= λ node. Ok (more, node)) else Err (TooLong line)
+
 -- how many more of a data byte follow it: none, or one less than the number after `*`, which all find room
 abbrev pub more_from : ℕ → ℕ → Tokens → Place → Reads ℕ
 more_from room copies (next (sign signs.Star) line rest) at = do
   times ← number_at (record at { tokens = rest })
-  if nat_le (times.0 - 1) room then (counted (copies * (times.0 - 1)) times.1 times.2 >>= λ node. Ok (times.0 - 1, node))
-  else Err (TooLong times.1)
+  further room copies (times.0 - 1) times.1 times.2
 more_from room copies tokens at = Ok (0, at)
 
 abbrev pub more_at : ℕ → ℕ → Place → Reads ℕ
@@ -115,8 +119,8 @@ begins_data tokens = false
 
 abbrev pub bytes_by : Bytes → Place → Reads PayloadTree
 bytes_by bytes at = do
-  data ← data_at at
-  bytes data.0 data.1 data.2
+  found ← data_at at
+  bytes found.0 found.1 found.2
 
 abbrev pub last_by : Frames → Place → Reads PayloadTree
 last_by frames at = do

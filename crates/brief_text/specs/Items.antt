@@ -10,17 +10,16 @@ use Rattle.plan_core.specs.Contents.{Contents}
 use Rattle.plan_core.specs.declared.builder.BuildError.{BuildError}
 use Rattle.plan_core.specs.declared.builder.BuildError.TheVariants.{Twice}
 use Rattle.plan_core.specs.declared.limits.TheConstants.{MOST_BYTES}
-use Rattle.plan_text.specs.Canonical.{address_word}
+use Rattle.message_tree.specs.Patterns.{address_bits}
 use Rattle.plan_text.specs.declared.errors.PlanError.{PlanError}
 use Rattle.plan_text.specs.declared.errors.PlanError.TheVariants.{Unexpected}
 use Rattle.plan_text.specs.Reader.{◌>>=◌, or_refused, unless_refused, ends_early, unknown_controller}
-use Rattle.plan_text.specs.Values.{known_address_of}
 use Rattle.brief_text.specs.declared.symbols.Keyword.TheVariants as keywords
 use Rattle.brief_text.specs.declared.symbols.Sign.TheVariants as signs
 use Rattle.brief_text.specs.Frames.{frames_at}
 use Rattle.brief_text.specs.Places.{Place, Reads, token_as, name_in, name_at, end_in, past, to_at}
 use Rattle.brief_text.specs.Tokens.{Token, keyword, word, sign, Tokens, next, last}
-use Rattle.brief_text.specs.Words.{address_by, data_by}
+use Rattle.brief_text.specs.Words.{address_by, data_by, known_number}
 
 -- a name stands once among those of its kind
 abbrev pub named_refusal : {A : Type 0} → List (List ℕ × A) → List ℕ → Option BuildError
@@ -79,7 +78,7 @@ unfoldable pub interrupt_at : Contents → Place → Reads Contents
 interrupt_at plan at = do
   name ← name_at (interrupt_refusal plan) at
   to ← to_at name.1
-  address ← or_refused (known_address_of (address_word to.0)) (Unexpected to.1)
+  address ← or_refused (known_number 0 (address_bits to.0)) (Unexpected to.1)
   after ← past end_in to.2
   Ok (with_interrupt plan name.0 address, after)
 

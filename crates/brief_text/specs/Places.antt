@@ -73,11 +73,13 @@ abbrev pub digits_in : Token → Option (List ℕ)
 digits_in (word bytes) = if is_digits bytes then Some bytes else None
 digits_in token = None
 
+abbrev pub is_countable : ℕ → Bool
+is_countable n = nat_le 1 n && nat_le n 255
+
 abbrev pub number_at : Place → Finds ℕ
 number_at at = do
   digits ← token_as digits_in at
-  if nat_le 1 (number digits.0) && nat_le (number digits.0) 255 then Ok (number digits.0, digits.1, digits.2)
-  else Err (BadCount digits.1)
+  if is_countable (number digits.0) then Ok (number digits.0, digits.1, digits.2) else Err (BadCount digits.1)
 
 -- ---- values that may have names
 

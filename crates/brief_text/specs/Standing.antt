@@ -92,9 +92,9 @@ read_at room copies at = do
 -- data bytes
 abbrev pub bytes_at : ℕ → ℕ → Place → Reads PayloadTree
 bytes_at room copies at = do
-  data ← data_at at
-  node ← node_at room copies data.1 data.2
+  found ← data_at at
+  node ← node_at room copies found.1 found.2
   more ← more_at node.0 copies node.1
   refused ← refused_at (node.0 - more.0) (copies * suc more.0) more.1
   acked ← payload_at (node.0 - more.0) copies refused.1
-  Ok (repeated (suc more.0) data.0 acked.0 refused.0, acked.1)
+  Ok (repeated (suc more.0) found.0 acked.0 refused.0, acked.1)

@@ -1,9 +1,11 @@
 -- What a word says that spells out an address or a data byte: in base 2 after `0b`, in base 16 after `0x`.
-use Rattle.std.specs.Prelude.{ℕ, Bool, ◌&&◌, ◌==◌, List, [], ◌∷◌, ◌++◌, map, Option, Some, None, codes, if◌then◌else◌}
-use Rattle.std.specs.Char.{is_ascii_hexdigit, digit_value}
+use Rattle.std.specs.Prelude.{ℕ, ◌+◌, ◌*◌, Bool, ◌&&◌, ◌==◌, nat_lt, List, [], ◌∷◌, ◌++◌, map, Option, Some, None, codes, if◌then◌else◌}
+use Rattle.std.specs.Char.{digit_value}
 use Rattle.message_tree.specs.Bits.{bits_below}
 use Rattle.message_tree.specs.Codes.{code}
 use Rattle.message_tree.specs.declared.bits.Address.{Address}
+use Rattle.message_tree.specs.declared.bits.Bit.{Bit}
+use Rattle.message_tree.specs.declared.bits.Bit.TheVariants.{Zero, One, Either}
 use Rattle.message_tree.specs.declared.bits.Pattern.{Pattern}
 use Rattle.plan_text.specs.Canonical.{bit_symbol}
 use Rattle.plan_text.specs.Values.{address_of, pattern_of, pattern_by}
@@ -12,7 +14,7 @@ use Rattle.plan_text.specs.Values.{address_of, pattern_of, pattern_by}
 unfoldable pub digit_bits : ℕ → Option (List ℕ)
 digit_bits byte =
     if byte == code "X" then Some (codes "xxxx")
-    else if is_ascii_hexdigit byte then Some (map bit_symbol (bits_below 4 15 (digit_value byte)))
+    else if nat_lt (digit_value byte) 16 then Some (map bit_symbol (bits_below 4 15 (digit_value byte)))
     else None
 
 abbrev pub both : Option (List ℕ) → Option (List ℕ) → Option (List ℕ)
@@ -59,3 +61,10 @@ address_by bytes = None
 -- eight open bits
 abbrev pub any_byte : Pattern
 any_byte = pattern_by 0 0
+
+-- the number that these bits make up after n, where all of them are known
+abbrev pub known_number : ℕ → List Bit → Option ℕ
+known_number n [] = Some n
+known_number n (Zero ∷ bits) = known_number (n * 2) bits
+known_number n (One ∷ bits) = known_number (n * 2 + 1) bits
+known_number n (Either ∷ bits) = None

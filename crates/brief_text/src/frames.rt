@@ -4,7 +4,7 @@ ghost use Rattle.std.specs.Prelude.{◌≡◌, ◌≤◌, ◌+◌, ◌*◌, suc,
 ghost use Rattle.message_tree.specs.Counts.{greatest_of};
 ghost use Rattle.message_tree.specs.Trees.{frame_tree, payload_tree, tail_tree};
 ghost use Rattle.plan_core.specs.declared.limits.TheConstants.{MOST_BYTES, MOST_NODES};
-ghost use Rattle.brief_text.specs.Frames.{frames_at, count_at, more_at, close_in, repeated};
+ghost use Rattle.brief_text.specs.Frames.{frames_at, count_at, more_at, repeated};
 ghost use Rattle.brief_text.specs.Places.{past, close_in};
 
 use crate::sources::Source;

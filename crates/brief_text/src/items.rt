@@ -1,6 +1,8 @@
 // The items of a brief, a function for each of them, and the plan that they make up.
 
-ghost use Rattle.std.specs.Prelude.{◌≡◌, ◌⊎◌, [], map, true, false, not, Some, None, Ok, Err, IfOk, IfErr, OnOk, MatchResult};
+ghost use Rattle.std.specs.Prelude.{◌≡◌, ◌⊎◌, [], map, true, false, not, Some, None, Ok, Err, IfOk, IfErr, OnOk, MatchResult, is_some};
+ghost use Rattle.std.specs.Map.{lookup};
+ghost use Rattle.std.specs.Str.{bytes_eq};
 ghost use Rattle.plan_core.specs.Building.{list_refusal};
 ghost use Rattle.plan_core.specs.Contents.{Contents};
 ghost use Rattle.plan_core.specs.NameBytes.{name_bytes};
@@ -12,6 +14,7 @@ ghost use Rattle.brief_text.specs.Briefs.{brief_read, after_head, is_end, Means,
 ghost use Rattle.brief_text.specs.Items.{device_at, byte_at, message_at, controller_at, sendings_from, interrupt_at};
 ghost use Rattle.brief_text.specs.Items.{never_at, item_at};
 ghost use Rattle.brief_text.specs.Reading.{left};
+ghost use Rattle.brief_text.specs.Standing.{entries_of};
 ghost use Rattle.brief_text.specs.Tokens.{tokens_of};
 
 use crate::naming::Named;

@@ -1,10 +1,10 @@
 // What a word spells out: an address or a data byte.
 
-ghost use Rattle.std.specs.Prelude.{◌≡◌, ◌<◌, map, is_some, IfSome, MatchOption, None, Some};
+ghost use Rattle.std.specs.Prelude.{◌≡◌, ◌<◌, map, IfSome, MatchOption, None, Some};
 ghost use Rattle.message_tree.specs.Bits.{bits_below};
-ghost use Rattle.plan_text.specs.Canonical.{bit_symbol, address_word};
-ghost use Rattle.plan_text.specs.Values.{known_address_of};
-ghost use Rattle.brief_text.specs.Words.{data_by, address_by, digit_bits};
+ghost use Rattle.message_tree.specs.Patterns.{address_bits};
+ghost use Rattle.plan_text.specs.Canonical.{bit_symbol};
+ghost use Rattle.brief_text.specs.Words.{data_by, address_by, digit_bits, hex_bits, known_number};
 
 use message_tree::{Address, Bit, Pattern};
 use plan_text::words;
@@ -13,44 +13,32 @@ use plan_text::words;
 pub(crate) fn data(word: &[u8]) -> Option<Pattern>
     ensures { result ≡ data_by word.now }
 {
-    match word {
-        [b'0', b'b', bits @ ..] => words::pattern(bits),
-        [b'0', b'x', high, low] => {
-            let high = digit(*high)?;
-            let low = digit(*low)?;
-            Some(Pattern::new(
-                high.known * 16 + low.known,
-                high.value * 16 + low.value,
-            ))
-        }
-        _ => None,
+    if let Some(bits) = word.strip_prefix(b"0b".as_slice()) {
+        return words::pattern(bits);
     }
+    let digits = word.strip_prefix(b"0x".as_slice())?;
+    let bits = byte(digits)?;
+    Some(Pattern::new(bits.known, bits.value))
 }
 
 /// The seven bits of an address.
 pub(crate) fn address(word: &[u8]) -> Option<Address>
     ensures { result ≡ address_by word.now }
 {
-    match word {
-        [b'0', b'b', bits @ ..] => words::address(bits),
-        [b'0', b'x', high, low] => {
-            let high = digit(*high)?;
-            let low = digit(*low)?;
-            if high.value >= 8 {
-                return None;
-            }
-            Some(Address::new(
-                high.known * 16 + low.known,
-                high.value * 16 + low.value,
-            ))
-        }
-        _ => None,
+    if let Some(bits) = word.strip_prefix(b"0b".as_slice()) {
+        return words::address(bits);
     }
+    let digits = word.strip_prefix(b"0x".as_slice())?;
+    let bits = byte(digits)?;
+    if bits.known >= 128 && bits.value >= 128 {
+        return None;
+    }
+    Some(Address::new(bits.known, bits.value))
 }
 
 /// The number of an address that is known in all bits.
 pub(crate) fn known_address(address: &Address) -> Option<u8>
-    ensures read { result ≡ known_address_of (address_word address.now) }
+    ensures read { result ≡ known_number 0 (address_bits address.now) }
     ensures small { IfSome result (λ it. it < 128) }
 {
     let mut number = 0u8;
@@ -64,25 +52,43 @@ pub(crate) fn known_address(address: &Address) -> Option<u8>
     Some(number)
 }
 
-// The four bits of a digit. `known` has a 1 where they are known.
+// Bits, of which some are known: there `known` has a 1.
 #[derive(Clone, Copy)]
-struct Nibble {
+struct Mask {
     known: u8,
     value: u8,
-    ghost known_fits: { known < 16 },
-    ghost value_fits: { value < 16 },
 }
 
-fn digit(byte: u8) -> Option<Nibble>
-    ensures { MatchOption result (digit_bits byte ≡ None)
-        (λ it. digit_bits byte ≡ Some (map bit_symbol (bits_below 4 it.known it.value))) }
+// The bits of two digits.
+fn byte(digits: &[u8]) -> Option<Mask>
+    ensures { MatchOption result (hex_bits digits.now ≡ None)
+        (λ it. hex_bits digits.now ≡ Some (map bit_symbol (bits_below 8 it.known it.value))) }
 {
-    let (known, value) = match byte {
-        b'X' => (0, 0),
-        b'0'..=b'9' => (15, byte - b'0'),
-        b'A'..=b'F' => (15, byte - b'A' + 10),
-        b'a'..=b'f' => (15, byte - b'a' + 10),
-        _ => return None,
+    let [high, low] = digits else {
+        return None;
     };
-    Some(Nibble { known, value })
+    let high = digit(*high)?;
+    let low = digit(*low)?;
+    Some(Mask {
+        known: high.known * 16 + low.known,
+        value: high.value * 16 + low.value,
+    })
+}
+
+// The four bits of a digit.
+#[tactic(auto, unfolding(crate::specs::Words::digit_bits))]
+fn digit(byte: u8) -> Option<Mask>
+    ensures bits { MatchOption result (digit_bits byte ≡ None)
+        (λ it. digit_bits byte ≡ Some (map bit_symbol (bits_below 4 it.known it.value))) }
+    ensures known { IfSome result (λ it. it.known < 16) }
+    ensures value { IfSome result (λ it. it.value < 16) }
+{
+    if byte == b'X' {
+        return Some(Mask { known: 0, value: 0 });
+    }
+    let value = (byte as char).to_digit(16)?;
+    Some(Mask {
+        known: 15,
+        value: value as u8,
+    })
 }
