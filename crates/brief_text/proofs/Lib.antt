@@ -1,3 +1,6 @@
 pub mod TokenLemmas
 pub mod StepLemmas
 pub mod LimitLemmas
+pub mod WordLemmas
+pub mod NamingLemmas
+pub mod ValueLemmas

@@ -63,7 +63,7 @@ sendings_from plan before (next (sign signs.Semicolon) line rest) at = Ok (befor
 sendings_from plan before (next token line rest) at = do
   name ← or_refused (name_in token) (Unexpected line)
   allowed ← unless_refused (list_refusal plan before (name ∷ [])) line name
-  sendings_from plan (before ++ allowed ∷ []) rest at
+  sendings_from plan (before ++ allowed ∷ []) rest (record at { tokens = rest })
 sendings_from plan before (last ending line) at = Err (ends_early ending line)
 
 -- `controller` and then a name, names of messages and `;`

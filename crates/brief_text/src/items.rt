@@ -126,7 +126,7 @@ impl<'a> Reader<'a> {
         once(&self.source.devices, &named)?;
         let address = self.source.address()?;
         self.source.semicolon()?;
-        self.source.devices.add(named.name, address.value)?;
+        self.source.add_device(named.name, address.value)?;
         Ok(())
     }
 
@@ -139,7 +139,7 @@ impl<'a> Reader<'a> {
         once(&self.source.bytes, &named)?;
         let bits = self.source.pattern()?;
         self.source.semicolon()?;
-        self.source.bytes.add(named.name, bits.value)?;
+        self.source.add_byte(named.name, bits.value)?;
         Ok(())
     }
 

@@ -30,10 +30,7 @@ impl<T: Copy> Named<T> {
     pub(crate) fn get(&self, name: &Name) -> Option<T>
         ensures { result ≡ lookup (bytes_eq (name_bytes name.now)) (entries_of self.now) }
     {
-        match self.entries.get(name) {
-            Some(value) => Some(*value),
-            None => None,
-        }
+        self.entries.get(name).copied()
     }
 
     /// A further value, of a name that has none.

@@ -1,6 +1,8 @@
 // What is left of a brief, and what one token or two say there.
 
-ghost use Rattle.std.specs.Prelude.{◌≡◌, ◌≤◌, ◌<◌, ℕ, IfOk};
+ghost use Rattle.std.specs.Prelude.{◌≡◌, ◌≤◌, ◌<◌, ◌++◌, ◌∷◌, [], ℕ, None, IfOk, OnOk};
+ghost use Rattle.std.specs.Map.{lookup};
+ghost use Rattle.std.specs.Str.{bytes_eq};
 ghost use Rattle.message_tree.specs.declared.bits.Address.{Address};
 ghost use Rattle.message_tree.specs.declared.bits.Pattern.{Pattern};
 ghost use Rattle.plan_core.specs.NameBytes.{name_bytes};
@@ -17,7 +19,7 @@ use message_tree::{Address, Pattern};
 use plan_core::{Name, NameError};
 use plan_text::PlanError;
 use plan_text::words::{is_digits, number};
-use std::alloc::Global;
+use std::alloc::{AllocError, Global};
 
 /// What is left of a brief, with its names of devices and data bytes, and how many nodes of the message have been read.
 #[derive(Drop)]
@@ -73,6 +75,24 @@ impl<'a> Source<'a> {
         let token = self.token;
         self.token = self.tokens.next();
         token
+    }
+
+    /// A further device, of a name that no other has.
+    pub(crate) fn add_device(&mut self, name: Name, address: Address) -> Result<(), AllocError>
+        requires { lookup (bytes_eq (name_bytes name)) (place self.old).devices ≡ None }
+        ensures { OnOk result (place self.new ≡ record (place self.old) {
+            devices = (place self.old).devices ++ (name_bytes name, address) ∷ [] }) }
+    {
+        self.devices.add(name, address)
+    }
+
+    /// A further data byte with a name, which no other has.
+    pub(crate) fn add_byte(&mut self, name: Name, bits: Pattern) -> Result<(), AllocError>
+        requires { lookup (bytes_eq (name_bytes name)) (place self.old).bytes ≡ None }
+        ensures { OnOk result (place self.new ≡ record (place self.old) {
+            bytes = (place self.old).bytes ++ (name_bytes name, bits) ∷ [] }) }
+    {
+        self.bytes.add(name, bits)
     }
 
     /// NAME

@@ -1,6 +1,6 @@
 // What a word spells out: an address or a data byte.
 
-ghost use Rattle.std.specs.Prelude.{◌≡◌, ◌<◌, map, IfSome, MatchOption, None, Some};
+ghost use Rattle.std.specs.Prelude.{◌≡◌, ◌≢◌, ◌<◌, ◌++◌, ℕ, List, map, IfSome, MatchOption, None, Some};
 ghost use Rattle.message_tree.specs.Bits.{bits_below};
 ghost use Rattle.message_tree.specs.Patterns.{address_bits};
 ghost use Rattle.plan_text.specs.Canonical.{bit_symbol};
@@ -13,10 +13,10 @@ use plan_text::words;
 pub(crate) fn data(word: &[u8]) -> Option<Pattern>
     ensures { result ≡ data_by word.now }
 {
-    if let Some(bits) = word.strip_prefix(b"0b".as_slice()) {
+    if let Some(bits) = after(b"0b", word) {
         return words::pattern(bits);
     }
-    let digits = word.strip_prefix(b"0x".as_slice())?;
+    let digits = after(b"0x", word)?;
     let bits = byte(digits)?;
     Some(Pattern::new(bits.known, bits.value))
 }
@@ -25,10 +25,10 @@ pub(crate) fn data(word: &[u8]) -> Option<Pattern>
 pub(crate) fn address(word: &[u8]) -> Option<Address>
     ensures { result ≡ address_by word.now }
 {
-    if let Some(bits) = word.strip_prefix(b"0b".as_slice()) {
+    if let Some(bits) = after(b"0b", word) {
         return words::address(bits);
     }
-    let digits = word.strip_prefix(b"0x".as_slice())?;
+    let digits = after(b"0x", word)?;
     let bits = byte(digits)?;
     if bits.known >= 128 && bits.value >= 128 {
         return None;
@@ -52,6 +52,13 @@ pub(crate) fn known_address(address: &Address) -> Option<u8>
     Some(number)
 }
 
+// What follows these two bytes at the front of a word.
+fn after<'a>(front: &[u8; 2], word: &'a [u8]) -> Option<&'a [u8]>
+    ensures { MatchOption result ((rest : List ℕ) → front.now ++ rest ≢ word.now) (λ it. front.now ++ it.now ≡ word.now) }
+{
+    word.strip_prefix(front.as_slice())
+}
+
 // Bits, of which some are known: there `known` has a 1.
 #[derive(Clone, Copy)]
 struct Mask {
@@ -61,7 +68,9 @@ struct Mask {
 
 // The bits of two digits.
 fn byte(digits: &[u8]) -> Option<Mask>
-    ensures { MatchOption result (hex_bits digits.now ≡ None)
+    ensures known { IfSome result (λ it. it.known < 256) }
+    ensures value { IfSome result (λ it. it.value < 256) }
+    ensures bits { MatchOption result (hex_bits digits.now ≡ None)
         (λ it. hex_bits digits.now ≡ Some (map bit_symbol (bits_below 8 it.known it.value))) }
 {
     let [high, low] = digits else {
