@@ -4,3 +4,4 @@ pub mod LimitLemmas
 pub mod WordLemmas
 pub mod NamingLemmas
 pub mod ValueLemmas
+pub mod TextLemmas

@@ -1,5 +1,5 @@
 -- What is read of a message in one step, where a path has so much room.
-use Rattle.std.proofs.Common.{◌≡◌, ◌≢◌, ℕ, zero, suc, List, Option, Some, None, Bor, ◌+◌, ◌-◌, ◌*◌, ◌<◌, ◌≤◌, Bool, true, false, ◌⊎◌, inl, inr, refl, ap, sym, ◌∙◌, arith}
+use Rattle.std.proofs.Common.{◌≡◌, ◌≢◌, ℕ, zero, suc, List, Option, Some, None, Bor, ◌+◌, ◌-◌, ◌*◌, ◌<◌, ◌≤◌, Bool, true, false, ◌⊎◌, inl, inr, refl, ap, sym, ◌∙◌, subst, arith}
 use Rattle.std.specs.Prelude.{Result, Ok, Err, nat_lt, nat_le, if◌then◌else◌}
 use Rattle.std.proofs.lemmas.Bool.{lt-leb}
 use Rattle.message_tree.specs.declared.bits.Address.{Address}
@@ -87,6 +87,23 @@ byte_in_is (suc room) copies line bits at =
     ap (λ (frames : Frames). payload_by frames (byte_in room more.0 copies) refused.1 >>= λ acked. Ok (repeated (suc more.0) bits acked.0 refused.0, acked.1)) (used_up room more.0 copies)
     ∙ ap (λ (bytes : Bytes). payload_by (frame_in (room - more.0) 0 copies) bytes refused.1 >>= λ acked. Ok (repeated (suc more.0) bits acked.0 refused.0, acked.1)) (bytes_used_up room more.0 copies))))
     ∙ node_is room copies line at (byte_rest copies bits)
+
+-- data bytes, once all but what follows the last of them is read
+module _ (room copies more : ℕ) (at p1 p2 p3 p4 : Place) (bits : Pattern) (line first : ℕ) (refused : TailTree) (d : data_at at ≡ Ok (bits, line, p1)) (n : node_at room copies line p1 ≡ Ok (first, p2)) where
+  bytes_rest : more_at first copies p2 ≡ Ok (more, p3) → refused_at (first - more) (copies * suc more) p3 ≡ Ok (refused, p4)
+      → bytes_at room copies at ≡ (payload_at (first - more) copies p4 >>= λ acked. Ok (repeated (suc more) bits acked.0 refused, acked.1))
+  bytes_rest m r =
+      ap (λ (x : Finds Pattern). x >>= λ found. node_at room copies found.1 found.2 >>= byte_rest copies found.0) d
+      ∙ ap (λ (x : Reads ℕ). x >>= byte_rest copies bits) n
+      ∙ ap (λ (x : Reads ℕ). x >>= λ more. refused_at (first - more.0) (copies * suc more.0) more.1 >>= λ refused. payload_at (first - more.0) copies refused.1 >>= λ acked. Ok (repeated (suc more.0) bits acked.0 refused.0, acked.1)) m
+      ∙ ap (λ (x : Reads TailTree). x >>= λ refused. payload_at (first - more) copies refused.1 >>= λ acked. Ok (repeated (suc more) bits acked.0 refused.0, acked.1)) r
+
+  -- the same where the copies are counted by equal numbers
+  pub bytes_steps : (others times : ℕ) → others ≡ copies → times ≡ suc more → more_at first others p2 ≡ Ok (more, p3) → refused_at (first - more) (others * times) p3 ≡ Ok (refused, p4)
+      → bytes_at room copies at ≡ (payload_at (first - more) others p4 >>= λ acked. Ok (repeated (suc more) bits acked.0 refused, acked.1))
+  bytes_steps others times same count m r =
+      bytes_rest (subst (λ k. more_at first k p2 ≡ Ok (more, p3)) same m) (subst (λ k. refused_at (first - more) k p3 ≡ Ok (refused, p4)) (ap (λ k. k * times) same ∙ ap (λ t. copies * t) count) r)
+      ∙ ap (λ k. payload_at (first - more) k p4 >>= λ acked. Ok (repeated (suc more) bits acked.0 refused, acked.1)) (sym same)
 
 -- ---- by the symbol of the first token, which stands before these tokens
 

@@ -35,8 +35,14 @@ refuses_on r f e (inr is) = inr (ap (λ (x : Result _ PlanError). x >>= f) is)
 -- ---- values
 
 -- what a token says, on this line and before this place
+abbrev said_step : {A : Type 0} → Option (Said A) → ℕ → Place → Finds (Said A)
+said_step o line after = or_refused o (Unexpected line) >>= λ x. Ok (x, line, after)
+
+abbrev name_found : Option (List ℕ) → ℕ → Place → Finds (List ℕ)
+name_found o line after = or_refused o (Unexpected line) >>= λ x. Ok (x, line, after)
+
 abbrev value_step : {A : Type 0} → Option (Said A) → List (List ℕ × A) → ℕ → Place → Finds A
-value_step o entries line after = (or_refused o (Unexpected line) >>= λ x. Ok (x, line, after)) >>= λ said. or_refused (value_of entries said.0) (Unknown said.1) >>= λ value. Ok (value, said.1, said.2)
+value_step o entries line after = said_step o line after >>= λ said. or_refused (value_of entries said.0) (Unknown said.1) >>= λ value. Ok (value, said.1, said.2)
 
 -- what has a name
 abbrev pub found_at : {A : Type 0} → List (List ℕ × A) → List ℕ × ℕ × Place → Finds A
@@ -47,7 +53,7 @@ module _ (token : seen.Token) (at after : Place) (first : at ≡ before token af
   name_step {A} entries = by_name (is_name w.now) ∙ ap (λ (s : Symbol). token_as name_in (record after { tokens = with_symbol s token.line after.tokens }) >>= found_at entries) (sym is)
     where
       by_name : (t : Bool) → value_step (if t then Some (named w.now) else None) entries token.line after
-          ≡ ((or_refused (if t then Some w.now else None) (Unexpected token.line) >>= λ x. Ok (x, token.line, after)) >>= found_at entries)
+          ≡ (name_found (if t then Some w.now else None) token.line after >>= found_at entries)
       by_name true = refl
       by_name false = refl
 

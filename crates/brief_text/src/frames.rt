@@ -98,7 +98,8 @@ impl Source<'_> {
         ensures { Gives payload_tree result (payload_at room.bytes room.copies (place self.old)) (place self.new) }
     {
         match self.token.symbol {
-            Symbol::Word(_) | Symbol::Keyword(Keyword::Any) => self.bytes(room),
+            Symbol::Word(_) => self.bytes(room),
+            Symbol::Keyword(Keyword::Any) => self.bytes(room),
             _ => Ok(Payload::Last(self.following(room)?)),
         }
     }

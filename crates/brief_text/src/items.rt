@@ -19,7 +19,7 @@ ghost use Rattle.brief_text.specs.Tokens.{tokens_of};
 
 use crate::naming::Named;
 use crate::sources::{NameFound, Source};
-use crate::symbols::{Keyword, Sign, Symbol};
+use crate::symbols::{Keyword, Symbol};
 use crate::tokens::Tokens;
 use crate::words::known_address;
 use plan_core::{BuildError, Builder, Name, Plan};
@@ -182,7 +182,7 @@ impl<'a> Reader<'a> {
         let mut messages = Vec::new(self.source.alloc);
         'names: loop {
             let token = self.source.next();
-            if let Symbol::Sign(Sign::Semicolon) = token.symbol {
+            if token.is_semicolon() {
                 return Ok(messages);
             }
             let message = self.source.name_of(token)?;

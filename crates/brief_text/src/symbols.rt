@@ -1,6 +1,6 @@
 // The symbols of a brief: its tokens, and what stands where there is none.
 
-ghost use Rattle.std.specs.Prelude.{◌≡◌, Some};
+ghost use Rattle.std.specs.Prelude.{◌≡◌, Some, true, false};
 ghost use Rattle.brief_text.specs.Tokens.{keyword_of, token_of_word, sign_of};
 ghost use Rattle.brief_text.specs.Reading.{token_of_symbol};
 
@@ -69,6 +69,14 @@ impl<'a> Token<'a> {
             Symbol::Foreign => PlanError::NotAscii(self.line),
             _ => PlanError::Unexpected(self.line),
         }
+    }
+
+    /// Whether this is `;`.
+    pub(crate) fn is_semicolon(&self) -> bool
+        ensures some { result ≡ true → self.now.symbol ≡ Symbol.Sign Sign.Semicolon }
+        ensures none { result ≡ false → self.now.symbol ≡ Symbol.Sign Sign.Semicolon → ⊥ }
+    {
+        matches!(self.symbol, Symbol::Sign(Sign::Semicolon))
     }
 
     /// The refusal of this token in the place of `brief`, or of the `1` after it.
