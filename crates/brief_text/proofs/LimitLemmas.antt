@@ -1,5 +1,5 @@
 -- A message that is read is within the limits.
-use Rattle.std.proofs.Common.{◌≡◌, ℕ, zero, suc, ◌+◌, ◌*◌, ◌-◌, ◌<◌, ◌≤◌, List, Option, Bool, true, false, Some, None, refl, ap, sym, ◌∙◌, subst, arith}
+use Rattle.std.proofs.Common.{◌≡◌, ℕ, zero, suc, ◌+◌, ◌*◌, ◌-◌, ◌≤◌, List, Option, Bool, true, false, refl, ap, sym, ◌∙◌, subst, arith}
 use Rattle.std.proofs.Math.Nat.{mul-add, mul-suc, mul_assoc, suc-mul}
 use Rattle.std.specs.Prelude.{Result, Ok, Err, nat_le, max, if◌then◌else◌}
 use Rattle.std.proofs.lemmas.Bool.Decides.{nat_tests}
@@ -8,7 +8,7 @@ use Rattle.message_tree.specs.declared.bits.Pattern.{Pattern}
 use Rattle.message_tree.specs.declared.counts.Count.{Count}
 use Rattle.message_tree.specs.Counts.{greatest_of}
 use Rattle.message_tree.specs.Sizes.{frame_bytes, payload_bytes, tail_bytes, frame_nodes, payload_nodes, tail_nodes}
-use Rattle.message_tree.specs.Trees.{FrameTree, write, read, PayloadTree, byte, last, TailTree, stop, again}
+use Rattle.message_tree.specs.Trees.{FrameTree, write, read, PayloadTree, last, TailTree, stop, again}
 use Rattle.plan_core.specs.declared.limits.TheConstants.{MOST_NODES}
 use Rattle.plan_text.specs.declared.errors.PlanError.{PlanError}
 use Rattle.plan_text.specs.declared.errors.PlanError.TheVariants.{Unexpected, BadCount, TooLong, Unknown}
@@ -19,7 +19,7 @@ use Rattle.plan_text.proofs.TakesLemmas.{bind_ok, test_ok, ok_is}
 use Rattle.brief_text.specs.declared.symbols.Keyword.TheVariants as keywords
 use Rattle.brief_text.specs.declared.symbols.Sign.TheVariants as signs
 use Rattle.brief_text.specs.Frames.{counted, ends_in, count_at, further, more_from, more_at, form_in, frames_by, next_from, next_by, Ends, stops, opens, ends_with, else_by, refused_from, refused_by, begins_data, bytes_by, last_by, payload_by, repeated, frame_in, byte_in, frames_at}
-use Rattle.brief_text.specs.Places.{Place, Reads, Finds, first_as, token_as, close_in, past, digits_in, number_at, Said, value_of, value_as, to_in, to_at, data_in, data_at}
+use Rattle.brief_text.specs.Places.{Place, first_as, token_as, close_in, past, digits_in, number_at, Said, value_of, value_as, to_in, to_at, data_in, data_at}
 use Rattle.brief_text.specs.Tokens.{Token, keyword, word, sign, Tokens, next}
 use Rattle.brief_text.specs.Tokens as tokens
 

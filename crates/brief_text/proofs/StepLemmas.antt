@@ -1,5 +1,5 @@
 -- What is read of a message in one step, where a path has so much room.
-use Rattle.std.proofs.Common.{◌≡◌, ◌≢◌, ℕ, zero, suc, List, Option, Some, None, Bor, ◌+◌, ◌-◌, ◌*◌, ◌<◌, ◌≤◌, Bool, true, false, ◌⊎◌, inl, inr, refl, ap, sym, ◌∙◌, subst, arith}
+use Rattle.std.proofs.Common.{◌≡◌, ◌≢◌, ℕ, zero, suc, List, Option, Some, None, Bor, ◌-◌, ◌*◌, ◌<◌, ◌≤◌, Bool, true, false, ◌⊎◌, inl, inr, refl, ap, sym, ◌∙◌, subst, arith}
 use Rattle.std.specs.Prelude.{Result, Ok, Err, nat_lt, nat_le, if◌then◌else◌}
 use Rattle.std.proofs.lemmas.Bool.{lt-leb}
 use Rattle.message_tree.specs.declared.bits.Address.{Address}
@@ -7,7 +7,6 @@ use Rattle.message_tree.specs.declared.bits.Pattern.{Pattern}
 use Rattle.message_tree.specs.declared.counts.Count.{Count}
 use Rattle.message_tree.specs.Counts.{greatest_of}
 use Rattle.message_tree.specs.Trees.{FrameTree, write, read, PayloadTree, TailTree, stop, again}
-use Rattle.plan_core.specs.declared.limits.TheConstants.{MOST_NODES}
 use Rattle.plan_text.specs.declared.errors.PlanError.{PlanError}
 use Rattle.plan_text.specs.declared.errors.PlanError.TheVariants.{TooLong, Unexpected, BadCount}
 use Rattle.plan_text.specs.Reader.{◌>>=◌, or_refused, writes, reads}
@@ -19,7 +18,7 @@ use Rattle.brief_text.specs.declared.symbols.Sign.TheVariants as signs
 use Rattle.brief_text.specs.declared.symbols.Symbol.{Symbol}
 use Rattle.brief_text.specs.declared.symbols.Symbol.TheVariants as symbols
 use Rattle.brief_text.specs.declared.symbols.Token as seen
-use Rattle.brief_text.specs.Frames.{Frames, Bytes, counted, ends_in, count_at, further, more_from, more_at, frames_by, next_from, next_by, ends_with, else_by, refused_from, refused_by, begins_data, bytes_by, last_by, payload_by, repeated, frame_in, byte_in, frames_at}
+use Rattle.brief_text.specs.Frames.{Frames, Bytes, counted, ends_in, count_at, further, more_from, more_at, frames_by, next_from, next_by, ends_with, else_by, refused_from, refused_by, begins_data, last_by, payload_by, repeated, frame_in, byte_in, frames_at}
 use Rattle.brief_text.specs.Places.{Place, Reads, Finds, token_as, number_at, to_at, data_at}
 use Rattle.brief_text.specs.Standing.{before, node_at, refused_at, next_at, payload_at, write_at, read_at, bytes_at}
 use Rattle.brief_text.specs.Reading.{with_symbol, unexpected_symbol, unexpected_at}

@@ -1,6 +1,6 @@
 -- Whole texts, item by item, and that a text has one reading.
-use Rattle.std.proofs.Common.{◌≡◌, ℕ, suc, List, [], Bool, true, false, ◌⊎◌, inl, inr, refl, ap, sym, ◌∙◌, length}
-use Rattle.std.specs.Prelude.{Result, Ok, Err, IfOk, IfErr, MatchResult, if◌then◌else◌}
+use Rattle.std.proofs.Common.{◌≡◌, ℕ, suc, List, [], true, false, ◌⊎◌, inl, inr, refl, ap, sym, ◌∙◌, length}
+use Rattle.std.specs.Prelude.{Result, Ok, Err, IfOk, IfErr, MatchResult}
 use Rattle.plan_core.specs.Contents.{Contents, empty}
 use Rattle.plan_core.specs.PlanContents.{plan_contents}
 use Rattle.plan_core.specs.declared.plans.Plan.{Plan}

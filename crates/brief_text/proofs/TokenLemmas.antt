@@ -1,8 +1,7 @@
 -- The tokens of a brief, from its first byte on.
-use Rattle.std.proofs.Common.{◌≡◌, ◌≢◌, ◌<◌, ◌≤◌, ◌+◌, ◌-◌, ℕ, suc, List, [], ◌∷◌, Bool, true, false, not, cond, ◌&&◌, ◌==◌, refl, ap, sym, ◌∙◌, length, take, drop, get_or, subst, arith, one-add, Option, Some, None, ◌⊎◌, inl, inr}
+use Rattle.std.proofs.Common.{◌≡◌, ◌≢◌, ◌+◌, ℕ, suc, List, [], ◌∷◌, Bool, true, false, not, cond, ◌&&◌, ◌==◌, refl, ap, sym, ◌∙◌, take, drop, subst, arith, one-add, Some, None, ◌⊎◌, inl, inr}
 use Rattle.std.specs.Prelude.{nat_lt}
 use Rattle.std.specs.List.{prefix_len}
-use Rattle.std.proofs.lemmas.List.{take_all}
 use Rattle.std.proofs.lemmas.Bool.Decides.{nat_tests}
 use Rattle.plan_text.specs.Reading.{is_skipped}
 use Rattle.plan_text.specs.Tokens.{text_end, foreign, stray}

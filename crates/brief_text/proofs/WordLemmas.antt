@@ -1,5 +1,5 @@
 -- What the words of addresses and data bytes spell out.
-use Rattle.std.proofs.Common.{◌≡◌, ◌≢◌, ◌⊎◌, inl, inr, ℕ, zero, suc, ◌+◌, ◌*◌, ◌/◌, ◌%◌, ◌<◌, ◌≤◌, ◌==◌, ◌&&◌, Bool, true, false, List, [], ◌∷◌, ◌++◌, map, length, get_or, drop, Option, Some, None, is_some, IfSome, codes, slice_get, refl, ap, sym, ◌∙◌, arith}
+use Rattle.std.proofs.Common.{◌≡◌, ◌≢◌, ◌⊎◌, inl, inr, ℕ, zero, suc, ◌+◌, ◌*◌, ◌/◌, ◌<◌, ◌≤◌, ◌==◌, ◌&&◌, Bool, true, false, List, [], ◌∷◌, ◌++◌, map, length, get_or, drop, Option, Some, None, is_some, IfSome, codes, slice_get, refl, ap, sym, ◌∙◌, arith}
 use Rattle.std.specs.Prelude.{if◌then◌else◌}
 use Rattle.std.specs.Int.{bit_at}
 use Rattle.std.proofs.lemmas.Bool.{and_parts, eqb-true}
@@ -40,8 +40,24 @@ low_3 a b = omega arith
 
 pub nibbles : (k l v w : ℕ) → l < 16 → w < 16 → bits_below 8 (k * 16 + l) (v * 16 + w) ≡ bits_below 4 k v ++ bits_below 4 l w
 nibbles k l v w p q =
-    rw (high_bit k l 3 p, high_bit k l 2 p, high_bit k l 1 p, high_bit k l 0 p, high_bit v w 3 q, high_bit v w 2 q, high_bit v w 1 q, high_bit v w 0 q,
-    low_3 k l, low_2 k l, low_1 k l, low_0 k l, low_3 v w, low_2 v w, low_1 v w, low_0 v w) refl
+    rw (
+      high_bit k l 3 p,
+      high_bit k l 2 p,
+      high_bit k l 1 p,
+      high_bit k l 0 p,
+      high_bit v w 3 q,
+      high_bit v w 2 q,
+      high_bit v w 1 q,
+      high_bit v w 0 q,
+      low_3 k l,
+      low_2 k l,
+      low_1 k l,
+      low_0 k l,
+      low_3 v w,
+      low_2 v w,
+      low_1 v w,
+      low_0 v w,
+    ) refl
 
 pub hex_two : (digits : List ℕ) → 2 ≤ length digits → length digits < 3 → hex_bits digits ≡ both (digit_bits (get_or digits 0 0)) (digit_bits (get_or digits 1 0))
 hex_two [] a b = absurd (omega arith)

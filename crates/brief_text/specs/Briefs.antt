@@ -1,11 +1,11 @@
 -- What a brief means: the plan that its items make up, or its first refusal.
-use Rattle.std.specs.Prelude.{◌≡◌, ℕ, zero, suc, Bool, true, false, List, [], length, Option, Some, None, Result, Ok, Err}
+use Rattle.std.specs.Prelude.{◌≡◌, ℕ, zero, suc, Bool, true, false, List, [], length, Result, Ok, Err}
 use Rattle.std.specs.Prelude.{codes, if◌then◌else◌}
 use Rattle.std.specs.Str.{bytes_eq}
 use Rattle.plan_core.specs.Contents.{Contents, empty}
 use Rattle.plan_text.specs.declared.errors.PlanError.{PlanError}
 use Rattle.plan_text.specs.declared.errors.PlanError.TheVariants.{Unexpected, NotAscii, Version}
-use Rattle.plan_text.specs.Reader.{◌>>=◌, or_refused, ends_early}
+use Rattle.plan_text.specs.Reader.{◌>>=◌, ends_early}
 use Rattle.plan_text.specs.Tokens.{text_end, foreign, stray}
 use Rattle.brief_text.specs.declared.symbols.Keyword.TheVariants as keywords
 use Rattle.brief_text.specs.Items.{item_at}

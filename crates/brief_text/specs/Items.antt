@@ -1,5 +1,5 @@
 -- The items of a brief: what each adds to the plan, or to the names of devices and data bytes.
-use Rattle.std.specs.Prelude.{ℕ, List, [], ◌∷◌, ◌++◌, Option, Some, None, is_some, Result, Ok, Err, if◌then◌else◌}
+use Rattle.std.specs.Prelude.{ℕ, List, [], ◌∷◌, ◌++◌, Option, Some, None, is_some, Ok, Err, if◌then◌else◌}
 use Rattle.std.specs.Map.{lookup}
 use Rattle.std.specs.Str.{bytes_eq}
 use Rattle.message_tree.specs.declared.bits.Address.{Address}
@@ -11,7 +11,6 @@ use Rattle.plan_core.specs.declared.builder.BuildError.{BuildError}
 use Rattle.plan_core.specs.declared.builder.BuildError.TheVariants.{Twice}
 use Rattle.plan_core.specs.declared.limits.TheConstants.{MOST_BYTES}
 use Rattle.message_tree.specs.Patterns.{address_bits}
-use Rattle.plan_text.specs.declared.errors.PlanError.{PlanError}
 use Rattle.plan_text.specs.declared.errors.PlanError.TheVariants.{Unexpected}
 use Rattle.plan_text.specs.Reader.{◌>>=◌, or_refused, unless_refused, ends_early, unknown_controller}
 use Rattle.brief_text.specs.declared.symbols.Keyword.TheVariants as keywords

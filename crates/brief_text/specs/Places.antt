@@ -1,6 +1,6 @@
 -- A place in a brief, and what one token or two stand for there: what is read and the place after it, or the refusal.
 -- `PlanError` of plan_text has the codes P1 to P8.
-use Rattle.std.specs.Prelude.{ℕ, ◌&&◌, Bool, true, false, nat_le, List, Option, Some, None, Result, Ok, Err, if◌then◌else◌}
+use Rattle.std.specs.Prelude.{ℕ, ◌&&◌, Bool, nat_le, List, Option, Some, None, Result, Ok, Err, if◌then◌else◌}
 use Rattle.std.specs.Map.{lookup}
 use Rattle.std.specs.Str.{bytes_eq}
 use Rattle.message_tree.specs.declared.bits.Address.{Address}

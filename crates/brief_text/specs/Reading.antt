@@ -1,7 +1,6 @@
 -- What the functions of the reader say of the tokens that are left.
 -- Only private contracts and proofs use this.
-use Rattle.std.specs.Prelude.{◌≡◌, ℕ, Bool, true, false, ◌||◌, ◌==◌, List, [], ◌∷◌, length, Option, Some, None}
-use Rattle.message_tree.specs.Codes.{code}
+use Rattle.std.specs.Prelude.{◌≡◌, ℕ, false, List, [], ◌∷◌, length, Option, Some, None}
 use Rattle.plan_text.specs.Reading.{is_skipped}
 use Rattle.plan_text.specs.Tokens.{text_end, foreign, stray}
 use Rattle.plan_text.specs.declared.errors.PlanError.{PlanError}

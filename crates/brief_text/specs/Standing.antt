@@ -1,19 +1,14 @@
 -- What the functions of the reader say of the place at which they stand. Only private contracts and proofs use this.
-use Rattle.std.specs.Prelude.{◌≡◌, ◌⊎◌, ℕ, ◌+◌, ◌-◌, ◌*◌, ◌&&◌, suc, List, [], ◌∷◌, map, nat_lt, nat_le, Result, Ok, Err, if◌then◌else◌}
-use Rattle.indexmap.specs.IndexMap.{IndexMap}
+use Rattle.std.specs.Prelude.{◌≡◌, ℕ, ◌-◌, ◌*◌, suc, List, map, nat_lt, Result, Ok, Err, if◌then◌else◌}
 use Rattle.message_tree.specs.Counts.{greatest_of}
-use Rattle.message_tree.specs.Trees.{FrameTree, write, read, PayloadTree, byte, TailTree}
-use Rattle.message_tree.specs.declared.bits.Pattern.{Pattern}
+use Rattle.message_tree.specs.Trees.{FrameTree, write, read, PayloadTree, TailTree}
 use Rattle.plan_core.specs.BuilderContents.{builder_contents}
 use Rattle.plan_core.specs.Contents.{Contents}
 use Rattle.plan_core.specs.NameBytes.{name_bytes}
-use Rattle.plan_core.specs.declared.limits.TheConstants.{MOST_NODES}
-use Rattle.plan_core.specs.declared.names.Name.{Name}
 use Rattle.plan_text.specs.Places.{Refuses}
 use Rattle.plan_text.specs.Reader.{◌>>=◌}
 use Rattle.plan_text.specs.declared.errors.PlanError.{PlanError}
 use Rattle.plan_text.specs.declared.errors.PlanError.TheVariants.{TooLong}
-use Rattle.brief_text.specs.declared.frames.Room.{Room}
 use Rattle.brief_text.specs.declared.items.Reader.{Reader}
 use Rattle.brief_text.specs.declared.naming.Named.{Named}
 use Rattle.brief_text.specs.declared.sources.Source.{Source}

@@ -81,7 +81,8 @@ impl<'a> Source<'a> {
     pub(crate) fn add_device(&mut self, name: Name, address: Address) -> Result<(), AllocError>
         requires { lookup (bytes_eq (name_bytes name)) (place self.old).devices ≡ None }
         ensures { OnOk result (place self.new ≡ record (place self.old) {
-            devices = (place self.old).devices ++ (name_bytes name, address) ∷ [] }) }
+          devices = (place self.old).devices ++ (name_bytes name, address) ∷ [];
+        }) }
     {
         self.devices.add(name, address)
     }
@@ -90,7 +91,8 @@ impl<'a> Source<'a> {
     pub(crate) fn add_byte(&mut self, name: Name, bits: Pattern) -> Result<(), AllocError>
         requires { lookup (bytes_eq (name_bytes name)) (place self.old).bytes ≡ None }
         ensures { OnOk result (place self.new ≡ record (place self.old) {
-            bytes = (place self.old).bytes ++ (name_bytes name, bits) ∷ [] }) }
+          bytes = (place self.old).bytes ++ (name_bytes name, bits) ∷ [];
+        }) }
     {
         self.bytes.add(name, bits)
     }

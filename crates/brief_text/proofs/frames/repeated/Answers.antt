@@ -1,4 +1,4 @@
-use Rattle.std.proofs.Common.{rules, ◌≡◌, ℕ, sym, ap, ◌∙◌, arith, add-one}
+use Rattle.std.proofs.Common.{rules, ◌≡◌, sym, ap, ◌∙◌, arith, add-one}
 use Rattle.message_tree.specs.Trees.{byte, payload_tree, tail_tree}
 use Rattle.brief_text.specs.Frames.{repeated}
 use Rattle.brief_text.proofs.frames.repeated.Goals as goal

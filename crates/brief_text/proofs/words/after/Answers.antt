@@ -1,4 +1,3 @@
-use Rattle.std.proofs.Common.{sym}
 use Rattle.plan_core.proofs.LabelLemmas.{front_cases}
 use Rattle.brief_text.proofs.words.after.Goals as goal
 

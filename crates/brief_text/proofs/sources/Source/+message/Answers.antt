@@ -28,7 +28,7 @@ pub bytes-returns-in_err-acked : goal.bytes-returns-in_err-acked
 bytes-returns-in_err-acked t c =
     let p = err_from_is_err_and c.from_residual-in_err-acked.result c.from_residual-in_err-acked.ensures.1 in
     let steps = bytes_steps c.args.room.bytes c.args.room.copies c.in_ok-more.more (place c.args.self.now) (place c.data.new.self) (place c.node.new.self) (place c.more.new.self) (place c.refused.new.self) c.in_ok-data.data.value c.in_ok-data.data.line c.in_ok-first.first.bytes (tail_tree c.in_ok-refused.refused)
-      c.in_ok-data.ensures c.in_ok-first.ensures.read c.in_ok-first.first.copies _ c.in_ok-first.ensures.copies.0 (add-one c.in_ok-more.more) c.in_ok-more.ensures.read c.in_ok-refused.ensures in
+    c.in_ok-data.ensures c.in_ok-first.ensures.read c.in_ok-first.first.copies _ c.in_ok-first.ensures.copies.0 (add-one c.in_ok-more.more) c.in_ok-more.ensures.read c.in_ok-refused.ensures in
     rw (p.1, p.2) (subst (λ (r : Reads PayloadTree). Refuses r c.in_err-acked.field-0.0) (sym steps) (refuses_on _ (λ acked. Ok (repeated (suc c.in_ok-more.more) c.in_ok-data.data.value acked.0 (tail_tree c.in_ok-refused.refused), acked.1)) c.in_err-acked.field-0.0 c.in_err-acked.ensures))
 
 pub bytes-returns : goal.bytes-returns
@@ -36,7 +36,7 @@ bytes-returns t c =
     let bits = c.in_ok-data.data.value in
     let refused = tail_tree c.in_ok-refused.refused in
     let steps = bytes_steps c.args.room.bytes c.args.room.copies c.in_ok-more.more (place c.args.self.now) (place c.data.new.self) (place c.node.new.self) (place c.more.new.self) (place c.refused.new.self) bits c.in_ok-data.data.line c.in_ok-first.first.bytes refused
-      c.in_ok-data.ensures c.in_ok-first.ensures.read c.in_ok-first.first.copies _ c.in_ok-first.ensures.copies.0 (add-one c.in_ok-more.more) c.in_ok-more.ensures.read c.in_ok-refused.ensures in
+    c.in_ok-data.ensures c.in_ok-first.ensures.read c.in_ok-first.first.copies _ c.in_ok-first.ensures.copies.0 (add-one c.in_ok-more.more) c.in_ok-more.ensures.read c.in_ok-refused.ensures in
     steps ∙ ap (λ (r : Reads PayloadTree). r >>= λ acked. Ok (repeated (suc c.in_ok-more.more) bits acked.0 refused, acked.1)) c.in_ok-acked.ensures ∙ ap (λ (p : PayloadTree). Ok (p, place c.payload.new.self)) (sym c.in_ok-repeated.ensures)
 
 pub payload-returns-in-Word : goal.payload-returns-in-Word

@@ -1,7 +1,6 @@
 use Rattle.std.proofs.Common.{sym, ap, ◌∙◌, inr, refl}
 use Rattle.std.specs.Prelude.{Err}
 use Rattle.plan_text.specs.declared.errors.PlanError.{PlanError}
-use Rattle.plan_core.specs.Names.{is_name}
 use Rattle.plan_text.proofs.NameLemmas.{no_name}
 use Rattle.brief_text.specs.Places.{name_in}
 use Rattle.brief_text.specs.Standing.{before}

@@ -1,4 +1,4 @@
-use Rattle.std.proofs.Common.{sym, ap, ◌∙◌, subst, inr}
+use Rattle.std.proofs.Common.{sym, ◌∙◌, subst, inr}
 use Rattle.std.proofs.lemmas.Result.{err_from_is_err_and}
 use Rattle.message_tree.specs.declared.bits.Address.{Address}
 use Rattle.plan_text.specs.Places.{Refuses}

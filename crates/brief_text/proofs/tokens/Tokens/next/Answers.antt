@@ -1,4 +1,4 @@
-use Rattle.std.proofs.Common.{rules, arith, ◌≡◌, refl, ap, sym, ◌∙◌, get_or, take, true, false, Some}
+use Rattle.std.proofs.Common.{◌≡◌, refl, ap, sym, ◌∙◌, get_or, take, true, false, Some}
 use Rattle.plan_text.proofs.TokenLemmas.{front_is, none_left}
 use Rattle.brief_text.specs.Tokens.{is_word_part, tokens_of, token_of_word}
 use Rattle.brief_text.specs.Reading.{left}
