@@ -1,0 +1,81 @@
+-- Whole texts, item by item, and that a text has one reading.
+use Rattle.std.proofs.Common.{◌≡◌, ℕ, suc, List, [], true, false, ◌⊎◌, inl, inr, refl, ap, sym, ◌∙◌, length}
+use Rattle.std.specs.Prelude.{Result, Ok, Err, IfOk, IfErr, MatchResult}
+use Rattle.plan_core.specs.Contents.{Contents, empty}
+use Rattle.plan_core.specs.PlanContents.{plan_contents}
+use Rattle.plan_core.specs.declared.plans.Plan.{Plan}
+use Rattle.plan_text.specs.Places.{Refuses}
+use Rattle.plan_text.specs.Reader.{◌>>=◌}
+use Rattle.plan_text.specs.declared.errors.PlanError.{PlanError}
+use Rattle.plan_text.specs.declared.errors.PlanError.TheVariants.{NoMemory}
+use Rattle.plan_text.proofs.TakesLemmas.{ok_is}
+use Rattle.brief_text.specs.Briefs.{is_end, unexpected, items_in, after_head, brief_read, Means, IsRefused}
+use Rattle.brief_text.specs.Items.{item_at}
+use Rattle.brief_text.specs.Places.{Place}
+use Rattle.brief_text.specs.Reading.{with_symbol, with_token, unexpected_symbol, unexpected_at}
+use Rattle.brief_text.specs.declared.symbols.Symbol.{Symbol}
+use Rattle.brief_text.specs.declared.symbols.Symbol.TheVariants as symbols
+use Rattle.brief_text.specs.declared.symbols.Token as seen
+use Rattle.brief_text.specs.Tokens.{Tokens, tokens_of}
+
+module _ (most : ℕ) (plan : Contents) (at : Place) where
+  step : is_end at.tokens ≡ false → items_in (suc most) plan at ≡ (item_at plan at >>= λ more. items_in most more.0 more.1)
+  unfolding items_in
+  step e = rw e refl
+
+  pub items_after : (x : Contents × Place) → is_end at.tokens ≡ false → item_at plan at ≡ Ok x → items_in (suc most) plan at ≡ items_in most x.0 x.1
+  items_after x more e = step more ∙ rw e refl
+
+  pub items_end : is_end at.tokens ≡ true → items_in (suc most) plan at ≡ Ok plan
+  unfolding items_in
+  items_end e = rw e refl
+
+  pub items_refuse : (e : PlanError) → is_end at.tokens ≡ false → Refuses (item_at plan at) e → Refuses (items_in (suc most) plan at) e
+  items_refuse e more (inl memory) = inl memory
+  items_refuse e more (inr h) = inr (step more ∙ rw h refl)
+
+pub items_none : (plan : Contents) (at : Place) → items_in 0 plan at ≡ Err (unexpected at.tokens)
+unfolding items_in
+items_none plan at = refl
+
+pub unexpected_first : (token : seen.Token) (rest : Tokens) → unexpected (with_token token rest) ≡ unexpected_at token
+unexpected_first token rest = by_symbol token.symbol
+  where
+    by_symbol : (s : Symbol) → unexpected (with_symbol s token.line rest) ≡ unexpected_symbol s token.line
+    by_symbol (symbols.Keyword k) = refl
+    by_symbol (symbols.Word w) = refl
+    by_symbol (symbols.Sign s) = refl
+    by_symbol symbols.Stray = refl
+    by_symbol symbols.Foreign = refl
+    by_symbol symbols.End = refl
+
+-- ---- from `brief 1` on
+
+abbrev pub start : Tokens → Place
+start rest = record { tokens = rest; devices = []; bytes = []; nodes = 0 }
+
+module _ (text : List ℕ) where
+  abbrev from_head : Result Tokens PlanError → Result Contents PlanError
+  from_head head = head >>= λ rest. items_in (length text) empty (start rest)
+
+  pub text_from : (rest : Tokens) → after_head (tokens_of 1 text) ≡ Ok rest → brief_read text ≡ items_in (length text) empty (start rest)
+  unfolding brief_read
+  text_from rest e = ap from_head e
+
+  pub text_refused : (e : PlanError) → after_head (tokens_of 1 text) ≡ Err e → brief_read text ≡ Err e
+  unfolding brief_read
+  text_refused e h = ap from_head h
+
+  -- ---- one reading
+
+  pub plans : (r : Result Plan PlanError) → IfOk r (λ p. brief_read text ≡ Ok (plan_contents p)) → IfErr r (Refuses (brief_read text))
+      → (plan : Contents) → Means text plan → MatchResult r (λ it. plan_contents it ≡ plan) (λ e. e ≡ NoMemory)
+  plans (Ok p) read refused plan s = ok_is (plan_contents p) plan (sym read ∙ s)
+  plans (Err e) read (inl memory) plan s = memory
+  plans (Err e) read (inr first) plan s = let no = sym s ∙ first in absurd cc
+
+  pub refusals : (r : Result Plan PlanError) → IfOk r (λ p. brief_read text ≡ Ok (plan_contents p)) → IfErr r (Refuses (brief_read text))
+      → (due : PlanError) → IsRefused text due → MatchResult r (λ it. ⊥) (λ e. (e ≡ NoMemory) ⊎ (e ≡ due))
+  refusals (Ok p) read refused due f = let no = sym read ∙ f in absurd cc
+  refusals (Err e) read (inl memory) due f = inl memory
+  refusals (Err e) read (inr first) due f = inr (let same = sym first ∙ f in cc)

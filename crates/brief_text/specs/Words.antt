@@ -1,0 +1,70 @@
+-- What a word says that spells out an address or a data byte: in base 2 after `0b`, in base 16 after `0x`.
+use Rattle.std.specs.Prelude.{ℕ, ◌+◌, ◌*◌, Bool, ◌&&◌, ◌==◌, nat_lt, List, [], ◌∷◌, ◌++◌, map, Option, Some, None, codes, if◌then◌else◌}
+use Rattle.std.specs.Char.{digit_value}
+use Rattle.message_tree.specs.Bits.{bits_below}
+use Rattle.message_tree.specs.Codes.{code}
+use Rattle.message_tree.specs.declared.bits.Address.{Address}
+use Rattle.message_tree.specs.declared.bits.Bit.{Bit}
+use Rattle.message_tree.specs.declared.bits.Bit.TheVariants.{Zero, One, Either}
+use Rattle.message_tree.specs.declared.bits.Pattern.{Pattern}
+use Rattle.plan_text.specs.Canonical.{bit_symbol}
+use Rattle.plan_text.specs.Values.{address_of, pattern_of, pattern_by}
+
+-- the four bits of a digit, as a plan text has them: those of `X` are open
+unfoldable pub digit_bits : ℕ → Option (List ℕ)
+digit_bits byte =
+    if byte == code "X" then Some (codes "xxxx")
+    else if nat_lt (digit_value byte) 16 then Some (map bit_symbol (bits_below 4 15 (digit_value byte)))
+    else None
+
+abbrev pub both : Option (List ℕ) → Option (List ℕ) → Option (List ℕ)
+both (Some high) (Some low) = Some (high ++ low)
+both high low = None
+
+-- the eight bits of two digits
+abbrev pub hex_bits : List ℕ → Option (List ℕ)
+hex_bits (high ∷ low ∷ []) = both (digit_bits high) (digit_bits low)
+hex_bits digits = None
+
+-- a data byte has all eight bits
+abbrev pub eight_bits : Option (List ℕ) → Option Pattern
+eight_bits (Some bits) = pattern_of bits
+eight_bits None = None
+
+-- an address has the last seven, and the first is no 1
+abbrev pub seven_bits : Option (List ℕ) → Option Address
+seven_bits (Some (first ∷ bits)) = if first == code "1" then None else address_of bits
+seven_bits bits = None
+
+abbrev pub is_base_2 : ℕ → ℕ → Bool
+is_base_2 first second = first == code "0" && second == code "b"
+
+abbrev pub is_base_16 : ℕ → ℕ → Bool
+is_base_16 first second = first == code "0" && second == code "x"
+
+-- the data byte that a word spells out
+unfoldable pub data_by : List ℕ → Option Pattern
+data_by (first ∷ second ∷ rest) =
+    if is_base_2 first second then pattern_of rest
+    else if is_base_16 first second then eight_bits (hex_bits rest)
+    else None
+data_by bytes = None
+
+-- the address that a word spells out
+unfoldable pub address_by : List ℕ → Option Address
+address_by (first ∷ second ∷ rest) =
+    if is_base_2 first second then address_of rest
+    else if is_base_16 first second then seven_bits (hex_bits rest)
+    else None
+address_by bytes = None
+
+-- eight open bits
+abbrev pub any_byte : Pattern
+any_byte = pattern_by 0 0
+
+-- the number that these bits make up after n, where all of them are known
+abbrev pub known_number : ℕ → List Bit → Option ℕ
+known_number n [] = Some n
+known_number n (Zero ∷ bits) = known_number (n * 2) bits
+known_number n (One ∷ bits) = known_number (n * 2 + 1) bits
+known_number n (Either ∷ bits) = None

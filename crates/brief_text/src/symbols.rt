@@ -1,0 +1,147 @@
+// The symbols of a brief: its tokens, and what stands where there is none.
+
+ghost use Rattle.std.specs.Prelude.{◌≡◌, Some, true, false};
+ghost use Rattle.brief_text.specs.Tokens.{keyword_of, token_of_word, sign_of};
+ghost use Rattle.brief_text.specs.Reading.{token_of_symbol};
+
+use plan_text::PlanError;
+
+/// A word that the language has in fixed places.
+#[derive(Clone, Copy)]
+pub(crate) enum Keyword {
+    Brief,
+    Device,
+    Byte,
+    Any,
+    Message,
+    Controller,
+    Interrupt,
+    Never,
+    Write,
+    Read,
+    Else,
+    Stop,
+}
+
+/// A character that is a token by itself.
+#[derive(Clone, Copy)]
+pub(crate) enum Sign {
+    Semicolon,
+    Open,
+    Close,
+    Star,
+}
+
+/// What stands at one place of a brief, after the white space and the comments before it.
+#[derive(Clone, Copy)]
+pub(crate) enum Symbol<'a> {
+    /// A maximal run of letters, digits, `_` and `.` that is a keyword.
+    Keyword(Keyword),
+    /// Another such run.
+    Word(&'a [u8]),
+    /// `;`, `(`, `)` or `*`.
+    Sign(Sign),
+    /// An ASCII character that belongs to no token.
+    Stray,
+    /// A byte of 128 or more, inside a comment or outside.
+    Foreign,
+    /// The end of the text.
+    End,
+}
+
+/// A symbol with its line.
+#[derive(Clone, Copy)]
+pub(crate) struct Token<'a> {
+    pub(crate) symbol: Symbol<'a>,
+    pub(crate) line: u64,
+}
+
+impl<'a> Token<'a> {
+    ghost use Rattle.brief_text.specs.Reading.{unexpected_at, with_token};
+    ghost use Rattle.brief_text.specs.Briefs.{no_version};
+    ghost use Rattle.brief_text.specs.Tokens as tokens;
+
+    /// The refusal of this token where the grammar does not allow it.
+    pub(crate) fn unexpected(&self) -> PlanError
+        ensures { result ≡ unexpected_at self.now }
+    {
+        match self.symbol {
+            Symbol::Foreign => PlanError::NotAscii(self.line),
+            _ => PlanError::Unexpected(self.line),
+        }
+    }
+
+    /// Whether this is `;`.
+    pub(crate) fn is_semicolon(&self) -> bool
+        ensures some { result ≡ true → self.now.symbol ≡ Symbol.Sign Sign.Semicolon }
+        ensures none { result ≡ false → self.now.symbol ≡ Symbol.Sign Sign.Semicolon → ⊥ }
+    {
+        matches!(self.symbol, Symbol::Sign(Sign::Semicolon))
+    }
+
+    /// The refusal of this token in the place of `brief`, or of the `1` after it.
+    pub(crate) fn no_version(&self) -> PlanError
+        ensures { (rest : tokens.Tokens) → result ≡ no_version (with_token self.now rest) }
+    {
+        match self.symbol {
+            Symbol::Stray | Symbol::Foreign => self.unexpected(),
+            _ => PlanError::Version(self.line),
+        }
+    }
+}
+
+/// The symbol that this word is.
+#[tactic(auto, unfolding(crate::specs::Tokens::token_of_word))]
+pub(crate) fn word_symbol(word: &[u8]) -> Symbol<'_>
+    ensures { token_of_symbol result ≡ Some (token_of_word word.now) }
+{
+    match keyword_of(word) {
+        Some(keyword) => Symbol::Keyword(keyword),
+        None => Symbol::Word(word),
+    }
+}
+
+fn keyword_of(word: &[u8]) -> Option<Keyword>
+    ensures { result ≡ keyword_of word.now }
+{
+    if word == b"brief".as_slice() {
+        Some(Keyword::Brief)
+    } else if word == b"device".as_slice() {
+        Some(Keyword::Device)
+    } else if word == b"byte".as_slice() {
+        Some(Keyword::Byte)
+    } else if word == b"any".as_slice() {
+        Some(Keyword::Any)
+    } else if word == b"message".as_slice() {
+        Some(Keyword::Message)
+    } else if word == b"controller".as_slice() {
+        Some(Keyword::Controller)
+    } else if word == b"interrupt".as_slice() {
+        Some(Keyword::Interrupt)
+    } else if word == b"never".as_slice() {
+        Some(Keyword::Never)
+    } else if word == b"write".as_slice() {
+        Some(Keyword::Write)
+    } else if word == b"read".as_slice() {
+        Some(Keyword::Read)
+    } else if word == b"else".as_slice() {
+        Some(Keyword::Else)
+    } else if word == b"stop".as_slice() {
+        Some(Keyword::Stop)
+    } else {
+        None
+    }
+}
+
+/// The sign that this byte is.
+pub(crate) fn sign_of(byte: u8) -> Option<Sign>
+    ensures { result ≡ sign_of byte }
+{
+    match byte {
+        b';' => Some(Sign::Semicolon),
+        b'(' => Some(Sign::Open),
+        b')' => Some(Sign::Close),
+        b'*' => Some(Sign::Star),
+        _ => None,
+    }
+}

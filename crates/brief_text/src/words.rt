@@ -1,0 +1,103 @@
+// What a word spells out: an address or a data byte.
+
+ghost use Rattle.std.specs.Prelude.{◌≡◌, ◌≢◌, ◌<◌, ◌++◌, ℕ, List, map, IfSome, MatchOption, None, Some};
+ghost use Rattle.message_tree.specs.Bits.{bits_below};
+ghost use Rattle.message_tree.specs.Patterns.{address_bits};
+ghost use Rattle.plan_text.specs.Canonical.{bit_symbol};
+ghost use Rattle.brief_text.specs.Words.{data_by, address_by, digit_bits, hex_bits, known_number};
+
+use message_tree::{Address, Bit, Pattern};
+use plan_text::words;
+
+/// The eight bits of a data byte.
+pub(crate) fn data(word: &[u8]) -> Option<Pattern>
+    ensures { result ≡ data_by word.now }
+{
+    if let Some(bits) = after(b"0b", word) {
+        return words::pattern(bits);
+    }
+    let digits = after(b"0x", word)?;
+    let bits = byte(digits)?;
+    Some(Pattern::new(bits.known, bits.value))
+}
+
+/// The seven bits of an address.
+pub(crate) fn address(word: &[u8]) -> Option<Address>
+    ensures { result ≡ address_by word.now }
+{
+    if let Some(bits) = after(b"0b", word) {
+        return words::address(bits);
+    }
+    let digits = after(b"0x", word)?;
+    let bits = byte(digits)?;
+    if bits.known >= 128 && bits.value >= 128 {
+        return None;
+    }
+    Some(Address::new(bits.known, bits.value))
+}
+
+/// The number of an address that is known in all bits.
+pub(crate) fn known_address(address: &Address) -> Option<u8>
+    ensures read { result ≡ known_number 0 (address_bits address.now) }
+    ensures small { IfSome result (λ it. it < 128) }
+{
+    let mut number = 0u8;
+    for place in 0..7u8 {
+        number = match address.bit(place) {
+            Bit::Zero => number * 2,
+            Bit::One => number * 2 + 1,
+            Bit::Either => return None,
+        };
+    }
+    Some(number)
+}
+
+// What follows these two bytes at the front of a word.
+fn after<'a>(front: &[u8; 2], word: &'a [u8]) -> Option<&'a [u8]>
+    ensures { MatchOption result ((rest : List ℕ) → front.now ++ rest ≢ word.now) (λ it. front.now ++ it.now ≡ word.now) }
+{
+    word.strip_prefix(front.as_slice())
+}
+
+// Bits, of which some are known: there `known` has a 1.
+#[derive(Clone, Copy)]
+struct Mask {
+    known: u8,
+    value: u8,
+}
+
+// The bits of two digits.
+fn byte(digits: &[u8]) -> Option<Mask>
+    ensures known { IfSome result (λ it. it.known < 256) }
+    ensures value { IfSome result (λ it. it.value < 256) }
+    ensures bits { MatchOption result (hex_bits digits.now ≡ None)
+        (λ it. hex_bits digits.now ≡ Some (map bit_symbol (bits_below 8 it.known it.value))) }
+{
+    let [high, low] = digits else {
+        return None;
+    };
+    let high = digit(*high)?;
+    let low = digit(*low)?;
+    Some(Mask {
+        known: high.known * 16 + low.known,
+        value: high.value * 16 + low.value,
+    })
+}
+
+// The four bits of a digit.
+#[tactic(auto, unfolding(crate::specs::Words::digit_bits))]
+fn digit(byte: u8) -> Option<Mask>
+    ensures bits { MatchOption result (digit_bits byte ≡ None)
+        (λ it. digit_bits byte ≡ Some (map bit_symbol (bits_below 4 it.known it.value))) }
+    ensures known { IfSome result (λ it. it.known < 16) }
+    ensures value { IfSome result (λ it. it.value < 16) }
+{
+    if byte == b'X' {
+        return Some(Mask { known: 0, value: 0 });
+    }
+    let value = (byte as char).to_digit(16)?;
+    Some(Mask {
+        known: 15,
+        value: value as u8,
+    })
+}
