@@ -129,7 +129,8 @@ expect "hints on a report without a transaction" 0 "$silent" \
         "the names of the two lines are given with --scl NAME and --sda NAME")" plan quiet --hints always
 expect "no hints on a report with a transaction" 0 $'5-160 a/m\n1 transactions, 0 unexplained' "" plan acknowledged --hints always
 expect "no hints on one that goes on" 0 $'5- unfinished\n0 transactions, 0 unexplained' "" plan cut --hints always
-expect "no hints on a missing file" 2 "" "refused read" plan missing --hints always
+expect "hints on a missing file" 2 "" "refused read"$'\n'"$(hint "the capture \"missing\" cannot be opened:" \
+    "No such file or directory (os error 2)")" plan missing --hints always
 
 for when in never auto; do
     expect "hints $when: a token" 2 "" "refused V2 line 26" "$example" nine_states --hints "$when"
