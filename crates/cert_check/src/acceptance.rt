@@ -34,10 +34,11 @@ use std::alloc::{AllocError, Global};
 
 /// Whether the certificate proves that the plan is safe, or shows that it is not.
 ///
-/// The plan is read first, then the certificate, one proof at a time: a proof is read, its pair is checked, and the
-/// proof is dropped. The place of its line in the text is remembered for the two senders: where the text has the same line
-/// for a further pair of them, nothing is read again. So it takes memory for the plan, for one proof, and for the places of
-/// lines (16 bytes for each two messages or interrupts, 1.3 MB at most), however long the certificate is.
+/// The plan is read first, then the certificate, one line at a time: where a line proves its pair as it stands, no proof is
+/// made of it; of any other line the proof is read, its pair is checked, and the proof is dropped. The place of a line that
+/// proves its pair is remembered for the two senders: where the text has the same line for a further pair of them, nothing
+/// is looked at again. So it takes memory for the plan, for one proof, and for the places of lines (16 bytes for each two
+/// messages or interrupts, 1.3 MB at most), however long the certificate is.
 ///
 /// Where it answers `Safe`, no run of the bus has a fault, whatever participants start together and whatever the
 /// targets return: no repeated START or STOP meets another's data bit or each other (UM10204, 3.1.8), no controller

@@ -4,7 +4,8 @@
 //! `pairs` lays a proof beside the two messages of its pair, node by node (`nodes`, `bits`). `faults` follows the wire of
 //! a fault through one participant at a time, place by place. `certified` checks the proofs of a whole plan, and `accepted`
 //! keeps a plan that they made safe. `acceptance` reads a plan and its certificate, and checks each proof as it comes
-//! (`remembered`, `tallies`). `laws` says what proofs of all pairs are worth.
+//! (`remembered`, `tallies`), as it stands in the text where that suffices (`quick`). `laws` says what proofs of all pairs
+//! are worth.
 #![tactic(auto)]
 
 pub mod acceptance;
