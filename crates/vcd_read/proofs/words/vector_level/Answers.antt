@@ -10,12 +10,12 @@ pub returns-then-all : goal.returns-then-all
 returns-then-all c =
     let others = c.in_ok-rightmost.others.now in
     let all : c.all.result ≡ list_all (λ digit. is_some (level_of digit)) others =
-        all_from_yields_List (λ digit. is_some (level_of digit)) _ _ c.all.result c.all.ensures.ran (YieldsList-from_slice others cc) (λ x b q k. search (rules, tests)) in
+    all_from_yields_List (λ digit. is_some (level_of digit)) _ _ c.all.result c.all.ensures.ran (YieldsList-from_slice others cc) (λ x b q k. search (rules, tests)) in
     rw c.in_ok-rightmost.ensures.cases.0 (c.level_of.ensures ∙ vector_of_values others c.in_ok-rightmost.rightmost.now (sym all ∙ c.if-all.true))
 
 pub returns-else-all : goal.returns-else-all
 returns-else-all c =
     let others = c.in_ok-rightmost.others.now in
     let all : c.all.result ≡ list_all (λ digit. is_some (level_of digit)) others =
-        all_from_yields_List (λ digit. is_some (level_of digit)) _ _ c.all.result c.all.ensures.ran (YieldsList-from_slice others cc) (λ x b q k. search (rules, tests)) in
+    all_from_yields_List (λ digit. is_some (level_of digit)) _ _ c.all.result c.all.ensures.ran (YieldsList-from_slice others cc) (λ x b q k. search (rules, tests)) in
     rw c.in_ok-rightmost.ensures.cases.0 (vector_of_others others c.in_ok-rightmost.rightmost.now (sym all ∙ c.if-all.false))
