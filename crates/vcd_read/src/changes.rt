@@ -1,9 +1,11 @@
 // Times and value changes: IEEE 1364-2005, 18.2.1 and 18.2.2, and the commands among them, 18.2.3.
 
-ghost use Rattle.std.specs.Prelude.{◌≡◌, ℕ, Some, None, Ok, true, false};
+ghost use Rattle.std.specs.Prelude.{◌≡◌, ℕ, ◌<◌, List, ◌∷◌, Some, None, IsSome, Ok, true, false};
 ghost use Rattle.vcd_read.specs.Changes.{change, change_of_code, command_among_changes, time_reached, stamp_sample};
 ghost use Rattle.vcd_read.specs.Dumps.{step};
 ghost use Rattle.vcd_read.specs.Views.{state_of, HasRoom, Leaves, Steps};
+ghost use Rattle.vcd_read.specs.Words.{binary_level_of, code_number};
+ghost use Rattle.vcd_read.specs.declared.dumps.Context.TheVariants.{Nothing};
 
 use crate::dumps::{Context, Dump};
 use crate::errors::Refusal;
@@ -20,6 +22,13 @@ impl Dump {
     pub(crate) fn change_short(&mut self, token: &[u8]) -> bool
         ensures read { result ≡ true → (line : ℕ) →
             step (state_of self.old) token.now line ≡ Ok (state_of self.new, None) }
+        ensures all { (value : ℕ) (code : List ℕ) →
+            token.now ≡ value ∷ code →
+            self.old.context ≡ Nothing →
+            self.old.defined ≡ true →
+            IsSome (binary_level_of value) →
+            0 < code_number code →
+            result ≡ true }
         ensures left { result ≡ false → self.new ≡ self.old }
         ensures room { (n : ℕ) → HasRoom n self.old → HasRoom n self.new }
     {
