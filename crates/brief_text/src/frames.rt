@@ -79,7 +79,7 @@ impl Source<'_> {
         let to = self.to()?;
         let below = self.node(room, to.line)?;
         let count = self.count(below.bytes)?;
-        let refused = self.refused(below)?;
+        let after_refusal = self.refused(below)?;
         let after = self.following(Room {
             bytes: below.bytes - count.greatest() as u32,
             copies: below.copies,
@@ -88,7 +88,7 @@ impl Source<'_> {
             address: to.value,
             count,
             after,
-            refused,
+            refused: after_refusal,
         })
     }
 

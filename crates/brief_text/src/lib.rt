@@ -1,4 +1,5 @@
-//! The text of a brief, the short form of a plan that people write: `expand_brief` reads the plan that it means.
+//! The text of a brief, the short form of a plan that people write: `expand_brief` reads the plan that it means, `brief_of`
+//! writes a brief of a plan.
 //!
 //! A text is cut into tokens, one at a time, each with its line (`tokens`, `symbols`). What a single word spells out is in
 //! `words`, what has a name in `naming`, the parts of items that are one token or two in `sources`. `frames` has a function
@@ -13,6 +14,8 @@ mod sources;
 mod symbols;
 mod tokens;
 mod words;
+mod writing;
 
 pub use items::expand_brief;
 pub use plan_text::PlanError as BriefError;
+pub use writing::{NoBrief, brief_of};
