@@ -1,6 +1,7 @@
 // The commands, from the bytes of their files to what they write and their status.
 
 use crate::benches::{Player, play_on};
+use crate::briefs::expansion;
 use crate::captures::{Word, events_of, samples_of, transactions_of};
 use crate::certificates::{Flaw, Reading, read_certificate};
 use crate::dumps::words_of;
@@ -346,6 +347,14 @@ pub fn labels(alloc: Global, plan: &[u8]) -> Result<Vec<String>, AllocError> {
         }
     }
     Ok(labels)
+}
+
+/// `twire expand BRIEF`.
+pub fn expand(alloc: Global, brief: &[u8]) -> Result<Answer, AllocError> {
+    match expansion(alloc, brief) {
+        Ok(plan) => answered(alloc, 0, spelling(alloc, plan.as_bytes())?),
+        Err(refusal) => refused_plan(alloc, refusal),
+    }
 }
 
 /// The canonical spelling of a plan, or nothing where the text spells none.
