@@ -174,9 +174,9 @@ TO' and data bytes, or 'read TO COUNT'. At the end of the last one it stops.
   x X       open bits, which are sent as 0 or as 1: 'x' is one in binary, and
             'X' all those of a digit in hex
   COUNT     how many bytes are read: 1 to 255, or '2..4' for any from 2 to 4
-  else      behind TO or COUNT, or a byte: what is done where the target does
-            not acknowledge it. 'else stop' as without it; 'else (' frames ')'
-            sends these after a repeated START
+  else      after the TO of a write, a COUNT or a byte: what is done where the
+            target does not acknowledge it. 'else stop' is as no 'else'; with
+            'else (' frames ')' these follow, by a repeated START
 
 Check, certify and keep the plan that is written. Refusals are those of 'twire
 check', with the line of the brief. Exit status: 0 written, 2 refused.";
