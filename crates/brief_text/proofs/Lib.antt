@@ -5,3 +5,4 @@ pub mod WordLemmas
 pub mod NamingLemmas
 pub mod ValueLemmas
 pub mod TextLemmas
+pub mod NameLemmas

@@ -1,5 +1,6 @@
 pub mod Tokens
 pub mod Words
+pub mod Names
 pub mod Places
 pub mod Frames
 pub mod Items

@@ -1,29 +1,36 @@
 // A brief of a plan.
 
-ghost use Rattle.std.specs.Prelude.{◌≡◌, ◌<◌, All, IfOk, length, true};
+ghost use Rattle.std.specs.Prelude.{◌≡◌, ◌<◌, ◌⊎◌, All, IfOk, IfErr, length, true, false, is_some};
 ghost use Rattle.plan_core.specs.PlanContents.{plan_contents};
 ghost use Rattle.brief_text.specs.Briefs.{Means};
+ghost use Rattle.brief_text.specs.Names.{is_brief_word, has_brief_word, LacksBrief};
+ghost use Rattle.brief_text.specs.declared.writing.NoBrief.TheVariants.{NoMemory};
 
 use crate::items::expand_brief;
 use message_tree::{Address, Bit, Count, Frame, Pattern, Payload, Tail};
-use plan_core::Plan;
+use plan_core::{Name, Plan};
 use plan_text::{PlanError, print_plan};
 use std::alloc::{AllocError, Global};
 use thiserror::Error;
 
-/// Why a plan has no brief.
+/// Why there is no brief of a plan.
 #[derive(Clone, Copy, Debug, PartialEq, Eq, Error)]
 pub enum NoBrief {
     /// A message, a controller or an interrupt of the plan has a name that is a word of briefs: `brief`, `device`, `byte`
     /// or `any`.
-    #[error("a name is a word of briefs")]
+    #[error("brief name")]
     Name,
+    /// No name is such a word, and what was written does not mean the plan. No test has met this.
+    #[error("brief text")]
+    Unwritten,
     /// There is no memory.
     #[error("out of memory")]
     NoMemory,
 }
 
 impl From<AllocError> for NoBrief {
+    ghost from_gives = { λ _ e. e ≡ NoMemory };
+
     fn from(_error: AllocError) -> NoBrief {
         NoBrief::NoMemory
     }
@@ -34,21 +41,60 @@ impl From<AllocError> for NoBrief {
 ///
 /// # Errors
 ///
-/// `Name` where a name of the plan can't stand in a brief, and `NoMemory`.
+/// `Name` exactly where a name of the plan is a word of briefs, before memory is asked for; `Unwritten`, which no test has
+/// met, where what was written does not mean the plan; and `NoMemory`.
 pub fn brief_of(alloc: Global, plan: &Plan) -> Result<Vec<u8>, NoBrief>
-    ensures { IfOk result (λ text. Means text.items (plan_contents plan.now)) }
+    ensures meant { IfOk result (λ text. Means text.items (plan_contents plan.now)) }
+    ensures names { IfOk result (λ text. has_brief_word (plan_contents plan.now) ≡ false) }
+    ensures refused { IfErr result (λ e. (e ≡ NoBrief.NoMemory) ⊎ LacksBrief (plan_contents plan.now) e) }
 {
+    if brief_word(plan).is_some() {
+        return Err(NoBrief::Name);
+    }
     let brief = written(alloc, plan)?;
     if is_brief_of(alloc, brief.as_slice(), plan)? {
         Ok(brief)
     } else {
-        Err(NoBrief::Name)
+        Err(NoBrief::Unwritten)
     }
+}
+
+/// The first name of the plan that is a word of briefs: of a message, else of a controller, else of an interrupt. There is
+/// none in a plan whose names a brief can say.
+pub fn brief_word(plan: &Plan) -> Option<&Name>
+    ensures { is_some result ≡ has_brief_word (plan_contents plan.now) }
+{
+    for k in 0..plan.messages() {
+        let name = plan.message_name(k);
+        if is_brief_word(name.as_str()) {
+            return Some(name);
+        }
+    }
+    for k in 0..plan.controllers() {
+        let name = plan.controller_name(k);
+        if is_brief_word(name.as_str()) {
+            return Some(name);
+        }
+    }
+    for k in 0..plan.interrupts() {
+        let name = plan.interrupt_name(k);
+        if is_brief_word(name.as_str()) {
+            return Some(name);
+        }
+    }
+    None
+}
+
+fn is_brief_word(name: &str) -> bool
+    ensures { result ≡ is_brief_word name.now }
+{
+    matches!(name, "brief" | "device" | "byte" | "any")
 }
 
 // Whether the text means this plan: the plan that it means is spelled alike.
 fn is_brief_of(alloc: Global, text: &[u8], plan: &Plan) -> Result<bool, NoBrief>
-    ensures { IfOk result (λ yes. yes ≡ true → Means text.now (plan_contents plan.now)) }
+    ensures meant { IfOk result (λ yes. yes ≡ true → Means text.now (plan_contents plan.now)) }
+    ensures memory { IfErr result (λ e. e ≡ NoBrief.NoMemory) }
 {
     match expand_brief(alloc, text) {
         Ok(meant) => {

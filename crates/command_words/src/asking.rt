@@ -48,8 +48,16 @@ pub enum Request<'a> {
         fill: bool,
         answers: &'a str,
     },
+    /// The plan that a brief means, in its canonical spelling.
+    Expand {
+        brief: &'a str,
+    },
     /// The canonical spelling of a plan.
     Print {
+        plan: &'a str,
+    },
+    /// A brief of a plan.
+    Brief {
         plan: &'a str,
     },
 }
@@ -106,6 +114,7 @@ fn not_bits(alloc: Global) -> Result<Error, AllocError> {
 #[derive(Clone, Copy)]
 struct Found<'a> {
     plan: Option<&'a str>,
+    brief: Option<&'a str>,
     cert: Option<&'a str>,
     vcd: Option<&'a str>,
     starters: Option<&'a str>,
@@ -129,6 +138,7 @@ fn parse<'a>(alloc: Global, words: &'a [String]) -> Result<Option<(Request<'a>, 
 fn found_in<'a>(matches: &ArgMatches<'a>) -> Found<'a> {
     Found {
         plan: matches.get_str("PLAN"),
+        brief: matches.get_str("BRIEF"),
         cert: matches.get_str("CERT"),
         vcd: matches.get_str("VCD"),
         starters: matches.get_str("STARTERS"),
@@ -146,31 +156,34 @@ fn asked_of<'a>(name: &str, found: Found<'a>) -> Option<(Request<'a>, When)> {
 }
 
 fn request_of<'a>(name: &str, found: Found<'a>) -> Option<Request<'a>> {
-    let plan = found.plan?;
     Some(match name {
         "check" => Request::Check {
-            plan,
+            plan: found.plan?,
             workers: found.workers?,
         },
-        "certify" => Request::Certify { plan },
+        "certify" => Request::Certify { plan: found.plan? },
         "verify" => Request::Verify {
-            plan,
+            plan: found.plan?,
             cert: found.cert?,
         },
         "capture" => Request::Capture {
-            plan,
+            plan: found.plan?,
             vcd: found.vcd?,
             scl: found.scl?,
             sda: found.sda?,
         },
         "bench" => Request::Bench {
-            plan,
+            plan: found.plan?,
             cert: found.cert?,
             starters: found.starters?,
             fill: found.fill? == "1",
             answers: found.answers?,
         },
-        "print" => Request::Print { plan },
+        "expand" => Request::Expand {
+            brief: found.brief?,
+        },
+        "print" => Request::Print { plan: found.plan? },
+        "brief" => Request::Brief { plan: found.plan? },
         _ => return None,
     })
 }

@@ -27,12 +27,15 @@ target that starts by itself with its own address. 'plan 2' also has ranges of
 read counts, as '2..4', and 'never main guard ;' for two controllers that never
 start together.
 
+People write a brief, with addresses in hex and no 'else stop', and have the
+plan written from it: 'twire help expand' shows the language.
+
 Exit status:
   0  the plan is safe, or was accepted as safe; a capture is explained; a bench
-     was played; a spelling was written (or help was asked for)
+     was played; a plan or a brief was written (or help was asked for)
   1  the plan is not safe, or was accepted as unsafe; a capture is not explained
-  2  refused: the command line, the plan, the certificate, the capture, the
-     starters of a bench, a file, or out of memory";
+  2  refused: the command line, the plan, the brief, the certificate, the
+     capture, the starters of a bench, a file, or out of memory";
 
 pub const AFTER_CHECK_HELP: &str = "\
 The report has a line for each unsafe pair of participants,
@@ -147,5 +150,44 @@ Each plan has one canonical spelling: the version, the messages, the
 controllers, the interrupts and the 'never' items, each on a line of its own,
 with one space between two words and no comments. It says the same plan, so a
 certificate of the one is a certificate of the other.
+
+Exit status: 0 written, 2 refused.";
+
+pub const AFTER_EXPAND_HELP: &str = "\
+  brief 1
+  device eeprom 0x50 ;  device fan 0b0101111 ;    # addresses of seven bits
+  byte pwm 0b0011000x ;                           # data bytes with names
+  message page   write eeprom 0xX0 any*16 ;
+  message get    write eeprom any*2 read eeprom 1..16 ;
+  message level  write fan pwm any else (read fan 1) 0x01 ;
+  controller bmc page get ;                       # messages that it may start
+  controller seq level ;
+  interrupt alert 0x0C ;                          # a target that starts itself
+  never bmc seq ;                                 # never start together
+
+A message is one frame or more, each after the first by a repeated START: 'write
+TO' and data bytes, or 'read TO COUNT'. At the end of the last one it stops.
+
+  TO        0x00 to 0x7F, 0b and seven bits, or the name of a device
+  byte      0x and two digits, 0b and eight bits, the name of a byte, or 'any',
+            which is eight open bits; 'any*16' is sixteen of them
+  x X       open bits, which are sent as 0 or as 1: 'x' is one in binary, and
+            'X' all those of a digit in hex
+  COUNT     how many bytes are read: 1 to 255, or '2..4' for any from 2 to 4
+  else      after the TO of a write, a COUNT or a byte: what is done where the
+            target does not acknowledge it. 'else stop' is as no 'else'; with
+            'else (' frames ')' these follow, by a repeated START
+
+Check, certify and keep the plan that is written. Refusals are those of 'twire
+check', with the line of the brief. Exit status: 0 written, 2 refused.";
+
+pub const AFTER_BRIEF_HELP: &str = "\
+A brief is the short form of a plan, which 'twire help expand' shows. This one
+has addresses and data bytes in hex where their bits allow it, equal bytes in a
+row with their number, and no 'else stop'. Names of devices and data bytes, and
+comments, are added by people. 'twire expand' gives the same plan back.
+
+A plan that has a name 'brief', 'device', 'byte' or 'any' has no brief, since
+these are words of the language: 'refused brief name'.
 
 Exit status: 0 written, 2 refused.";

@@ -1,8 +1,8 @@
 // The commands and their arguments.
 
 use crate::help::{
-    AFTER_BENCH_HELP, AFTER_CAPTURE_HELP, AFTER_CERTIFY_HELP, AFTER_CHECK_HELP, AFTER_PRINT_HELP,
-    AFTER_VERIFY_HELP,
+    AFTER_BENCH_HELP, AFTER_BRIEF_HELP, AFTER_CAPTURE_HELP, AFTER_CERTIFY_HELP, AFTER_CHECK_HELP,
+    AFTER_EXPAND_HELP, AFTER_PRINT_HELP, AFTER_VERIFY_HELP,
 };
 
 /// A command of the program.
@@ -56,7 +56,9 @@ pub const HINTS: Argument = Argument::Choice {
 };
 
 /// The commands, in the order of the help.
-pub const COMMANDS: [Entry; 6] = [CHECK, CERTIFY, VERIFY, CAPTURE, BENCH, PRINT];
+pub const COMMANDS: [Entry; 8] = [
+    CHECK, CERTIFY, VERIFY, CAPTURE, BENCH, EXPAND, PRINT, BRIEF,
+];
 
 const CHECK: Entry = Entry {
     name: "check",
@@ -93,6 +95,13 @@ const BENCH: Entry = Entry {
     arguments: &[PLAN, CERT, STARTERS, FILL, ANSWERS],
 };
 
+const EXPAND: Entry = Entry {
+    name: "expand",
+    about: "Write the plan that a brief means: a brief is its short form",
+    after_help: AFTER_EXPAND_HELP,
+    arguments: &[BRIEF_FILE],
+};
+
 const PRINT: Entry = Entry {
     name: "print",
     about: "Write the canonical spelling of a plan",
@@ -100,9 +109,21 @@ const PRINT: Entry = Entry {
     arguments: &[PLAN],
 };
 
+const BRIEF: Entry = Entry {
+    name: "brief",
+    about: "Write a brief of a plan: expanded, it means the same plan",
+    after_help: AFTER_BRIEF_HELP,
+    arguments: &[PLAN],
+};
+
 const PLAN: Argument = Argument::Word {
     id: "PLAN",
     help: "The file with the plan; - is standard input",
+};
+
+const BRIEF_FILE: Argument = Argument::Word {
+    id: "BRIEF",
+    help: "The file with the brief; - is standard input",
 };
 
 const CERT: Argument = Argument::Word {

@@ -1,6 +1,7 @@
 // What is wrong, in words.
 
 use crate::judging::{Opened, Wrong};
+use crate::languages::Language;
 use plan_text::PlanError;
 use std::alloc::{AllocError, Global};
 use vcd_read::VcdError;
@@ -75,8 +76,37 @@ pub(crate) fn of_dump(alloc: Global, refusal: VcdError) -> Result<Option<String>
     Ok(Some(words))
 }
 
-/// What the refusal of a plan means. There is nothing to say of want of memory.
-pub(crate) fn of_plan(refusal: PlanError) -> Option<&'static str> {
+/// What the refusal of a text means. There is nothing to say of want of memory.
+pub(crate) fn of_text(language: Language, refusal: PlanError) -> Option<&'static str> {
+    match language {
+        Language::Plan => of_plan(refusal),
+        Language::Brief => of_brief(refusal),
+    }
+}
+
+fn of_brief(refusal: PlanError) -> Option<&'static str> {
+    match refusal {
+        PlanError::NotAscii(_) => Some("a brief is ASCII, in its comments too"),
+        PlanError::Version(_) => Some("a brief begins with 'brief 1'"),
+        PlanError::BadCount(_) => {
+            Some("expected here: a number from 1 to 255; after 'read' also two of them as '2..4', the smaller first")
+        }
+        PlanError::Unknown(_) => {
+            Some("nothing before this place has this name: devices, bytes, messages and controllers come before what names them")
+        }
+        _ => of_plan(refusal),
+    }
+}
+
+/// What to do with a text of this language where one of the other was expected.
+pub(crate) fn of_other_language(language: Language) -> &'static str {
+    match language {
+        Language::Plan => "this is a plan: commands that read a plan take it as it is",
+        Language::Brief => "this is a brief: 'twire expand' writes the plan that it means",
+    }
+}
+
+fn of_plan(refusal: PlanError) -> Option<&'static str> {
     match refusal {
         PlanError::NotAscii(_) => Some("a plan is ASCII, in its comments too"),
         PlanError::Version(_) => {

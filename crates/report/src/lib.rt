@@ -14,5 +14,5 @@ pub use captures::run_capture;
 pub use certificates::{run_certify, run_verify};
 pub use checks::run_check;
 pub use run_parts::{Input, Opened, Output, RunError, Status, Watched, read_within, write_report};
-pub use spellings::run_print;
+pub use spellings::{run_brief, run_expand, run_print};
 pub use verdicts::{Gate, NoGate};

@@ -1,10 +1,11 @@
-// The run that writes the canonical spelling of a plan.
+// The runs that write a plan or a brief in another spelling.
 
 ghost use Rattle.std.specs.Prelude.{◌≡◌, IfOk, IfErr};
-ghost use Rattle.report.specs.Spellings.{Printed};
+ghost use Rattle.report.specs.Spellings.{Printed, Expanded, Abbreviated, RefusesBrief, GivesNoBrief};
 ghost use Rattle.run_parts.specs.PlanTexts.{RefusesPlan};
 ghost use Rattle.run_parts.specs.Runs.{ReadsText, HaltsAtText, Reports, Stops};
 
+use brief_text::{brief_of, expand_brief};
 use plan_text::{print_plan, read_plan};
 use run_parts::devices::reading::READS;
 use run_parts::{Input, Output, RunError, Status, read_within, write_lines};
@@ -31,5 +32,53 @@ pub fn run_print<I: Input, O: Output>(
     let text = read_within(alloc, plan, READS)?;
     let plan = read_plan(alloc, text.as_slice())?;
     let report = print_plan(alloc, &plan)?;
+    write_lines(out, report.as_slice(), Status::Good)
+}
+
+/// Writes the canonical spelling of the plan that the brief means which the reader gives. The status is `Good`.
+///
+/// # Errors
+///
+/// `Read` where the reader failed or gave no end, `Plan` with the first refusal of the brief, and `Write` where the writer
+/// failed or took no bytes. `NoMemory` where memory is refused. Only after `Write` has a part of the spelling been written:
+/// its first bytes. After every other error the writer was not called.
+pub fn run_expand<I: Input, O: Output>(
+    alloc: Global,
+    brief: &mut I,
+    out: &mut O,
+) -> Result<Status, RunError>
+    ensures report { IfOk result (λ status.
+        Reports (ReadsText I.reader) Expanded O.writer brief.old out.old status brief.new out.new) }
+    ensures stops { IfErr result (λ error.
+        Stops (ReadsText I.reader) Expanded O.writer (HaltsAtText I.reader RefusesBrief)
+        brief.old out.old error brief.new out.new) }
+{
+    let text = read_within(alloc, brief, READS)?;
+    let plan = expand_brief(alloc, text.as_slice())?;
+    let report = print_plan(alloc, &plan)?;
+    write_lines(out, report.as_slice(), Status::Good)
+}
+
+/// Writes a brief of the plan that the reader gives. Expanded, it means the same plan. The status is `Good`.
+///
+/// # Errors
+///
+/// `Read` where the reader failed or gave no end, `Plan` with the first refusal of the plan text, `Brief` where the plan has
+/// no brief, and `Write` where the writer failed or took no bytes. `NoMemory` where memory is refused. Only after `Write`
+/// has a part of the brief been written: its first bytes. After every other error the writer was not called.
+pub fn run_brief<I: Input, O: Output>(
+    alloc: Global,
+    plan: &mut I,
+    out: &mut O,
+) -> Result<Status, RunError>
+    ensures report { IfOk result (λ status.
+        Reports (ReadsText I.reader) Abbreviated O.writer plan.old out.old status plan.new out.new) }
+    ensures stops { IfErr result (λ error.
+        Stops (ReadsText I.reader) Abbreviated O.writer (HaltsAtText I.reader GivesNoBrief)
+        plan.old out.old error plan.new out.new) }
+{
+    let text = read_within(alloc, plan, READS)?;
+    let plan = read_plan(alloc, text.as_slice())?;
+    let report = brief_of(alloc, &plan)?;
     write_lines(out, report.as_slice(), Status::Good)
 }

@@ -1,10 +1,12 @@
--- A refusal of a plan text, of a bench, and of workers, as that of a run.
+-- A refusal of a text, of a bench, and of workers, as that of a run.
+use Rattle.brief_text.specs.declared.writing.NoBrief.{NoBrief}
+use Rattle.brief_text.specs.declared.writing.NoBrief.TheVariants as brief
 use Rattle.plays.specs.declared.starters.OpenError.{OpenError}
 use Rattle.plays.specs.declared.starters.OpenError.TheVariants as opening
 use Rattle.plan_text.specs.declared.errors.PlanError.{PlanError}
 use Rattle.plan_text.specs.declared.errors.PlanError.TheVariants as plan
 use Rattle.run_parts.specs.declared.errors.RunError.{RunError}
-use Rattle.run_parts.specs.declared.errors.RunError.TheVariants.{Plan, Vcd, Bench, Workers, NoMemory}
+use Rattle.run_parts.specs.declared.errors.RunError.TheVariants.{Plan, Brief, Vcd, Bench, Workers, NoMemory}
 use Rattle.vcd_read.specs.declared.errors.VcdError.{VcdError}
 use Rattle.vcd_read.specs.declared.errors.VcdError.TheVariants as vcd
 use Rattle.verdicts.specs.declared.errors.TableError.{TableError}
@@ -14,6 +16,11 @@ use Rattle.verdicts.specs.declared.errors.TableError.TheVariants as table
 abbrev pub run_error : PlanError → RunError
 run_error plan.NoMemory = NoMemory
 run_error e = Plan e
+
+-- where a plan has no brief
+abbrev pub brief_error : NoBrief → RunError
+brief_error brief.NoMemory = NoMemory
+brief_error e = Brief e
 
 -- where a dump is refused
 abbrev pub vcd_error : VcdError → RunError

@@ -2,8 +2,9 @@
 
 ghost use Rattle.std.specs.Prelude.{◌≡◌};
 ghost use Rattle.run_parts.specs.declared.errors.RunError.TheVariants.{NoMemory};
-ghost use Rattle.run_parts.specs.RunErrors.{run_error, vcd_error, open_error, table_error};
+ghost use Rattle.run_parts.specs.RunErrors.{run_error, brief_error, vcd_error, open_error, table_error};
 
+use brief_text::NoBrief;
 use plan_text::PlanError;
 use plays::OpenError;
 use std::alloc::{AllocError, AllocFailed};
@@ -14,9 +15,12 @@ use verdicts::TableError;
 /// Why a run ends without its report. Only after `Write` has a part of the report been written: its first bytes.
 #[derive(Clone, Copy, Debug, PartialEq, Eq, Error)]
 pub enum RunError {
-    /// The plan text is refused. For want of memory the refusal is `NoMemory`.
+    /// The text of a plan or of a brief is refused. For want of memory the refusal is `NoMemory`.
     #[error("{0}")]
     Plan(PlanError),
+    /// The plan has no brief. For want of memory the refusal is `NoMemory`.
+    #[error("{0}")]
+    Brief(NoBrief),
     /// The dump is refused. For want of memory the refusal is `NoMemory`.
     #[error("{0}")]
     Vcd(VcdError),
@@ -44,6 +48,17 @@ impl From<PlanError> for RunError {
         match error {
             PlanError::NoMemory => RunError::NoMemory,
             _ => RunError::Plan(error),
+        }
+    }
+}
+
+impl From<NoBrief> for RunError {
+    ghost from_gives = { λ refusal e. e ≡ brief_error refusal };
+
+    fn from(error: NoBrief) -> RunError {
+        match error {
+            NoBrief::NoMemory => RunError::NoMemory,
+            _ => RunError::Brief(error),
         }
     }
 }

@@ -2,6 +2,8 @@
 #![tactic(auto)]
 
 #[cfg(test)]
+mod briefs;
+#[cfg(test)]
 mod dumps;
 #[cfg(test)]
 mod naming;

@@ -1,6 +1,6 @@
 // Further lines for people on standard error, after a refusal or a report.
 
-use hints::{Names, on_dump, on_plan, on_silence};
+use hints::{Names, on_brief, on_dump, on_no_brief, on_plan, on_silence};
 use report::{Opened, RunError, Status, Watched};
 use std::alloc::AllocError;
 use std::io::{self, Read, Seek, Write};
@@ -38,10 +38,24 @@ pub fn advise_on_plan<R: Eprint + AllocGlobal, F: Read + Seek + Drop, S: Drop>(
 ) {
     match ended {
         Err(RunError::Plan(refusal)) => say(rt, on_plan(rt.alloc(), file(plan), refusal)),
+        Err(RunError::Brief(_)) => say(rt, on_no_brief(rt.alloc(), file(plan))),
         Err(RunError::Read) => advise_on_reading(rt, read),
         Err(RunError::Write) => advise_on_writing(rt),
         Err(RunError::Workers) => advise_on_workers(rt),
         _ => {}
+    }
+}
+
+/// After a run that reads a brief.
+pub fn advise_on_brief<R: Eprint + AllocGlobal, F: Read + Seek + Drop, S: Drop>(
+    rt: &R,
+    read: Named<'_>,
+    brief: Source<F, S>,
+    ended: Result<Status, RunError>,
+) {
+    match ended {
+        Err(RunError::Plan(refusal)) => say(rt, on_brief(rt.alloc(), file(brief), refusal)),
+        _ => advise_on_plan(rt, read, brief, ended),
     }
 }
 

@@ -1,15 +1,15 @@
 // What the program does, and the status that it ends with.
 
 use crate::advice::{
-    Counted, Named, Source, advise_on_capture, advise_on_closed_input, advise_on_opening,
-    advise_on_plan,
+    Counted, Named, Source, advise_on_brief, advise_on_capture, advise_on_closed_input,
+    advise_on_opening, advise_on_plan,
 };
 use bench_run::{NoGate, run_bench};
 use command_words::{Asked, Request, When, read_words};
 use hints::Names;
 use report::{
-    Input as _, Opened, RunError, Status, Watched, run_capture, run_certify, run_check, run_print,
-    run_verify,
+    Input as _, Opened, RunError, Status, Watched, run_brief, run_capture, run_certify, run_check,
+    run_expand, run_print, run_verify,
 };
 use std::rt::{Env, Files};
 use std::sync::Wait;
@@ -102,7 +102,16 @@ fn do_request<R: Files + Input + Print + Eprint + AllocGlobal + Threads + Wait +
             answers,
             hints,
         ),
+        Request::Expand { brief } => expand(rt, the_brief(brief), hints),
         Request::Print { plan } => spell(rt, the_plan(plan), hints),
+        Request::Brief { plan } => abbreviate(rt, the_plan(plan), hints),
+    }
+}
+
+fn the_brief(path: &str) -> Named<'_> {
+    Named {
+        what: "brief",
+        path,
     }
 }
 
@@ -234,6 +243,36 @@ fn spell<R: Files + Input + Print + Eprint + AllocGlobal>(
     let mut out = Watched::new(io::writer(rt));
     let ended = run_print(rt.alloc(), &mut reader, &mut out);
     told(rt, plan, reader, ended, hints)
+}
+
+fn abbreviate<R: Files + Input + Print + Eprint + AllocGlobal>(
+    rt: &R,
+    plan: Named<'_>,
+    hints: bool,
+) -> u8 {
+    let Some(mut reader) = open(rt, plan, hints) else {
+        return 2;
+    };
+    let mut out = Watched::new(io::writer(rt));
+    let ended = run_brief(rt.alloc(), &mut reader, &mut out);
+    told(rt, plan, reader, ended, hints)
+}
+
+fn expand<R: Files + Input + Print + Eprint + AllocGlobal>(
+    rt: &R,
+    brief: Named<'_>,
+    hints: bool,
+) -> u8 {
+    let Some(mut reader) = open(rt, brief, hints) else {
+        return 2;
+    };
+    let mut out = Watched::new(io::writer(rt));
+    let ended = run_expand(rt.alloc(), &mut reader, &mut out);
+    let status = status_of(rt, ended);
+    if hints {
+        advise_on_brief(rt, brief, reader, ended);
+    }
+    status
 }
 
 // The status of a run that has ended, with the line of a refusal, and hints on it where they are wanted. `read` is the file

@@ -1,0 +1,25 @@
+-- The names that a plan may have and a brief can't.
+use Rattle.std.specs.Prelude.{◌≡◌, ℕ, Bool, true, false, ◌||◌, List, [], ◌∷◌, codes}
+use Rattle.std.specs.List.{list_any}
+use Rattle.std.specs.Map.{keys_of}
+use Rattle.std.specs.Str.{bytes_eq}
+use Rattle.plan_core.specs.Contents.{Contents}
+use Rattle.brief_text.specs.declared.writing.NoBrief.{NoBrief}
+use Rattle.brief_text.specs.declared.writing.NoBrief.TheVariants as cause
+
+-- the words of briefs that are no words of the plan's text
+abbrev pub is_brief_word : List ℕ → Bool
+is_brief_word bytes =
+    list_any (bytes_eq bytes) (codes "brief" ∷ codes "device" ∷ codes "byte" ∷ codes "any" ∷ [])
+
+-- a message, a controller or an interrupt has such a word as its name
+unfoldable pub has_brief_word : Contents → Bool
+has_brief_word plan =
+    list_any is_brief_word (keys_of plan.messages) || list_any is_brief_word (keys_of plan.controllers)
+    || list_any is_brief_word (keys_of plan.interrupts)
+
+-- this is why the plan has no brief
+abbrev pub LacksBrief : Contents → NoBrief → Type 0
+LacksBrief plan cause.Name = has_brief_word plan ≡ true
+LacksBrief plan cause.Unwritten = has_brief_word plan ≡ false
+LacksBrief plan cause.NoMemory = ⊥

@@ -1,0 +1,429 @@
+#!/usr/bin/env bash
+# Runs twire with briefs from the command line: what is expanded, what is written of a plan, and what is refused. It
+# compares the exit status and all that is written. The last line is 'N passed, M failed', and the exit status is 1 where a
+# case fails.
+#
+# It runs the launcher at the top of the repository, or the program that TWIRE names.
+set -u
+
+tests=$(dirname -- "$(readlink -f -- "${BASH_SOURCE[0]}")")
+twire=$(readlink -f -- "${TWIRE:-$tests/../twire}")
+work=$(mktemp -d)
+trap 'rm -rf -- "$work"' EXIT
+cd -- "$work" || exit 1
+
+passed=0
+failed=0
+
+# Counts a case by what stands in the files status, out and err and in those that are wanted.
+compare() {
+    local name=$1
+    if cmp -s want_status status && cmp -s want_out out && cmp -s want_err err; then
+        passed=$((passed + 1))
+        return
+    fi
+    failed=$((failed + 1))
+    echo "FAILED: $name"
+    diff -u --label "wanted status" --label status want_status status
+    diff -u --label "wanted output" --label output want_out out | head -n 40
+    diff -u --label "wanted error" --label error want_err err | head -n 40
+}
+
+# want STATUS OUT ERR: what the next case gives, with an LF after each text that is not empty.
+want() {
+    echo "$1" >want_status
+    printf '%s' "${2:+$2$'\n'}" >want_out
+    printf '%s' "${3:+$3$'\n'}" >want_err
+}
+
+# run NAME ARG..: a case, with this script's standard input.
+run() {
+    local name=$1
+    shift
+    "$twire" "$@" >out 2>err
+    echo "$?" >status
+    compare "$name"
+}
+
+lines() {
+    printf '%s\n' "${@:2}" >"$1"
+}
+
+# The first call may build the program, and says so on standard error.
+"$twire" --version >out 2>err
+
+# ---- A brief and its plan.
+
+cat >board.brief <<'END'
+brief 1
+device eeprom 0x50 ;  device fan 0x2F ;
+byte pwm 0b0011000x ;                        # registers of the fan
+message page   write eeprom 0xX0 any*2 ;
+message get    write eeprom 0x1f read eeprom 1..16 ;
+message level  write fan pwm any else (read fan 1) 0x01 ;
+controller bmc page get ;
+controller seq level ;
+interrupt alert 0x0C ;
+never bmc seq ;
+END
+plan="plan 2
+message page write 1010000 xxxx0000 xxxxxxxx xxxxxxxx stop else stop else stop else stop else stop ;
+message get write 1010000 00011111 again read 1010000 1..16 stop else stop else stop else stop ;
+message level write 0101111 0011000x xxxxxxxx 00000001 stop else stop else again read 0101111 1 stop else stop else stop else stop ;
+controller bmc page get ;
+controller seq level ;
+interrupt alert 0001100 ;
+never bmc seq ;"
+brief="brief 1
+message page write 0x50 0xX0 any*2 ;
+message get write 0x50 0x1F read 0x50 1..16 ;
+message level write 0x2F 0b0011000x any else ( read 0x2F 1 ) 0x01 ;
+controller bmc page get ;
+controller seq level ;
+interrupt alert 0x0C ;
+never bmc seq ;"
+printf '%s\n' "$plan" >board.plan
+printf '%s\n' "$brief" >short.brief
+
+want 0 "$plan" ""
+run "a brief expanded" expand board.brief
+run "a brief from standard input expanded" expand - <board.brief
+run "a brief from /dev/stdin expanded" expand /dev/stdin <board.brief
+run "a brief from a pipe expanded" expand - < <(cat board.brief)
+mkfifo brief.fifo
+cat board.brief >brief.fifo &
+run "a brief from a FIFO expanded" expand brief.fifo
+run "a brief after -- expanded" expand -- board.brief
+run "a brief that was written by twire expanded" expand short.brief
+run "what was expanded printed" print board.plan
+want 0 "$brief" ""
+run "a brief of a plan" brief board.plan
+run "a brief of a plan from standard input" brief - <board.plan
+run "a brief of a plan from a pipe" brief /dev/stdin < <(cat board.plan)
+
+# Each form of an address and of a data byte.
+want_plan() {
+    local name=$1 text=$2
+    shift 2
+    lines this.brief "brief 1" "$@"
+    want 0 "$text" ""
+    run "$name" expand this.brief
+}
+
+one() {
+    want_plan "message: $1" "plan 1
+message m $2 ;" "message m $1 ;"
+}
+
+one "write 0x00" "write 0000000 stop else stop"
+one "write 0x7F" "write 1111111 stop else stop"
+one "write 0x7f" "write 1111111 stop else stop"
+one "write 0xX5" "write xxx0101 stop else stop"
+one "write 0x5X" "write 101xxxx stop else stop"
+one "write 0xXX" "write xxxxxxx stop else stop"
+one "write 0b10x0011" "write 10x0011 stop else stop"
+one "write 0x01 0x01" "write 0000001 00000001 stop else stop else stop"
+one "write 0x01 0xA5" "write 0000001 10100101 stop else stop else stop"
+one "write 0x01 0xa5" "write 0000001 10100101 stop else stop else stop"
+one "write 0x01 0xX5" "write 0000001 xxxx0101 stop else stop else stop"
+one "write 0x01 0x5X" "write 0000001 0101xxxx stop else stop else stop"
+one "write 0x01 0b1x0x0011" "write 0000001 1x0x0011 stop else stop else stop"
+one "write 0x01 any" "write 0000001 xxxxxxxx stop else stop else stop"
+one "write 0x01 0x05*1" "write 0000001 00000101 stop else stop else stop"
+one "write 0x01 0x05 * 003" "write 0000001 00000101 00000101 00000101 stop else stop else stop else stop else stop"
+one "read 0x01 1" "read 0000001 1 stop else stop"
+one "read 0x01 007" "read 0000001 7 stop else stop"
+
+# Each rule of a message.
+one "write 0x01 else stop" "write 0000001 stop else stop"
+one "write 0x01 else (write 0x02)" "write 0000001 stop else again write 0000010 stop else stop"
+one "write 0x01 else (read 0x02 3) 0x04" "write 0000001 00000100 stop else stop else again read 0000010 3 stop else stop"
+one "write 0x01 0x04 else stop" "write 0000001 00000100 stop else stop else stop"
+one "write 0x01 0x04 else (write 0x02) 0x05" "write 0000001 00000100 00000101 stop else stop else again write 0000010 stop else stop else stop"
+one "write 0x01 0x04*2 else (write 0x02)" "write 0000001 00000100 00000100 stop else again write 0000010 stop else stop else again write 0000010 stop else stop else stop"
+one "read 0x01 2 else stop" "read 0000001 2 stop else stop"
+one "read 0x01 2 else (write 0x02)" "read 0000001 2 stop else again write 0000010 stop else stop"
+one "read 0x01 2 else (write 0x02) write 0x03" "read 0000001 2 again write 0000011 stop else stop else again write 0000010 stop else stop"
+one "write 0x01 write 0x02 read 0x03 4" "write 0000001 again write 0000010 again read 0000011 4 stop else stop else stop else stop"
+one "write 0x01 else (write 0x02 read 0x03 4 else (read 0x05 6))" "write 0000001 stop else again write 0000010 again read 0000011 4 stop else again read 0000101 6 stop else stop else stop"
+
+# Each kind of item, and names of separate kinds.
+want_plan "no item" "plan 1"
+want_plan "devices and bytes alone" "plan 1" "device d 0x10 ;" "byte d 0x10 ;"
+want_plan "one name for each kind" "plan 1
+message m write 0010000 00100000 stop else stop else stop ;
+controller m m ;
+interrupt m 0010000 ;" "device m 0x10 ;" "byte m 0x20 ;" "message m write m m ;" "controller m m ;" "interrupt m m ;"
+want_plan "a controller with no message" "plan 1
+controller c ;" "controller c ;"
+want_plan "never" "plan 2
+controller c ;
+controller d ;
+never d c ;" "controller c ;" "controller d ;" "never d c ;"
+want_plan "a range" "plan 2
+message m read 0000001 2..4 stop else stop ;" "message m read 0x01 02..4 ;"
+want_plan "a range with equal ends" "plan 1
+message m read 0000001 2 stop else stop ;" "message m read 0x01 2..2 ;"
+want_plan "all on one line" "plan 1
+message m write 0000001 00000010 00000010 stop else stop else again read 0000011 4 stop else stop else stop ;
+controller c m ;" "byte b 0x02;message m write 0x01 b b else(read 0x03 4);controller c m;# a comment"
+printf 'brief\t1\r\ncontroller\r\n\tc # ;\r\n;' >this.brief
+want 0 "plan 1
+controller c ;" ""
+run "white space of each kind" expand this.brief
+
+# ---- Refusals, with the line of the brief.
+
+refused() {
+    local code=$1 line=$2
+    shift 2
+    lines this.brief "$@"
+    want 2 "" "refused $code line $line"
+    run "$code line $line: $*" expand this.brief
+}
+
+refused P1 2 "brief 1" "# caf$(printf '\303\251')"
+refused P1 1 "brief 1 message m write$(printf '\303\251')"
+refused P2 1 "plan 1"
+refused P2 1 "brief 2"
+refused P2 1 "brief 1."
+refused P2 1 "brief 01"
+refused P2 2 "brief"
+refused P3 2 "brief 1" "again"
+refused P3 2 "brief 1" "message m ;"
+refused P3 2 "brief 1" "message m write ;"
+refused P3 3 "brief 1" "message m write 0x01"
+refused P3 2 "brief 1" "message m write 0x01 again read 0x01 2 ;"
+refused P3 2 "brief 1" "message m write 0x01 stop ;"
+refused P3 2 "brief 1" "message m write 0x01 else read 0x01 2 ;"
+refused P3 2 "brief 1" "message m write 0x01 else () ;"
+refused P3 2 "brief 1" "message m write 0x01 else (read 0x01 2 ;"
+refused P3 2 "brief 1" "message m write 0x01 else (stop) ;"
+refused P3 2 "brief 1" "message m write 0x01 else stop else stop ;"
+refused P3 2 "brief 1" "message m read 0x01 2 0x03 ;"
+refused P3 2 "brief 1" "message m read 0x01 else stop 2 ;"
+refused P3 2 "brief 1" "message m write 0x80 ;"
+refused P3 2 "brief 1" "message m write 0X01 ;"
+refused P3 2 "brief 1" "message m write 0x1 ;"
+refused P3 2 "brief 1" "message m write 0x001 ;"
+refused P3 2 "brief 1" "message m write 0x5x ;"
+refused P3 2 "brief 1" "message m write 0x0g ;"
+refused P3 2 "brief 1" "message m write 0b00000001 ;"
+refused P3 2 "brief 1" "message m write 0b000000X ;"
+refused P3 2 "brief 1" "message m write 0000001 ;"
+refused P3 2 "brief 1" "message m write any ;"
+refused P3 2 "brief 1" "message m write 0x01 0b0000001 ;"
+refused P3 2 "brief 1" "message m write 0x01 00000001 ;"
+refused P3 2 "brief 1" "message m write 0x01 0x05*x ;"
+refused P3 2 "brief 1" "message m write 0x01 0x05* ;"
+refused P3 2 "brief 1" "message m write 0x01 *2 ;"
+refused P3 2 "brief 1" "message m write 0x01 0x05*2..3 ;"
+refused P3 2 "brief 1" "message m read 0x01 any ;"
+refused P3 2 "brief 1" "message m read 0x01 2.. ;"
+refused P3 2 "brief 1" "device any 0x01 ;"
+refused P3 2 "brief 1" "device plan 0x01 ;"
+refused P3 2 "brief 1" "byte again 0x01 ;"
+refused P3 2 "brief 1" "device d 0x01, 0x02 ;"
+refused P3 2 "brief 1" "device d d ;"
+refused P3 2 "brief 1" "byte b any ;"
+refused P3 2 "brief 1" "controller m.n ;"
+refused P3 2 "brief 1" "interrupt t 0x5X ;"
+refused P3 3 "brief 1" "device d 0x5X ;" "interrupt t d ;"
+refused P4 2 "brief 1" "message m read 0x01 0 ;"
+refused P4 2 "brief 1" "message m read 0x01 256 ;"
+refused P4 2 "brief 1" "message m read 0x01 3..2 ;"
+refused P4 2 "brief 1" "message m write 0x01 0x05*0 ;"
+refused P4 2 "brief 1" "message m write 0x01 0x05*256 ;"
+refused P4 2 "brief 1" "message m write 0x01 0x05*99999999999999999999 ;"
+refused P5 2 "brief 1" "message m write 0x01 any*255 any ;"
+refused P5 4 "brief 1" "message m write 0x01 any" "*" "255 read 0x01 1 ;"
+refused P5 2 "brief 1" "message m write 0x01 any*2 any*254 ;"
+refused P5 2 "brief 1" "message m read 0x01 255 read 0x01 1 ;"
+refused P5 2 "brief 1" "message m write 0x01 any*255 else (write 0x02 any*16) ;"
+refused P6 258 "brief 1" "$(for k in {0..256}; do echo "message m$k write 0x01 ;"; done)"
+refused P6 34 "brief 1" "$(for k in {1..33}; do echo "controller c$k ;"; done)"
+refused P6 34 "brief 1" "$(for k in {1..33}; do echo "interrupt t$k 0x01 ;"; done)"
+refused P7 3 "brief 1" "device d 0x01 ;" "device d 0x02 ;"
+refused P7 3 "brief 1" "byte b 0x01 ;" "byte b 0x01 ;"
+refused P7 3 "brief 1" "message m write 0x01 ;" "message m write 0x01 ;"
+refused P7 3 "brief 1" "message m write 0x01 ;" "controller c m m ;"
+refused P7 3 "brief 1" "controller c ;" "controller c ;"
+refused P7 3 "brief 1" "interrupt t 0x01 ;" "interrupt t 0x01 ;"
+refused P7 3 "brief 1" "controller c ;" "never c c ;"
+refused P8 2 "brief 1" "message m write eeprom ;"
+refused P8 3 "brief 1" "byte b 0x01 ;" "message m write b ;"
+refused P8 2 "brief 1" "message m write 0x01 pwm ;"
+refused P8 3 "brief 1" "device d 0x01 ;" "message m write d d ;"
+refused P8 2 "brief 1" "interrupt t alert ;"
+refused P8 2 "brief 1" "controller c m ;"
+refused P8 2 "brief 1" "never c d ;"
+
+# The longest path and the largest message, and one more.
+want_plan "a path of 256 bytes" "plan 1
+message m write 0000001$(printf ' xxxxxxxx%.0s' {1..255}) stop$(printf ' else stop%.0s' {1..256}) ;" "message m write 0x01 any*255 ;"
+# A header, and 195 bytes with 20 headers after the refusal of each: 1 + 195 * 21 = 4,096.
+twenty="($(printf ' write 0x02%.0s' {1..20}))"
+after="$(printf ' again write 0000010%.0s' {1..20}) stop$(printf ' else stop%.0s' {1..20})"
+full="message m write 0x01 0x03*195 else $twenty"
+want_plan "a message of 4,096 nodes" "plan 1
+message m write 0000001$(printf ' 00000011%.0s' {1..195}) stop$(for _ in {1..195}; do printf ' else%s' "$after"; done) else stop ;" "$full ;"
+cp out full.plan
+refused P5 3 "brief 1" "$full" "write 0x05 ;"
+refused P5 4 "brief 1" "message m write 0x01 0x03*196" "else" "$twenty ;"
+refused P5 4 "brief 1" "message m write 0x01 any any" "*" "255 ;"
+
+# ---- Texts in the wrong place.
+
+want 2 "" "refused P2 line 1"
+run "a brief checked" check board.brief
+run "a brief printed" print board.brief
+run "a brief of a brief" brief board.brief
+run "a plan expanded" expand board.plan
+: >empty.brief
+run "an empty brief" expand empty.brief
+want 2 "" "refused P3 line 2"
+lines refused.plan "plan 1" "message m write 1010000 stop ;"
+run "a brief of a refused plan" brief refused.plan
+
+# ---- Plans that have no brief.
+
+for name in brief device byte any; do
+    want 2 "" "refused brief name"
+    lines named.plan "plan 1" "message $name write 0000001 stop else stop ;"
+    run "a message of the name $name" brief named.plan
+    lines named.plan "plan 1" "controller $name ;"
+    run "a controller of the name $name" brief named.plan
+    lines named.plan "plan 1" "interrupt $name 0000001 ;"
+    run "an interrupt of the name $name" brief named.plan
+done
+want 0 "brief 1
+controller Any ;
+controller bytes ;
+interrupt device_ 0x01 ;" ""
+lines named.plan "plan 1" "controller Any ; controller bytes ; interrupt device_ 0000001 ;"
+run "names that are nearly words of briefs" brief named.plan
+
+# ---- Files and streams.
+
+want 2 "" "refused read"
+mkdir directory
+run "a missing brief" expand missing.brief
+run "a directory as a brief" expand directory
+run "a brief from closed standard input" expand - <&-
+run "a brief of a missing plan" brief missing.plan
+run "a brief of a directory" brief directory
+run "a brief of a plan from closed standard input" brief - <&-
+want 2 "" "refused write"
+for command in "expand board.brief" "brief board.plan"; do
+    # shellcheck disable=SC2086
+    "$twire" $command >&- 2>err
+    echo "$?" >status
+    : >out
+    compare "closed standard output: $command"
+    if [[ -c /dev/full ]]; then
+        # shellcheck disable=SC2086
+        "$twire" $command >/dev/full 2>err
+        echo "$?" >status
+        compare "full device: $command"
+    fi
+done
+
+# ---- Examples: a brief of a plan, expanded, is the plan in its canonical spelling.
+
+for plan in "$tests"/../examples/*.plan full.plan; do
+    want 0 "$("$twire" print "$plan")" ""
+    "$twire" brief "$plan" >this.brief
+    run "a brief of $(basename "$plan"), expanded" expand this.brief
+    cp out expanded.plan
+    run "a brief of $(basename "$plan"), expanded and printed" print expanded.plan
+    want 0 "$(cat this.brief)" ""
+    run "a brief of the expanded brief of $(basename "$plan")" brief expanded.plan
+done
+
+# An example that stands as a brief beside its plan.
+for brief in "$tests"/../examples/*.brief; do
+    [[ -e $brief ]] || continue
+    want 0 "$("$twire" print "${brief%.brief}.plan")" ""
+    run "example $(basename "$brief")" expand "$brief"
+done
+
+# ---- A mebibyte of brief: 256 long messages, and devices, bytes and comments up to its size.
+{
+    echo "brief 1"
+    for k in {0..9999}; do echo "device d$k 0x50 ; byte b$k 0b0011000x ; # the register of device $k on this board"; done
+    for k in {0..255}; do echo "message m$k write d$k b$k any*16 else (read d$k 2) read d$k 1..16 ;"; done
+    echo "controller c m0 m255 ;"
+} >large.brief
+"$twire" expand large.brief >large.plan 2>err
+echo "$?" >status
+grep -c '^message m[0-9]* write 1010000 0011000x xxxxxxxx' large.plan >out
+want 0 "256" ""
+compare "a large brief"
+
+# ---- Hints.
+
+lines here.brief "brief 1" "message m write 0x51 0x5 any ;"
+want 2 "" "refused P3 line 2
+hint: line 2 of the brief:
+hint:   message m write 0x51 0x5 any ;
+hint:                        ^^^
+hint: expected here: 'write', 'read', 'else', ';', a name (a letter, then letters, digits and '_', 32 at most), 'any' or a data byte ('0x' and two digits, or '0b' and eight of '0', '1' and 'x')"
+run "hints on a brief" expand here.brief --hints always
+want 2 "" "refused P3 line 2
+hint: something stands here that cannot stand in its place"
+run "hints on a brief from standard input" expand - --hints always <here.brief
+want 2 "" "refused P3 line 2"
+run "no hints on a brief" expand here.brief --hints never
+want 2 "" "refused P2 line 1
+hint: line 1 of the plan:
+hint:   brief 1
+hint:   ^^^^^
+hint: a plan begins with 'plan 1', or with 'plan 2' where it has ranges of counts or 'never'
+hint: this is a brief: 'twire expand' writes the plan that it means"
+run "hints on a brief in the place of a plan" check board.brief --hints always
+want 2 "" "refused P2 line 1
+hint: line 1 of the brief:
+hint:   plan 2
+hint:   ^^^^
+hint: a brief begins with 'brief 1'
+hint: this is a plan: commands that read a plan take it as it is"
+run "hints on a plan in the place of a brief" expand board.plan --hints always
+lines named.plan "plan 1" "controller byte ;"
+want 2 "" "refused brief name
+hint: the plan has the name 'byte', which is a word of briefs"
+run "hints on a plan that has no brief" brief named.plan --hints always
+want 2 "" "refused read
+hint: the brief \"missing.brief\" cannot be opened:
+hint: No such file or directory (os error 2)"
+run "hints on a missing brief" expand missing.brief --hints always
+
+# ---- Help.
+
+want 0 "$(cat "$tests/expected/expand_help.txt")" ""
+run "help on expand" expand --help
+run "help on expand as a subcommand" help expand
+want 0 "$(cat "$tests/expected/brief_help.txt")" ""
+run "help on brief" brief --help
+
+# The brief in the help is one.
+sed -n '/^  brief 1$/,/^$/s/^  //p' "$tests/expected/expand_help.txt" >help.brief
+want 0 "plan 2
+message page write 1010000 xxxx0000$(printf ' xxxxxxxx%.0s' {1..16}) stop$(printf ' else stop%.0s' {1..18}) ;
+message get write 1010000 xxxxxxxx xxxxxxxx again read 1010000 1..16 stop else stop else stop else stop else stop ;
+message level write 0101111 0011000x xxxxxxxx 00000001 stop else stop else again read 0101111 1 stop else stop else stop else stop ;
+controller bmc page get ;
+controller seq level ;
+interrupt alert 0001100 ;
+never bmc seq ;" ""
+run "the brief in the help" expand help.brief
+
+want 2 "" "error: the following required arguments were not provided:
+  <BRIEF>
+
+Usage: twire expand <BRIEF>
+
+For more information, try '--help'."
+run "no brief" expand
+
+echo "$passed passed, $failed failed"
+((failed == 0))
