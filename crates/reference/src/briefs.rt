@@ -92,6 +92,21 @@ pub fn expansion(alloc: Global, brief: &[u8]) -> Result<String, Refusal> {
     }
 }
 
+/// Whether a message, a controller or an interrupt of a plan has a name that is a word of briefs.
+pub fn has_brief_word(items: &Items<'_>) -> bool {
+    for controller in &items.controllers {
+        if !is_name(controller.name, BRIEF) {
+            return true;
+        }
+    }
+    for one in items.messages.iter().chain(items.interrupts.iter()) {
+        if !is_name(one.name, BRIEF) {
+            return true;
+        }
+    }
+    false
+}
+
 fn after_version(alloc: Global, brief: &[u8]) -> Result<Reading<'_>, Refusal> {
     let mut reading = words_of(alloc, brief, BRIEF)?;
     for wanted in ["brief", "1"] {
@@ -274,7 +289,7 @@ fn frames_of(
 ) -> Result<String, Refusal> {
     let mut nodes = 0u32;
     let mut levels = Vec::new(alloc);
-    levels.push(level(alloc, 0, 1, 1))?;
+    levels.push(new_level(alloc, 0, 1, 1))?;
     let mut begins = true;
     for _ in 0..=reading.words.len() {
         let Some(top) = levels.last_mut() else {
@@ -310,7 +325,7 @@ struct Refused {
     times: u32,
 }
 
-fn level(alloc: Global, path: u32, copies: u32, times: u32) -> Level {
+fn new_level(alloc: Global, path: u32, copies: u32, times: u32) -> Level {
     Level {
         text: String::new(alloc),
         tails: Vec::new(alloc),
@@ -474,7 +489,7 @@ fn open(alloc: Global, levels: &mut Vec<Level>, refused: Refused) -> Result<(), 
         Some(top) => top.copies.saturating_mul(refused.times),
         None => 1,
     };
-    levels.push(level(alloc, refused.path, copies, refused.times))?;
+    levels.push(new_level(alloc, refused.path, copies, refused.times))?;
     Ok(())
 }
 
