@@ -165,7 +165,7 @@ message m read 0000001 2..4 stop else stop ;" "message m read 0x01 02..4 ;"
 want_plan "a range with equal ends" "plan 1
 message m read 0000001 2 stop else stop ;" "message m read 0x01 2..2 ;"
 want_plan "all on one line" "plan 1
-message m write 0000001 00000010 00000010 stop else stop else again read 0000011 4 stop else stop else stop ;
+message m write 0000001 00000010 00000010 stop else again read 0000011 4 stop else stop else stop else stop ;
 controller c m ;" "byte b 0x02;message m write 0x01 b b else(read 0x03 4);controller c m;# a comment"
 printf 'brief\t1\r\ncontroller\r\n\tc # ;\r\n;' >this.brief
 want 0 "plan 1

@@ -154,16 +154,16 @@ certificate of the one is a certificate of the other.
 Exit status: 0 written, 2 refused.";
 
 pub const AFTER_EXPAND_HELP: &str = "\
-  brief 1
-  device eeprom 0x50 ;  device fan 0b0101111 ;    # addresses of seven bits
-  byte pwm 0b0011000x ;                           # data bytes with names
-  message page   write eeprom 0xX0 any*16 ;
-  message get    write eeprom any*2 read eeprom 1..16 ;
-  message level  write fan pwm any else (read fan 1) 0x01 ;
-  controller bmc page get ;                       # messages that it may start
-  controller seq level ;
-  interrupt alert 0x0C ;                          # a target that starts itself
-  never bmc seq ;                                 # never start together
+brief 1
+device eeprom 0x50 ;  device fan 0b0101111 ;    # addresses of seven bits
+byte pwm 0b0011000x ;                           # data bytes with names
+message page   write eeprom 0xX0 any*16 ;
+message get    write eeprom any*2 read eeprom 1..16 ;
+message level  write fan pwm any else (read fan 1) 0x01 ;
+controller bmc page get ;                       # messages that it may start
+controller seq level ;
+interrupt alert 0x0C ;                          # a target that starts itself
+never bmc seq ;                                 # never start together
 
 A message is one frame or more, each after the first by a repeated START: 'write
 TO' and data bytes, or 'read TO COUNT'. At the end of the last one it stops.
