@@ -64,18 +64,42 @@ pub fn brief_of(alloc: Global, plan: &Plan) -> Result<Vec<u8>, NoBrief>
 pub fn brief_word(plan: &Plan) -> Option<&Name>
     ensures { is_some result ≡ has_brief_word (plan_contents plan.now) }
 {
+    if let Some(name) = word_of_message(plan) {
+        return Some(name);
+    }
+    if let Some(name) = word_of_controller(plan) {
+        return Some(name);
+    }
+    word_of_interrupt(plan)
+}
+
+fn word_of_message(plan: &Plan) -> Option<&Name>
+    ensures { is_some result ≡ list_any is_brief_word (keys_of (plan_contents plan.now).messages) }
+{
     for k in 0..plan.messages() {
         let name = plan.message_name(k);
         if is_brief_word(name.as_str()) {
             return Some(name);
         }
     }
+    None
+}
+
+fn word_of_controller(plan: &Plan) -> Option<&Name>
+    ensures { is_some result ≡ list_any is_brief_word (keys_of (plan_contents plan.now).controllers) }
+{
     for k in 0..plan.controllers() {
         let name = plan.controller_name(k);
         if is_brief_word(name.as_str()) {
             return Some(name);
         }
     }
+    None
+}
+
+fn word_of_interrupt(plan: &Plan) -> Option<&Name>
+    ensures { is_some result ≡ list_any is_brief_word (keys_of (plan_contents plan.now).interrupts) }
+{
     for k in 0..plan.interrupts() {
         let name = plan.interrupt_name(k);
         if is_brief_word(name.as_str()) {

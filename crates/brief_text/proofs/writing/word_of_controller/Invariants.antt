@@ -3,10 +3,10 @@ use Rattle.std.specs.List.{list_any}
 use Rattle.std.specs.Map.{keys_of}
 use Rattle.plan_core.specs.PlanContents.{plan_contents}
 use Rattle.brief_text.specs.Names.{is_brief_word}
-use Rattle.brief_text.proofs.writing.brief_word.Given as goal
+use Rattle.brief_text.proofs.writing.word_of_controller.Given as goal
 
 -- no name before this one is such a word
 abbrev pub invariant-loop-k : goal.invariant-loop-k
 invariant-loop-k l =
-    let names = keys_of (plan_contents l.plan.now).messages in
+    let names = keys_of (plan_contents l.plan.now).controllers in
     list_any is_brief_word (drop l.k names) ≡ list_any is_brief_word names
