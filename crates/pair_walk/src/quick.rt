@@ -76,14 +76,37 @@ fn never_clash(nodes: &[Node], a: u32, b: u32) -> bool
     if a == b {
         return true;
     }
-    let i = a as usize;
-    let j = b as usize;
-    if i >= nodes.len() || j >= nodes.len() {
-        return false;
+    match node_at(nodes, a) {
+        Some(m) => match node_at(nodes, b) {
+            Some(n) => nodes_never_clash(nodes, a, b, m, n),
+            None => false,
+        },
+        None => false,
     }
-    match nodes[i] {
+}
+
+// The node with this number.
+fn node_at(nodes: &[Node], k: u32) -> Option<Node>
+    ensures { IfSome result (λ node. slice_get nodes.now k ≡ Some node) }
+{
+    let k = k as usize;
+    if k < nodes.len() {
+        Some(nodes[k])
+    } else {
+        None
+    }
+}
+
+// The same of two nodes, with their numbers.
+#[cycle(quick)]
+fn nodes_never_clash(nodes: &[Node], a: u32, b: u32, m: Node, n: Node) -> bool
+    requires first { slice_get nodes.now a ≡ Some m }
+    requires second { slice_get nodes.now b ≡ Some n }
+    ensures { OnTrue result (NeverMeet nodes.now a b) }
+{
+    match m {
         Node::Stop => false,
-        Node::Again(x) => match nodes[j] {
+        Node::Again(x) => match n {
             Node::Again(y) => x < a && never_clash(nodes, x, y),
             _ => false,
         },
@@ -91,7 +114,7 @@ fn never_clash(nodes: &[Node], a: u32, b: u32) -> bool
             bits: p,
             acked: x,
             refused: r,
-        } => match nodes[j] {
+        } => match n {
             Node::Byte {
                 bits: q,
                 acked: y,
@@ -106,7 +129,7 @@ fn never_clash(nodes: &[Node], a: u32, b: u32) -> bool
             address: p,
             acked: x,
             refused: r,
-        } => match nodes[j] {
+        } => match n {
             Node::Write {
                 address: q,
                 acked: y,
@@ -122,7 +145,7 @@ fn never_clash(nodes: &[Node], a: u32, b: u32) -> bool
             count: c,
             after: x,
             refused: r,
-        } => match nodes[j] {
+        } => match n {
             Node::Read {
                 address: q,
                 count: d,
