@@ -1,6 +1,7 @@
 -- What the numbers of a list of nodes show: one tree each, and of two numbers when their trees never clash.
-use Rattle.std.proofs.Common.{◌≡◌, ℕ, zero, suc, ◌+◌, ◌<◌, ◌≤◌, Bool, true, false, Option, Some, None, List, [], ◌∷◌, ◌++◌, length, slice_get, refl, ap, sym, ◌∙◌, subst, arith, inl, inr, ≤_refl}
+use Rattle.std.proofs.Common.{◌≡◌, ℕ, zero, suc, ◌+◌, ◌<◌, ◌≤◌, Bool, true, false, Option, Some, None, Result, Ok, Err, IfOk, OnOk, List, [], ◌∷◌, ◌++◌, length, slice_get, refl, ap, sym, ◌∙◌, subst, arith, inl, inr}
 use Rattle.std.specs.Bool.{OnTrue}
+use Rattle.std.specs.declared.alloc.AllocError.{AllocError}
 use Rattle.std.specs.Map.{values_of}
 use Rattle.message_tree.specs.declared.bits.Bit.{Bit}
 use Rattle.message_tree.specs.declared.bits.Bit.TheVariants.{Zero, One}
@@ -23,6 +24,10 @@ use Rattle.pair_walk.proofs.Nodes.{writes_proved, reads_proved}
 pub on_true : (b : Bool) (P Q : Type 0) → (P → Q) → OnTrue b P → OnTrue b Q
 on_true true P Q f h = f h
 on_true false P Q f h = h
+
+with_ok : (result : Result ℕ AllocError) (P Q : ℕ → Type 0) (R : Type 0) → OnOk result R → ((k : ℕ) → R → P k → Q k) → IfOk result P → IfOk result Q
+with_ok (Ok k) P Q R r f h = f k r h
+with_ok (Err e) P Q R r f h = tt
 
 -- ---- what a number shows, by the node that stands there
 
@@ -145,7 +150,7 @@ never_itself xs k (inl h) = let d : Some Zero ≡ Some One = sym h.0 ∙ h.1 in 
 never_itself xs k (inr h) = let d : Some One ≡ Some Zero = sym h.0 ∙ h.1 in cc
 
 meets_itself : (c : Count) → Meet c c
-meets_itself c = (least_of c, (≤_refl _, c.ordered), (≤_refl _, c.ordered))
+meets_itself c = (least_of c, (omega arith, c.ordered), (omega arith, c.ordered))
 
 tails_between : (p : ProofTree) (r s : TailTree) → CanonicalTails p r s → CanonicalPayloads p (tree.last r) (tree.last s)
 tails_between (part k) r s h = h
@@ -291,3 +296,26 @@ pub message_there : (ms : List (List ℕ × FrameTree)) (m : ℕ) → m < length
 message_there [] m lt = absurd (omega arith)
 message_there (x ∷ ms) zero lt = (x.1, refl)
 message_there (x ∷ ms) (suc m) lt = message_there ms m (omega arith)
+
+-- ---- a node that is put behind what follows it
+
+module _ (before now after : List Node) (j i : ℕ) (r : TailTree) (result : Result ℕ AllocError) where
+  pub gathered_write : (a : Address) (x : PayloadTree) (f : FrameTree) → f ≡ tree.write a x r → ShowsTail before j r → Keeps before now → ShowsPayload now i x → OnOk result (Keeps now after)
+      → IfOk result (λ k. slice_get after k ≡ Some (node.Write a i j)) → IfOk result (λ k. ShowsFrame after k f)
+  gathered_write a x f e t m p n s =
+      with_ok result (λ k. slice_get after k ≡ Some (node.Write a i j)) (λ k. ShowsFrame after k f) (Keeps now after) n (λ k l g. rw e (i, j, g, keeps_payload now after l i x p, keeps_tail now after l j r (keeps_tail before now m j r t))) s
+
+  pub gathered_read : (a : Address) (c : Count) (x : TailTree) (f : FrameTree) → f ≡ tree.read a c x r → ShowsTail before j r → Keeps before now → ShowsTail now i x → OnOk result (Keeps now after)
+      → IfOk result (λ k. slice_get after k ≡ Some (node.Read a c i j)) → IfOk result (λ k. ShowsFrame after k f)
+  gathered_read a c x f e t m p n s =
+      with_ok result (λ k. slice_get after k ≡ Some (node.Read a c i j)) (λ k. ShowsFrame after k f) (Keeps now after) n (λ k l g. rw e (i, j, g, keeps_tail now after l i x p, keeps_tail now after l j r (keeps_tail before now m j r t))) s
+
+  pub gathered_byte : (b : Pattern) (x v : PayloadTree) → v ≡ tree.byte b x r → ShowsTail before j r → Keeps before now → ShowsPayload now i x → OnOk result (Keeps now after)
+      → IfOk result (λ k. slice_get after k ≡ Some (node.Byte b i j)) → IfOk result (λ k. ShowsPayload after k v)
+  gathered_byte b x v e t m p n s =
+      with_ok result (λ k. slice_get after k ≡ Some (node.Byte b i j)) (λ k. ShowsPayload after k v) (Keeps now after) n (λ k l g. rw e (i, j, g, keeps_payload now after l i x p, keeps_tail now after l j r (keeps_tail before now m j r t))) s
+
+pub gathered_again : (now after : List Node) (i : ℕ) (result : Result ℕ AllocError) (f : FrameTree) (t : TailTree) → t ≡ tree.again f → ShowsFrame now i f → OnOk result (Keeps now after)
+    → IfOk result (λ k. slice_get after k ≡ Some (node.Again i)) → IfOk result (λ k. ShowsTail after k t)
+gathered_again now after i result f t e p n s =
+    with_ok result (λ k. slice_get after k ≡ Some (node.Again i)) (λ k. ShowsTail after k t) (Keeps now after) n (λ k l g. rw e (i, g, keeps_frame now after l i f p)) s
