@@ -1,5 +1,5 @@
 -- What the numbers of a list of nodes show: one tree each, and of two numbers when their trees never clash.
-use Rattle.std.proofs.Common.{◌≡◌, ℕ, zero, suc, ◌+◌, ◌<◌, ◌≤◌, Bool, true, false, Option, Some, None, Result, Ok, Err, IfOk, OnOk, List, [], ◌∷◌, ◌++◌, length, slice_get, refl, ap, sym, ◌∙◌, subst, arith, inl, inr}
+use Rattle.std.proofs.Common.{◌≡◌, ℕ, zero, suc, ◌+◌, ◌<◌, ◌≤◌, Bool, true, false, Option, Some, None, Result, Ok, Err, IfOk, OnOk, List, [], ◌∷◌, ◌++◌, length, length-append, slice_get, refl, ap, sym, ◌∙◌, subst, arith, inl, inr, ◌⊎◌}
 use Rattle.std.specs.Bool.{OnTrue}
 use Rattle.std.specs.declared.alloc.AllocError.{AllocError}
 use Rattle.std.specs.Map.{values_of}
@@ -17,7 +17,8 @@ use Rattle.certificate.specs.Proofs.{ProofTree, part, short, byte, read, again, 
 use Rattle.pair_walk.specs.declared.shared.Node.{Node}
 use Rattle.pair_walk.specs.declared.shared.Node.TheVariants as node
 use Rattle.pair_walk.specs.Canonical.{CanonicalFrames, CanonicalPayloads, CanonicalTails}
-use Rattle.pair_walk.specs.Shared.{ShowsFrame, ShowsPayload, ShowsTail, Keeps, NeverMeet}
+use Rattle.pair_walk.specs.Shared.{ShowsFrame, ShowsPayload, ShowsTail, Keeps, NeverMeet, AreRoots}
+use Rattle.plan_core.specs.Contents.{Contents}
 use Rattle.pair_walk.proofs.HeaderLemmas.{first_in_header, never_in_header}
 use Rattle.pair_walk.proofs.Nodes.{writes_proved, reads_proved}
 
@@ -319,3 +320,30 @@ pub gathered_again : (now after : List Node) (i : ℕ) (result : Result ℕ Allo
     → IfOk result (λ k. slice_get after k ≡ Some (node.Again i)) → IfOk result (λ k. ShowsTail after k t)
 gathered_again now after i result f t e p n s =
     with_ok result (λ k. slice_get after k ≡ Some (node.Again i)) (λ k. ShowsTail after k t) (Keeps now after) n (λ k l g. rw e (i, g, keeps_frame now after l i f p)) s
+
+-- ---- one message more
+
+at_snoc : (xs : List ℕ) (x m y : ℕ) → slice_get (xs ++ x ∷ []) m ≡ Some y → (slice_get xs m ≡ Some y) ⊎ ((m ≡ length xs) × (x ≡ y))
+at_snoc [] x zero y e = let d : x ≡ y = cc in inr (refl, d)
+at_snoc [] x (suc m) y e = cc
+at_snoc (z ∷ xs) x zero y e = inl e
+at_snoc (z ∷ xs) x (suc m) y e =
+    elim (at_snoc xs x m y e) [ inl d ↦ inl d | inr d ↦ inr (ap suc d.0, d.1) ]
+
+pub no_roots : (plan : Contents) (nodes : List Node) (roots : List ℕ) → roots ≡ [] → AreRoots plan nodes roots 0
+no_roots plan nodes roots e = rw e (record { sized = refl; shown = λ m k f h i. cc })
+
+pub root_added : (plan : Contents) (old new : List Node) (roots more : List ℕ) (n root : ℕ) (g : FrameTree) → AreRoots plan old roots n → Keeps old new → slice_get (values_of plan.messages) n ≡ Some g → ShowsFrame new root g
+    → more ≡ roots ++ root ∷ [] → AreRoots plan new more (n + 1)
+root_added plan old new roots more n root g are keeps there shows e = record {
+  sized = ap length e ∙ length-append roots (root ∷ []) ∙ ap (λ (k : ℕ). k + 1) are.sized;
+  shown = λ m k f h i.
+      elim (at_snoc roots root m k (rw e at i)) [
+        | inl d ↦ keeps_frame old new keeps k f (are.shown m k f h d)
+        | inr d ↦
+          let at_n : m ≡ n = d.0 ∙ are.sized in
+          let same : Some g ≡ Some f = sym there ∙ ap (slice_get (values_of plan.messages)) (sym at_n) ∙ h in
+          let is : g ≡ f = cc in
+          subst (λ (t : FrameTree). ShowsFrame new k t) is (subst (λ (j : ℕ). ShowsFrame new j g) d.1 shows)
+      ];
+}

@@ -1,6 +1,6 @@
 -- The messages of a plan as one list of nodes, in which a node names by its number what follows it, so that trees may
 -- share what they have in common. Only private contracts and proofs use what is below `AreNodesOf`.
-use Rattle.std.specs.Prelude.{◌≡◌, ℕ, Some, None, List, slice_get}
+use Rattle.std.specs.Prelude.{◌≡◌, ℕ, Some, None, List, length, slice_get}
 use Rattle.std.specs.Map.{values_of}
 use Rattle.message_tree.specs.Texts.{message}
 use Rattle.message_tree.specs.Trees.{FrameTree, write, read, PayloadTree, byte, last, TailTree, stop, again}
@@ -56,3 +56,9 @@ ShowsParticipant plan nodes x k = (f : FrameTree) × (sender_at plan x ≡ Some 
 abbrev pub NeverFault : Contents → ℕ → Type 0
 NeverFault plan i =
     (x y : ℕ) → slice_get (pairs_of plan) i ≡ Some (x, y) → IsFirstFaultIfAny plan x y None
+
+-- so many messages have a number that shows them
+pub record AreRoots (plan : Contents) (nodes : List Node) (roots : List ℕ) (n : ℕ) : Type 0 where
+  pub sized : length roots ≡ n
+  pub shown : (m k : ℕ) (f : FrameTree) → slice_get (values_of plan.messages) m ≡ Some f →
+      slice_get roots m ≡ Some k → ShowsFrame nodes k f

@@ -170,7 +170,16 @@ fn is_at(nodes: &[Node], k: u32, node: Node) -> bool
     ensures { OnTrue result (slice_get nodes.now k ≡ Some node) }
 {
     let k = k as usize;
-    k < nodes.len() && nodes[k] == node
+    if k < nodes.len() {
+        return are_equal(nodes[k], node);
+    }
+    false
+}
+
+fn are_equal(m: Node, n: Node) -> bool
+    ensures { OnTrue result (m ≡ n) }
+{
+    m == n
 }
 
 // A list of 2 to the power 32 nodes is want of memory.

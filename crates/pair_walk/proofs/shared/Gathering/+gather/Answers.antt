@@ -32,4 +32,4 @@ pub tail-returns-in_ok-frame-in-Again-clause-shows :
     goal.tail-returns-in_ok-frame-in-Again-clause-shows
 tail-returns-in_ok-frame-in-Again-clause-shows t c =
     let e = ap tail_tree c.in-Again.is ∙ ap (λ (p : Frame). again (frame_tree p)) (sym c.deref.ensures) in
-    gathered_again c.frame.new.self.nodes.items c.put.new.self.nodes.items c.in_ok-frame-in-Again.frame c.put.result (frame_tree c.deref.result.now) (tail_tree c.args.tail.now) e c.in_ok-frame-in-Again.ensures.shows c.put.ensures.keeps c.put.ensures.stands
+    gathered_again c.frame.new.self.nodes.items c.put-in-Again.new.self.nodes.items c.in_ok-frame-in-Again.frame c.put-in-Again.result (frame_tree c.deref.result.now) (tail_tree c.args.tail.now) e c.in_ok-frame-in-Again.ensures.shows c.put-in-Again.ensures.keeps c.put-in-Again.ensures.stands
