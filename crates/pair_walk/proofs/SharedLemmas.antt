@@ -341,9 +341,9 @@ root_added plan old new roots more n root g are keeps there shows e = record {
       elim (at_snoc roots root m k (rw e at i)) [
         | inl d ↦ keeps_frame old new keeps k f (are.shown m k f h d)
         | inr d ↦
-          let at_n : m ≡ n = d.0 ∙ are.sized in
-          let same : Some g ≡ Some f = sym there ∙ ap (slice_get (values_of plan.messages)) (sym at_n) ∙ h in
-          let is : g ≡ f = cc in
-          subst (λ (t : FrameTree). ShowsFrame new k t) is (subst (λ (j : ℕ). ShowsFrame new j g) d.1 shows)
+            let at_n : m ≡ n = d.0 ∙ are.sized in
+            let same : Some g ≡ Some f = sym there ∙ ap (slice_get (values_of plan.messages)) (sym at_n) ∙ h in
+            let is : g ≡ f = cc in
+            subst (λ (t : FrameTree). ShowsFrame new k t) is (subst (λ (j : ℕ). ShowsFrame new j g) d.1 shows)
       ];
 }

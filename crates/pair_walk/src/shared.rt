@@ -179,7 +179,87 @@ fn is_at(nodes: &[Node], k: u32, node: Node) -> bool
 fn are_equal(m: Node, n: Node) -> bool
     ensures { OnTrue result (m ≡ n) }
 {
-    m == n
+    match m {
+        Node::Stop => match n {
+            Node::Stop => true,
+            _ => false,
+        },
+        Node::Again(x) => match n {
+            Node::Again(y) => x == y,
+            _ => false,
+        },
+        Node::Byte {
+            bits: p,
+            acked: x,
+            refused: r,
+        } => match n {
+            Node::Byte {
+                bits: q,
+                acked: y,
+                refused: s,
+            } => {
+                if x == y && r == s {
+                    return same_bits(p, q);
+                }
+                false
+            }
+            _ => false,
+        },
+        Node::Write {
+            address: p,
+            acked: x,
+            refused: r,
+        } => match n {
+            Node::Write {
+                address: q,
+                acked: y,
+                refused: s,
+            } => {
+                if x == y && r == s {
+                    return same_address(p, q);
+                }
+                false
+            }
+            _ => false,
+        },
+        Node::Read {
+            address: p,
+            count: c,
+            after: x,
+            refused: r,
+        } => match n {
+            Node::Read {
+                address: q,
+                count: d,
+                after: y,
+                refused: s,
+            } => {
+                if x == y && r == s && same_count(c, d) {
+                    return same_address(p, q);
+                }
+                false
+            }
+            _ => false,
+        },
+    }
+}
+
+fn same_bits(p: Pattern, q: Pattern) -> bool
+    ensures { OnTrue result (p ≡ q) }
+{
+    p == q
+}
+
+fn same_address(a: Address, b: Address) -> bool
+    ensures { OnTrue result (a ≡ b) }
+{
+    a == b
+}
+
+fn same_count(c: Count, d: Count) -> bool
+    ensures { OnTrue result (c ≡ d) }
+{
+    c == d
 }
 
 // A list of 2 to the power 32 nodes is want of memory.
