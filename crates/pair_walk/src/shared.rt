@@ -13,7 +13,7 @@ use std::alloc::{AllocError, Global};
 use std::collections::HashMap;
 
 /// A header, a data byte, a repeated START or a STOP, and the numbers of what follows.
-#[derive(Clone, Copy, PartialEq, Eq, Debug)]
+#[derive(Clone, Copy)]
 pub(crate) enum Node {
     Stop,
     Again(u32),
@@ -36,7 +36,7 @@ pub(crate) enum Node {
 }
 
 /// The messages of a plan as one list of nodes, at most as many as the plan has, and the number of each message's first.
-#[derive(Debug, Drop)]
+#[derive(Drop)]
 pub struct SharedNodes {
     pub(crate) nodes: Vec<Node>,
     pub(crate) roots: Vec<u32>,
