@@ -4,4 +4,5 @@ pub mod Halting
 pub mod HeaderLemmas
 pub mod Interrupts
 pub mod Nodes
+pub mod SharedLemmas
 pub mod Unique

@@ -1,5 +1,6 @@
 pub mod Canonical
 pub mod Compare
 pub mod FirstClash
+pub mod Shared
 pub mod Verdicts
 pub mod Wires

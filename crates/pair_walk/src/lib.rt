@@ -7,8 +7,12 @@ mod halts;
 mod headers;
 pub mod laws;
 mod makes;
+pub mod quick;
+pub mod shared;
 mod starts;
 pub mod walk_pair;
 mod wires;
 
+pub use quick::first_fault_by;
+pub use shared::{SharedNodes, shared_nodes};
 pub use walk_pair::{Outcome, Verdict, first_fault, walk};

@@ -3,11 +3,12 @@
 ghost use Rattle.std.specs.Prelude.{◌≡◌, ℕ, ◌<◌, length, replicate, IfOk, OnOk};
 ghost use Rattle.plan_core.specs.PlanContents.{plan_contents};
 ghost use Rattle.plan_core.specs.Pairs.{pairs_of};
+ghost use Rattle.pair_walk.specs.Shared.{AreNodesOf};
 ghost use Rattle.verdicts.specs.declared.known.Known.TheVariants.{NotYet};
 ghost use Rattle.verdicts.specs.Known.{known_as, IsMemo, KnowsPair, KnowsPairs};
 
 use certificate::Fault;
-use pair_walk::first_fault;
+use pair_walk::{SharedNodes, first_fault_by, shared_nodes};
 use plan_core::Plan;
 use std::alloc::{AllocError, Global};
 
@@ -27,15 +28,23 @@ pub(crate) fn known_pairs(alloc: Global, plan: &Plan) -> Result<Vec<Known>, Allo
     ensures { IfOk result (λ known.
         KnowsPairs (plan_contents plan.now) known.items (length (pairs_of (plan_contents plan.now)))) }
 {
+    let nodes = shared_nodes(alloc, plan)?;
     let mut known = not_yet(alloc, plan.sender_places())?;
     for i in 0..plan.pair_count() {
-        learn(alloc, plan, &mut known, i)?;
+        learn(alloc, plan, &nodes, &mut known, i)?;
     }
     Ok(known)
 }
 
 // Finds what pair `i` comes to, unless that of its two senders is known.
-fn learn(alloc: Global, plan: &Plan, known: &mut Vec<Known>, i: u32) -> Result<(), AllocError>
+fn learn(
+    alloc: Global,
+    plan: &Plan,
+    nodes: &SharedNodes,
+    known: &mut Vec<Known>,
+    i: u32,
+) -> Result<(), AllocError>
+    requires nodes { AreNodesOf (plan_contents plan.now) nodes.now }
     requires pair { i < length (pairs_of (plan_contents plan.now)) }
     requires memo { IsMemo (plan_contents plan.now) known.old.items }
     ensures memo { OnOk result (IsMemo (plan_contents plan.now) known.new.items) }
@@ -45,7 +54,7 @@ fn learn(alloc: Global, plan: &Plan, known: &mut Vec<Known>, i: u32) -> Result<(
 {
     let place = plan.sender_place(i);
     if let Known::NotYet = known[place] {
-        known[place] = known_by(first_fault(alloc, plan, i)?);
+        known[place] = known_by(first_fault_by(alloc, plan, nodes, i)?);
     }
     Ok(())
 }

@@ -4,13 +4,14 @@
 ghost use Rattle.std.specs.Prelude.{◌≡◌, ◌<◌, ◌≤◌, ℕ, length, replicate, slice_get, Some, None, IfOk};
 ghost use Rattle.plan_core.specs.PlanContents.{plan_contents};
 ghost use Rattle.plan_core.specs.Pairs.{pairs_of};
+ghost use Rattle.pair_walk.specs.Shared.{AreNodesOf};
 ghost use Rattle.verdicts.specs.Known.{KnowsPairs};
 ghost use Rattle.verdicts.specs.Samples.{AreSamples, IsKnownAt};
 
 use crate::gates::Gate;
 use crate::known::{Known, known_by};
 use crate::sharing::{MOST_WORKERS, share};
-use pair_walk::first_fault;
+use pair_walk::{SharedNodes, first_fault_by, shared_nodes};
 use plan_core::Plan;
 use std::alloc::{AllocError, Global};
 use std::thread::Threads;
@@ -30,6 +31,8 @@ pub(crate) fn known_together<R: Threads + Sync, G: Gate + Sync>(
     let places = plan.sender_places() as u32;
     let samples = samples(alloc, plan)?;
     let samples = samples.as_slice();
+    let nodes = shared_nodes(alloc, plan)?;
+    let nodes = &nodes;
     let known = share(
         rt,
         alloc,
@@ -38,9 +41,9 @@ pub(crate) fn known_together<R: Threads + Sync, G: Gate + Sync>(
         gate,
         &|k: u32| -> Result<Known, AllocError>
             requires { (k < length samples.now) × AreSamples (plan_contents plan.now) samples.now
-                (length (pairs_of (plan_contents plan.now))) }
+                (length (pairs_of (plan_contents plan.now))) × AreNodesOf (plan_contents plan.now) nodes.now }
             ensures { IfOk result (IsKnownAt (plan_contents plan.entry.now) samples.entry.now k) }
-        { known_at(alloc, plan, samples, k) },
+        { known_at(alloc, plan, nodes, samples, k) },
     )?;
     Ok(known)
 }
@@ -49,16 +52,18 @@ pub(crate) fn known_together<R: Threads + Sync, G: Gate + Sync>(
 fn known_at(
     alloc: Global,
     plan: &Plan,
+    nodes: &SharedNodes,
     samples: &[Option<u32>],
     k: u32,
 ) -> Result<Known, AllocError>
+    requires nodes { AreNodesOf (plan_contents plan.now) nodes.now }
     requires place { k < length samples.now }
     requires samples { AreSamples (plan_contents plan.now) samples.now (length (pairs_of (plan_contents plan.now))) }
     ensures { IfOk result (IsKnownAt (plan_contents plan.now) samples.now k) }
 {
     match samples[k as usize] {
         None => Ok(Known::NotYet),
-        Some(i) => Ok(known_by(first_fault(alloc, plan, i)?)),
+        Some(i) => Ok(known_by(first_fault_by(alloc, plan, nodes, i)?)),
     }
 }
 

@@ -14,8 +14,8 @@ use std::alloc::{AllocError, Global};
 /// The pairs of the plan that are not safe, each with its first fault, in the order of the pairs.
 ///
 /// No proof is made. Two senders, of which each is a message or an interrupt, are compared once however many pairs
-/// they make. Memory is taken for what is known of two senders, 82,944 times at most, and for the number of each unsafe
-/// pair.
+/// they make. Memory is taken for the nodes of the messages, at most as many as the plan has, for what is known of two
+/// senders, 82,944 times at most, and for the number of each unsafe pair.
 pub fn faults(alloc: Global, plan: &Plan) -> Result<Faults, AllocError>
     ensures { IfOk result (λ faults. AreFaults (plan_contents plan.now) (fault_list faults)) }
 {

@@ -17,10 +17,10 @@ index_mut-requires c =
     let known = c.args.known.now in
     omega (arith, known.ok.0, place_of_pair (plan_contents plan) (limits_of plan) known.items c.requires.memo c.args.i c.sender_place-place.result c.requires.pair c.sender_place-place.ensures.place)
 
-pub returns-in_ok-first_fault : goal.returns-in_ok-first_fault
-returns-in_ok-first_fault c =
+pub returns-in_ok-first_fault_by : goal.returns-in_ok-first_fault_by
+returns-in_ok-first_fault_by c =
     let plan = c.args.plan.now in
-    let now = learned (plan_contents plan) (limits_of plan) c.args.known.now.items c.requires.memo c.args.i c.sender_place-place.result c.requires.pair c.sender_place-place.ensures.place c.known_by.result c.in_ok-first_fault.field-0 c.known_by.ensures c.in_ok-first_fault.ensures in
+    let now = learned (plan_contents plan) (limits_of plan) c.args.known.now.items c.requires.memo c.args.i c.sender_place-place.result c.requires.pair c.sender_place-place.ensures.place c.known_by.result c.in_ok-first_fault_by.field-0 c.known_by.ensures c.in_ok-first_fault_by.ensures in
     record { memo = now.0; knows = now.1; keeps = now.2 }
 
 pub returns-in_default : goal.returns-in_default
