@@ -8,5 +8,5 @@ use Rattle.brief_text.proofs.writing.word_of_controller.Given as goal
 -- no name before this one is such a word
 abbrev pub invariant-loop-k : goal.invariant-loop-k
 invariant-loop-k l =
-    let names = keys_of (plan_contents l.plan.now).controllers in
+    let names = keys_of (plan_contents l.plan).controllers in
     list_any is_brief_word (drop l.k names) ≡ list_any is_brief_word names
