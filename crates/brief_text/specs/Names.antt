@@ -13,7 +13,7 @@ is_brief_word bytes =
     list_any (bytes_eq bytes) (codes "brief" ∷ codes "device" ∷ codes "byte" ∷ codes "any" ∷ [])
 
 -- a message, a controller or an interrupt has such a word as its name
-unfoldable pub has_brief_word : Contents → Bool
+abbrev pub has_brief_word : Contents → Bool
 has_brief_word plan =
     list_any is_brief_word (keys_of plan.messages) || list_any is_brief_word (keys_of plan.controllers)
     || list_any is_brief_word (keys_of plan.interrupts)

@@ -8,8 +8,8 @@ use Rattle.brief_text.specs.Briefs.{Means}
 use Rattle.brief_text.proofs.writing.is_brief_of.Goals as goal
 
 -- a text spells one plan
-pub returns-in_ok-other-in-Ok : goal.returns-in_ok-other-in-Ok
-returns-in_ok-other-in-Ok c = λ same.
+pub returns-in_ok-other-in-Ok-clause-meant : goal.returns-in_ok-other-in-Ok-clause-meant
+returns-in_ok-other-in-Ok-clause-meant c = λ same.
     let meant = plan_contents c.in-Ok.meant in
     let plan = plan_contents c.args.plan.now in
     let other = c.in_ok-other-in-Ok.other.items in
