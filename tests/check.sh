@@ -419,10 +419,19 @@ want 1 "$(sed -n 's/^  \(pair 0 .*\)/\1/p' "$tests/expected/check_help.txt")" ""
 compare "the plan in the help"
 
 # Each example says in its head how it is checked: a line '# twire check FILE (exit status N)', and below it the lines
-# of the report, each after '#   '.
+# of the report, each after '#   '. A plan that twire wrote has no comments, and its brief says it.
+head_of() {
+    if grep -q '^# twire check ' "$1"; then
+        echo "$1"
+    else
+        echo "${1%.plan}.brief"
+    fi
+}
+
 for plan in "$tests"/../examples/*.plan; do
-    status=$(sed -n 's/^# twire check .*(exit status \([0-2]\))$/\1/p' "$plan")
-    report=$(sed -n '/^# twire check /,/^\(#\)\{0,1\}$/s/^#   //p' "$plan")
+    head=$(head_of "$plan")
+    status=$(sed -n 's/^# twire check .*(exit status \([0-2]\))$/\1/p' "$head")
+    report=$(sed -n '/^# twire check /,/^\(#\)\{0,1\}$/s/^#   //p' "$head")
     want "$status" "$report" ""
     run "example $(basename "$plan")" check "$plan"
     for workers in 1 2 3 4 5 6 7 8; do
@@ -433,7 +442,7 @@ done
 # The certificate of an example belongs to the plan of its name.
 for cert in "$tests"/../examples/*.cert; do
     plan=${cert%.cert}.plan
-    safe=$(sed -n 's/^# twire check .*(exit status \([0-2]\))$/\1/p' "$plan")
+    safe=$(sed -n 's/^# twire check .*(exit status \([0-2]\))$/\1/p' "$(head_of "$plan")")
     want "$safe" "$(cat "$cert")" ""
     run "certificate of example $(basename "$plan")" certify "$plan"
     want "$safe" "$([[ $safe == 0 ]] && echo "accepted safe" || echo "accepted unsafe")" ""

@@ -8,8 +8,8 @@ any_from : (f : List ℕ → Bool) (names : List (List ℕ)) (k : ℕ) (name : L
     list_any f (drop k names) ≡ (f name || list_any f (drop (k + 1) names))
 any_from f names k name at =
     let rest : drop k names ≡ name ∷ drop (k + 1) names =
-        drop_more names k name (slice_get_within names k name at)
-        ∙ ap (λ (y : List ℕ). y ∷ drop (k + 1) names) (get_or_from_slice_get names k name name at) in
+    drop_more names k name (slice_get_within names k name at)
+    ∙ ap (λ (y : List ℕ). y ∷ drop (k + 1) names) (get_or_from_slice_get names k name name at) in
     ap (list_any f) rest
 
 -- a name that is such a word, where none before it is

@@ -56,9 +56,7 @@ pub const HINTS: Argument = Argument::Choice {
 };
 
 /// The commands, in the order of the help.
-pub const COMMANDS: [Entry; 8] = [
-    CHECK, CERTIFY, VERIFY, CAPTURE, BENCH, EXPAND, PRINT, BRIEF,
-];
+pub const COMMANDS: [Entry; 8] = [CHECK, CERTIFY, VERIFY, CAPTURE, BENCH, EXPAND, PRINT, BRIEF];
 
 const CHECK: Entry = Entry {
     name: "check",

@@ -97,7 +97,9 @@ fn expected_bits(alloc: Global, before: &[u8]) -> Result<Option<&'static str>, A
 fn expected_number(alloc: Global, before: &[u8]) -> Result<Option<&'static str>, AllocError> {
     let brief = Language::Brief;
     Ok(if allows(alloc, brief, before, "0b000000x")? {
-        Some("an address ('0x' and two digits, at most 0x7F, or '0b' and seven of '0', '1' and 'x')")
+        Some(
+            "an address ('0x' and two digits, at most 0x7F, or '0b' and seven of '0', '1' and 'x')",
+        )
     } else if allows(alloc, brief, before, "1..2")? {
         Some("a count from 1 to 255, or two of them as '2..4'")
     } else if allows(alloc, brief, before, "1")? {

@@ -6,7 +6,7 @@ use crate::lines::Lines;
 use crate::marking::{first_line, last_line, push_marked};
 use crate::pieces::{Piece, last_line_number, line_start, pieces};
 use crate::reading::part;
-use crate::wording::{of_text, of_other_language};
+use crate::wording::{of_other_language, of_text};
 use brief_text::brief_word;
 use plan_text::{PlanError, read_plan};
 use std::alloc::{AllocError, Global};
@@ -43,7 +43,9 @@ pub fn on_no_brief<F: Read + Seek + Drop>(
         if let Ok(plan) = read_plan(alloc, text.as_slice()) {
             if let Some(name) = brief_word(&plan) {
                 let name = name.as_str();
-                let line = format!(in alloc; "the plan has the name '{name}', which is a word of briefs")?;
+                let line = format!(in alloc;
+                    "the plan has the name '{name}', which is a word of briefs"
+                )?;
                 lines.say(line.as_str())?;
                 return Ok(lines.finish());
             }

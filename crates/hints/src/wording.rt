@@ -89,10 +89,14 @@ fn of_brief(refusal: PlanError) -> Option<&'static str> {
         PlanError::NotAscii(_) => Some("a brief is ASCII, in its comments too"),
         PlanError::Version(_) => Some("a brief begins with 'brief 1'"),
         PlanError::BadCount(_) => {
-            Some("expected here: a number from 1 to 255; after 'read' also two of them as '2..4', the smaller first")
+            Some(
+                "expected here: a number from 1 to 255; after 'read' also two of them as '2..4', the smaller first",
+            )
         }
         PlanError::Unknown(_) => {
-            Some("nothing before this place has this name: devices, bytes, messages and controllers come before what names them")
+            Some(
+                "nothing before this place has this name: devices, bytes, messages and controllers come before what names them",
+            )
         }
         _ => of_plan(refusal),
     }

@@ -53,5 +53,7 @@ refuses_plan_to_brief text e (inr first) = first
 
 pub gives_no_brief : (text slice : List ℕ) (plan : Contents) (e : NoBrief) → slice ≡ text → Spells slice plan → (e ≡ cause.NoMemory) ⊎ LacksBrief plan e → GivesNoBrief text (brief_error e)
 gives_no_brief text slice plan cause.NoMemory same spelled h = tt
-gives_no_brief text slice plan e same spelled (inl no) = cc
-gives_no_brief text slice plan e same spelled (inr why) = (plan, subst (λ (t : List ℕ). Spells t plan) same spelled, why)
+gives_no_brief text slice plan cause.Name same spelled (inl gone) = cc
+gives_no_brief text slice plan cause.Name same spelled (inr why) = (plan, subst (λ (t : List ℕ). Spells t plan) same spelled, why)
+gives_no_brief text slice plan cause.Unwritten same spelled (inl gone) = cc
+gives_no_brief text slice plan cause.Unwritten same spelled (inr why) = (plan, subst (λ (t : List ℕ). Spells t plan) same spelled, why)

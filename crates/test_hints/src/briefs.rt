@@ -121,7 +121,10 @@ fn only_words_are_left_where_the_brief_is_no_file(rt: HostRuntime) -> Result<(),
 
 #[test]
 fn the_name_that_no_brief_can_say_is_told(rt: HostRuntime) -> Result<(), Fail> {
-    let found = on_no_brief(rt.alloc(), file(b"plan 1 controller byte ; interrupt any 0000001 ;"))?;
+    let found = on_no_brief(
+        rt.alloc(),
+        file(b"plan 1 controller byte ; interrupt any 0000001 ;"),
+    )?;
     assert_eq!(rt;
         found.as_str(),
         "hint: the plan has the name 'byte', which is a word of briefs\n"

@@ -10,10 +10,10 @@ pub returns-then-is_brief_word : goal.returns-then-is_brief_word
 returns-then-is_brief_word c =
     let is : is_brief_word (name_bytes c.message_name-name.result.now) ≡ true = ap is_brief_word (sym c.as_str.ensures) ∙ (sym c.is_brief_word.ensures ∙ c.if-is_brief_word.true) in
     found_at is_brief_word (keys_of (plan_contents c.args.plan.now).messages) c.loop-k.k
-        (name_bytes c.message_name-name.result.now) c.message_name-name.ensures is c.loop-k.invariant
+    (name_bytes c.message_name-name.result.now) c.message_name-name.ensures is c.loop-k.invariant
 
 pub loop-k-preserved : goal.loop-k-preserved
 loop-k-preserved c =
     let is : is_brief_word (name_bytes c.message_name-name.result.now) ≡ false = ap is_brief_word (sym c.as_str.ensures) ∙ (sym c.is_brief_word.ensures ∙ c.if-is_brief_word.false) in
     passed_at is_brief_word (keys_of (plan_contents c.args.plan.now).messages) c.loop-k.k
-        (name_bytes c.message_name-name.result.now) c.message_name-name.ensures is c.loop-k.invariant
+    (name_bytes c.message_name-name.result.now) c.message_name-name.ensures is c.loop-k.invariant
