@@ -1,0 +1,216 @@
+// Below the wire of a rehearsal.
+
+use crate::below::{Below, room_after};
+use crate::cells::{Cell, cells_of, pad};
+use crate::sending::after;
+use crate::wires::items_of;
+use crate::words::known;
+use message_tree::{Bit, Item};
+use places::{Offered, Place};
+use plan_core::Plan;
+use std::alloc::{AllocError, Global};
+
+// How many columns the labels of rows have at most; a longer one has a line of its own.
+const LABELS: usize = 22;
+
+
+
+/// What is said below the line `wire WIRE` in the report of a rehearsal: the slots in which bytes begin, the bytes, the
+/// wire, and for each starter what it puts in each slot, with `.` where it listens, up to the slot in which it loses. `fill`
+/// is what is sent for an open bit.
+pub fn below_wire(
+    alloc: Global,
+    plan: &Plan,
+    starters: &str,
+    fill: bool,
+    wire: &str,
+) -> Result<String, AllocError> {
+    let wire = items_of(alloc, wire)?;
+    let mut rows = Vec::new(alloc);
+    for label in starters.split(',') {
+        if let Some(p) = plan.find(label) {
+            rows.push(row_of(alloc, plan, p, label, fill, wire.as_slice())?)?;
+        }
+    }
+    let mut below = Below::new(alloc);
+    push_blocks(alloc, &mut below, wire.as_slice(), rows.as_slice())?;
+    Ok(below.finish())
+}
+
+// What a starter puts in each slot up to its end, as symbols.
+#[derive(Drop)]
+struct Row {
+    label: String,
+    symbols: String,
+    // the slot in which it loses
+    lost: Option<usize>,
+}
+
+fn row_of(
+    alloc: Global,
+    plan: &Plan,
+    p: u32,
+    label: &str,
+    fill: bool,
+    wire: &[Item],
+) -> Result<Row, AllocError> {
+    let mut symbols = String::new(alloc);
+    let mut lost = None;
+    if p < plan.participants() {
+        lost = push_symbols(&mut symbols, Place::start(plan.sends(p)), fill, wire)?;
+    }
+    let label = String::from_str(alloc, label)?;
+    Ok(Row {
+        label,
+        symbols,
+        lost,
+    })
+}
+
+// The symbols, and the slot in which the starter loses.
+fn push_symbols(
+    symbols: &mut String,
+    start: Place<'_>,
+    fill: bool,
+    wire: &[Item],
+) -> Result<Option<usize>, AllocError> {
+    let mut place = start;
+    for (slot, item) in wire.iter().enumerate() {
+        let put = put_for(place.offered(), fill);
+        symbols.push(put.map_or('.', |it| it.symbol()))?;
+        match after(&place, *item) {
+            Some(next) if put.is_none_or(|it| it == *item) => place = next,
+            _ => return Ok(Some(slot)),
+        }
+    }
+    Ok(None)
+}
+
+// What is put where this is offered, and None where the starter listens.
+fn put_for(offered: Offered, fill: bool) -> Option<Item> {
+    match offered {
+        Offered::Bit(Bit::Zero) => Some(Item::Sent(false)),
+        Offered::Bit(Bit::One) => Some(Item::Sent(true)),
+        Offered::Bit(Bit::Either) => Some(Item::Sent(fill)),
+        Offered::Again => Some(Item::Again),
+        Offered::Stop => Some(Item::Stop),
+        Offered::Claim => Some(Item::Claim),
+        Offered::Listen | Offered::Nothing => None,
+    }
+}
+
+// The blocks of the wire, one below the other.
+fn push_blocks(
+    alloc: Global,
+    below: &mut Below,
+    wire: &[Item],
+    rows: &[Row],
+) -> Result<(), AllocError> {
+    let longest = rows.iter().map(|it| it.label.len()).max().unwrap_or(0);
+    let columns = longest.saturating_add(2).clamp(6, LABELS);
+    let cells = cells_of(alloc, wire)?;
+    let mut rest = cells.as_slice();
+    for _ in 0..cells.len() {
+        if rest.is_empty() {
+            break;
+        }
+        let count = fitting(rest, room_after(columns)).max(1);
+        let (block, after) = rest.split_at(count.min(rest.len()));
+        push_block(alloc, below, columns, wire, block, rows)?;
+        rest = after;
+    }
+    Ok(())
+}
+
+// How many of the cells fit into so many columns.
+fn fitting(cells: &[Cell], room: usize) -> usize {
+    let mut left = room;
+    let mut count = 0usize;
+    for cell in cells {
+        if left <= cell.size {
+            break;
+        }
+        left = left.saturating_sub(cell.size).saturating_sub(1);
+        count = count.saturating_add(1);
+    }
+    count
+}
+
+fn push_block(
+    alloc: Global,
+    below: &mut Below,
+    columns: usize,
+    wire: &[Item],
+    block: &[Cell],
+    rows: &[Row],
+) -> Result<(), AllocError> {
+    let slots = slots_line(alloc, block)?;
+    below.hang("slot", columns, slots.as_str().trim_end())?;
+    let bytes = bytes_line(alloc, wire, block)?;
+    below.hang("byte", columns, bytes.as_str().trim_end())?;
+    let symbols = wire_symbols(alloc, wire)?;
+    let line = symbols_line(alloc, symbols.as_str(), block)?;
+    below.hang("wire", columns, line.as_str().trim_end())?;
+    let first = block.first().map_or(0, |it| it.from);
+    let is_last = block.last().is_some_and(|it| wire.len() <= it.end());
+    for row in rows {
+        if row.lost.is_none_or(|slot| first <= slot) {
+            push_row(alloc, below, columns, block, row, is_last)?;
+        }
+    }
+    Ok(())
+}
+
+fn slots_line(alloc: Global, block: &[Cell]) -> Result<String, AllocError> {
+    let mut line = String::new(alloc);
+    for cell in block {
+        let number = format!(in alloc; "{}", cell.from)?;
+        pad(&mut line, if cell.is_byte() { number.as_str() } else { "" }, cell.size)?;
+    }
+    Ok(line)
+}
+
+fn bytes_line(alloc: Global, wire: &[Item], block: &[Cell]) -> Result<String, AllocError> {
+    let mut line = String::new(alloc);
+    for cell in block {
+        let words = cell.words(alloc, wire)?;
+        pad(&mut line, words.as_str(), cell.size)?;
+    }
+    Ok(line)
+}
+
+fn wire_symbols(alloc: Global, wire: &[Item]) -> Result<String, AllocError> {
+    let mut symbols = String::new(alloc);
+    for item in wire {
+        symbols.push(item.symbol())?;
+    }
+    Ok(symbols)
+}
+
+fn symbols_line(alloc: Global, symbols: &str, block: &[Cell]) -> Result<String, AllocError> {
+    let mut line = String::new(alloc);
+    for cell in block {
+        let shown = symbols.get(cell.from..cell.end().min(symbols.len())).unwrap_or("");
+        pad(&mut line, shown, cell.size)?;
+    }
+    Ok(line)
+}
+
+fn push_row(
+    alloc: Global,
+    below: &mut Below,
+    columns: usize,
+    block: &[Cell],
+    row: &Row,
+    is_last: bool,
+) -> Result<(), AllocError> {
+    let line = symbols_line(alloc, row.symbols.as_str(), block)?;
+    let shown = line.as_str().trim_end();
+    let end = block.last().map_or(0, |it| it.end());
+    let words = match row.lost {
+        Some(slot) if slot < end => format!(in alloc; "{shown} lost in slot {slot}")?,
+        None if is_last => format!(in alloc; "{shown} won")?,
+        _ => String::from_str(alloc, shown)?,
+    };
+    below.hang(row.label.as_str(), columns, words.as_str())
+}

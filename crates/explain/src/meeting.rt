@@ -1,0 +1,55 @@
+// The line of an unsafe pair, taken apart.
+
+use crate::wires::items_of;
+use message_tree::Item;
+use plan_core::Plan;
+use std::alloc::{AllocError, Global};
+
+/// Two participants and the wire after which they clash.
+#[derive(Drop)]
+pub(crate) struct Meeting {
+    pub(crate) first: u32,
+    pub(crate) second: u32,
+    pub(crate) wire: Vec<Item>,
+}
+
+/// What `pair I X Y: KIND against KIND after WIRE` says, and None for another line, and where the plan has no such pair.
+pub(crate) fn meeting_of(
+    alloc: Global,
+    plan: &Plan,
+    line: &str,
+) -> Result<Option<Meeting>, AllocError> {
+    let Some((_, first, second)) = pair_of(plan, line) else {
+        return Ok(None);
+    };
+    let symbols = line.rsplit(' ').next().unwrap_or("");
+    let wire = items_of(alloc, symbols)?;
+    Ok(Some(Meeting {
+        first,
+        second,
+        wire,
+    }))
+}
+
+/// The pair that a line of a report tells of by the word after `pair`, and its participants.
+pub(crate) fn pair_of(plan: &Plan, line: &str) -> Option<(u32, u32, u32)> {
+    let mut words = line.split(' ');
+    words.find(|word| *word == "pair")?;
+    let Ok(pair) = words.next()?.parse::<u32>() else {
+        return None;
+    };
+    if plan.pair_count() <= pair {
+        return None;
+    }
+    let (first, second) = plan.pair(pair);
+    Some((pair, first, second))
+}
+
+/// The label of a participant, and nothing for a number that is none.
+pub(crate) fn label_of(alloc: Global, plan: &Plan, p: u32) -> Result<String, AllocError> {
+    if p < plan.participants() {
+        plan.label(alloc, p)
+    } else {
+        Ok(String::new(alloc))
+    }
+}

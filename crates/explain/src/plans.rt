@@ -1,0 +1,88 @@
+// Below the report on a safe plan.
+
+use crate::below::Below;
+use crate::certificates::Endings;
+use plan_core::Plan;
+use std::alloc::{AllocError, Global};
+
+/// What is said below `safe: N pairs`: where the two of each pair part while targets acknowledge, which messages nobody
+/// sends, how many pairs `never` leaves out, and that nothing was checked where there are no pairs.
+pub fn below_safe(alloc: Global, plan: &Plan, endings: Endings) -> Result<String, AllocError> {
+    let mut below = Below::new(alloc);
+    push_endings(alloc, &mut below, endings)?;
+    push_notes(alloc, &mut below, plan)?;
+    Ok(below.finish())
+}
+
+fn push_endings(alloc: Global, below: &mut Below, endings: Endings) -> Result<(), AllocError> {
+    let words = format!(in alloc;
+        "where targets acknowledge: {} part in a header, {} later, {} at a read's end, {} end alike",
+        endings.header,
+        endings.later,
+        endings.read,
+        endings.alike
+    )?;
+    below.say(words.as_str())
+}
+
+fn push_notes(alloc: Global, below: &mut Below, plan: &Plan) -> Result<(), AllocError> {
+    if plan.pair_count() == 0 {
+        below.say("no two participants may start together, so nothing was checked")?;
+    }
+    for k in 0..plan.messages() {
+        if !is_sent(plan, k) {
+            let words = format!(in alloc; "nobody sends {}", plan.message_name(k).as_str())?;
+            below.say(words.as_str())?;
+        }
+    }
+    let apart = kept_apart(plan);
+    if apart != 0 {
+        let words = format!(in alloc;
+            "{apart} pairs were not checked: 'never' keeps their controllers apart"
+        )?;
+        below.say(words.as_str())?;
+    }
+    Ok(())
+}
+
+// Whether some controller has the message.
+fn is_sent(plan: &Plan, message: u32) -> bool {
+    for c in 0..plan.controllers() {
+        if plan.controller_messages(c).contains(&message) {
+            return true;
+        }
+    }
+    false
+}
+
+// How many pairs of sendings some `never` leaves out.
+fn kept_apart(plan: &Plan) -> u64 {
+    let mut pairs = 0u64;
+    for c in 0..plan.controllers() {
+        for d in 0..c {
+            if is_never(plan, c, d) {
+                let both = sendings(plan, c).saturating_mul(sendings(plan, d));
+                pairs = pairs.saturating_add(both);
+            }
+        }
+    }
+    pairs
+}
+
+fn sendings(plan: &Plan, c: u32) -> u64 {
+    if c < plan.controllers() {
+        plan.controller_messages(c).len() as u64
+    } else {
+        0
+    }
+}
+
+fn is_never(plan: &Plan, c: u32, d: u32) -> bool {
+    for k in 0..plan.nevers() {
+        let (first, second) = plan.never(k);
+        if (first == c && second == d) || (first == d && second == c) {
+            return true;
+        }
+    }
+    false
+}
