@@ -16,7 +16,7 @@ pub enum Asked<'a> {
     Refuse(String),
 }
 
-/// A run of the program.
+/// A run of the program. `output` is the file to write, where it is not standard output.
 #[derive(Clone, Copy, Debug)]
 pub enum Request<'a> {
     /// Whether a plan is safe.
@@ -27,6 +27,7 @@ pub enum Request<'a> {
     /// The certificate of a plan.
     Certify {
         plan: &'a str,
+        output: Option<&'a str>,
     },
     /// Whether a certificate is right for a plan.
     Verify {
@@ -51,14 +52,17 @@ pub enum Request<'a> {
     /// The plan that a brief means, in its canonical spelling.
     Expand {
         brief: &'a str,
+        output: Option<&'a str>,
     },
     /// The canonical spelling of a plan.
     Print {
         plan: &'a str,
+        output: Option<&'a str>,
     },
     /// A brief of a plan.
     Brief {
         plan: &'a str,
+        output: Option<&'a str>,
     },
 }
 
@@ -123,6 +127,7 @@ struct Found<'a> {
     sda: Option<&'a str>,
     fill: Option<&'a str>,
     answers: Option<&'a str>,
+    output: Option<&'a str>,
     hints: Option<&'a str>,
 }
 
@@ -147,8 +152,14 @@ fn found_in<'a>(matches: &ArgMatches<'a>) -> Found<'a> {
         sda: matches.get_str("sda"),
         fill: matches.get_str("fill"),
         answers: matches.get_str("answers"),
+        output: output_of(matches.get_str("output")),
         hints: matches.get_str("hints"),
     }
+}
+
+// `-` is standard output.
+fn output_of(path: Option<&str>) -> Option<&str> {
+    path.filter(|path| *path != "-")
 }
 
 fn asked_of<'a>(name: &str, found: Found<'a>) -> Option<(Request<'a>, When)> {
@@ -161,7 +172,10 @@ fn request_of<'a>(name: &str, found: Found<'a>) -> Option<Request<'a>> {
             plan: found.plan?,
             workers: found.workers?,
         },
-        "certify" => Request::Certify { plan: found.plan? },
+        "certify" => Request::Certify {
+            plan: found.plan?,
+            output: found.output,
+        },
         "verify" => Request::Verify {
             plan: found.plan?,
             cert: found.cert?,
@@ -181,9 +195,16 @@ fn request_of<'a>(name: &str, found: Found<'a>) -> Option<Request<'a>> {
         },
         "expand" => Request::Expand {
             brief: found.brief?,
+            output: found.output,
         },
-        "print" => Request::Print { plan: found.plan? },
-        "brief" => Request::Brief { plan: found.plan? },
+        "print" => Request::Print {
+            plan: found.plan?,
+            output: found.output,
+        },
+        "brief" => Request::Brief {
+            plan: found.plan?,
+            output: found.output,
+        },
         _ => return None,
     })
 }

@@ -61,6 +61,7 @@ fn argument<'a>(alloc: Global, argument: Argument) -> Arg<'a> {
             default,
             help,
         } => number(alloc, id, value_name, default, help),
+        Argument::File { id, short, help } => file(alloc, id, short, help),
         Argument::Choice {
             id,
             value_name,
@@ -87,6 +88,14 @@ fn text<'a>(
         .value_name(value_name)
         .default_value(default)
         .hide_default_value(default.is_empty())
+        .help(help)
+}
+
+fn file<'a>(alloc: Global, id: &'a str, short: char, help: &'a str) -> Arg<'a> {
+    Arg::new(alloc, id)
+        .long(id)
+        .short(short)
+        .value_name("FILE")
         .help(help)
 }
 

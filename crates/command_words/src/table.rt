@@ -36,6 +36,12 @@ pub enum Argument {
         default: &'static str,
         help: &'static str,
     },
+    /// An option that names a file, with a short form of one letter.
+    File {
+        id: &'static str,
+        short: char,
+        help: &'static str,
+    },
     /// An option that takes one of these texts. Its help names them, and the default.
     Choice {
         id: &'static str,
@@ -69,7 +75,7 @@ const CERTIFY: Entry = Entry {
     name: "certify",
     about: "Write the certificate of a plan: a proof for each pair, or a fault",
     after_help: AFTER_CERTIFY_HELP,
-    arguments: &[PLAN],
+    arguments: &[PLAN, OUTPUT],
 };
 
 const VERIFY: Entry = Entry {
@@ -97,21 +103,21 @@ const EXPAND: Entry = Entry {
     name: "expand",
     about: "Write the plan that a brief means: a brief is its short form",
     after_help: AFTER_EXPAND_HELP,
-    arguments: &[BRIEF_FILE],
+    arguments: &[BRIEF_FILE, OUTPUT],
 };
 
 const PRINT: Entry = Entry {
     name: "print",
     about: "Write the canonical spelling of a plan",
     after_help: AFTER_PRINT_HELP,
-    arguments: &[PLAN],
+    arguments: &[PLAN, OUTPUT],
 };
 
 const BRIEF: Entry = Entry {
     name: "brief",
     about: "Write a brief of a plan: expanded, it means the same plan",
     after_help: AFTER_BRIEF_HELP,
-    arguments: &[PLAN],
+    arguments: &[PLAN, OUTPUT],
 };
 
 const PLAN: Argument = Argument::Word {
@@ -137,6 +143,12 @@ const VCD: Argument = Argument::Word {
 const STARTERS: Argument = Argument::Word {
     id: "STARTERS",
     help: "Who starts together: labels of participants, joined by commas",
+};
+
+const OUTPUT: Argument = Argument::File {
+    id: "output",
+    short: 'o',
+    help: "Write FILE, whole or not at all, in place of standard output",
 };
 
 const WORKERS: Argument = Argument::Number {

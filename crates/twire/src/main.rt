@@ -2,6 +2,8 @@
 #![tactic(auto)]
 
 mod advice;
+mod inputs;
+mod outputs;
 mod runs;
 
 use std::io::IsTerminal;
