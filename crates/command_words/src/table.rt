@@ -148,7 +148,7 @@ const STARTERS: Argument = Argument::Word {
 const OUTPUT: Argument = Argument::File {
     id: "output",
     short: 'o',
-    help: "Write FILE, whole or not at all, in place of standard output",
+    help: "Write FILE, whole or not at all, and not standard output",
 };
 
 const WORKERS: Argument = Argument::Number {

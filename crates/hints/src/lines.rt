@@ -2,7 +2,16 @@
 
 use std::alloc::{AllocError, Global};
 
-/// Lines of text, each of which begins with `hint:`.
+// What each line begins with.
+const HEAD: &str = "hint:";
+
+// The columns of a terminal.
+const COLUMNS: usize = 80;
+
+/// How many columns a detail has.
+pub(crate) const DETAIL: usize = COLUMNS - HEAD.len() - 3;
+
+/// Lines of text, each of which begins with `hint:` and fits 80 columns, unless one word is longer.
 #[derive(Drop)]
 pub(crate) struct Lines {
     text: String,
@@ -16,14 +25,27 @@ impl Lines {
         }
     }
 
-    /// One more line.
+    /// One more sentence, on as many lines as it takes.
     pub(crate) fn say(&mut self, words: &str) -> Result<(), AllocError> {
-        writeln!(self.text, "hint: {words}")
+        self.text.push_str(HEAD)?;
+        let mut column = HEAD.len();
+        for word in words.split(' ') {
+            let width = word.chars().count().saturating_add(1);
+            if column > HEAD.len() && column.saturating_add(width) > COLUMNS {
+                self.text.push('\n')?;
+                self.text.push_str(HEAD)?;
+                column = HEAD.len();
+            }
+            self.text.push(' ')?;
+            self.text.push_str(word)?;
+            column = column.saturating_add(width);
+        }
+        self.text.push('\n')
     }
 
-    /// One more line, which belongs to the one before.
+    /// One more line, which belongs to the one before. It is not broken.
     pub(crate) fn detail(&mut self, words: &str) -> Result<(), AllocError> {
-        writeln!(self.text, "hint:   {words}")
+        writeln!(self.text, "{HEAD}   {words}")
     }
 
     /// All lines.
