@@ -41,13 +41,15 @@ pub enum Request<'a> {
         scl: &'a str,
         sda: &'a str,
     },
-    /// What these starters of an accepted plan do on a bus. The answers are bits, 0 and 1.
+    /// What these starters of an accepted plan do on a bus. Without a certificate one is to be made. The answers are bits, 0
+    /// and 1, and past their end each is `rest`.
     Bench {
         plan: &'a str,
-        cert: &'a str,
+        cert: Option<&'a str>,
         starters: &'a str,
         fill: bool,
         answers: &'a str,
+        rest: bool,
     },
     /// The plan that a brief means, in its canonical spelling.
     Expand {
@@ -78,11 +80,28 @@ pub enum When {
 /// What the words of a command line ask for. The first one is the program's name.
 pub fn read_words<'a>(alloc: Global, words: &'a [String]) -> Result<Asked<'a>, AllocError> {
     match parse(alloc, words) {
-        Ok(Some((request, hints))) if has_bits(request) => Ok(Asked::Run { request, hints }),
-        Ok(Some(_)) => told(alloc, &not_bits(alloc)?),
-        Ok(None) => Ok(Asked::Refuse(String::new(alloc))),
+        Ok(Some((request, hints))) => match fault_of(request) {
+            None => Ok(Asked::Run { request, hints }),
+            Some(fault) => refusal(alloc, fault),
+        },
+        Ok(None) => refusal(alloc, TOO_MANY_WORDS),
         Err(error) => told(alloc, &error),
     }
+}
+
+const TOO_MANY_WORDS: &str =
+    "'--certify' takes the place of CERT: after it PLAN and STARTERS alone are given";
+
+const NOT_BITS: &str = "the value for '--answers <BITS>' is not of 0 and 1";
+
+const INPUT_TWICE: &str = "standard input can be one of the files, and not two";
+
+fn refusal<'a>(alloc: Global, fault: &str) -> Result<Asked<'a>, AllocError> {
+    told(alloc, &error_of(alloc, fault)?)
+}
+
+fn error_of(alloc: Global, fault: &str) -> Result<Error, AllocError> {
+    program(alloc)?.error(ErrorKind::ValueValidation, fault)
 }
 
 // What clap says in place of a request, unless it had no memory.
@@ -98,18 +117,31 @@ fn told<'a>(alloc: Global, error: &Error) -> Result<Asked<'a>, AllocError> {
     })
 }
 
-fn has_bits(request: Request<'_>) -> bool {
+// What is wrong with a request, where clap takes it.
+fn fault_of(request: Request<'_>) -> Option<&'static str> {
     match request {
-        Request::Bench { answers, .. } => answers.bytes().all(|byte| byte == b'0' || byte == b'1'),
-        _ => true,
+        Request::Verify { plan, cert } if are_input(plan, cert) => Some(INPUT_TWICE),
+        Request::Capture { plan, vcd, .. } if are_input(plan, vcd) => Some(INPUT_TWICE),
+        Request::Bench {
+            plan,
+            cert: Some(cert),
+            ..
+        } if are_input(plan, cert) => Some(INPUT_TWICE),
+        Request::Bench { answers, .. } if !are_bits(answers) => Some(NOT_BITS),
+        _ => None,
     }
 }
 
-fn not_bits(alloc: Global) -> Result<Error, AllocError> {
-    program(alloc)?.error(
-        ErrorKind::ValueValidation,
-        "the value for '--answers <BITS>' is not of 0 and 1",
-    )
+fn are_bits(answers: &str) -> bool {
+    answers.bytes().all(|byte| byte == b'0' || byte == b'1')
+}
+
+fn are_input(one: &str, other: &str) -> bool {
+    is_input(one) && is_input(other)
+}
+
+fn is_input(path: &str) -> bool {
+    matches!(path, "-" | "/dev/stdin" | "/dev/fd/0" | "/proc/self/fd/0")
 }
 
 // ---- what clap found
@@ -127,11 +159,13 @@ struct Found<'a> {
     sda: Option<&'a str>,
     fill: Option<&'a str>,
     answers: Option<&'a str>,
+    rest: Option<&'a str>,
+    is_certified: bool,
     output: Option<&'a str>,
     hints: Option<&'a str>,
 }
 
-// There is no request where a subcommand or a file is missing, which clap refuses by itself.
+// There is no request where a word is missing, which clap refuses by itself, or one too many stands beside `--certify`.
 fn parse<'a>(alloc: Global, words: &'a [String]) -> Result<Option<(Request<'a>, When)>, Error> {
     let matches = program(alloc)?.try_get_matches_from(words)?;
     Ok(match matches.subcommand() {
@@ -152,6 +186,8 @@ fn found_in<'a>(matches: &ArgMatches<'a>) -> Found<'a> {
         sda: matches.get_str("sda"),
         fill: matches.get_str("fill"),
         answers: matches.get_str("answers"),
+        rest: matches.get_str("rest"),
+        is_certified: matches.get_flag("certify"),
         output: output_of(matches.get_str("output")),
         hints: matches.get_str("hints"),
     }
@@ -186,13 +222,7 @@ fn request_of<'a>(name: &str, found: Found<'a>) -> Option<Request<'a>> {
             scl: found.scl?,
             sda: found.sda?,
         },
-        "bench" => Request::Bench {
-            plan: found.plan?,
-            cert: found.cert?,
-            starters: found.starters?,
-            fill: found.fill? == "1",
-            answers: found.answers?,
-        },
+        "bench" => return bench_of(found),
         "expand" => Request::Expand {
             brief: found.brief?,
             output: found.output,
@@ -206,6 +236,26 @@ fn request_of<'a>(name: &str, found: Found<'a>) -> Option<Request<'a>> {
             output: found.output,
         },
         _ => return None,
+    })
+}
+
+// With `--certify` the starters stand in the place of the certificate.
+fn bench_of<'a>(found: Found<'a>) -> Option<Request<'a>> {
+    let (cert, starters) = if found.is_certified {
+        match found.starters {
+            Some(_) => return None,
+            None => (None, found.cert?),
+        }
+    } else {
+        (found.cert, found.starters?)
+    };
+    Some(Request::Bench {
+        plan: found.plan?,
+        cert,
+        starters,
+        fill: found.fill? == "1",
+        answers: found.answers?,
+        rest: found.rest? == "1",
     })
 }
 

@@ -22,6 +22,17 @@ pub enum Argument {
         id: &'static str,
         help: &'static str,
     },
+    /// A word that has to be there, unless this flag is given.
+    WordUnless {
+        id: &'static str,
+        flag: &'static str,
+        help: &'static str,
+    },
+    /// An option without a value.
+    Flag {
+        id: &'static str,
+        help: &'static str,
+    },
     /// An option that takes any text.
     Text {
         id: &'static str,
@@ -96,7 +107,7 @@ const BENCH: Entry = Entry {
     name: "bench",
     about: "Rehearse a plan: its starters play, each in a thread of its own",
     after_help: AFTER_BENCH_HELP,
-    arguments: &[PLAN, CERT, STARTERS, FILL, ANSWERS],
+    arguments: &[PLAN, BENCH_CERT, STARTERS, CERTIFIED, FILL, ANSWERS, REST],
 };
 
 const EXPAND: Entry = Entry {
@@ -140,9 +151,21 @@ const VCD: Argument = Argument::Word {
     help: "The capture, a value change dump; - is standard input",
 };
 
-const STARTERS: Argument = Argument::Word {
+// With `--certify` there is no certificate, and the starters stand in its place.
+const BENCH_CERT: Argument = Argument::Word {
+    id: "CERT",
+    help: "The file with the certificate; left out with --certify",
+};
+
+const STARTERS: Argument = Argument::WordUnless {
     id: "STARTERS",
+    flag: "certify",
     help: "Who starts together: labels of participants, joined by commas",
+};
+
+const CERTIFIED: Argument = Argument::Flag {
+    id: "certify",
+    help: "Make the certificate here: 'bench PLAN STARTERS --certify'",
 };
 
 const OUTPUT: Argument = Argument::File {
@@ -184,5 +207,13 @@ const ANSWERS: Argument = Argument::Text {
     id: "answers",
     value_name: "BITS",
     default: "",
-    help: "What targets answer, by slot; past its end 1",
+    help: "What targets answer, by slot",
+};
+
+const REST: Argument = Argument::Choice {
+    id: "rest",
+    value_name: "BIT",
+    default: "1",
+    values: &["0", "1"],
+    help: "What they answer past the end of BITS, 0 or 1 [default: 1]",
 };

@@ -5,6 +5,8 @@ use std::alloc::{AllocError, Global};
 // What each line begins with.
 const HEAD: &str = "hint:";
 
+const ITEM_HEAD: &str = "hint:  ";
+
 // The columns of a terminal.
 const COLUMNS: usize = 80;
 
@@ -27,14 +29,24 @@ impl Lines {
 
     /// One more sentence, on as many lines as it takes.
     pub(crate) fn say(&mut self, words: &str) -> Result<(), AllocError> {
-        self.text.push_str(HEAD)?;
-        let mut column = HEAD.len();
+        self.break_up(HEAD, words)
+    }
+
+    /// One more sentence, which belongs to the one before.
+    pub(crate) fn item(&mut self, words: &str) -> Result<(), AllocError> {
+        self.break_up(ITEM_HEAD, words)
+    }
+
+    // The words, on lines that begin so.
+    fn break_up(&mut self, head: &str, words: &str) -> Result<(), AllocError> {
+        self.text.push_str(head)?;
+        let mut column = head.len();
         for word in words.split(' ') {
             let width = word.chars().count().saturating_add(1);
-            if column > HEAD.len() && column.saturating_add(width) > COLUMNS {
+            if column > head.len() && column.saturating_add(width) > COLUMNS {
                 self.text.push('\n')?;
-                self.text.push_str(HEAD)?;
-                column = HEAD.len();
+                self.text.push_str(head)?;
+                column = head.len();
             }
             self.text.push(' ')?;
             self.text.push_str(word)?;

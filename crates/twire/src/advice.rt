@@ -1,49 +1,36 @@
 // Further lines for people on standard error, after a refusal or a report.
 
-use hints::{Names, on_brief, on_dump, on_no_brief, on_plan, on_silence};
+use hints::{
+    Named, Names, on_brief, on_certificate, on_closed_input, on_dump, on_memory, on_no_brief,
+    on_opening, on_plan, on_reading, on_safe, on_silence, on_starters, on_workers, on_writing,
+    wrong_of,
+};
 use report::{RunError, Status};
 use std::alloc::AllocError;
 use std::io::{self, Read, Seek};
 
-/// A file that the command line names, which argument it is, and what it is to be.
-#[derive(Clone, Copy)]
-pub struct Named<'a> {
-    pub argument: &'static str,
-    pub what: &'static str,
-    pub path: &'a str,
-}
-
 /// How a run ended, and the file that it read last. Where a file failed there is the error of the system. `output` is the
-/// file that was to be written in place of standard output.
+/// file that was to be written in place of standard output, and `report` the beginning of what was written.
 #[derive(Drop)]
 pub struct Outcome<'a> {
     pub read: Named<'a>,
     pub ended: Result<Status, RunError>,
     pub error: Option<io::Error>,
     pub output: Option<&'a str>,
+    pub report: String,
 }
 
 /// After a file that cannot be opened, with the error of the system.
-pub fn advise_on_opening<R: Eprint>(rt: &R, file: Named<'_>, error: &io::Error) {
-    let Named {
-        argument,
-        what,
-        path,
-    } = file;
-    let _ = eprintln!(rt;
-        "hint: {argument}, the {what} {path:?}, cannot be opened:\nhint: {error}"
-    );
+pub fn advise_on_opening<R: Eprint + AllocGlobal>(rt: &R, file: Named<'_>, error: &io::Error) {
+    say(rt, on_opening(rt.alloc(), file, error));
 }
 
 /// After standard input, where it is closed.
-pub fn advise_on_closed_input<R: Eprint>(rt: &R, file: Named<'_>) {
-    let Named { argument, what, .. } = file;
-    let _ = eprintln!(rt;
-        "hint: {argument}, the {what}, is to come from standard input, which is closed"
-    );
+pub fn advise_on_closed_input<R: Eprint + AllocGlobal>(rt: &R, file: Named<'_>) {
+    say(rt, on_closed_input(rt.alloc(), file));
 }
 
-/// After a run over a plan or a brief. The file is that one.
+/// After a run over one text. The file is that one.
 pub fn advise_on_text<R: Eprint + AllocGlobal, F: Read + Seek + Drop>(
     rt: &R,
     file: Option<F>,
@@ -53,84 +40,72 @@ pub fn advise_on_text<R: Eprint + AllocGlobal, F: Read + Seek + Drop>(
         Err(RunError::Plan(refusal)) if outcome.read.what == "brief" => {
             say(rt, on_brief(rt.alloc(), file, refusal));
         }
+        Err(RunError::Brief(_)) => say(rt, on_no_brief(rt.alloc(), file)),
         _ => advise_on_plan(rt, file, outcome),
     }
 }
 
-/// After a run that reads a plan and perhaps a certificate. The file is the plan's.
-pub fn advise_on_plan<R: Eprint + AllocGlobal, F: Read + Seek + Drop>(
+// After a run that reads a plan, and perhaps another file. The file is the plan's.
+fn advise_on_plan<R: Eprint + AllocGlobal, F: Read + Seek + Drop>(
     rt: &R,
     plan: Option<F>,
     outcome: Outcome<'_>,
 ) {
     match outcome.ended {
         Err(RunError::Plan(refusal)) => say(rt, on_plan(rt.alloc(), plan, refusal)),
-        Err(RunError::Brief(_)) => say(rt, on_no_brief(rt.alloc(), plan)),
+        Ok(Status::Good) if says_safe(outcome.report.as_str()) => {
+            say(rt, on_safe(rt.alloc(), plan));
+        }
         _ => advise_on_devices(rt, outcome),
     }
 }
 
-/// After a run that explains a capture, whose report tells of no transaction where it is silent.
+fn says_safe(report: &str) -> bool {
+    report.starts_with("safe: ") || report == "accepted safe\n"
+}
+
+/// After a run that checks a certificate. The starters are those of a bench, if it is one.
+pub fn advise_on_certified<R: Eprint + AllocGlobal, F: Read + Seek + Drop>(
+    rt: &R,
+    plan: Option<F>,
+    cert: Option<F>,
+    starters: &str,
+    outcome: Outcome<'_>,
+) {
+    match (outcome.ended, wrong_of(outcome.report.as_str())) {
+        (Ok(Status::Refused), Some(wrong)) => say(rt, on_certificate(rt.alloc(), cert, wrong)),
+        (Err(RunError::Bench(refusal)), _) => {
+            say(rt, on_starters(rt.alloc(), plan, starters, refusal));
+        }
+        _ => advise_on_plan(rt, plan, outcome),
+    }
+}
+
+/// After a run that explains a capture.
 pub fn advise_on_capture<R: Eprint + AllocGlobal, F: Read + Seek + Drop>(
     rt: &R,
     plan: Option<F>,
     vcd: Option<F>,
     names: Names<'_>,
     outcome: Outcome<'_>,
-    is_silent: bool,
 ) {
     match outcome.ended {
         Err(RunError::Vcd(refusal)) => say(rt, on_dump(rt.alloc(), vcd, names, refusal)),
-        Ok(_) if is_silent => say(rt, on_silence(rt.alloc(), vcd, names)),
+        Ok(_) if outcome.report.as_str() == "0 transactions, 0 unexplained\n" => {
+            say(rt, on_silence(rt.alloc(), vcd, names));
+        }
         _ => advise_on_plan(rt, plan, outcome),
     }
 }
 
-fn advise_on_devices<R: Eprint>(rt: &R, outcome: Outcome<'_>) {
+fn advise_on_devices<R: Eprint + AllocGlobal>(rt: &R, outcome: Outcome<'_>) {
+    let error = outcome.error.as_ref();
     match outcome.ended {
-        Err(RunError::Read) => advise_on_reading(rt, outcome),
-        Err(RunError::Write) => advise_on_writing(rt, outcome),
-        Err(RunError::Workers) => {
-            let _ = eprintln!(rt; "hint: '--workers' takes 1 to 8");
-        }
-        Err(RunError::NoMemory) => {
-            let _ = eprintln!(rt;
-                "hint: the system gave no more memory: is a limit set ('ulimit -v')?"
-            );
-        }
+        Err(RunError::Read) => say(rt, on_reading(rt.alloc(), outcome.read, error)),
+        Err(RunError::Write) => say(rt, on_writing(rt.alloc(), outcome.output, error)),
+        Err(RunError::Workers) => say(rt, on_workers(rt.alloc())),
+        Err(RunError::NoMemory) => say(rt, on_memory(rt.alloc())),
         _ => {}
-    }
-}
-
-fn advise_on_reading<R: Eprint>(rt: &R, outcome: Outcome<'_>) {
-    let Named {
-        argument,
-        what,
-        path,
-    } = outcome.read;
-    let _ = eprintln!(rt; "hint: {argument}, the {what} {path:?}, cannot be read to its end:");
-    match outcome.error {
-        Some(error) => {
-            let _ = eprintln!(rt; "hint: {error}");
-        }
-        None => {
-            let _ = eprintln!(rt; "hint: it gave an error, or had no end");
-        }
-    }
-}
-
-fn advise_on_writing<R: Eprint>(rt: &R, outcome: Outcome<'_>) {
-    let _ = match outcome.output {
-        Some(path) => eprintln!(rt; "hint: the output {path:?} was not written:"),
-        None => eprintln!(rt; "hint: standard output did not take the whole report:"),
-    };
-    match outcome.error {
-        Some(error) => {
-            let _ = eprintln!(rt; "hint: {error}");
-        }
-        None => {
-            let _ = eprintln!(rt; "hint: it took no bytes");
-        }
     }
 }
 

@@ -1,7 +1,8 @@
 // What is read: files that the command line names, or standard input.
 
-use crate::advice::{Named, advise_on_closed_input, advise_on_opening};
+use crate::advice::{advise_on_closed_input, advise_on_opening};
 use crate::runs::refused;
+use hints::Named;
 use report::{Input as _, Opened, RunError, Watched};
 use std::fs::{self, Metadata, OpenFile};
 use std::io;
@@ -14,7 +15,7 @@ pub type Source<F, S> = Opened<Watched<F>, Watched<S>>;
 
 /// Opens two files for reading, in this order. A path as `/dev/fd/3`, or standard input that is closed, may come to name the
 /// first file once that is open, so what the second path names is looked for before.
-pub fn open_both<R: Files + Input + Eprint>(
+pub fn open_both<R: Files + Input + Eprint + AllocGlobal>(
     rt: &R,
     first: Named<'_>,
     second: Named<'_>,
@@ -30,7 +31,7 @@ pub fn open_both<R: Files + Input + Eprint>(
 }
 
 /// Opens a file for reading. Where it cannot be opened, that is told.
-pub fn open<R: Files + Input + Eprint>(
+pub fn open<R: Files + Input + Eprint + AllocGlobal>(
     rt: &R,
     file: Named<'_>,
     hints: bool,
@@ -45,7 +46,7 @@ pub fn open<R: Files + Input + Eprint>(
 }
 
 // The line of the refusal of a file that cannot be opened.
-fn unopened<R: Eprint>(rt: &R, file: Named<'_>, error: &io::Error, hints: bool) {
+fn unopened<R: Eprint + AllocGlobal>(rt: &R, file: Named<'_>, error: &io::Error, hints: bool) {
     if error.kind() == io::ErrorKind::OutOfMemory {
         refused(rt, RunError::NoMemory);
         return;

@@ -4,6 +4,7 @@
 mod advice;
 mod inputs;
 mod outputs;
+mod rehearsals;
 mod runs;
 
 use std::io::IsTerminal;

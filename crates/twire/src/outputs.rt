@@ -7,16 +7,19 @@ use std::io::{self, ErrorKind, Write};
 use std::os::unix::fs::MetadataExt;
 use std::rt::Files;
 
+// How much of a report is kept to look at.
+const KEPT: usize = 64;
+
 // How many names are tried for the file that is written first.
 const NAMES: u32 = 1_000;
 
-/// What takes a report: standard output, or memory, from which a file is written once the report is whole. It counts the
-/// bytes that were taken, and keeps the last error.
+/// What takes a report: standard output, or memory, from which a file is written once the report is whole. It keeps the
+/// beginning of the report, and the last error.
 #[derive(Drop)]
 pub struct Sheet<W> {
     standard: W,
     held: Option<Vec<u8>>,
-    taken: usize,
+    beginning: String,
     error: Option<io::Error>,
 }
 
@@ -26,14 +29,9 @@ impl<W> Sheet<W> {
         Sheet {
             standard: writer,
             held: is_held.then(|| Vec::new(alloc)),
-            taken: 0,
+            beginning: String::new(alloc),
             error: None,
         }
-    }
-
-    /// Whether what was written is a report on a capture without a transaction. Any other has a line more.
-    pub fn is_silent(&self) -> bool {
-        self.taken == "0 transactions, 0 unexplained\n".len()
     }
 
     /// Writes the file of this path once the run has ended with its report, and answers how the run ends by that.
@@ -67,13 +65,25 @@ impl<W> Sheet<W> {
         }
     }
 
-    /// The last error, if there was one.
-    pub fn into_error(self) -> Option<io::Error>
+    /// The beginning of the report, and the last error, if there was one.
+    pub fn into_parts(self) -> (String, Option<io::Error>)
     where
         W: Drop,
     {
-        let Sheet { error, .. } = self;
-        error
+        let Sheet {
+            beginning,
+            error,
+            ..
+        } = self;
+        (beginning, error)
+    }
+
+    // Keeps what is the beginning of the report. Without memory there is less of it.
+    fn look_at(&mut self, taken: &[u8]) {
+        let left = KEPT.saturating_sub(self.beginning.len());
+        for byte in taken.iter().take(left) {
+            let _ = self.beginning.push(char::from(*byte));
+        }
     }
 }
 
@@ -85,7 +95,7 @@ impl<W: Write> Write for Sheet<W> {
         };
         match written {
             Ok(count) => {
-                self.taken = self.taken.saturating_add(count);
+                self.look_at(buf.get(..count).unwrap_or(buf));
                 Ok(count)
             }
             Err(error) => {

@@ -1,11 +1,11 @@
 // What the program does, and the status that it ends with.
 
-use crate::advice::{Named, Outcome, advise_on_capture, advise_on_plan, advise_on_text};
+use crate::advice::{Outcome, advise_on_capture, advise_on_certified, advise_on_text};
 use crate::inputs::{Source, file_of, metadata_of, open, open_both, reading_error};
 use crate::outputs::Sheet;
-use bench_run::{NoGate, run_bench};
+use crate::rehearsals::{Play, bench, bench_alone};
 use command_words::{Asked, Request, When, read_words};
-use hints::Names;
+use hints::{Named, Names};
 use report::{
     Input as _, RunError, Status, Watched, run_brief, run_capture, run_certify, run_check,
     run_expand, run_print, run_verify,
@@ -91,15 +91,19 @@ fn do_request<R: Files + Input + Print + Eprint + AllocGlobal + Threads + Wait +
             starters,
             fill,
             answers,
-        } => bench(
-            rt,
-            the_plan(plan),
-            the_certificate(cert),
-            starters,
-            fill,
-            answers,
-            hints,
-        ),
+            rest,
+        } => {
+            let play = Play {
+                starters,
+                fill,
+                answers,
+                rest,
+            };
+            match cert {
+                Some(cert) => bench(rt, the_plan(plan), the_certificate(cert), play, hints),
+                None => bench_alone(rt, the_plan(plan), play, hints),
+            }
+        }
         Request::Expand { brief, output } => expand(rt, the_brief(brief), output, hints),
         Request::Print { plan, output } => spell(rt, the_plan(plan), output, hints),
         Request::Brief { plan, output } => abbreviate(rt, the_plan(plan), output, hints),
@@ -178,15 +182,9 @@ fn verify<R: Files + Input + Print + Eprint + AllocGlobal>(
     let ended = run_verify(rt.alloc(), &mut reader, &mut second, &mut out);
     let status = status_of(rt, ended);
     if hints {
-        let sheet = out.into_inner();
         let (read, error) = last_read(plan, &mut reader, cert, &mut second);
-        let outcome = Outcome {
-            read,
-            ended,
-            error: error.or(sheet.into_error()),
-            output: None,
-        };
-        advise_on_plan(rt, file_of(reader), outcome);
+        let outcome = outcome(read, error, out.into_inner(), None, ended);
+        advise_on_certified(rt, file_of(reader), file_of(second), "", outcome);
     }
     status
 }
@@ -206,62 +204,9 @@ fn capture<R: Files + Input + Print + Eprint + AllocGlobal + Threads + Sync>(
     let ended = run_capture(rt, rt.alloc(), &mut reader, &mut second, &mut out, scl, sda);
     let status = status_of(rt, ended);
     if hints {
-        let sheet = out.into_inner();
-        let is_silent = sheet.is_silent();
         let (read, error) = last_read(plan, &mut reader, vcd, &mut second);
-        let outcome = Outcome {
-            read,
-            ended,
-            error: error.or(sheet.into_error()),
-            output: None,
-        };
-        advise_on_capture(
-            rt,
-            file_of(reader),
-            file_of(second),
-            names,
-            outcome,
-            is_silent,
-        );
-    }
-    status
-}
-
-fn bench<R: Files + Input + Print + Eprint + AllocGlobal + Threads + Wait + Clock + Sync>(
-    rt: &R,
-    plan: Named<'_>,
-    cert: Named<'_>,
-    starters: &str,
-    fill: bool,
-    answers: &str,
-    hints: bool,
-) -> u8 {
-    let Some((mut reader, mut second)) = open_both(rt, plan, cert, hints) else {
-        return 2;
-    };
-    let mut out = Watched::new(Sheet::new(rt.alloc(), io::writer(rt), false));
-    let ended = run_bench(
-        rt,
-        rt.alloc(),
-        &mut reader,
-        &mut second,
-        &mut out,
-        starters,
-        fill,
-        answers,
-        &NoGate,
-    );
-    let status = status_of(rt, ended);
-    if hints {
-        let sheet = out.into_inner();
-        let (read, error) = last_read(plan, &mut reader, cert, &mut second);
-        let outcome = Outcome {
-            read,
-            ended,
-            error: error.or(sheet.into_error()),
-            output: None,
-        };
-        advise_on_plan(rt, file_of(reader), outcome);
+        let outcome = outcome(read, error, out.into_inner(), None, ended);
+        advise_on_capture(rt, file_of(reader), file_of(second), names, outcome);
     }
     status
 }
@@ -324,20 +269,32 @@ fn finish<R: Files + Input + Eprint + AllocGlobal, W: Write + Drop>(
     let ended = out.settle(rt, output, metadata_of(rt, &file), ended);
     let status = status_of(rt, ended);
     if hints {
-        let error = error.or(out.into_error());
-        let outcome = Outcome {
-            read,
-            ended,
-            error,
-            output,
-        };
+        let outcome = outcome(read, error, out, output, ended);
         advise_on_text(rt, file, outcome);
     }
     status
 }
 
-// The file that was read last of two, and the words of the system if it failed.
-fn last_read<'a, F: Read, S: Read>(
+/// How a run ended, for hints.
+pub fn outcome<'a, W: Drop>(
+    read: Named<'a>,
+    error: Option<io::Error>,
+    out: Sheet<W>,
+    output: Option<&'a str>,
+    ended: Result<Status, RunError>,
+) -> Outcome<'a> {
+    let (report, unwritten) = out.into_parts();
+    Outcome {
+        read,
+        ended,
+        error: error.or(unwritten),
+        output,
+        report,
+    }
+}
+
+/// The file that was read last of two, and the words of the system if it failed.
+pub fn last_read<'a, F: Read, S: Read>(
     first: Named<'a>,
     one: &mut Source<F, S>,
     second: Named<'a>,
@@ -350,8 +307,8 @@ fn last_read<'a, F: Read, S: Read>(
     }
 }
 
-// The status of a run that has ended, with the line of a refusal.
-fn status_of<R: Eprint>(rt: &R, ended: Result<Status, RunError>) -> u8 {
+/// The status of a run that has ended, with the line of a refusal.
+pub fn status_of<R: Eprint>(rt: &R, ended: Result<Status, RunError>) -> u8 {
     match ended {
         Ok(Status::Good) => 0,
         Ok(Status::Bad) => 1,
