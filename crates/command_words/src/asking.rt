@@ -89,8 +89,7 @@ pub fn read_words<'a>(alloc: Global, words: &'a [String]) -> Result<Asked<'a>, A
     }
 }
 
-const TOO_MANY_WORDS: &str =
-    "'--certify' takes the place of CERT: after it PLAN and STARTERS alone are given";
+const TOO_MANY_WORDS: &str = "'--certify' stands for CERT: give PLAN and STARTERS alone";
 
 const NOT_BITS: &str = "the value for '--answers <BITS>' is not of 0 and 1";
 

@@ -12,9 +12,6 @@ use std::io::{Read, Seek};
 // The longest certificate that is read once more: 16 MiB.
 const MOST: usize = 1 << 24;
 
-const CARRIAGE_RETURNS: &str =
-    "the lines of this certificate end in CR LF, and they are to end in LF alone: git leaves it as it is where .gitattributes has the line '*.cert -text'";
-
 const ONE_PLAN: &str =
     "a certificate speaks of one plan alone: where the plan was changed, have it written again by 'twire certify PLAN -o CERT'";
 
@@ -96,7 +93,7 @@ fn push_text(
         return push_kind(lines, kind, Kind::Certificate);
     }
     if text.windows(2).any(|two| two == b"\r\n".as_slice()) {
-        return lines.say(CARRIAGE_RETURNS);
+        return push_carriage_returns(lines);
     }
     let Some(start) = line_start(text, line) else {
         return push_words(alloc, lines, wrong, line);
@@ -106,6 +103,12 @@ fn push_text(
     let flaw = flaw_in(alloc, content, line, text, content.len() < rest.len())?;
     push_flaw(alloc, lines, content, line, flaw)?;
     push_kind(lines, kind, Kind::Certificate)
+}
+
+fn push_carriage_returns(lines: &mut Lines) -> Result<(), AllocError> {
+    lines.say("the lines of this certificate end in CR LF, and are to end in LF alone")?;
+    lines.say("git leaves certificates as they are by this line in .gitattributes:")?;
+    lines.detail("*.cert -text")
 }
 
 // The place, marked in its line, and what is wrong there.
