@@ -16,7 +16,7 @@ pub enum Asked<'a> {
     Refuse(String),
 }
 
-/// A run of the program.
+/// A run of the program. `output` is the file to write, where it is not standard output.
 #[derive(Clone, Copy, Debug)]
 pub enum Request<'a> {
     /// Whether a plan is safe.
@@ -27,6 +27,7 @@ pub enum Request<'a> {
     /// The certificate of a plan.
     Certify {
         plan: &'a str,
+        output: Option<&'a str>,
     },
     /// Whether a certificate is right for a plan.
     Verify {
@@ -40,25 +41,30 @@ pub enum Request<'a> {
         scl: &'a str,
         sda: &'a str,
     },
-    /// What these starters of an accepted plan do on a bus. The answers are bits, 0 and 1.
+    /// What these starters of an accepted plan do on a bus. Without a certificate one is to be made. The answers are bits, 0
+    /// and 1, and past their end each is `rest`.
     Bench {
         plan: &'a str,
-        cert: &'a str,
+        cert: Option<&'a str>,
         starters: &'a str,
         fill: bool,
         answers: &'a str,
+        rest: bool,
     },
     /// The plan that a brief means, in its canonical spelling.
     Expand {
         brief: &'a str,
+        output: Option<&'a str>,
     },
     /// The canonical spelling of a plan.
     Print {
         plan: &'a str,
+        output: Option<&'a str>,
     },
     /// A brief of a plan.
     Brief {
         plan: &'a str,
+        output: Option<&'a str>,
     },
 }
 
@@ -74,11 +80,27 @@ pub enum When {
 /// What the words of a command line ask for. The first one is the program's name.
 pub fn read_words<'a>(alloc: Global, words: &'a [String]) -> Result<Asked<'a>, AllocError> {
     match parse(alloc, words) {
-        Ok(Some((request, hints))) if has_bits(request) => Ok(Asked::Run { request, hints }),
-        Ok(Some(_)) => told(alloc, &not_bits(alloc)?),
-        Ok(None) => Ok(Asked::Refuse(String::new(alloc))),
+        Ok(Some((request, hints))) => match fault_of(request) {
+            None => Ok(Asked::Run { request, hints }),
+            Some(fault) => refusal(alloc, fault),
+        },
+        Ok(None) => refusal(alloc, TOO_MANY_WORDS),
         Err(error) => told(alloc, &error),
     }
+}
+
+const TOO_MANY_WORDS: &str = "'--certify' stands for CERT: give PLAN and STARTERS alone";
+
+const NOT_BITS: &str = "the value for '--answers <BITS>' is not of 0 and 1";
+
+const INPUT_TWICE: &str = "standard input can be one of the files, and not two";
+
+fn refusal<'a>(alloc: Global, fault: &str) -> Result<Asked<'a>, AllocError> {
+    told(alloc, &error_of(alloc, fault)?)
+}
+
+fn error_of(alloc: Global, fault: &str) -> Result<Error, AllocError> {
+    program(alloc)?.error(ErrorKind::ValueValidation, fault)
 }
 
 // What clap says in place of a request, unless it had no memory.
@@ -94,18 +116,31 @@ fn told<'a>(alloc: Global, error: &Error) -> Result<Asked<'a>, AllocError> {
     })
 }
 
-fn has_bits(request: Request<'_>) -> bool {
+// What is wrong with a request, where clap takes it.
+fn fault_of(request: Request<'_>) -> Option<&'static str> {
     match request {
-        Request::Bench { answers, .. } => answers.bytes().all(|byte| byte == b'0' || byte == b'1'),
-        _ => true,
+        Request::Verify { plan, cert } if are_input(plan, cert) => Some(INPUT_TWICE),
+        Request::Capture { plan, vcd, .. } if are_input(plan, vcd) => Some(INPUT_TWICE),
+        Request::Bench {
+            plan,
+            cert: Some(cert),
+            ..
+        } if are_input(plan, cert) => Some(INPUT_TWICE),
+        Request::Bench { answers, .. } if !are_bits(answers) => Some(NOT_BITS),
+        _ => None,
     }
 }
 
-fn not_bits(alloc: Global) -> Result<Error, AllocError> {
-    program(alloc)?.error(
-        ErrorKind::ValueValidation,
-        "the value for '--answers <BITS>' is not of 0 and 1",
-    )
+fn are_bits(answers: &str) -> bool {
+    answers.bytes().all(|byte| byte == b'0' || byte == b'1')
+}
+
+fn are_input(one: &str, other: &str) -> bool {
+    is_input(one) && is_input(other)
+}
+
+fn is_input(path: &str) -> bool {
+    matches!(path, "-" | "/dev/stdin" | "/dev/fd/0" | "/proc/self/fd/0")
 }
 
 // ---- what clap found
@@ -123,10 +158,13 @@ struct Found<'a> {
     sda: Option<&'a str>,
     fill: Option<&'a str>,
     answers: Option<&'a str>,
+    rest: Option<&'a str>,
+    is_certified: bool,
+    output: Option<&'a str>,
     hints: Option<&'a str>,
 }
 
-// There is no request where a subcommand or a file is missing, which clap refuses by itself.
+// There is no request where a word is missing, which clap refuses by itself, or one too many stands beside `--certify`.
 fn parse<'a>(alloc: Global, words: &'a [String]) -> Result<Option<(Request<'a>, When)>, Error> {
     let matches = program(alloc)?.try_get_matches_from(words)?;
     Ok(match matches.subcommand() {
@@ -147,8 +185,16 @@ fn found_in<'a>(matches: &ArgMatches<'a>) -> Found<'a> {
         sda: matches.get_str("sda"),
         fill: matches.get_str("fill"),
         answers: matches.get_str("answers"),
+        rest: matches.get_str("rest"),
+        is_certified: matches.get_flag("certify"),
+        output: output_of(matches.get_str("output")),
         hints: matches.get_str("hints"),
     }
+}
+
+// `-` is standard output.
+fn output_of(path: Option<&str>) -> Option<&str> {
+    path.filter(|path| *path != "-")
 }
 
 fn asked_of<'a>(name: &str, found: Found<'a>) -> Option<(Request<'a>, When)> {
@@ -161,7 +207,10 @@ fn request_of<'a>(name: &str, found: Found<'a>) -> Option<Request<'a>> {
             plan: found.plan?,
             workers: found.workers?,
         },
-        "certify" => Request::Certify { plan: found.plan? },
+        "certify" => Request::Certify {
+            plan: found.plan?,
+            output: found.output,
+        },
         "verify" => Request::Verify {
             plan: found.plan?,
             cert: found.cert?,
@@ -172,19 +221,40 @@ fn request_of<'a>(name: &str, found: Found<'a>) -> Option<Request<'a>> {
             scl: found.scl?,
             sda: found.sda?,
         },
-        "bench" => Request::Bench {
-            plan: found.plan?,
-            cert: found.cert?,
-            starters: found.starters?,
-            fill: found.fill? == "1",
-            answers: found.answers?,
-        },
+        "bench" => return bench_of(found),
         "expand" => Request::Expand {
             brief: found.brief?,
+            output: found.output,
         },
-        "print" => Request::Print { plan: found.plan? },
-        "brief" => Request::Brief { plan: found.plan? },
+        "print" => Request::Print {
+            plan: found.plan?,
+            output: found.output,
+        },
+        "brief" => Request::Brief {
+            plan: found.plan?,
+            output: found.output,
+        },
         _ => return None,
+    })
+}
+
+// With `--certify` the starters stand in the place of the certificate.
+fn bench_of<'a>(found: Found<'a>) -> Option<Request<'a>> {
+    let (cert, starters) = if found.is_certified {
+        match found.starters {
+            Some(_) => return None,
+            None => (None, found.cert?),
+        }
+    } else {
+        (found.cert, found.starters?)
+    };
+    Some(Request::Bench {
+        plan: found.plan?,
+        cert,
+        starters,
+        fill: found.fill? == "1",
+        answers: found.answers?,
+        rest: found.rest? == "1",
     })
 }
 

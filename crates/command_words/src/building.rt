@@ -2,7 +2,7 @@
 
 use crate::help::{ABOUT, AFTER_HELP, VERSION};
 use crate::table::{Argument, COMMANDS, Entry, HINTS};
-use clap::{Arg, Command, value_parser};
+use clap::{Arg, ArgAction, Command, value_parser};
 use std::alloc::{AllocError, Global};
 
 /// The program with all its commands.
@@ -12,6 +12,7 @@ pub fn program<'a>(alloc: Global) -> Result<Command<'a>, AllocError> {
 }
 
 fn program_alone<'a>(alloc: Global) -> Result<Command<'a>, AllocError> {
+    let hints = argument(alloc, HINTS)?.global(true);
     Command::new(alloc, "twire")
         .version(VERSION)
         .about(ABOUT)
@@ -19,7 +20,7 @@ fn program_alone<'a>(alloc: Global) -> Result<Command<'a>, AllocError> {
         .subcommand_required(true)
         .arg_required_else_help(true)
         .bin_name("twire")?
-        .arg(argument(alloc, HINTS).global(true))
+        .arg(hints)
 }
 
 fn commands<'a>(alloc: Global) -> Result<Vec<Command<'a>>, AllocError> {
@@ -41,14 +42,18 @@ fn command<'a>(alloc: Global, entry: Entry) -> Result<Command<'a>, AllocError> {
 fn arguments<'a>(alloc: Global, list: &[Argument]) -> Result<Vec<Arg<'a>>, AllocError> {
     let mut arguments = Vec::new(alloc);
     for one in list {
-        arguments.push(argument(alloc, *one))?;
+        arguments.push(argument(alloc, *one)?)?;
     }
     Ok(arguments)
 }
 
-fn argument<'a>(alloc: Global, argument: Argument) -> Arg<'a> {
-    match argument {
+fn argument<'a>(alloc: Global, argument: Argument) -> Result<Arg<'a>, AllocError> {
+    Ok(match argument {
         Argument::Word { id, help } => word(alloc, id, help),
+        Argument::WordUnless { id, flag, help } => {
+            return Arg::new(alloc, id).help(help).required_unless_present(flag);
+        }
+        Argument::Flag { id, help } => flag(alloc, id, help),
         Argument::Text {
             id,
             value_name,
@@ -61,6 +66,7 @@ fn argument<'a>(alloc: Global, argument: Argument) -> Arg<'a> {
             default,
             help,
         } => number(alloc, id, value_name, default, help),
+        Argument::File { id, short, help } => file(alloc, id, short, help),
         Argument::Choice {
             id,
             value_name,
@@ -68,7 +74,14 @@ fn argument<'a>(alloc: Global, argument: Argument) -> Arg<'a> {
             values,
             help,
         } => choice(alloc, id, value_name, default, values, help),
-    }
+    })
+}
+
+fn flag<'a>(alloc: Global, id: &'a str, help: &'a str) -> Arg<'a> {
+    Arg::new(alloc, id)
+        .long(id)
+        .action(ArgAction::SetTrue)
+        .help(help)
 }
 
 fn word<'a>(alloc: Global, id: &'a str, help: &'a str) -> Arg<'a> {
@@ -87,6 +100,14 @@ fn text<'a>(
         .value_name(value_name)
         .default_value(default)
         .hide_default_value(default.is_empty())
+        .help(help)
+}
+
+fn file<'a>(alloc: Global, id: &'a str, short: char, help: &'a str) -> Arg<'a> {
+    Arg::new(alloc, id)
+        .long(id)
+        .short(short)
+        .value_name("FILE")
         .help(help)
 }
 

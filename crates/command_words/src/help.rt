@@ -65,7 +65,8 @@ The certificate of a safe plan has a line for each pair of participants, in the
 order of the pairs: a proof that the two never clash. That of an unsafe plan has
 one line, with the first fault of the first pair that has one.
 
-Keep the certificate beside the plan. Whoever builds on the plan checks it by
+Keep the certificate beside the plan: '-o FILE' replaces the file at once, and
+leaves it where the plan is refused. Whoever builds on the plan checks it by
 'twire verify', which trusts nothing that made the certificate. It speaks of
 this plan alone: change the plan, and write the certificate again.
 
@@ -125,18 +126,22 @@ what is wrong with a refused capture, or why a report may have no transaction.
 Exit status: 0 all is explained, 1 something is not, 2 refused.";
 
 pub const AFTER_BENCH_HELP: &str = "\
-The certificate is checked first. Where it is not accepted as safe, the report
-is the line of 'twire verify', with its status. Else the starters are played to
-the end of one run, and the report has two lines:
+The certificate is checked first; with '--certify' it is made from the plan, and
+then checked. Where it is not accepted as safe, the report is the line of 'twire
+verify', with its status. Else the starters are played to the end of one run:
+
+  twire bench examples/two_writers.plan main/write_limit,guard/write_alarm
+    --certify --rest 0
 
   wire 10010000l00000001l00100000ls     the bus, slot by slot
   won guard/write_alarm                 who was live at the end
 
-A starter is a label, as 'main/set' for a message of a controller or '!sensor'
-for an interrupt. Open bits are sent as '--fill' says, and so is the acknowledge
-after which a read of a range may end: 1 ends it. '--answers' has the targets'
-bit for each slot from the first on, 0 for an acknowledge; it counts where
-targets drive the slot, and nowhere else.
+A starter is a label: the name of a controller, '/', and that of a message that
+it lists, or '!' and the name of an interrupt. Open bits are sent as '--fill'
+says, and so is the acknowledge after which a read of a range may end: 1 ends
+it. '--answers' has the targets' bit for each slot from the first on, 0 for an
+acknowledge, and '--rest' that of all later slots; they count where targets
+drive the slot, and nowhere else.
 
 Starters that cannot start together are refused on standard error with a code:
 
@@ -178,8 +183,9 @@ TO' and data bytes, or 'read TO COUNT'. At the end of the last one it stops.
             target does not acknowledge it. 'else stop' is as no 'else'; with
             'else (' frames ')' these follow, by a repeated START
 
-Check, certify and keep the plan that is written. Refusals are those of 'twire
-check', with the line of the brief. Exit status: 0 written, 2 refused.";
+Check, certify and keep the plan that is written ('-o FILE', which leaves the
+old file where the brief is refused). Refusals are those of 'twire check', with
+the line of the brief. Exit status: 0 written, 2 refused.";
 
 pub const AFTER_BRIEF_HELP: &str = "\
 A brief is the short form of a plan, which 'twire help expand' shows. This one

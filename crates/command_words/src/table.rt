@@ -22,6 +22,17 @@ pub enum Argument {
         id: &'static str,
         help: &'static str,
     },
+    /// A word that has to be there, unless this flag is given.
+    WordUnless {
+        id: &'static str,
+        flag: &'static str,
+        help: &'static str,
+    },
+    /// An option without a value.
+    Flag {
+        id: &'static str,
+        help: &'static str,
+    },
     /// An option that takes any text.
     Text {
         id: &'static str,
@@ -34,6 +45,12 @@ pub enum Argument {
         id: &'static str,
         value_name: &'static str,
         default: &'static str,
+        help: &'static str,
+    },
+    /// An option that names a file, with a short form of one letter.
+    File {
+        id: &'static str,
+        short: char,
         help: &'static str,
     },
     /// An option that takes one of these texts. Its help names them, and the default.
@@ -69,7 +86,7 @@ const CERTIFY: Entry = Entry {
     name: "certify",
     about: "Write the certificate of a plan: a proof for each pair, or a fault",
     after_help: AFTER_CERTIFY_HELP,
-    arguments: &[PLAN],
+    arguments: &[PLAN, OUTPUT],
 };
 
 const VERIFY: Entry = Entry {
@@ -90,28 +107,28 @@ const BENCH: Entry = Entry {
     name: "bench",
     about: "Rehearse a plan: its starters play, each in a thread of its own",
     after_help: AFTER_BENCH_HELP,
-    arguments: &[PLAN, CERT, STARTERS, FILL, ANSWERS],
+    arguments: &[PLAN, BENCH_CERT, STARTERS, CERTIFIED, FILL, ANSWERS, REST],
 };
 
 const EXPAND: Entry = Entry {
     name: "expand",
     about: "Write the plan that a brief means: a brief is its short form",
     after_help: AFTER_EXPAND_HELP,
-    arguments: &[BRIEF_FILE],
+    arguments: &[BRIEF_FILE, OUTPUT],
 };
 
 const PRINT: Entry = Entry {
     name: "print",
     about: "Write the canonical spelling of a plan",
     after_help: AFTER_PRINT_HELP,
-    arguments: &[PLAN],
+    arguments: &[PLAN, OUTPUT],
 };
 
 const BRIEF: Entry = Entry {
     name: "brief",
     about: "Write a brief of a plan: expanded, it means the same plan",
     after_help: AFTER_BRIEF_HELP,
-    arguments: &[PLAN],
+    arguments: &[PLAN, OUTPUT],
 };
 
 const PLAN: Argument = Argument::Word {
@@ -134,9 +151,27 @@ const VCD: Argument = Argument::Word {
     help: "The capture, a value change dump; - is standard input",
 };
 
-const STARTERS: Argument = Argument::Word {
+// With `--certify` there is no certificate, and the starters stand in its place.
+const BENCH_CERT: Argument = Argument::Word {
+    id: "CERT",
+    help: "The file with the certificate; left out with --certify",
+};
+
+const STARTERS: Argument = Argument::WordUnless {
     id: "STARTERS",
+    flag: "certify",
     help: "Who starts together: labels of participants, joined by commas",
+};
+
+const CERTIFIED: Argument = Argument::Flag {
+    id: "certify",
+    help: "Make the certificate here: 'bench PLAN STARTERS --certify'",
+};
+
+const OUTPUT: Argument = Argument::File {
+    id: "output",
+    short: 'o',
+    help: "Write FILE, whole or not at all, and not standard output",
 };
 
 const WORKERS: Argument = Argument::Number {
@@ -172,5 +207,13 @@ const ANSWERS: Argument = Argument::Text {
     id: "answers",
     value_name: "BITS",
     default: "",
-    help: "What targets answer, by slot; past its end 1",
+    help: "What targets answer, by slot",
+};
+
+const REST: Argument = Argument::Choice {
+    id: "rest",
+    value_name: "BIT",
+    default: "1",
+    values: &["0", "1"],
+    help: "What they answer past the end of BITS, 0 or 1 [default: 1]",
 };

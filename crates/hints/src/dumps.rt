@@ -1,6 +1,7 @@
 // After the refusal of a dump.
 
 use crate::judging::{Judge, Said, Wrong};
+use crate::kinds::{Kind, kind_of_file, push_kind};
 use crate::lines::Lines;
 use crate::marking::{MARGIN, first_line, last_line, push_marked};
 use crate::naming::{Names, push_names};
@@ -14,16 +15,20 @@ use vcd_read::VcdError;
 /// What to say after the refusal of a dump. The file is the one that was refused, where it can be read once more.
 pub fn on_dump<F: Read + Seek + Drop>(
     alloc: Global,
-    file: Option<F>,
+    mut file: Option<F>,
     names: Names<'_>,
     refusal: VcdError,
 ) -> Result<String, AllocError> {
     let mut lines = Lines::new(alloc);
-    if let VcdError::NoSignal(signal) = refusal {
+    let kind = kind_of_file(alloc, &mut file);
+    if kind.is_some_and(Kind::is_binary) {
+        // no line of it says more
+    } else if let VcdError::NoSignal(signal) = refusal {
         push_names(alloc, &mut lines, file, names, signal)?;
     } else {
         push_wrong(alloc, &mut lines, file, refusal)?;
     }
+    push_kind(&mut lines, kind, Kind::Dump)?;
     Ok(lines.finish())
 }
 

@@ -111,8 +111,8 @@ fn expected_number(alloc: Global, before: &[u8]) -> Result<Option<&'static str>,
     })
 }
 
-// Whether this word can stand on a line of its own after the beginning of a text.
-fn allows(
+/// Whether this word can stand on a line of its own after the beginning of a text.
+pub(crate) fn allows(
     alloc: Global,
     language: Language,
     before: &[u8],

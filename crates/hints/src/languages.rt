@@ -1,8 +1,37 @@
 // The two languages in which people write plans.
 
+use crate::kinds::Kind;
 use brief_text::expand_brief;
 use plan_text::{PlanError, read_plan};
 use std::alloc::{AllocError, Global};
+
+const PLAN_WORDS: [&str; 10] = [
+    "plan",
+    "message",
+    "controller",
+    "interrupt",
+    "never",
+    "write",
+    "read",
+    "again",
+    "else",
+    "stop",
+];
+
+const BRIEF_WORDS: [&str; 12] = [
+    "brief",
+    "device",
+    "byte",
+    "any",
+    "message",
+    "controller",
+    "interrupt",
+    "never",
+    "write",
+    "read",
+    "else",
+    "stop",
+];
 
 /// What a text is to be.
 #[derive(Clone, Copy)]
@@ -37,11 +66,20 @@ impl Language {
         }
     }
 
-    /// Whether a text begins as one of this language does.
-    pub(crate) fn begins(self, alloc: Global, text: &[u8]) -> Result<bool, AllocError> {
-        match self.refusal(alloc, text)? {
-            Some(PlanError::Version(_)) => Ok(false),
-            _ => Ok(true),
+    /// What a file with a text of this language is.
+    pub(crate) fn kind(self) -> Kind {
+        match self {
+            Language::Plan => Kind::Plan,
+            Language::Brief => Kind::Brief,
         }
+    }
+
+    /// The word, if it is one that has its fixed places in this language and is no name.
+    pub(crate) fn reserved(self, word: &[u8]) -> Option<&'static str> {
+        let words = match self {
+            Language::Plan => PLAN_WORDS.as_slice(),
+            Language::Brief => BRIEF_WORDS.as_slice(),
+        };
+        words.iter().copied().find(|known| known.as_bytes() == word)
     }
 }

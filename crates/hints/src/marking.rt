@@ -1,14 +1,15 @@
 // A place of a file, shown in its line.
 
-use crate::lines::Lines;
+use crate::lines::{DETAIL, Lines};
 use std::alloc::{AllocError, Global};
 
-// How many bytes are shown of a line before the place, of the place itself, and after it.
-const BEFORE: usize = 40;
+// How many columns the place itself has, and what follows it at least, where there is so much of them.
+const PLACE: usize = 30;
 
-const PLACE: usize = 32;
+const AFTER: usize = 16;
 
-const AFTER: usize = 32;
+// How many columns a quoted name has.
+const QUOTED: usize = 40;
 
 /// How many bytes before and after the beginning of a place are enough to show it.
 pub(crate) const MARGIN: usize = 128;
@@ -17,7 +18,7 @@ pub(crate) const MARGIN: usize = 128;
 const CUT: &str = "..";
 
 /// Shows the bytes of one line before the place, the place, and what follows it in the line, and below it what is meant.
-/// What is long is cut, and what does not print is written as `\x` and two digits.
+/// What is too long for a terminal is cut, and what does not print is written as `\x` and two digits.
 pub(crate) fn push_marked(
     alloc: Global,
     lines: &mut Lines,
@@ -25,12 +26,16 @@ pub(crate) fn push_marked(
     place: &[u8],
     after: &[u8],
 ) -> Result<(), AllocError> {
+    let after = after.trim_ascii_end();
+    let left = DETAIL.saturating_sub(columns(place).min(PLACE));
+    let room = left.saturating_sub(columns(after).min(AFTER));
     let mut shown = String::new(alloc);
-    push_last(&mut shown, before)?;
+    push_last(&mut shown, before, room)?;
     let column = shown.len();
     push_first(&mut shown, place, PLACE)?;
     let width = shown.len().saturating_sub(column);
-    push_first(&mut shown, after.trim_ascii_end(), AFTER)?;
+    let left = DETAIL.saturating_sub(shown.len());
+    push_first(&mut shown, after, left)?;
     lines.detail(shown.as_str())?;
     let mut marks = String::new(alloc);
     push_times(&mut marks, ' ', column)?;
@@ -41,31 +46,69 @@ pub(crate) fn push_marked(
 /// The bytes as text, cut where they are many.
 pub(crate) fn quoted(alloc: Global, bytes: &[u8]) -> Result<String, AllocError> {
     let mut shown = String::new(alloc);
-    push_first(&mut shown, bytes, PLACE)?;
+    push_first(&mut shown, bytes, QUOTED)?;
     Ok(shown)
 }
 
-// The last of the bytes before a place.
-fn push_last(shown: &mut String, bytes: &[u8]) -> Result<(), AllocError> {
-    let left_out = bytes.len().saturating_sub(BEFORE);
-    if left_out != 0 {
-        shown.push_str(CUT)?;
+// The last of the bytes before a place, in so many columns.
+fn push_last(shown: &mut String, bytes: &[u8], most: usize) -> Result<(), AllocError> {
+    if columns(bytes) <= most {
+        return push_all(shown, bytes);
     }
-    for byte in bytes.iter().skip(left_out) {
+    shown.push_str(CUT)?;
+    let mut left = most.saturating_sub(CUT.len());
+    let mut count = 0usize;
+    for byte in bytes.iter().rev() {
+        let width = width(*byte);
+        if width > left {
+            break;
+        }
+        left = left.saturating_sub(width);
+        count = count.saturating_add(1);
+    }
+    let from = bytes.len().saturating_sub(count);
+    push_all(shown, bytes.get(from..).unwrap_or(b"".as_slice()))
+}
+
+// The first bytes of a place, or of what follows it, in so many columns.
+fn push_first(shown: &mut String, bytes: &[u8], most: usize) -> Result<(), AllocError> {
+    if columns(bytes) <= most {
+        return push_all(shown, bytes);
+    }
+    let mut left = most.saturating_sub(CUT.len());
+    for byte in bytes {
+        let width = width(*byte);
+        if width > left {
+            break;
+        }
+        left = left.saturating_sub(width);
+        push_byte(shown, *byte)?;
+    }
+    shown.push_str(CUT)
+}
+
+fn push_all(shown: &mut String, bytes: &[u8]) -> Result<(), AllocError> {
+    for byte in bytes {
         push_byte(shown, *byte)?;
     }
     Ok(())
 }
 
-// The first bytes of a place, or of what follows it.
-fn push_first(shown: &mut String, bytes: &[u8], most: usize) -> Result<(), AllocError> {
-    for byte in bytes.iter().take(most) {
-        push_byte(shown, *byte)?;
+// How many columns the bytes take.
+fn columns(bytes: &[u8]) -> usize {
+    let mut sum = 0usize;
+    for byte in bytes {
+        sum = sum.saturating_add(width(*byte));
     }
-    if bytes.len() > most {
-        shown.push_str(CUT)?;
+    sum
+}
+
+fn width(byte: u8) -> usize {
+    match byte {
+        b' '..=b'~' => 1,
+        b'\t' => 2,
+        _ => 4,
     }
-    Ok(())
 }
 
 fn push_byte(shown: &mut String, byte: u8) -> Result<(), AllocError> {

@@ -1,13 +1,16 @@
 // After the refusal of a plan or of a brief, and after a plan that has no brief.
 
 use crate::expecting::expected;
+use crate::kinds::{Kind, kind_of_file, push_kind};
 use crate::languages::Language;
 use crate::lines::Lines;
 use crate::marking::{first_line, last_line, push_marked};
 use crate::pieces::{Piece, last_line_number, line_start, pieces};
 use crate::reading::part;
-use crate::wording::{of_other_language, of_text};
+use crate::wording::of_text;
+use crate::words::push_word;
 use brief_text::brief_word;
+use plan_core::Plan;
 use plan_text::{PlanError, read_plan};
 use std::alloc::{AllocError, Global};
 use std::io::{Read, Seek};
@@ -39,20 +42,24 @@ pub fn on_no_brief<F: Read + Seek + Drop>(
     file: Option<F>,
 ) -> Result<String, AllocError> {
     let mut lines = Lines::new(alloc);
-    if let Some(text) = read_once_more(alloc, file) {
-        if let Ok(plan) = read_plan(alloc, text.as_slice()) {
-            if let Some(name) = brief_word(&plan) {
-                let name = name.as_str();
-                let line = format!(in alloc;
-                    "the plan has the name '{name}', which is a word of briefs"
-                )?;
-                lines.say(line.as_str())?;
-                return Ok(lines.finish());
-            }
+    if let Some(plan) = plan_of(alloc, file) {
+        if let Some(name) = brief_word(&plan) {
+            let name = name.as_str();
+            let line = format!(in alloc;
+                "the plan has the name '{name}', which is a word of briefs"
+            )?;
+            lines.say(line.as_str())?;
+            return Ok(lines.finish());
         }
     }
     lines.say("no name in a brief is 'brief', 'device', 'byte' or 'any': these are its words")?;
     Ok(lines.finish())
+}
+
+/// The plan of a file, where it can be read once more, is not too long and is one.
+pub(crate) fn plan_of<F: Read + Seek + Drop>(alloc: Global, file: Option<F>) -> Option<Plan> {
+    let text = read_once_more(alloc, file)?;
+    read_plan(alloc, text.as_slice()).ok()
 }
 
 // The whole text, where it can be read once more and is not too long.
@@ -67,38 +74,67 @@ fn read_once_more<F: Read + Seek + Drop>(alloc: Global, file: Option<F>) -> Opti
 fn on_text<F: Read + Seek + Drop>(
     alloc: Global,
     language: Language,
-    file: Option<F>,
+    mut file: Option<F>,
     refusal: PlanError,
 ) -> Result<String, AllocError> {
     let mut lines = Lines::new(alloc);
     let Some(words) = of_text(language, refusal) else {
         return Ok(lines.finish());
     };
-    if let Some(text) = read_once_more(alloc, file) {
-        if push_place(alloc, &mut lines, language, text.as_slice(), refusal)? {
-            return Ok(lines.finish());
-        }
+    let kind = kind_of_file(alloc, &mut file);
+    let is_binary = kind.is_some_and(Kind::is_binary);
+    if !is_binary {
+        push_refused(alloc, &mut lines, language, file, refusal, words)?;
     }
-    lines.say(words)?;
+    push_kind(&mut lines, kind, language.kind())?;
     Ok(lines.finish())
 }
 
-// The place of the refusal and what could stand there. Says whether the place was found.
+// The place of the refusal, where the text can be read once more, and what it means.
+fn push_refused<F: Read + Seek + Drop>(
+    alloc: Global,
+    lines: &mut Lines,
+    language: Language,
+    file: Option<F>,
+    refusal: PlanError,
+    words: &str,
+) -> Result<(), AllocError> {
+    if let Some(text) = read_once_more(alloc, file) {
+        let text = text.as_slice();
+        if let Some(place) = found_place(alloc, language, text, refusal)? {
+            return push_place(alloc, lines, language, text, refusal, place);
+        }
+    }
+    lines.say(words)
+}
+
+// Where the refusal stands, if the text is still refused so.
+fn found_place(
+    alloc: Global,
+    language: Language,
+    text: &[u8],
+    refusal: PlanError,
+) -> Result<Option<Piece>, AllocError> {
+    if !refuses(alloc, language, text, refusal)? {
+        return Ok(None);
+    }
+    match line_of(refusal) {
+        Some(line) => place_of(alloc, language, text, refusal, line),
+        None => Ok(None),
+    }
+}
+
+// The place of the refusal, and what could stand there.
 fn push_place(
     alloc: Global,
     lines: &mut Lines,
     language: Language,
     text: &[u8],
     refusal: PlanError,
-) -> Result<bool, AllocError> {
-    if !refuses(alloc, language, text, refusal)? {
-        return Ok(false);
-    }
+    place: Piece,
+) -> Result<(), AllocError> {
     let (Some(line), Some(words)) = (line_of(refusal), of_text(language, refusal)) else {
-        return Ok(false);
-    };
-    let Some(place) = place_of(alloc, language, text, refusal, line)? else {
-        return Ok(false);
+        return Ok(());
     };
     let what = language.name();
     let head = format!(in alloc; "line {line} of the {what}:")?;
@@ -111,31 +147,25 @@ fn push_place(
         lines.say("the text ends here")?;
     }
     if let PlanError::Unexpected(_) = refusal {
-        if let Some(words) = expected(alloc, language, before)? {
-            lines.say(words.as_str())?;
-            return Ok(true);
-        }
+        return push_expected(alloc, lines, language, before, at, words);
     }
-    lines.say(words)?;
-    push_other_language(alloc, lines, language, text)?;
-    Ok(true)
+    lines.say(words)
 }
 
-// For a text that begins as one of the other language does: what reads it.
-fn push_other_language(
+// What could stand in a place, and why this word cannot.
+fn push_expected(
     alloc: Global,
     lines: &mut Lines,
     language: Language,
-    text: &[u8],
+    before: &[u8],
+    at: &[u8],
+    words: &str,
 ) -> Result<(), AllocError> {
-    let other = match language {
-        Language::Plan => Language::Brief,
-        Language::Brief => Language::Plan,
-    };
-    if language.begins(alloc, text)? || !other.begins(alloc, text)? {
-        return Ok(());
+    push_word(alloc, lines, language, before, at)?;
+    match expected(alloc, language, before)? {
+        Some(words) => lines.say(words.as_str()),
+        None => lines.say(words),
     }
-    lines.say(of_other_language(other))
 }
 
 fn line_of(refusal: PlanError) -> Option<u64> {

@@ -44,12 +44,10 @@ struct Seen {
 
 fn push_causes(lines: &mut Lines) -> Result<(), AllocError> {
     lines.say("no START on a free bus was seen in the capture. The usual causes:")?;
-    lines.detail(
-        "the names are those of other signals: of several with one name the first counts",
-    )?;
-    lines.detail("the two names are exchanged")?;
-    lines.detail("the two lines are never HIGH together, so the bus is never known to be free")?;
-    lines.detail("a level is 'x' all the time")
+    lines.item("the names are those of other signals: of several with one name the first counts")?;
+    lines.item("the two names are exchanged")?;
+    lines.item("the two lines are never HIGH together, so the bus is never known to be free")?;
+    lines.item("a level is 'x' all the time")
 }
 
 fn push_seen(

@@ -102,14 +102,6 @@ fn of_brief(refusal: PlanError) -> Option<&'static str> {
     }
 }
 
-/// What to do with a text of this language where one of the other was expected.
-pub(crate) fn of_other_language(language: Language) -> &'static str {
-    match language {
-        Language::Plan => "this is a plan: commands that read a plan take it as it is",
-        Language::Brief => "this is a brief: 'twire expand' writes the plan that it means",
-    }
-}
-
 fn of_plan(refusal: PlanError) -> Option<&'static str> {
     match refusal {
         PlanError::NotAscii(_) => Some("a plan is ASCII, in its comments too"),

@@ -29,8 +29,9 @@ fn a_short_byte_is_marked(rt: HostRuntime) -> Result<(), Fail> {
         "hint: line 2 of the brief:
 hint:   message m write 0x50 any*2 0x5 ; # short
 hint:                              ^^^
-hint: expected here: 'write', 'read', 'else', ';', a name (a letter, then letters, digits and '_', 32 at most), \
-'any' or a data byte ('0x' and two digits, or '0b' and eight of '0', '1' and 'x')
+hint: expected here: 'write', 'read', 'else', ';', a name (a letter, then
+hint: letters, digits and '_', 32 at most), 'any' or a data byte ('0x' and two
+hint: digits, or '0b' and eight of '0', '1' and 'x')
 ",
     )
 }
@@ -44,8 +45,9 @@ fn what_may_follow_write_is_told(rt: HostRuntime) -> Result<(), Fail> {
         "hint: line 2 of the brief:
 hint:   message m write 0xA0 0x01 ;
 hint:                   ^^^^
-hint: expected here: a name (a letter, then letters, digits and '_', 32 at most) or an address ('0x' and two digits, \
-at most 0x7F, or '0b' and seven of '0', '1' and 'x')
+hint: expected here: a name (a letter, then letters, digits and '_', 32 at most)
+hint: or an address ('0x' and two digits, at most 0x7F, or '0b' and seven of
+hint: '0', '1' and 'x')
 ",
     )
 }
@@ -74,7 +76,8 @@ fn a_name_that_nothing_has_is_marked(rt: HostRuntime) -> Result<(), Fail> {
         "hint: line 3 of the brief:
 hint:   message m write eeprm any ;
 hint:                   ^^^^^
-hint: nothing before this place has this name: devices, bytes, messages and controllers come before what names them
+hint: nothing before this place has this name: devices, bytes, messages and
+hint: controllers come before what names them
 ",
     )
 }
@@ -102,7 +105,8 @@ fn a_brief_in_the_place_of_a_plan_is_told(rt: HostRuntime) -> Result<(), Fail> {
         "hint: line 1 of the plan:
 hint:   brief 1
 hint:   ^^^^^
-hint: a plan begins with 'plan 1', or with 'plan 2' where it has ranges of counts or 'never'
+hint: a plan begins with 'plan 1', or with 'plan 2' where it has ranges of
+hint: counts or 'never'
 hint: this is a brief: 'twire expand' writes the plan that it means
 "
     );
@@ -114,7 +118,7 @@ fn only_words_are_left_where_the_brief_is_no_file(rt: HostRuntime) -> Result<(),
     let found = on_brief(rt.alloc(), pipe(), PlanError::BadCount(2))?;
     assert_eq!(rt;
         found.as_str(),
-        "hint: expected here: a number from 1 to 255; after 'read' also two of them as '2..4', the smaller first\n"
+        "hint: expected here: a number from 1 to 255; after 'read' also two of them as\nhint: '2..4', the smaller first\n"
     );
     Ok(())
 }
@@ -132,7 +136,7 @@ fn the_name_that_no_brief_can_say_is_told(rt: HostRuntime) -> Result<(), Fail> {
     let found = on_no_brief(rt.alloc(), pipe())?;
     assert_eq!(rt;
         found.as_str(),
-        "hint: no name in a brief is 'brief', 'device', 'byte' or 'any': these are its words\n"
+        "hint: no name in a brief is 'brief', 'device', 'byte' or 'any': these are its\nhint: words\n"
     );
     Ok(())
 }

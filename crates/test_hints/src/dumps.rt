@@ -42,7 +42,8 @@ fn a_level_of_nine_states_is_told(rt: HostRuntime) -> Result<(), Fail> {
         "hint: line 9 of the capture:
 hint:   U! 1\"
 hint:   ^^
-hint: this is one of VHDL's nine states, and only '0', '1', 'x' and 'z' are read: have the dump written with four states (GHDL: --vcd-4states)
+hint: this is one of VHDL's nine states, and only '0', '1', 'x' and 'z' are
+hint: read: have the dump written with four states (GHDL: --vcd-4states)
 ",
     )
 }
@@ -70,7 +71,8 @@ fn the_first_thing_that_is_open_is_marked(rt: HostRuntime) -> Result<(), Fail> {
         "hint: line 8 of the capture:
 hint:   #0 $comment all is well $end $dumpvars 1! $comment 1\"
 hint:                                ^^^^^^^^^
-hint: this block of value changes goes on to the end of the file: its '$end' is missing
+hint: this block of value changes goes on to the end of the file: its '$end' is
+hint: missing
 ",
     )
 }
@@ -84,7 +86,8 @@ fn changes_before_the_end_of_the_definitions_are_told(rt: HostRuntime) -> Result
         "hint: line 2 of the capture:
 hint:   #0 1!
 hint:   ^^
-hint: before '$enddefinitions $end' only commands can stand, as '$var wire 1 ! scl $end'
+hint: before '$enddefinitions $end' only commands can stand, as '$var wire 1 !
+hint: scl $end'
 ",
     )
 }
@@ -113,7 +116,8 @@ fn long_lines_are_cut_and_odd_bytes_escaped(rt: HostRuntime) -> Result<(), Fail>
         "hint: line 8 of the capture:
 hint:   .. 1! 1! 1! 1! 1! 1! 1! 1! 1! 1! 1! 1! 1! ?\\x1b[31m??????????????????????????.. 1!
 hint:                                             ^^^^^^^^^^^^^^^^^^^^^^^^^^^^^^^^^^^^^
-hint: expected here: a time as '#10', a change as '1!' or 'b01 !', or a command as '$comment'
+hint: expected here: a time as '#10', a change as '1!' or 'b01 !', or a command
+hint: as '$comment'
 ",
     )
 }
@@ -140,7 +144,7 @@ fn each_way_to_be_wrong_has_its_words(rt: HostRuntime) -> Result<(), Fail> {
         ),
         (
             "b12 !",
-            "hint: after 'b' digits '0', '1', 'x' or 'z' are expected, and then a space and a code, as in 'b01 !'\n",
+            "hint: after 'b' digits '0', '1', 'x' or 'z' are expected, and then a space and a\nhint: code, as in 'b01 !'\n",
         ),
         (
             "r",

@@ -78,7 +78,8 @@ fn a_name_of_another_size_is_told(rt: HostRuntime) -> Result<(), Fail> {
     assert_eq!(rt;
         found.as_str(),
         "hint: no signal of one bit has the name 'bus'
-hint: a signal of this name is there, and has another size: each line is to be a signal of its own
+hint: a signal of this name is there, and has another size: each line is to be a
+hint: signal of its own
 hint: the file declares no signal of one bit: is it a value change dump?
 hint: give the name that the line has in the file with --scl NAME
 "

@@ -71,7 +71,8 @@ fn a_character_of_no_token_is_marked_after_a_comment(rt: HostRuntime) -> Result<
         "hint: line 2 of the plan:
 hint:   \\tcontroller a @ ;
 hint:                  ^
-hint: expected here: ';' or a name (a letter, then letters, digits and '_', 32 at most)
+hint: expected here: ';' or a name (a letter, then letters, digits and '_', 32
+hint: at most)
 ",
     )
 }
@@ -113,7 +114,8 @@ fn a_count_and_a_name_twice_are_marked(rt: HostRuntime) -> Result<(), Fail> {
         "hint: line 2 of the plan:
 hint:   message m read 1001000 256 stop else stop ;
 hint:                          ^^^
-hint: a count is a number from 1 to 255; in 'plan 2' also two of them as '2..4', the smaller first
+hint: a count is a number from 1 to 255; in 'plan 2' also two of them as '2..4',
+hint: the smaller first
 ",
     )?;
     expect(
@@ -152,7 +154,8 @@ fn a_plan_without_its_version_is_told_how_one_begins(rt: HostRuntime) -> Result<
 hint:   
 hint:   ^
 hint: the text ends here
-hint: a plan begins with 'plan 1', or with 'plan 2' where it has ranges of counts or 'never'
+hint: a plan begins with 'plan 1', or with 'plan 2' where it has ranges of
+hint: counts or 'never'
 ",
     )
 }
@@ -162,7 +165,7 @@ fn only_words_are_left_where_the_plan_is_no_file(rt: HostRuntime) -> Result<(), 
     let found = on_plan(rt.alloc(), pipe(), PlanError::Unknown(3))?;
     assert_eq!(rt;
         found.as_str(),
-        "hint: nothing before this place has this name: messages come before the controllers that list them, controllers before 'never'\n"
+        "hint: nothing before this place has this name: messages come before the\nhint: controllers that list them, controllers before 'never'\n"
     );
     Ok(())
 }
@@ -172,7 +175,7 @@ fn only_words_are_left_where_the_file_has_changed(rt: HostRuntime) -> Result<(),
     let found = on_plan(rt.alloc(), file(b"plan 1"), PlanError::Version(1))?;
     assert_eq!(rt;
         found.as_str(),
-        "hint: a plan begins with 'plan 1', or with 'plan 2' where it has ranges of counts or 'never'\n"
+        "hint: a plan begins with 'plan 1', or with 'plan 2' where it has ranges of\nhint: counts or 'never'\n"
     );
     Ok(())
 }

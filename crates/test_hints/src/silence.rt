@@ -24,7 +24,8 @@ fn lines_that_never_change_are_told(rt: HostRuntime) -> Result<(), Fail> {
         rt.alloc(),
         "#0 1# #5 0#",
         "hint: the capture has 0 samples of the two lines, and no START on a free bus
-hint: neither line changes in the capture: the names may be those of other signals
+hint: neither line changes in the capture: the names may be those of other
+hint: signals
 hint: the names of the two lines are given with --scl NAME and --sda NAME
 ",
     )
@@ -50,7 +51,8 @@ fn a_bus_that_is_never_high_is_told(rt: HostRuntime) -> Result<(), Fail> {
         rt.alloc(),
         "#0 0! 1\" #5 1! 0\" #9 0!",
         "hint: the capture has 3 samples of the two lines, and no START on a free bus
-hint: the two lines are never HIGH together, so the bus is never known to be free
+hint: the two lines are never HIGH together, so the bus is never known to be
+hint: free
 hint: the names of the two lines are given with --scl NAME and --sda NAME
 ",
     )

@@ -1,101 +1,111 @@
 // Further lines for people on standard error, after a refusal or a report.
 
-use hints::{Names, on_brief, on_dump, on_no_brief, on_plan, on_silence};
-use report::{Opened, RunError, Status, Watched};
+use hints::{
+    Named, Names, on_brief, on_certificate, on_closed_input, on_dump, on_memory, on_no_brief,
+    on_opening, on_plan, on_reading, on_safe, on_silence, on_starters, on_workers, on_writing,
+    wrong_of,
+};
+use report::{RunError, Status};
 use std::alloc::AllocError;
-use std::io::{self, Read, Seek, Write};
+use std::io::{self, Read, Seek};
 
-/// What a path of the command line names: a file, or standard input.
-pub type Source<F, S> = Opened<Watched<F>, Watched<S>>;
-
-/// A file that the command line names, and what it is to be.
-#[derive(Clone, Copy)]
-pub struct Named<'a> {
-    pub what: &'static str,
-    pub path: &'a str,
+/// How a run ended, and the file that it read last. Where a file failed there is the error of the system. `output` is the
+/// file that was to be written in place of standard output, and `report` the beginning of what was written.
+#[derive(Drop)]
+pub struct Outcome<'a> {
+    pub read: Named<'a>,
+    pub ended: Result<Status, RunError>,
+    pub error: Option<io::Error>,
+    pub output: Option<&'a str>,
+    pub report: String,
 }
 
 /// After a file that cannot be opened, with the error of the system.
-pub fn advise_on_opening<R: Eprint>(rt: &R, file: Named<'_>, error: &io::Error) {
-    let Named { what, path } = file;
-    let _ = eprintln!(rt; "hint: the {what} {path:?} cannot be opened:\nhint: {error}");
+pub fn advise_on_opening<R: Eprint + AllocGlobal>(rt: &R, file: Named<'_>, error: &io::Error) {
+    say(rt, on_opening(rt.alloc(), file, error));
 }
 
 /// After standard input, where it is closed.
-pub fn advise_on_closed_input<R: Eprint>(rt: &R, file: Named<'_>) {
-    let _ = eprintln!(rt;
-        "hint: the {} is to come from standard input, which is closed",
-        file.what
-    );
+pub fn advise_on_closed_input<R: Eprint + AllocGlobal>(rt: &R, file: Named<'_>) {
+    say(rt, on_closed_input(rt.alloc(), file));
 }
 
-/// After a run that reads a plan and perhaps a certificate. The source is the plan's, and `read` the file that was read last.
-pub fn advise_on_plan<R: Eprint + AllocGlobal, F: Read + Seek + Drop, S: Drop>(
+/// After a run over one text. The file is that one.
+pub fn advise_on_text<R: Eprint + AllocGlobal, F: Read + Seek + Drop>(
     rt: &R,
-    read: Named<'_>,
-    plan: Source<F, S>,
-    ended: Result<Status, RunError>,
+    file: Option<F>,
+    outcome: Outcome<'_>,
 ) {
-    match ended {
-        Err(RunError::Plan(refusal)) => say(rt, on_plan(rt.alloc(), file(plan), refusal)),
-        Err(RunError::Brief(_)) => say(rt, on_no_brief(rt.alloc(), file(plan))),
-        Err(RunError::Read) => advise_on_reading(rt, read),
-        Err(RunError::Write) => advise_on_writing(rt),
-        Err(RunError::Workers) => advise_on_workers(rt),
-        _ => {}
+    match outcome.ended {
+        Err(RunError::Plan(refusal)) if outcome.read.what == "brief" => {
+            say(rt, on_brief(rt.alloc(), file, refusal));
+        }
+        Err(RunError::Brief(_)) => say(rt, on_no_brief(rt.alloc(), file)),
+        _ => advise_on_plan(rt, file, outcome),
     }
 }
 
-/// After a run that reads a brief.
-pub fn advise_on_brief<R: Eprint + AllocGlobal, F: Read + Seek + Drop, S: Drop>(
+// After a run that reads a plan, and perhaps another file. The file is the plan's.
+fn advise_on_plan<R: Eprint + AllocGlobal, F: Read + Seek + Drop>(
     rt: &R,
-    read: Named<'_>,
-    brief: Source<F, S>,
-    ended: Result<Status, RunError>,
+    plan: Option<F>,
+    outcome: Outcome<'_>,
 ) {
-    match ended {
-        Err(RunError::Plan(refusal)) => say(rt, on_brief(rt.alloc(), file(brief), refusal)),
-        _ => advise_on_plan(rt, read, brief, ended),
+    match outcome.ended {
+        Err(RunError::Plan(refusal)) => say(rt, on_plan(rt.alloc(), plan, refusal)),
+        Ok(Status::Good) if says_safe(outcome.report.as_str()) => {
+            say(rt, on_safe(rt.alloc(), plan));
+        }
+        _ => advise_on_devices(rt, outcome),
     }
 }
 
-fn advise_on_reading<R: Eprint>(rt: &R, file: Named<'_>) {
-    let Named { what, path } = file;
-    let _ = eprintln!(rt;
-        "hint: the {what} {path:?} was opened, and cannot be read to its end\nhint: is it a directory?"
-    );
+fn says_safe(report: &str) -> bool {
+    report.starts_with("safe: ") || report == "accepted safe\n"
 }
 
-fn advise_on_writing<R: Eprint>(rt: &R) {
-    let _ = eprintln!(rt; "hint: standard output is closed or full: the report is not whole");
-}
-
-fn advise_on_workers<R: Eprint>(rt: &R) {
-    let _ = eprintln!(rt; "hint: '--workers' takes 1 to 8");
-}
-
-/// After a run that explains a capture, whose report tells of no transaction where it is silent.
-pub fn advise_on_capture<R: Eprint + AllocGlobal, F: Read + Seek + Drop, S: Drop>(
+/// After a run that checks a certificate. The starters are those of a bench, if it is one.
+pub fn advise_on_certified<R: Eprint + AllocGlobal, F: Read + Seek + Drop>(
     rt: &R,
-    read: Named<'_>,
-    plan: Source<F, S>,
-    vcd: Source<F, S>,
+    plan: Option<F>,
+    cert: Option<F>,
+    starters: &str,
+    outcome: Outcome<'_>,
+) {
+    match (outcome.ended, wrong_of(outcome.report.as_str())) {
+        (Ok(Status::Refused), Some(wrong)) => say(rt, on_certificate(rt.alloc(), cert, wrong)),
+        (Err(RunError::Bench(refusal)), _) => {
+            say(rt, on_starters(rt.alloc(), plan, starters, refusal));
+        }
+        _ => advise_on_plan(rt, plan, outcome),
+    }
+}
+
+/// After a run that explains a capture.
+pub fn advise_on_capture<R: Eprint + AllocGlobal, F: Read + Seek + Drop>(
+    rt: &R,
+    plan: Option<F>,
+    vcd: Option<F>,
     names: Names<'_>,
-    ended: Result<Status, RunError>,
-    is_silent: bool,
+    outcome: Outcome<'_>,
 ) {
-    match ended {
-        Err(RunError::Vcd(refusal)) => say(rt, on_dump(rt.alloc(), file(vcd), names, refusal)),
-        Ok(_) if is_silent => say(rt, on_silence(rt.alloc(), file(vcd), names)),
-        _ => advise_on_plan(rt, read, plan, ended),
+    match outcome.ended {
+        Err(RunError::Vcd(refusal)) => say(rt, on_dump(rt.alloc(), vcd, names, refusal)),
+        Ok(_) if outcome.report.as_str() == "0 transactions, 0 unexplained\n" => {
+            say(rt, on_silence(rt.alloc(), vcd, names));
+        }
+        _ => advise_on_plan(rt, plan, outcome),
     }
 }
 
-// The file, which can be read once more. Standard input may be a pipe, and is not.
-fn file<F: Drop, S: Drop>(source: Source<F, S>) -> Option<F> {
-    match source {
-        Opened::File(file) => Some(file.into_inner()),
-        Opened::Standard(_) => None,
+fn advise_on_devices<R: Eprint + AllocGlobal>(rt: &R, outcome: Outcome<'_>) {
+    let error = outcome.error.as_ref();
+    match outcome.ended {
+        Err(RunError::Read) => say(rt, on_reading(rt.alloc(), outcome.read, error)),
+        Err(RunError::Write) => say(rt, on_writing(rt.alloc(), outcome.output, error)),
+        Err(RunError::Workers) => say(rt, on_workers(rt.alloc())),
+        Err(RunError::NoMemory) => say(rt, on_memory(rt.alloc())),
+        _ => {}
     }
 }
 
@@ -103,36 +113,5 @@ fn file<F: Drop, S: Drop>(source: Source<F, S>) -> Option<F> {
 fn say<R: Eprint>(rt: &R, hints: Result<String, AllocError>) {
     if let Ok(hints) = hints {
         let _ = eprint!(rt; "{hints}");
-    }
-}
-
-/// A writer that counts what it has taken.
-#[derive(Drop)]
-pub struct Counted<W> {
-    writer: W,
-    bytes: usize,
-}
-
-impl<W> Counted<W> {
-    /// Nothing has been written yet.
-    pub fn new(writer: W) -> Self {
-        Counted { writer, bytes: 0 }
-    }
-
-    /// Whether what was written is a report on a capture without a transaction. Any other has a line more.
-    pub fn is_silent(&self) -> bool {
-        self.bytes == "0 transactions, 0 unexplained\n".len()
-    }
-}
-
-impl<W: Write> Write for Counted<W> {
-    fn write(&mut self, buf: &[u8]) -> io::Result<usize> {
-        let count = self.writer.write(buf)?;
-        self.bytes = self.bytes.saturating_add(count);
-        Ok(count)
-    }
-
-    fn flush(&mut self) -> io::Result<()> {
-        self.writer.flush()
     }
 }

@@ -2,6 +2,9 @@
 #![tactic(auto)]
 
 mod advice;
+mod inputs;
+mod outputs;
+mod rehearsals;
 mod runs;
 
 use std::io::IsTerminal;

@@ -1,23 +1,21 @@
 // What the program does, and the status that it ends with.
 
-use crate::advice::{
-    Counted, Named, Source, advise_on_brief, advise_on_capture, advise_on_closed_input,
-    advise_on_opening, advise_on_plan,
-};
-use bench_run::{NoGate, run_bench};
+use crate::advice::{Outcome, advise_on_capture, advise_on_certified, advise_on_text};
+use crate::inputs::{Source, file_of, metadata_of, open, open_both, reading_error};
+use crate::outputs::Sheet;
+use crate::rehearsals::{Play, bench, bench_alone};
 use command_words::{Asked, Request, When, read_words};
-use hints::Names;
+use hints::{Named, Names};
 use report::{
-    Input as _, Opened, RunError, Status, Watched, run_brief, run_capture, run_certify, run_check,
+    Input as _, RunError, Status, Watched, run_brief, run_capture, run_certify, run_check,
     run_expand, run_print, run_verify,
 };
+use std::env;
+use std::io::{self, Read, Write};
 use std::rt::{Env, Files};
 use std::sync::Wait;
 use std::thread::Threads;
 use std::time::Clock;
-use std::{env, fs, io};
-
-const STANDARD_INPUT: &str = "/dev/stdin";
 
 /// Does what the command line asks for, and answers the exit status. Where nothing else is said, hints for people are
 /// given if somebody sees them on a terminal.
@@ -31,8 +29,8 @@ pub fn run<R: Files + Env + Input + Print + Eprint + AllocGlobal + Threads + Wai
     }
 }
 
-// The line of a refusal, and its status.
-fn refused<R: Eprint>(rt: &R, error: RunError) -> u8 {
+/// Writes the line of a refusal, and answers its status.
+pub fn refused<R: Eprint>(rt: &R, error: RunError) -> u8 {
     // Where standard error takes nothing the status is all that is left.
     let _ = eprintln!(rt; "refused {error}");
     2
@@ -71,7 +69,7 @@ fn do_request<R: Files + Input + Print + Eprint + AllocGlobal + Threads + Wait +
 ) -> u8 {
     match request {
         Request::Check { plan, workers } => check(rt, the_plan(plan), workers, hints),
-        Request::Certify { plan } => certify(rt, the_plan(plan), hints),
+        Request::Certify { plan, output } => certify(rt, the_plan(plan), output, hints),
         Request::Verify { plan, cert } => {
             verify(rt, the_plan(plan), the_certificate(cert), hints)
         }
@@ -93,42 +91,45 @@ fn do_request<R: Files + Input + Print + Eprint + AllocGlobal + Threads + Wait +
             starters,
             fill,
             answers,
-        } => bench(
-            rt,
-            the_plan(plan),
-            the_certificate(cert),
-            starters,
-            fill,
-            answers,
-            hints,
-        ),
-        Request::Expand { brief } => expand(rt, the_brief(brief), hints),
-        Request::Print { plan } => spell(rt, the_plan(plan), hints),
-        Request::Brief { plan } => abbreviate(rt, the_plan(plan), hints),
+            rest,
+        } => {
+            let play = Play {
+                starters,
+                fill,
+                answers,
+                rest,
+            };
+            match cert {
+                Some(cert) => bench(rt, the_plan(plan), the_certificate(cert), play, hints),
+                None => bench_alone(rt, the_plan(plan), play, hints),
+            }
+        }
+        Request::Expand { brief, output } => expand(rt, the_brief(brief), output, hints),
+        Request::Print { plan, output } => spell(rt, the_plan(plan), output, hints),
+        Request::Brief { plan, output } => abbreviate(rt, the_plan(plan), output, hints),
     }
 }
 
 fn the_brief(path: &str) -> Named<'_> {
-    Named {
-        what: "brief",
-        path,
-    }
+    named("BRIEF", "brief", path)
 }
 
 fn the_plan(path: &str) -> Named<'_> {
-    Named { what: "plan", path }
+    named("PLAN", "plan", path)
 }
 
 fn the_certificate(path: &str) -> Named<'_> {
-    Named {
-        what: "certificate",
-        path,
-    }
+    named("CERT", "certificate", path)
 }
 
 fn the_capture(path: &str) -> Named<'_> {
+    named("VCD", "capture", path)
+}
+
+fn named<'a>(argument: &'static str, what: &'static str, path: &'a str) -> Named<'a> {
     Named {
-        what: "capture",
+        argument,
+        what,
         path,
     }
 }
@@ -142,7 +143,7 @@ fn check<R: Files + Input + Print + Eprint + AllocGlobal + Threads + Sync>(
     let Some(mut reader) = open(rt, plan, hints) else {
         return 2;
     };
-    let mut out = Watched::new(io::writer(rt));
+    let mut out = Watched::new(Sheet::new(rt.alloc(), io::writer(rt), false));
     let ended = run_check(
         rt,
         rt.alloc(),
@@ -151,20 +152,21 @@ fn check<R: Files + Input + Print + Eprint + AllocGlobal + Threads + Sync>(
         workers,
         &report::NoGate,
     );
-    told(rt, plan, reader, ended, hints)
+    finish(rt, plan, reader, out.into_inner(), None, ended, hints)
 }
 
 fn certify<R: Files + Input + Print + Eprint + AllocGlobal>(
     rt: &R,
     plan: Named<'_>,
+    output: Option<&str>,
     hints: bool,
 ) -> u8 {
     let Some(mut reader) = open(rt, plan, hints) else {
         return 2;
     };
-    let mut out = Watched::new(io::writer(rt));
+    let mut out = Watched::new(Sheet::new(rt.alloc(), io::writer(rt), output.is_some()));
     let ended = run_certify(rt.alloc(), &mut reader, &mut out);
-    told(rt, plan, reader, ended, hints)
+    finish(rt, plan, reader, out.into_inner(), output, ended, hints)
 }
 
 fn verify<R: Files + Input + Print + Eprint + AllocGlobal>(
@@ -176,10 +178,15 @@ fn verify<R: Files + Input + Print + Eprint + AllocGlobal>(
     let Some((mut reader, mut second)) = open_both(rt, plan, cert, hints) else {
         return 2;
     };
-    let mut out = Watched::new(io::writer(rt));
+    let mut out = Watched::new(Sheet::new(rt.alloc(), io::writer(rt), false));
     let ended = run_verify(rt.alloc(), &mut reader, &mut second, &mut out);
-    let read = if second.failed() { cert } else { plan };
-    told(rt, read, reader, ended, hints)
+    let status = status_of(rt, ended);
+    if hints {
+        let (read, error) = last_read(plan, &mut reader, cert, &mut second);
+        let outcome = outcome(read, error, out.into_inner(), None, ended);
+        advise_on_certified(rt, file_of(reader), file_of(second), "", outcome);
+    }
+    status
 }
 
 fn capture<R: Files + Input + Print + Eprint + AllocGlobal + Threads + Sync>(
@@ -192,190 +199,121 @@ fn capture<R: Files + Input + Print + Eprint + AllocGlobal + Threads + Sync>(
     let Some((mut reader, mut second)) = open_both(rt, plan, vcd, hints) else {
         return 2;
     };
-    let mut out = Watched::new(Counted::new(io::writer(rt)));
+    let mut out = Watched::new(Sheet::new(rt.alloc(), io::writer(rt), false));
     let Names { scl, sda } = names;
     let ended = run_capture(rt, rt.alloc(), &mut reader, &mut second, &mut out, scl, sda);
     let status = status_of(rt, ended);
     if hints {
-        let is_silent = out.into_inner().is_silent();
-        let read = if second.failed() { vcd } else { plan };
-        advise_on_capture(rt, read, reader, second, names, ended, is_silent);
+        let (read, error) = last_read(plan, &mut reader, vcd, &mut second);
+        let outcome = outcome(read, error, out.into_inner(), None, ended);
+        advise_on_capture(rt, file_of(reader), file_of(second), names, outcome);
     }
     status
-}
-
-fn bench<R: Files + Input + Print + Eprint + AllocGlobal + Threads + Wait + Clock + Sync>(
-    rt: &R,
-    plan: Named<'_>,
-    cert: Named<'_>,
-    starters: &str,
-    fill: bool,
-    answers: &str,
-    hints: bool,
-) -> u8 {
-    let Some((mut reader, mut second)) = open_both(rt, plan, cert, hints) else {
-        return 2;
-    };
-    let mut out = Watched::new(io::writer(rt));
-    let ended = run_bench(
-        rt,
-        rt.alloc(),
-        &mut reader,
-        &mut second,
-        &mut out,
-        starters,
-        fill,
-        answers,
-        &NoGate,
-    );
-    let read = if second.failed() { cert } else { plan };
-    told(rt, read, reader, ended, hints)
 }
 
 fn spell<R: Files + Input + Print + Eprint + AllocGlobal>(
     rt: &R,
     plan: Named<'_>,
+    output: Option<&str>,
     hints: bool,
 ) -> u8 {
     let Some(mut reader) = open(rt, plan, hints) else {
         return 2;
     };
-    let mut out = Watched::new(io::writer(rt));
+    let mut out = Watched::new(Sheet::new(rt.alloc(), io::writer(rt), output.is_some()));
     let ended = run_print(rt.alloc(), &mut reader, &mut out);
-    told(rt, plan, reader, ended, hints)
+    finish(rt, plan, reader, out.into_inner(), output, ended, hints)
 }
 
 fn abbreviate<R: Files + Input + Print + Eprint + AllocGlobal>(
     rt: &R,
     plan: Named<'_>,
+    output: Option<&str>,
     hints: bool,
 ) -> u8 {
     let Some(mut reader) = open(rt, plan, hints) else {
         return 2;
     };
-    let mut out = Watched::new(io::writer(rt));
+    let mut out = Watched::new(Sheet::new(rt.alloc(), io::writer(rt), output.is_some()));
     let ended = run_brief(rt.alloc(), &mut reader, &mut out);
-    told(rt, plan, reader, ended, hints)
+    finish(rt, plan, reader, out.into_inner(), output, ended, hints)
 }
 
 fn expand<R: Files + Input + Print + Eprint + AllocGlobal>(
     rt: &R,
     brief: Named<'_>,
+    output: Option<&str>,
     hints: bool,
 ) -> u8 {
     let Some(mut reader) = open(rt, brief, hints) else {
         return 2;
     };
-    let mut out = Watched::new(io::writer(rt));
+    let mut out = Watched::new(Sheet::new(rt.alloc(), io::writer(rt), output.is_some()));
     let ended = run_expand(rt.alloc(), &mut reader, &mut out);
-    let status = status_of(rt, ended);
-    if hints {
-        advise_on_brief(rt, brief, reader, ended);
-    }
-    status
+    finish(rt, brief, reader, out.into_inner(), output, ended, hints)
 }
 
-// The status of a run that has ended, with the line of a refusal, and hints on it where they are wanted. `read` is the file
-// that was read last.
-fn told<R: Files + Input + Eprint + AllocGlobal>(
+// Writes the file of a run that is to write one, and answers the status of a run over one text, with the line of a
+// refusal, and hints where they are wanted.
+fn finish<R: Files + Input + Eprint + AllocGlobal, W: Write + Drop>(
     rt: &R,
     read: Named<'_>,
-    plan: Source<R::File, R::Reader>,
+    mut source: Source<R::File, R::Reader>,
+    mut out: Sheet<W>,
+    output: Option<&str>,
     ended: Result<Status, RunError>,
     hints: bool,
 ) -> u8 {
+    let error = reading_error(&mut source);
+    let file = file_of(source);
+    let ended = out.settle(rt, output, metadata_of(rt, &file), ended);
     let status = status_of(rt, ended);
     if hints {
-        advise_on_plan(rt, read, plan, ended);
+        let outcome = outcome(read, error, out, output, ended);
+        advise_on_text(rt, file, outcome);
     }
     status
 }
 
-// The status of a run that has ended, with the line of a refusal.
-fn status_of<R: Eprint>(rt: &R, ended: Result<Status, RunError>) -> u8 {
+/// How a run ended, for hints.
+pub fn outcome<'a, W: Drop>(
+    read: Named<'a>,
+    error: Option<io::Error>,
+    out: Sheet<W>,
+    output: Option<&'a str>,
+    ended: Result<Status, RunError>,
+) -> Outcome<'a> {
+    let (report, unwritten) = out.into_parts();
+    Outcome {
+        read,
+        ended,
+        error: error.or(unwritten),
+        output,
+        report,
+    }
+}
+
+/// The file that was read last of two, and the words of the system if it failed.
+pub fn last_read<'a, F: Read, S: Read>(
+    first: Named<'a>,
+    one: &mut Source<F, S>,
+    second: Named<'a>,
+    other: &mut Source<F, S>,
+) -> (Named<'a>, Option<io::Error>) {
+    if other.failed() {
+        (second, reading_error(other))
+    } else {
+        (first, reading_error(one))
+    }
+}
+
+/// The status of a run that has ended, with the line of a refusal.
+pub fn status_of<R: Eprint>(rt: &R, ended: Result<Status, RunError>) -> u8 {
     match ended {
         Ok(Status::Good) => 0,
         Ok(Status::Bad) => 1,
         Ok(Status::Refused) => 2,
         Err(error) => refused(rt, error),
-    }
-}
-
-// Opens two files for reading, in this order. A path as `/dev/fd/3`, or standard input that is closed, may come to name the
-// first file once that is open, so what the second path names is looked for before.
-fn open_both<R: Files + Input + Eprint>(
-    rt: &R,
-    first: Named<'_>,
-    second: Named<'_>,
-    hints: bool,
-) -> Option<(Source<R::File, R::Reader>, Source<R::File, R::Reader>)> {
-    if let Some(error) = missing(rt, second.path) {
-        unopened(rt, second, &error, hints);
-        return None;
-    }
-    let first = open(rt, first, hints)?;
-    let second = open(rt, second, hints)?;
-    Some((first, second))
-}
-
-// Opens a file for reading. Where it cannot be opened, that is told.
-fn open<R: Files + Input + Eprint>(
-    rt: &R,
-    file: Named<'_>,
-    hints: bool,
-) -> Option<Source<R::File, R::Reader>> {
-    match opened(rt, file.path) {
-        Ok(source) => Some(source),
-        Err(error) => {
-            unopened(rt, file, &error, hints);
-            None
-        }
-    }
-}
-
-// The line of the refusal of a file that cannot be opened.
-fn unopened<R: Eprint>(rt: &R, file: Named<'_>, error: &io::Error, hints: bool) {
-    if error.kind() == io::ErrorKind::OutOfMemory {
-        refused(rt, RunError::NoMemory);
-        return;
-    }
-    refused(rt, RunError::Read);
-    if !hints {
-        return;
-    }
-    if is_standard_input(file.path) {
-        advise_on_closed_input(rt, file);
-    } else {
-        advise_on_opening(rt, file, error);
-    }
-}
-
-// Standard input itself needs no leave to open the file that its path names.
-fn opened<R: Files + Input>(rt: &R, path: &str) -> io::Result<Source<R::File, R::Reader>> {
-    if !is_standard_input(path) {
-        let file = fs::open(rt, path)?;
-        return Ok(Opened::File(Watched::new(file)));
-    }
-    match missing(rt, path) {
-        Some(error) => Err(error),
-        None => Ok(Opened::Standard(Watched::new(rt.reader()))),
-    }
-}
-
-fn is_standard_input(path: &str) -> bool {
-    path == "-" || path == STANDARD_INPUT
-}
-
-// The error of the system where nothing is there. Where standard input is closed its path names nothing.
-fn missing(rt: &impl Files, path: &str) -> Option<io::Error> {
-    let path = if is_standard_input(path) {
-        STANDARD_INPUT
-    } else {
-        path
-    };
-    match fs::metadata(rt, path) {
-        Err(error) if error.kind() == io::ErrorKind::NotFound => Some(error),
-        _ => None,
     }
 }
 

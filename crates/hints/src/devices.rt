@@ -1,0 +1,98 @@
+// After a file that cannot be read or written, and after other refusals that have no place in a text.
+
+use crate::lines::Lines;
+use std::alloc::{AllocError, Global};
+use std::io::Error;
+
+/// A file that the command line names: by which argument, what it is to be, and its path.
+#[derive(Clone, Copy, Debug)]
+pub struct Named<'a> {
+    pub argument: &'static str,
+    pub what: &'static str,
+    pub path: &'a str,
+}
+
+/// After a file that cannot be opened, with the error of the system.
+pub fn on_opening(alloc: Global, file: Named<'_>, error: &Error) -> Result<String, AllocError> {
+    on_file(alloc, file, "cannot be opened:", Some(error))
+}
+
+/// After standard input, where it is closed.
+pub fn on_closed_input(alloc: Global, file: Named<'_>) -> Result<String, AllocError> {
+    let Named { argument, what, .. } = file;
+    let line = format!(in alloc;
+        "{argument}, the {what}, is to come from standard input, which is closed"
+    )?;
+    said(alloc, line.as_str(), None)
+}
+
+/// After a file that was opened and cannot be read to its end. Where it failed once more there is the error of the system.
+pub fn on_reading(
+    alloc: Global,
+    file: Named<'_>,
+    error: Option<&Error>,
+) -> Result<String, AllocError> {
+    let words = match error {
+        Some(_) => "cannot be read to its end:",
+        None => "gave an error in reading, or has no end",
+    };
+    on_file(alloc, file, words, error)
+}
+
+/// After a report that was not taken whole: by the file of this path, or by standard output.
+pub fn on_writing(
+    alloc: Global,
+    output: Option<&str>,
+    error: Option<&Error>,
+) -> Result<String, AllocError> {
+    let end = if error.is_some() { ":" } else { "" };
+    let line = match output {
+        Some(path) => format!(in alloc; "the output {path:?} was not written{end}")?,
+        None => format!(in alloc; "standard output did not take the whole report{end}")?,
+    };
+    said(alloc, line.as_str(), error)
+}
+
+/// After a number of workers that is refused.
+pub fn on_workers(alloc: Global) -> Result<String, AllocError> {
+    said(alloc, "'--workers' takes 1 to 8", None)
+}
+
+/// After want of memory.
+pub fn on_memory(alloc: Global) -> Result<String, AllocError> {
+    said(
+        alloc,
+        "the system gave no more memory: is there a limit ('ulimit -v')?",
+        None,
+    )
+}
+
+fn on_file(
+    alloc: Global,
+    file: Named<'_>,
+    words: &str,
+    error: Option<&Error>,
+) -> Result<String, AllocError> {
+    let Named {
+        argument,
+        what,
+        path,
+    } = file;
+    let line = if path == "-" {
+        format!(in alloc; "{argument}, the {what} from standard input, {words}")?
+    } else {
+        format!(in alloc; "{argument}, the {what} {path:?}, {words}")?
+    };
+    said(alloc, line.as_str(), error)
+}
+
+// A sentence, and the words of the system.
+fn said(alloc: Global, words: &str, error: Option<&Error>) -> Result<String, AllocError> {
+    let mut lines = Lines::new(alloc);
+    lines.say(words)?;
+    if let Some(error) = error {
+        let words = format!(in alloc; "{error}")?;
+        lines.say(words.as_str())?;
+    }
+    Ok(lines.finish())
+}

@@ -1,0 +1,131 @@
+// The runs of a bench.
+
+use crate::advice::advise_on_certified;
+use crate::inputs::{file_of, open, open_both, reading_error};
+use crate::outputs::Sheet;
+use crate::runs::{last_read, outcome, status_of};
+use bench_run::{NoGate, run_bench};
+use hints::Named;
+use report::{Input, Output, RunError, Status, Watched, read_within, run_certify};
+use std::alloc::{AllocError, Global};
+use std::io::{self, Cursor, Input as HasInput};
+use std::rt::Files;
+use std::sync::Wait;
+use std::thread::Threads;
+use std::time::Clock;
+
+// No run has more slots: on a path of a message there are at most 256 bytes of nine slots, a repeated START before each header
+// but the first, and a STOP.
+const SLOTS: usize = 2_560;
+
+/// Who starts, what they send for open bits, and what the targets answer: bits by slot, and what follows them.
+#[derive(Clone, Copy)]
+pub struct Play<'a> {
+    pub starters: &'a str,
+    pub fill: bool,
+    pub answers: &'a str,
+    pub rest: bool,
+}
+
+/// Rehearses a plan with its certificate.
+pub fn bench<R: Files + HasInput + Print + Eprint + AllocGlobal + Threads + Wait + Clock + Sync>(
+    rt: &R,
+    plan: Named<'_>,
+    cert: Named<'_>,
+    play: Play<'_>,
+    hints: bool,
+) -> u8 {
+    let Some((mut reader, mut second)) = open_both(rt, plan, cert, hints) else {
+        return 2;
+    };
+    let mut out = Watched::new(Sheet::new(rt.alloc(), io::writer(rt), false));
+    let ended = rehearse(rt, &mut reader, &mut second, &mut out, play);
+    let status = status_of(rt, ended);
+    if hints {
+        let (read, error) = last_read(plan, &mut reader, cert, &mut second);
+        let outcome = outcome(read, error, out.into_inner(), None, ended);
+        advise_on_certified(rt, file_of(reader), file_of(second), play.starters, outcome);
+    }
+    status
+}
+
+/// Rehearses a plan by the certificate that is made of it here.
+pub fn bench_alone<
+    R: Files + HasInput + Print + Eprint + AllocGlobal + Threads + Wait + Clock + Sync,
+>(rt: &R, plan: Named<'_>, play: Play<'_>, hints: bool) -> u8 {
+    let Some(mut reader) = open(rt, plan, hints) else {
+        return 2;
+    };
+    let mut out = Watched::new(Sheet::new(rt.alloc(), io::writer(rt), false));
+    let ended = rehearse_alone(rt, &mut reader, &mut out, play);
+    let status = status_of(rt, ended);
+    if hints {
+        let error = reading_error(&mut reader);
+        let outcome = outcome(plan, error, out.into_inner(), None, ended);
+        advise_on_certified(rt, file_of(reader), None, play.starters, outcome);
+    }
+    status
+}
+
+fn rehearse<R: AllocGlobal + Threads + Wait + Clock + Sync, I: Input, J: Input, O: Output>(
+    rt: &R,
+    plan: &mut I,
+    cert: &mut J,
+    out: &mut O,
+    play: Play<'_>,
+) -> Result<Status, RunError> {
+    let Play {
+        starters,
+        fill,
+        answers,
+        rest,
+    } = play;
+    let answers = whole_answers(rt.alloc(), answers, rest)?;
+    run_bench(
+        rt,
+        rt.alloc(),
+        plan,
+        cert,
+        out,
+        starters,
+        fill,
+        answers.as_str(),
+        &NoGate,
+    )
+}
+
+fn rehearse_alone<R: AllocGlobal + Threads + Wait + Clock + Sync, I: Input, O: Output>(
+    rt: &R,
+    plan: &mut I,
+    out: &mut O,
+    play: Play<'_>,
+) -> Result<Status, RunError> {
+    let text = read_within(rt.alloc(), plan, u32::MAX)?;
+    let cert = certificate_of(rt.alloc(), text.as_slice())?;
+    let mut plan = Watched::new(Cursor::new(text.as_slice()));
+    let mut cert = Watched::new(Cursor::new(cert.as_slice()));
+    rehearse(rt, &mut plan, &mut cert, out, play)
+}
+
+// The certificate of a plan text.
+fn certificate_of(alloc: Global, text: &[u8]) -> Result<Vec<u8>, RunError> {
+    let mut plan = Watched::new(Cursor::new(text));
+    let mut cert = Watched::new(Vec::new(alloc));
+    match run_certify(alloc, &mut plan, &mut cert) {
+        Ok(_) => Ok(cert.into_inner()),
+        // memory takes everything, as long as there is some
+        Err(RunError::Write) => Err(RunError::NoMemory),
+        Err(error) => Err(error),
+    }
+}
+
+// The bits of all slots. Past the end of the answers a bench takes 1.
+fn whole_answers(alloc: Global, answers: &str, rest: bool) -> Result<String, AllocError> {
+    let mut whole = String::from_str(alloc, answers)?;
+    if !rest {
+        for _ in answers.len()..SLOTS {
+            whole.push('0')?;
+        }
+    }
+    Ok(whole)
+}
