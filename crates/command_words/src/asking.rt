@@ -16,13 +16,15 @@ pub enum Asked<'a> {
     Refuse(String),
 }
 
-/// A run of the program. `output` is the file to write, where it is not standard output.
+/// A run of the program, with lines for people in its report where `explain` says so. `output` is the file to write, where it is not standard output.
 #[derive(Clone, Copy, Debug)]
 pub enum Request<'a> {
     /// Whether a plan is safe.
     Check {
         plan: &'a str,
         workers: u32,
+        /// How many unsafe pairs are to be explained.
+        explain: Option<u32>,
     },
     /// The certificate of a plan.
     Certify {
@@ -33,6 +35,7 @@ pub enum Request<'a> {
     Verify {
         plan: &'a str,
         cert: &'a str,
+        explain: bool,
     },
     /// Who of a plan explains a recorded bus, on which the two lines have these names.
     Capture {
@@ -40,6 +43,7 @@ pub enum Request<'a> {
         vcd: &'a str,
         scl: &'a str,
         sda: &'a str,
+        explain: bool,
     },
     /// What these starters of an accepted plan do on a bus. Without a certificate one is to be made. The answers are bits, 0
     /// and 1, and past their end each is `rest`.
@@ -50,6 +54,7 @@ pub enum Request<'a> {
         fill: bool,
         answers: &'a str,
         rest: bool,
+        explain: bool,
     },
     /// The plan that a brief means, in its canonical spelling.
     Expand {
@@ -119,7 +124,7 @@ fn told<'a>(alloc: Global, error: &Error) -> Result<Asked<'a>, AllocError> {
 // What is wrong with a request, where clap takes it.
 fn fault_of(request: Request<'_>) -> Option<&'static str> {
     match request {
-        Request::Verify { plan, cert } if are_input(plan, cert) => Some(INPUT_TWICE),
+        Request::Verify { plan, cert, .. } if are_input(plan, cert) => Some(INPUT_TWICE),
         Request::Capture { plan, vcd, .. } if are_input(plan, vcd) => Some(INPUT_TWICE),
         Request::Bench {
             plan,
@@ -160,6 +165,8 @@ struct Found<'a> {
     answers: Option<&'a str>,
     rest: Option<&'a str>,
     is_certified: bool,
+    explain: bool,
+    most: Option<u32>,
     output: Option<&'a str>,
     hints: Option<&'a str>,
 }
@@ -187,6 +194,8 @@ fn found_in<'a>(matches: &ArgMatches<'a>) -> Found<'a> {
         answers: matches.get_str("answers"),
         rest: matches.get_str("rest"),
         is_certified: matches.get_flag("certify"),
+        explain: matches.get_flag("explain"),
+        most: matches.get_one::<u32>("most"),
         output: output_of(matches.get_str("output")),
         hints: matches.get_str("hints"),
     }
@@ -206,6 +215,7 @@ fn request_of<'a>(name: &str, found: Found<'a>) -> Option<Request<'a>> {
         "check" => Request::Check {
             plan: found.plan?,
             workers: found.workers?,
+            explain: found.most.filter(|_| found.explain),
         },
         "certify" => Request::Certify {
             plan: found.plan?,
@@ -214,12 +224,14 @@ fn request_of<'a>(name: &str, found: Found<'a>) -> Option<Request<'a>> {
         "verify" => Request::Verify {
             plan: found.plan?,
             cert: found.cert?,
+            explain: found.explain,
         },
         "capture" => Request::Capture {
             plan: found.plan?,
             vcd: found.vcd?,
             scl: found.scl?,
             sda: found.sda?,
+            explain: found.explain,
         },
         "bench" => return bench_of(found),
         "expand" => Request::Expand {
@@ -255,6 +267,7 @@ fn bench_of<'a>(found: Found<'a>) -> Option<Request<'a>> {
         fill: found.fill? == "1",
         answers: found.answers?,
         rest: found.rest? == "1",
+        explain: found.explain,
     })
 }
 

@@ -79,7 +79,7 @@ const CHECK: Entry = Entry {
     name: "check",
     about: "Is a plan safe, whoever starts together and whatever targets answer?",
     after_help: AFTER_CHECK_HELP,
-    arguments: &[PLAN, WORKERS],
+    arguments: &[PLAN, WORKERS, EXPLAIN, MOST],
 };
 
 const CERTIFY: Entry = Entry {
@@ -93,21 +93,23 @@ const VERIFY: Entry = Entry {
     name: "verify",
     about: "Check a certificate against a plan, by a small checker of its own",
     after_help: AFTER_VERIFY_HELP,
-    arguments: &[PLAN, CERT],
+    arguments: &[PLAN, CERT, EXPLAIN],
 };
 
 const CAPTURE: Entry = Entry {
     name: "capture",
     about: "Explain a recorded bus: who may have sent each transaction?",
     after_help: AFTER_CAPTURE_HELP,
-    arguments: &[PLAN, VCD, SCL, SDA],
+    arguments: &[PLAN, VCD, SCL, SDA, EXPLAIN],
 };
 
 const BENCH: Entry = Entry {
     name: "bench",
     about: "Rehearse a plan: its starters play, each in a thread of its own",
     after_help: AFTER_BENCH_HELP,
-    arguments: &[PLAN, BENCH_CERT, STARTERS, CERTIFIED, FILL, ANSWERS, REST],
+    arguments: &[
+        PLAN, BENCH_CERT, STARTERS, CERTIFIED, FILL, ANSWERS, REST, EXPLAIN,
+    ],
 };
 
 const EXPAND: Entry = Entry {
@@ -179,6 +181,18 @@ const WORKERS: Argument = Argument::Number {
     value_name: "N",
     default: "1",
     help: "How many threads walk the pairs, 1 to 8",
+};
+
+const EXPLAIN: Argument = Argument::Flag {
+    id: "explain",
+    help: "Say below each line of the report what it means, in bytes",
+};
+
+const MOST: Argument = Argument::Number {
+    id: "most",
+    value_name: "N",
+    default: "10",
+    help: "How many unsafe pairs --explain explains",
 };
 
 const SCL: Argument = Argument::Text {

@@ -208,8 +208,8 @@ fn push_row(
     let shown = line.as_str().trim_end();
     let end = block.last().map_or(0, |it| it.end());
     let words = match row.lost {
-        Some(slot) if slot < end => format!(in alloc; "{shown} lost in slot {slot}")?,
-        None if is_last => format!(in alloc; "{shown} won")?,
+        Some(slot) if slot < end => format!(in alloc; "{shown}  lost in slot {slot}")?,
+        None if is_last => format!(in alloc; "{shown}  won")?,
         _ => String::from_str(alloc, shown)?,
     };
     below.hang(row.label.as_str(), columns, words.as_str())

@@ -1,6 +1,6 @@
 // Below the lines of unsafe pairs.
 
-use crate::below::Below;
+use crate::below::{Below, room_after};
 use crate::meeting::{Meeting, label_of, meeting_of};
 use crate::sending::{Followed, deed, follow_wire};
 use crate::words::Words;
@@ -11,6 +11,9 @@ use std::alloc::{AllocError, Global};
 
 // How many columns the labels of rows have at most; a longer one has a line of its own.
 const LABELS: usize = 24;
+
+// How many columns it takes at most to say what comes next.
+const NEXT: usize = 30;
 
 // How many ranges of slots are named.
 const RANGES: usize = 6;
@@ -43,9 +46,10 @@ fn push_meeting(
     let bus = bus_words(alloc, wire)?;
     below.row("bus", columns, bus.as_str())?;
     let one = follow_wire(alloc, plan, meeting.first, wire)?;
-    push_row(alloc, below, first.as_str(), columns, &one)?;
     let other = follow_wire(alloc, plan, meeting.second, wire)?;
-    push_row(alloc, below, second.as_str(), columns, &other)?;
+    let width = one.words.len().max(other.words.len());
+    push_row(alloc, below, first.as_str(), columns, &one, width)?;
+    push_row(alloc, below, second.as_str(), columns, &other, width)?;
     push_reason(alloc, below, wire.len(), one.next, other.next)?;
     push_open(alloc, below, first.as_str(), &one)?;
     push_open(alloc, below, second.as_str(), &other)
@@ -65,8 +69,15 @@ fn push_row(
     label: &str,
     columns: usize,
     row: &Followed,
+    width: usize,
 ) -> Result<(), AllocError> {
-    let words = format!(in alloc; "{}  next: {}", row.words.as_str(), deed(row.next))?;
+    let mut words = String::from_str(alloc, row.words.as_str())?;
+    if width <= room_after(columns).saturating_sub(NEXT) {
+        for _ in row.words.len()..width {
+            words.push(' ')?;
+        }
+    }
+    write!(words, "  next: {}", deed(row.next))?;
     below.row(label, columns, words.as_str())
 }
 
@@ -125,31 +136,66 @@ fn push_range(words: &mut String, from: usize, to: usize) -> Result<(), AllocErr
 }
 
 /// What is said below `unsafe: F of N pairs`: what mends one of these pairs, and the `never` items that keep all of them apart
-/// that can be kept apart so, as two controllers each. An interrupt starts when it likes, so a pair with one cannot be.
-pub fn below_unsafe(
-    alloc: Global,
-    plan: &Plan,
-    pairs: &[u32],
-    nevers: &[(u32, u32)],
-) -> Result<String, AllocError> {
+/// that can be kept apart so. An interrupt starts when it likes, so a pair with one cannot be.
+pub fn below_unsafe(alloc: Global, plan: &Plan, pairs: &[u32]) -> Result<String, AllocError> {
     let mut below = Below::new(alloc);
     let mut words = String::from_str(alloc, mends(pairs.len()))?;
-    if !nevers.is_empty() {
-        words.push_str(", or")?;
-        for (c, d) in nevers {
-            push_never(&mut words, plan, *c, *d)?;
-        }
-    }
+    push_nevers(alloc, &mut words, plan, pairs)?;
     below.say(words.as_str())?;
     push_with_interrupts(alloc, &mut below, plan, pairs)?;
     Ok(below.finish())
 }
 
+// The `never` items that keep the controllers of these pairs apart, each once.
+fn push_nevers(
+    alloc: Global,
+    words: &mut String,
+    plan: &Plan,
+    pairs: &[u32],
+) -> Result<(), AllocError> {
+    let mut apart = Vec::new(alloc);
+    for pair in pairs {
+        if let Some(both) = controllers_of(plan, *pair) {
+            if !apart.contains(&both) {
+                apart.push(both)?;
+            }
+        }
+    }
+    if !apart.is_empty() {
+        words.push_str("; or")?;
+    }
+    for (c, d) in apart {
+        push_never(words, plan, c, d)?;
+    }
+    Ok(())
+}
+
+// The controllers of a pair without an interrupt, the smaller number first.
+fn controllers_of(plan: &Plan, pair: u32) -> Option<(u32, u32)> {
+    if plan.pair_count() <= pair {
+        return None;
+    }
+    let (x, y) = plan.pair(pair);
+    let c = controller_of(plan, x)?;
+    let d = controller_of(plan, y)?;
+    Some((c.min(d), c.max(d)))
+}
+
+fn controller_of(plan: &Plan, p: u32) -> Option<u32> {
+    if plan.participants() <= p {
+        return None;
+    }
+    match plan.participant(p) {
+        Participant::Sending { controller, .. } => Some(controller),
+        Participant::Interrupt(_) => None,
+    }
+}
+
 fn mends(pairs: usize) -> &'static str {
     if pairs == 1 {
-        "to mend it: a bit before that slot that is known in both and different, the same shape from there on"
+        "to mend it: a bit before that slot, known in both and different; or the same shape from there on"
     } else {
-        "to mend each: a bit before that slot that is known in both and different, the same shape from there on"
+        "to mend each: a bit before its slot, known in both and different; or the same shape from there on"
     }
 }
 
@@ -185,13 +231,5 @@ fn push_with_interrupts(
 }
 
 fn has_interrupt(plan: &Plan, pair: u32) -> bool {
-    if plan.pair_count() <= pair {
-        return false;
-    }
-    let (x, y) = plan.pair(pair);
-    is_interrupt(plan, x) || is_interrupt(plan, y)
-}
-
-fn is_interrupt(plan: &Plan, p: u32) -> bool {
-    p < plan.participants() && matches!(plan.participant(p), Participant::Interrupt(_))
+    controllers_of(plan, pair).is_none()
 }

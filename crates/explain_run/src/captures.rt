@@ -1,6 +1,6 @@
 // The run that explains a capture, with the bytes of its transactions.
 
-use crate::overheard::{Heard, Overheard};
+use crate::overheard::{Heard, Notes, Overheard};
 use crate::pages::Page;
 use crate::texts::{plan_of, text_of};
 use explain::below_transaction;
@@ -8,7 +8,6 @@ use plan_core::Plan;
 use report::{Input, Output, RunError, Status, Watched, read_within, run_capture};
 use run_parts::devices::reading::READS;
 use std::alloc::Global;
-use std::io::Read;
 use std::thread::Threads;
 
 /// Explains the capture that the second reader gives, as `run_capture` does, and writes below each transaction its bytes, and
@@ -17,21 +16,22 @@ use std::thread::Threads;
 /// # Errors
 ///
 /// Those of `run_capture`, in the same order.
-pub fn explain_capture<I: Input, R: Read + Drop, O: Output>(
+pub fn explain_capture<I: Input, J: Input, O: Output>(
     rt: &(impl Threads + Sync),
     alloc: Global,
     plan: &mut I,
-    vcd: R,
+    vcd: &mut J,
     out: &mut O,
     scl: &str,
     sda: &str,
 ) -> Result<Status, RunError> {
     let text = read_within(alloc, plan, READS)?;
     let mut read = Watched::new(text.as_slice());
-    let mut dump = Watched::new(Overheard::new(alloc, vcd, scl, sda)?);
+    let notes = Notes::new(alloc, scl, sda)?;
+    let mut dump = Watched::new(Overheard::new(vcd, notes));
     let mut written = Watched::new(Vec::new(alloc));
     let status = run_capture(rt, alloc, &mut read, &mut dump, &mut written, scl, sda)?;
-    let heard = dump.into_inner().finish()?;
+    let heard = dump.into_inner().into_notes().finish()?;
     let report = written.into_inner();
     let plan = plan_of(alloc, text.as_slice())?;
     let lines = text_of(report.as_slice());

@@ -23,7 +23,7 @@ pub fn explain_check<R: Threads + Sync, I: Input, O: Output>(
     plan: &mut I,
     out: &mut O,
     workers: u32,
-    most: u64,
+    most: u32,
 ) -> Result<Status, RunError> {
     if workers < 1 || MOST_WORKERS < workers {
         return Err(RunError::Workers);
@@ -42,7 +42,7 @@ fn explain_report<O: Output>(
     text: &[u8],
     report: &str,
     out: &mut O,
-    most: u64,
+    most: u32,
 ) -> Result<(), RunError> {
     let plan = plan_of(alloc, text)?;
     let mut page = Page::new(alloc);
@@ -57,7 +57,7 @@ fn explain_report<O: Output>(
         let endings = endings_of(alloc, text)?;
         page.below(out, below_safe(alloc, &plan, endings)?.as_str())?;
     } else {
-        page.below(out, below_unsafe(alloc, &plan, pairs.as_slice(), &[])?.as_str())?;
+        page.below(out, below_unsafe(alloc, &plan, pairs.as_slice())?.as_str())?;
     }
     page.flush(out)
 }
@@ -70,11 +70,11 @@ fn push_pair<O: Output>(
     out: &mut O,
     line: &str,
     pairs: &mut Vec<u32>,
-    most: u64,
+    most: u32,
 ) -> Result<(), RunError> {
-    if (pairs.len() as u64) < most {
+    if pairs.len() < most as usize {
         page.below(out, below_pair(alloc, plan, line)?.as_str())?;
-    } else if pairs.len() as u64 == most {
+    } else if pairs.len() == most as usize {
         page.below(out, "    (further pairs are not explained: --most N)\n")?;
     }
     pairs.push(number_of(line))?;

@@ -1,6 +1,7 @@
 // A dump whose transactions are noted as it is read.
 
 use capture_check::{Listener, Transaction, Until, Watch, What};
+use report::Input;
 use std::alloc::{AllocError, Global};
 use std::io::{self, Read};
 use vcd_read::{Reader, Sample};
@@ -14,13 +15,14 @@ pub(crate) struct Heard {
 
 /// A reader of a dump that notes the transactions of what is read.
 #[derive(Drop)]
-pub(crate) struct Overheard<R> {
-    reader: R,
+pub(crate) struct Overheard<'a, J> {
+    reader: &'a mut J,
     notes: Notes,
 }
 
+/// The transactions of what was read so far.
 #[derive(Drop)]
-struct Notes {
+pub(crate) struct Notes {
     alloc: Global,
     // None once the dump was refused: whoever reads it says so
     dump: Option<Reader>,
@@ -30,34 +32,19 @@ struct Notes {
     is_free: bool,
 }
 
-impl<R> Overheard<R> {
+impl<'a, J: Input> Overheard<'a, J> {
     /// Nothing of the dump has been read.
-    pub(crate) fn new(
-        alloc: Global,
-        reader: R,
-        scl: &str,
-        sda: &str,
-    ) -> Result<Overheard<R>, AllocError> {
-        Ok(Overheard {
-            reader,
-            notes: Notes {
-                alloc,
-                dump: Some(Reader::new(alloc, scl, sda)?),
-                watch: Watch::new(),
-                listener: Listener::new(),
-                heard: Vec::new(alloc),
-                is_free: false,
-            },
-        })
+    pub(crate) fn new(reader: &'a mut J, notes: Notes) -> Overheard<'a, J> {
+        Overheard { reader, notes }
     }
 
-    /// The transactions of the whole dump, in order.
-    pub(crate) fn finish(self) -> Result<Vec<Heard>, AllocError> {
-        self.notes.finish()
+    /// What was noted.
+    pub(crate) fn into_notes(self) -> Notes {
+        self.notes
     }
 }
 
-impl<R: Read> Read for Overheard<R> {
+impl<J: Input> Read for Overheard<'_, J> {
     fn read(&mut self, buf: &mut [u8]) -> io::Result<usize> {
         let count = self.reader.read(buf)?;
         self.notes.feed(buf.get(..count).unwrap_or(&[]))?;
@@ -66,6 +53,18 @@ impl<R: Read> Read for Overheard<R> {
 }
 
 impl Notes {
+    /// Nothing of the dump has been read.
+    pub(crate) fn new(alloc: Global, scl: &str, sda: &str) -> Result<Notes, AllocError> {
+        Ok(Notes {
+            alloc,
+            dump: Some(Reader::new(alloc, scl, sda)?),
+            watch: Watch::new(),
+            listener: Listener::new(),
+            heard: Vec::new(alloc),
+            is_free: false,
+        })
+    }
+
     fn feed(&mut self, piece: &[u8]) -> Result<(), AllocError> {
         let Some(mut dump) = self.dump.take() else {
             return Ok(());
@@ -111,7 +110,8 @@ impl Notes {
         Ok(())
     }
 
-    fn finish(mut self) -> Result<Vec<Heard>, AllocError> {
+    /// The transactions of the whole dump, in order.
+    pub(crate) fn finish(mut self) -> Result<Vec<Heard>, AllocError> {
         if let Some(dump) = self.dump.take() {
             if let Ok(samples) = dump.end() {
                 for sample in samples.iter() {

@@ -5,6 +5,7 @@ use crate::inputs::{file_of, open, open_both, reading_error};
 use crate::outputs::Sheet;
 use crate::runs::{last_read, outcome, status_of};
 use bench_run::{NoGate, run_bench};
+use explain_run::explain_bench;
 use hints::Named;
 use report::{Input, Output, RunError, Status, Watched, read_within, run_certify};
 use std::alloc::{AllocError, Global};
@@ -25,6 +26,7 @@ pub struct Play<'a> {
     pub fill: bool,
     pub answers: &'a str,
     pub rest: bool,
+    pub explain: bool,
 }
 
 /// Rehearses a plan with its certificate.
@@ -79,19 +81,16 @@ fn rehearse<R: AllocGlobal + Threads + Wait + Clock + Sync, I: Input, J: Input, 
         fill,
         answers,
         rest,
+        explain,
     } = play;
-    let answers = whole_answers(rt.alloc(), answers, rest)?;
-    run_bench(
-        rt,
-        rt.alloc(),
-        plan,
-        cert,
-        out,
-        starters,
-        fill,
-        answers.as_str(),
-        &NoGate,
-    )
+    let alloc = rt.alloc();
+    let answers = whole_answers(alloc, answers, rest)?;
+    let answers = answers.as_str();
+    if explain {
+        explain_bench(rt, alloc, plan, cert, out, starters, fill, answers)
+    } else {
+        run_bench(rt, alloc, plan, cert, out, starters, fill, answers, &NoGate)
+    }
 }
 
 fn rehearse_alone<R: AllocGlobal + Threads + Wait + Clock + Sync, I: Input, O: Output>(

@@ -5,6 +5,7 @@ use crate::inputs::{Source, file_of, metadata_of, open, open_both, reading_error
 use crate::outputs::Sheet;
 use crate::rehearsals::{Play, bench, bench_alone};
 use command_words::{Asked, Request, When, read_words};
+use explain_run::{explain_capture, explain_check, explain_verify};
 use hints::{Named, Names};
 use report::{
     Input as _, RunError, Status, Watched, run_brief, run_capture, run_certify, run_check,
@@ -68,21 +69,29 @@ fn do_request<R: Files + Input + Print + Eprint + AllocGlobal + Threads + Wait +
     hints: bool,
 ) -> u8 {
     match request {
-        Request::Check { plan, workers } => check(rt, the_plan(plan), workers, hints),
+        Request::Check {
+            plan,
+            workers,
+            explain,
+        } => check(rt, the_plan(plan), workers, explain, hints),
         Request::Certify { plan, output } => certify(rt, the_plan(plan), output, hints),
-        Request::Verify { plan, cert } => {
-            verify(rt, the_plan(plan), the_certificate(cert), hints)
-        }
+        Request::Verify {
+            plan,
+            cert,
+            explain,
+        } => verify(rt, the_plan(plan), the_certificate(cert), explain, hints),
         Request::Capture {
             plan,
             vcd,
             scl,
             sda,
+            explain,
         } => capture(
             rt,
             the_plan(plan),
             the_capture(vcd),
             Names { scl, sda },
+            explain,
             hints,
         ),
         Request::Bench {
@@ -92,12 +101,14 @@ fn do_request<R: Files + Input + Print + Eprint + AllocGlobal + Threads + Wait +
             fill,
             answers,
             rest,
+            explain,
         } => {
             let play = Play {
                 starters,
                 fill,
                 answers,
                 rest,
+                explain,
             };
             match cert {
                 Some(cert) => bench(rt, the_plan(plan), the_certificate(cert), play, hints),
@@ -138,20 +149,18 @@ fn check<R: Files + Input + Print + Eprint + AllocGlobal + Threads + Sync>(
     rt: &R,
     plan: Named<'_>,
     workers: u32,
+    explain: Option<u32>,
     hints: bool,
 ) -> u8 {
     let Some(mut reader) = open(rt, plan, hints) else {
         return 2;
     };
     let mut out = Watched::new(Sheet::new(rt.alloc(), io::writer(rt), false));
-    let ended = run_check(
-        rt,
-        rt.alloc(),
-        &mut reader,
-        &mut out,
-        workers,
-        &report::NoGate,
-    );
+    let alloc = rt.alloc();
+    let ended = match explain {
+        Some(most) => explain_check(rt, alloc, &mut reader, &mut out, workers, most),
+        None => run_check(rt, alloc, &mut reader, &mut out, workers, &report::NoGate),
+    };
     finish(rt, plan, reader, out.into_inner(), None, ended, hints)
 }
 
@@ -173,13 +182,18 @@ fn verify<R: Files + Input + Print + Eprint + AllocGlobal>(
     rt: &R,
     plan: Named<'_>,
     cert: Named<'_>,
+    explain: bool,
     hints: bool,
 ) -> u8 {
     let Some((mut reader, mut second)) = open_both(rt, plan, cert, hints) else {
         return 2;
     };
     let mut out = Watched::new(Sheet::new(rt.alloc(), io::writer(rt), false));
-    let ended = run_verify(rt.alloc(), &mut reader, &mut second, &mut out);
+    let ended = if explain {
+        explain_verify(rt.alloc(), &mut reader, &mut second, &mut out)
+    } else {
+        run_verify(rt.alloc(), &mut reader, &mut second, &mut out)
+    };
     let status = status_of(rt, ended);
     if hints {
         let (read, error) = last_read(plan, &mut reader, cert, &mut second);
@@ -194,6 +208,7 @@ fn capture<R: Files + Input + Print + Eprint + AllocGlobal + Threads + Sync>(
     plan: Named<'_>,
     vcd: Named<'_>,
     names: Names<'_>,
+    explain: bool,
     hints: bool,
 ) -> u8 {
     let Some((mut reader, mut second)) = open_both(rt, plan, vcd, hints) else {
@@ -201,7 +216,12 @@ fn capture<R: Files + Input + Print + Eprint + AllocGlobal + Threads + Sync>(
     };
     let mut out = Watched::new(Sheet::new(rt.alloc(), io::writer(rt), false));
     let Names { scl, sda } = names;
-    let ended = run_capture(rt, rt.alloc(), &mut reader, &mut second, &mut out, scl, sda);
+    let alloc = rt.alloc();
+    let ended = if explain {
+        explain_capture(rt, alloc, &mut reader, &mut second, &mut out, scl, sda)
+    } else {
+        run_capture(rt, alloc, &mut reader, &mut second, &mut out, scl, sda)
+    };
     let status = status_of(rt, ended);
     if hints {
         let (read, error) = last_read(plan, &mut reader, vcd, &mut second);
