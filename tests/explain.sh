@@ -1,0 +1,323 @@
+#!/usr/bin/env bash
+# Runs twire with --explain: the lines for people below those of a report, and that the report without them is the exact one.
+# It compares the exit status and all that is written. The last line is 'N passed, M failed', and the exit status is 1 where
+# a case fails.
+#
+# It runs the launcher at the top of the repository, or the program that TWIRE names.
+set -u
+
+tests=$(dirname -- "$(readlink -f -- "${BASH_SOURCE[0]}")")
+examples=$tests/../examples
+twire=$(readlink -f -- "${TWIRE:-$tests/../twire}")
+work=$(mktemp -d)
+trap 'rm -rf -- "$work"' EXIT
+cd -- "$work" || exit 1
+
+passed=0
+failed=0
+
+# Counts a case by what stands in the files status, out and err and in those that are wanted.
+compare() {
+    local name=$1
+    if cmp -s want_status status && cmp -s want_out out && cmp -s want_err err; then
+        passed=$((passed + 1))
+        return
+    fi
+    failed=$((failed + 1))
+    echo "FAILED: $name"
+    diff -u --label "wanted status" --label status want_status status
+    diff -u --label "wanted output" --label output want_out out | head -n 40
+    diff -u --label "wanted error" --label error want_err err | head -n 40
+}
+
+# want STATUS OUT ERR: what the next case gives, with an LF after each text that is not empty.
+want() {
+    echo "$1" >want_status
+    printf '%s' "${2:+$2$'\n'}" >want_out
+    printf '%s' "${3:+$3$'\n'}" >want_err
+}
+
+# run NAME ARG..: a case, with this script's standard input.
+run() {
+    local name=$1
+    shift
+    "$twire" "$@" >out 2>err
+    echo "$?" >status
+    compare "$name"
+}
+
+# alike NAME ARG..: with --explain the same run has the same status and the same standard error, and without the lines that
+# begin with four spaces the same report. No line has more than 80 columns that the exact report has not.
+alike() {
+    local name=$1
+    shift
+    "$twire" "$@" >want_out 2>want_err
+    echo "$?" >want_status
+    "$twire" "$@" --explain >explained 2>err
+    echo "$?" >status
+    grep -v '^    ' explained >out
+    compare "$name: the exact report is left"
+    : >want_out
+    : >want_err
+    echo 0 >want_status
+    grep '^    ' explained | grep '.\{81,\}' >out
+    : >err
+    echo 0 >status
+    compare "$name: 80 columns"
+}
+
+plan() {
+    printf '%s\n' "$@" >p.plan
+}
+
+# The first call may build the program, and says so on standard error.
+"$twire" --version >out 2>err
+
+# ---- Unsafe pairs: a kind that meets another.
+
+want 1 "pair 0 main/write_output service/probe_10: data against stop after 00100000l
+    bus                S 10 Wr A
+    main/write_output  S 10 Wr A xxxxxxxx  next: a data bit
+    service/probe_10   S 10 Wr A P         next: a STOP
+    slot 9, UM10204 3.1.8: a data bit meets a STOP. Both send alike until here.
+unsafe: 1 of 2 pairs
+    to mend it: a bit before that slot, known in both and different; or the same
+    shape from there on; or never main service ;" ""
+run "a STOP meets a data bit" check --explain "$examples/stop_meets_data.plan"
+
+plan 'plan 1' \
+    'message w write 1001000 00000001 00000010 stop else stop else stop else stop ;' \
+    'message r write 1001000 0000000x again read 1001000 2 stop else stop else stop else stop ;' \
+    'controller a w ;' 'controller b r ;'
+want 1 "pair 0 a/w b/r: data against restart after 10010000l00000001l
+    bus  S 48 Wr A 01 A
+    a/w  S 48 Wr A 01 A 02           next: a data bit
+    b/r  S 48 Wr A 0000000x A Sr     next: a repeated START
+    slot 18, UM10204 3.1.8: a data bit meets a repeated START. Both send alike
+    until here.
+    b/r may send either bit before it in slot 16
+unsafe: 1 of 1 pairs
+    to mend it: a bit before that slot, known in both and different; or the same
+    shape from there on; or never a b ;" ""
+sed -i 's/ A 02           next/ A 02        next/; s/x A Sr     next/x A Sr  next/' want_out
+run "a repeated START meets a data bit, after an open bit" check --explain p.plan
+
+plan 'plan 1' 'message get read 1001000 1 stop else stop ;' 'controller a get ;' 'interrupt al 1001000 ;' \
+    'interrupt second 1001000 ;'
+want 1 "pair 0 a/get !al: answer against claim after 10010001
+    bus    S 48 Rd
+    a/get  S 48 Rd          next: a target's bit
+    !al    S 48 Rd (waits)  next: a wait for the answer
+    slot 8, the profile of interrupts: a target's bit meets a wait for the
+    answer. Both send alike until here.
+pair 1 a/get !second: answer against claim after 10010001
+    bus      S 48 Rd
+    a/get    S 48 Rd          next: a target's bit
+    !second  S 48 Rd (waits)  next: a wait for the answer
+    slot 8, the profile of interrupts: a target's bit meets a wait for the
+    answer. Both send alike until here.
+pair 2 !al !second: claim against claim after 10010001
+    bus      S 48 Rd
+    !al      S 48 Rd (waits)  next: a wait for the answer
+    !second  S 48 Rd (waits)  next: a wait for the answer
+    slot 8, the profile of interrupts: a wait for the answer meets a wait for
+    the answer. Both send alike until here.
+unsafe: 3 of 3 pairs
+    to mend each: a bit before its slot, known in both and different; or the
+    same shape from there on
+    no 'never' keeps an interrupt away: pair 0 pair 1 pair 2" ""
+run "interrupts, which no never keeps away" check --explain p.plan
+
+plan 'plan 1' 'message one read 1001000 1 again write 1001000 stop else stop else stop ;' \
+    'message few read 1001000 1..3 stop else stop ;' 'controller a one ;' 'controller b few ;'
+want 1 "pair 0 a/one b/few: restart against stop after 10010001lllllllll1
+    bus    S 48 Rd A 00 NA
+    a/one  S 48 Rd A 00 NA Sr   next: a repeated START
+    b/few  S 48 Rd A 00 A/NA P  next: a STOP
+    slot 18, UM10204 3.1.8: a repeated START meets a STOP. Both send alike until
+    here.
+    b/few may send either bit before it in slot 17
+unsafe: 1 of 1 pairs
+    to mend it: a bit before that slot, known in both and different; or the same
+    shape from there on; or never a b ;" ""
+run "reads that may end alike: the last acknowledge of one is open" check --explain p.plan
+
+# ---- How many are explained.
+
+plan 'plan 2' 'message w write 1001000 00000001 stop else stop else stop ;' 'message p write 1001000 stop else stop ;' \
+    'controller a w ;' 'controller b p ;' 'controller c p ;'
+want 1 "pair 0 a/w b/p: data against stop after 10010000l
+    bus  S 48 Wr A
+    a/w  S 48 Wr A 01  next: a data bit
+    b/p  S 48 Wr A P   next: a STOP
+    slot 9, UM10204 3.1.8: a data bit meets a STOP. Both send alike until here.
+pair 1 a/w c/p: data against stop after 10010000l
+    (further pairs are not explained: --most N)
+unsafe: 2 of 3 pairs
+    to mend each: a bit before its slot, known in both and different; or the
+    same shape from there on; or never a b ; never a c ;" ""
+run "one pair is explained where --most is 1" check --explain --most 1 p.plan
+want 1 "pair 0 a/w b/p: data against stop after 10010000l
+    (further pairs are not explained: --most N)
+pair 1 a/w c/p: data against stop after 10010000l
+unsafe: 2 of 3 pairs
+    to mend each: a bit before its slot, known in both and different; or the
+    same shape from there on; or never a b ; never a c ;" ""
+run "none is explained where --most is 0" check --explain --most 0 p.plan
+printf 'never a b ; never a c ;\n' >>p.plan
+want 0 "safe: 1 pairs
+    where targets acknowledge: 0 part in a header, 0 later, 0 at a read's end, 1
+    end alike
+    2 pairs were not checked: 'never' keeps their controllers apart" ""
+run "the never items that are named make the plan safe" check --explain p.plan
+
+# ---- Safe plans.
+
+want 0 "safe: 2 pairs
+    where targets acknowledge: 0 part in a header, 1 later, 0 at a read's end, 1
+    end alike" ""
+run "two writers: one pair ends alike, one parts in a data byte" check --explain "$examples/two_writers.plan"
+plan 'plan 1' 'message short read 1001000 1 stop else stop ;' 'message long read 1001000 2 stop else stop ;' \
+    'message other read 1001001 2 stop else stop ;' 'message spare write 1001000 stop else stop ;' \
+    'controller a short ;' 'controller b long ;' 'controller c other ;'
+want 0 "safe: 3 pairs
+    where targets acknowledge: 2 part in a header, 0 later, 1 at a read's end, 0
+    end alike
+    nobody sends spare" ""
+run "a read's end, headers, and a message that nobody sends" check --explain p.plan
+plan 'plan 1'
+want 0 "safe: 0 pairs
+    where targets acknowledge: 0 part in a header, 0 later, 0 at a read's end, 0
+    end alike
+    no two participants may start together, so nothing was checked" ""
+run "a plan without pairs" check --explain p.plan
+
+# ---- Certificates.
+
+"$twire" certify "$examples/two_writers.plan" >two.cert
+want 0 "accepted safe" ""
+run "nothing is said below an acceptance" verify --explain "$examples/two_writers.plan" two.cert
+sed 's/P6/P5/' two.cert >wrong.cert
+want 2 "wrong C5 pair 1
+    pair 1 is main/write_limit and guard/write_alarm: what the certificate says
+    of them is not so
+    it breaks off at word 2, in slot 9: no bit of this number is known in both
+    and different there
+    a plan that was changed wants a new certificate: twire certify PLAN" ""
+run "a proof that names another bit" verify --explain "$examples/two_writers.plan" wrong.cert
+sed '3d' two.cert >wrong.cert
+want 2 "wrong C2
+    the plan has 2 pairs, and the certificate has 1 lines of proofs
+    a plan that was changed wants a new certificate: twire certify PLAN" ""
+run "a proof too few" verify --explain "$examples/two_writers.plan" wrong.cert
+sed 's/^cert 1/cert 2/' two.cert >wrong.cert
+want 2 "wrong C1 line 1
+    a plan that was changed wants a new certificate: twire certify PLAN" ""
+run "a certificate of another form" verify --explain "$examples/two_writers.plan" wrong.cert
+
+# ---- A rehearsal.
+
+want 0 "wire 10010000l00000001l00100000ls
+    slot               0          9          18
+    byte               48 Wr    A 01       A 20       A P
+    wire               10010000 l 00000001 l 00100000 l s
+    main/write_limit   10010000 . 0000001  lost in slot 15
+    guard/write_alarm  10010000 . 00000001 . 00100000 . s  won
+won guard/write_alarm" ""
+run "who loses where" bench --explain "$examples/two_writers.plan" --certify main/write_limit,guard/write_alarm \
+    --rest 0
+
+# ---- Captures.
+
+want 0 "5-160 service/probe_10
+    S 10 Wr A P
+1 transactions, 0 unexplained" ""
+run "the bytes of a transaction" capture --explain "$examples/stop_meets_data.plan" "$examples/stop_meets_data.vcd"
+plan 'plan 1' 'message m write 1001000 00000001 stop else stop else stop ;' \
+    'message n write 0010000 00000001 00000000 stop else stop else stop else stop ;' \
+    'message o write 0010000 1xxxxxxx stop else stop else stop ;' 'message q read 0010000 1 stop else stop ;' \
+    'controller a m ;' 'controller b n o q ;'
+want 1 "5-160 unexplained
+    S 10 Wr A P
+    b/n leaves at slot 9: it sends 0 there, the wire has a STOP
+    b/o leaves at slot 9: it sends 1 there, the wire has a STOP
+    b/q leaves at slot 7: it sends 1 there, the wire has 0
+1 transactions, 1 unexplained" ""
+run "who goes along furthest with a transaction that nobody explains" capture --explain p.plan \
+    "$examples/stop_meets_data.vcd"
+"$tests/../tools/dump" 00100000000 >d.vcd
+want 1 "5-180 unexplained
+    S 10 Wr A 00 P
+    the STOP comes after 2 of a byte's nine bits: is it a glitch? 0 bits follow
+    it on a free bus
+    b/n leaves at slot 11: it sends 0 there, the wire has a STOP
+    b/o leaves at slot 9: it sends 1 there, the wire has 0
+    b/q leaves at slot 7: it sends 1 there, the wire has 0
+1 transactions, 1 unexplained" ""
+run "a STOP in the middle of a byte" capture --explain p.plan d.vcd
+"$tests/../tools/dump" 001000000r001000010101010101 >d.vcd
+want 1 "5-350 unexplained
+    S 10 Wr A Sr 10 Rd A aa NA P
+    b/n leaves at slot 9: it sends 0 there, the wire has a repeated START
+    b/o leaves at slot 9: it sends 1 there, the wire has a repeated START
+    b/q leaves at slot 7: it sends 1 there, the wire has 0
+1 transactions, 1 unexplained" ""
+run "a repeated START and a read" capture --explain p.plan d.vcd
+
+# ---- Without the lines for people the report is the exact one.
+
+for it in "$examples"/*.plan; do
+    name=${it##*/}
+    alike "check $name" check "$it"
+    "$twire" certify "$it" >c.cert
+    alike "verify $name" verify "$it" c.cert
+    sed '3s/.*/./' c.cert >wrong.cert
+    alike "verify $name, another proof" verify "$it" wrong.cert
+    for vcd in "$examples"/*.vcd; do
+        alike "capture ${vcd##*/} by $name" capture "$it" "$vcd"
+    done
+    labels=$("$twire" check "$it" | sed -n 's/^pair [0-9]* \([^ ]*\) .*/\1/p' | sort -u)
+    for label in $labels main/write_limit service/probe_10; do
+        alike "bench $label of $name" bench "$it" c.cert "$label"
+    done
+done
+
+# ---- Long names and long messages.
+
+long=$(printf 'n%.0s' {1..32})
+bytes=$(printf ' xx00xx11%.0s' {1..250})
+stops=$(printf ' else stop%.0s' {1..251})
+plan 'plan 1' "message $long write 1001000$bytes stop$stops ;" "message other write 1001000$bytes 00000000 stop$stops else stop ;" \
+    "controller $long $long ;" 'controller b other ;' 'interrupt '"$long"' 1001001 ;'
+alike "names of 32 characters, and a clash after 250 bytes" check p.plan
+"$twire" check --explain p.plan >out
+grep -q '^    bus *S 48 Wr A \.\. .* A$' out
+echo $? >status
+want 0 "" ""
+: >out
+compare "words in the middle of a long row are left out"
+sed -i '/interrupt/d; s/^plan 1/plan 2/' p.plan
+echo "never $long b ;" >>p.plan
+"$twire" certify p.plan >c.cert
+alike "a rehearsal of 250 bytes" bench p.plan c.cert "$long/$long"
+
+# ---- Refusals are the same.
+
+: >empty
+for it in check verify capture bench; do
+    second=(empty)
+    [[ $it == check ]] && second=()
+    third=()
+    [[ $it == bench ]] && third=(a)
+    alike "$it without a plan" "$it" none "${second[@]}" "${third[@]}"
+    alike "$it of an empty plan" "$it" empty "${second[@]}" "${third[@]}"
+    alike "$it of a folder" "$it" . "${second[@]}" "${third[@]}"
+done
+alike "no workers" check "$examples/two_writers.plan" --workers 0
+alike "an empty dump" capture "$examples/two_writers.plan" empty
+alike "an empty certificate" verify "$examples/two_writers.plan" empty
+alike "an unknown starter" bench "$examples/two_writers.plan" two.cert nobody/nothing
+
+echo
+echo "$passed passed, $failed failed"
+((failed == 0))
