@@ -165,7 +165,7 @@ const STARTERS: Argument = Argument::WordUnless {
 
 const CERTIFIED: Argument = Argument::Flag {
     id: "certify",
-    help: "Make the certificate here: 'bench PLAN STARTERS --certify'",
+    help: "Make the certificate here: 'bench PLAN STARTERS'",
 };
 
 const OUTPUT: Argument = Argument::File {
@@ -215,5 +215,5 @@ const REST: Argument = Argument::Choice {
     value_name: "BIT",
     default: "1",
     values: &["0", "1"],
-    help: "What they answer past the end of BITS, 0 or 1 [default: 1]",
+    help: "What they answer after BITS, 0 or 1 [default: 1]",
 };
