@@ -174,7 +174,7 @@ $(hint "no starter is named: give labels, joined by commas" "labels of the plan:
     interrupt.plan interrupt.cert "" --hints always
 expect "hints on an unknown starter" 2 "" "refused B2
 $(hint "no participant of the plan has the label 'b/o'" "labels of the plan, the nearest first:" \
-    "  c/o" "  b/n" "  a/m")" three.plan three.cert a/m,b/o --hints always
+    "  b/n" "  c/o" "  a/m")" three.plan three.cert a/m,b/o --hints always
 expect "hints on a starter that stands there twice" 2 "" "refused B3
 $(hint "'a/m' stands there twice" "a controller starts one message at a time")" three.plan a/m,b/n,a/m --certify --hints always
 write_plan never.plan "plan 2" "${three[@]}" "never c a ;"

@@ -140,8 +140,8 @@ $(hint "line 1 of the capture:" "  plan 1" "  ^^^^" \
 zip_head=$'PK\003\004'
 printf '%s' "$zip_head" >session.sr
 expect "hints on a session of sigrok" 2 "" "refused V2 line 1
-$(hint "this is a ZIP archive, as a session of sigrok is (.sr): for a dump of" \
-    "one, 'sigrok-cli -i FILE -O vcd -o OUT'")" plan session.sr --hints always
+$(hint "this is a ZIP archive, as a session of sigrok is (.sr): for a dump of one," \
+    "'sigrok-cli -i FILE -O vcd -o OUT'")" plan session.sr --hints always
 
 for when in never auto; do
     expect "hints $when: a token" 2 "" "refused V2 line 26" "$example" nine_states --hints "$when"

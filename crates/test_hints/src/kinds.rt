@@ -39,8 +39,8 @@ fn compressed_files_and_archives_are_named(rt: HostRuntime) -> Result<(), Fail> 
         &rt,
         rt.alloc(),
         b"PK\x03\x04\x14\x00",
-        "hint: this is a ZIP archive, as a session of sigrok is (.sr): for a dump of
-hint: one, 'sigrok-cli -i FILE -O vcd -o OUT'
+        "hint: this is a ZIP archive, as a session of sigrok is (.sr): for a dump of one,
+hint: 'sigrok-cli -i FILE -O vcd -o OUT'
 ",
     )
 }

@@ -99,10 +99,16 @@ pub fn advise_on_capture<R: Eprint + AllocGlobal, F: Read + Seek + Drop>(
 }
 
 fn advise_on_devices<R: Eprint + AllocGlobal>(rt: &R, outcome: Outcome<'_>) {
-    let error = outcome.error.as_ref();
-    match outcome.ended {
-        Err(RunError::Read) => say(rt, on_reading(rt.alloc(), outcome.read, error)),
-        Err(RunError::Write) => say(rt, on_writing(rt.alloc(), outcome.output, error)),
+    let Outcome {
+        read,
+        ended,
+        error,
+        output,
+        ..
+    } = outcome;
+    match ended {
+        Err(RunError::Read) => say(rt, on_reading(rt.alloc(), read, error.as_ref())),
+        Err(RunError::Write) => say(rt, on_writing(rt.alloc(), output, error.as_ref())),
         Err(RunError::Workers) => say(rt, on_workers(rt.alloc())),
         Err(RunError::NoMemory) => say(rt, on_memory(rt.alloc())),
         _ => {}
