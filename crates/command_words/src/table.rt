@@ -63,13 +63,22 @@ pub enum Argument {
     },
 }
 
-/// The option of all commands.
+/// An option of all commands.
 pub const HINTS: Argument = Argument::Choice {
     id: "hints",
     value_name: "WHEN",
     default: "auto",
     values: &["auto", "always", "never"],
     help: "Hints for people: auto (on a terminal), always, never",
+};
+
+/// An option of all commands.
+pub const COLOR: Argument = Argument::Choice {
+    id: "color",
+    value_name: "WHEN",
+    default: "auto",
+    values: &["auto", "always", "never"],
+    help: "Colours for people: auto (on a terminal), always, never",
 };
 
 /// The commands, in the order of the help.

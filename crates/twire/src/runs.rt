@@ -2,7 +2,7 @@
 
 use crate::advice::{Outcome, advise_on_capture, advise_on_certified, advise_on_text};
 use crate::inputs::{Source, file_of, metadata_of, open, open_both, reading_error};
-use crate::outputs::Sheet;
+use crate::outputs::{Form, Sheet};
 use crate::rehearsals::{Play, bench, bench_alone};
 use command_words::{Asked, Request, When, read_words};
 use hints::{Named, Names};
@@ -17,13 +17,39 @@ use std::sync::Wait;
 use std::thread::Threads;
 use std::time::Clock;
 
-/// Does what the command line asks for, and answers the exit status. Where nothing else is said, hints for people are
-/// given if somebody sees them on a terminal.
+/// What people get beside the exact report: hints, and colours in the report and in hints.
+#[derive(Clone, Copy)]
+pub struct Show {
+    pub hints: bool,
+    pub colors_out: bool,
+    pub colors_err: bool,
+}
+
+impl Show {
+    /// How a report is written that has words for people.
+    pub fn form(self) -> Form {
+        if self.colors_out {
+            Form::Colored
+        } else {
+            Form::Plain
+        }
+    }
+}
+
+/// Which of the two standard streams somebody sees on a terminal.
+#[derive(Clone, Copy)]
+pub struct Terminals {
+    pub out: bool,
+    pub err: bool,
+}
+
+/// Does what the command line asks for, and answers the exit status. Where nothing else is said, hints for people and colours
+/// are given where somebody sees them on a terminal.
 pub fn run<R: Files + Env + Input + Print + Eprint + AllocGlobal + Threads + Wait + Clock + Sync>(
     rt: &R,
-    on_terminal: bool,
+    terminals: Terminals,
 ) -> u8 {
-    match run_words(rt, on_terminal) {
+    match run_words(rt, terminals) {
         Ok(status) => status,
         Err(error) => refused(rt, error),
     }
@@ -38,15 +64,22 @@ pub fn refused<R: Eprint>(rt: &R, error: RunError) -> u8 {
 
 fn run_words<R: Files + Env + Input + Print + Eprint + AllocGlobal + Threads + Wait + Clock + Sync>(
     rt: &R,
-    on_terminal: bool,
+    terminals: Terminals,
 ) -> Result<u8, RunError> {
     let words: Vec<String> = match env::args(rt) {
         Ok(words) => words.collect(rt.alloc())?,
         Err(error) => return no_words(rt, &error),
     };
     match read_words(rt.alloc(), words.as_slice()) {
-        Ok(Asked::Run { request, hints }) => {
-            Ok(do_request(rt, request, are_wanted(hints, on_terminal)))
+        Ok(
+            Asked::Run {
+                request,
+                hints,
+                colors,
+            },
+        ) => {
+            let show = show_of(rt, hints, colors, terminals);
+            Ok(do_request(rt, request, show))
         }
         Ok(Asked::Show(text)) => show(rt, text.as_str()),
         Ok(Asked::Refuse(text)) => Ok(refuse(rt, text.as_str())),
@@ -54,8 +87,25 @@ fn run_words<R: Files + Env + Input + Print + Eprint + AllocGlobal + Threads + W
     }
 }
 
-fn are_wanted(hints: When, on_terminal: bool) -> bool {
-    match hints {
+fn show_of<R: Env + AllocGlobal>(rt: &R, hints: When, colors: When, terminals: Terminals) -> Show {
+    let take_colors = takes_colors(rt);
+    Show {
+        hints: are_wanted(hints, terminals.err),
+        colors_out: are_wanted(colors, terminals.out && take_colors),
+        colors_err: are_wanted(colors, terminals.err && take_colors),
+    }
+}
+
+// Whether the environment says nothing against colours, as NO_COLOR does where it has a text.
+fn takes_colors<R: Env + AllocGlobal>(rt: &R) -> bool {
+    match env::var(rt, "NO_COLOR") {
+        Ok(text) => text.is_empty(),
+        Err(_) => true,
+    }
+}
+
+fn are_wanted(when: When, on_terminal: bool) -> bool {
+    match when {
         When::Auto => on_terminal,
         When::Always => true,
         When::Never => false,
@@ -65,13 +115,13 @@ fn are_wanted(hints: When, on_terminal: bool) -> bool {
 fn do_request<R: Files + Input + Print + Eprint + AllocGlobal + Threads + Wait + Clock + Sync>(
     rt: &R,
     request: Request<'_>,
-    hints: bool,
+    show: Show,
 ) -> u8 {
     match request {
-        Request::Check { plan, workers } => check(rt, the_plan(plan), workers, hints),
-        Request::Certify { plan, output } => certify(rt, the_plan(plan), output, hints),
+        Request::Check { plan, workers } => check(rt, the_plan(plan), workers, show),
+        Request::Certify { plan, output } => certify(rt, the_plan(plan), output, show),
         Request::Verify { plan, cert } => {
-            verify(rt, the_plan(plan), the_certificate(cert), hints)
+            verify(rt, the_plan(plan), the_certificate(cert), show)
         }
         Request::Capture {
             plan,
@@ -83,7 +133,7 @@ fn do_request<R: Files + Input + Print + Eprint + AllocGlobal + Threads + Wait +
             the_plan(plan),
             the_capture(vcd),
             Names { scl, sda },
-            hints,
+            show,
         ),
         Request::Bench {
             plan,
@@ -100,13 +150,13 @@ fn do_request<R: Files + Input + Print + Eprint + AllocGlobal + Threads + Wait +
                 rest,
             };
             match cert {
-                Some(cert) => bench(rt, the_plan(plan), the_certificate(cert), play, hints),
-                None => bench_alone(rt, the_plan(plan), play, hints),
+                Some(cert) => bench(rt, the_plan(plan), the_certificate(cert), play, show),
+                None => bench_alone(rt, the_plan(plan), play, show),
             }
         }
-        Request::Expand { brief, output } => expand(rt, the_brief(brief), output, hints),
-        Request::Print { plan, output } => spell(rt, the_plan(plan), output, hints),
-        Request::Brief { plan, output } => abbreviate(rt, the_plan(plan), output, hints),
+        Request::Expand { brief, output } => expand(rt, the_brief(brief), output, show),
+        Request::Print { plan, output } => spell(rt, the_plan(plan), output, show),
+        Request::Brief { plan, output } => abbreviate(rt, the_plan(plan), output, show),
     }
 }
 
@@ -126,6 +176,14 @@ fn the_capture(path: &str) -> Named<'_> {
     named("VCD", "capture", path)
 }
 
+// A text that a command writes has no words for people.
+fn form_of(output: Option<&str>) -> Form {
+    match output {
+        Some(_) => Form::Held,
+        None => Form::Plain,
+    }
+}
+
 fn named<'a>(argument: &'static str, what: &'static str, path: &'a str) -> Named<'a> {
     Named {
         argument,
@@ -138,12 +196,12 @@ fn check<R: Files + Input + Print + Eprint + AllocGlobal + Threads + Sync>(
     rt: &R,
     plan: Named<'_>,
     workers: u32,
-    hints: bool,
+    show: Show,
 ) -> u8 {
-    let Some(mut reader) = open(rt, plan, hints) else {
+    let Some(mut reader) = open(rt, plan, show.hints) else {
         return 2;
     };
-    let mut out = Watched::new(Sheet::new(rt.alloc(), io::writer(rt), false));
+    let mut out = Watched::new(Sheet::new(rt.alloc(), io::writer(rt), show.form()));
     let ended = run_check(
         rt,
         rt.alloc(),
@@ -152,38 +210,38 @@ fn check<R: Files + Input + Print + Eprint + AllocGlobal + Threads + Sync>(
         workers,
         &report::NoGate,
     );
-    finish(rt, plan, reader, out.into_inner(), None, ended, hints)
+    finish(rt, plan, reader, out.into_inner(), None, ended, show)
 }
 
 fn certify<R: Files + Input + Print + Eprint + AllocGlobal>(
     rt: &R,
     plan: Named<'_>,
     output: Option<&str>,
-    hints: bool,
+    show: Show,
 ) -> u8 {
-    let Some(mut reader) = open(rt, plan, hints) else {
+    let Some(mut reader) = open(rt, plan, show.hints) else {
         return 2;
     };
-    let mut out = Watched::new(Sheet::new(rt.alloc(), io::writer(rt), output.is_some()));
+    let mut out = Watched::new(Sheet::new(rt.alloc(), io::writer(rt), form_of(output)));
     let ended = run_certify(rt.alloc(), &mut reader, &mut out);
-    finish(rt, plan, reader, out.into_inner(), output, ended, hints)
+    finish(rt, plan, reader, out.into_inner(), output, ended, show)
 }
 
 fn verify<R: Files + Input + Print + Eprint + AllocGlobal>(
     rt: &R,
     plan: Named<'_>,
     cert: Named<'_>,
-    hints: bool,
+    show: Show,
 ) -> u8 {
-    let Some((mut reader, mut second)) = open_both(rt, plan, cert, hints) else {
+    let Some((mut reader, mut second)) = open_both(rt, plan, cert, show.hints) else {
         return 2;
     };
-    let mut out = Watched::new(Sheet::new(rt.alloc(), io::writer(rt), false));
+    let mut out = Watched::new(Sheet::new(rt.alloc(), io::writer(rt), show.form()));
     let ended = run_verify(rt.alloc(), &mut reader, &mut second, &mut out);
     let status = status_of(rt, ended);
-    if hints {
+    if show.hints {
         let (read, error) = last_read(plan, &mut reader, cert, &mut second);
-        let outcome = outcome(read, error, out.into_inner(), None, ended);
+        let outcome = outcome(read, error, out.into_inner(), None, ended, show);
         advise_on_certified(rt, file_of(reader), file_of(second), "", outcome);
     }
     status
@@ -194,18 +252,18 @@ fn capture<R: Files + Input + Print + Eprint + AllocGlobal + Threads + Sync>(
     plan: Named<'_>,
     vcd: Named<'_>,
     names: Names<'_>,
-    hints: bool,
+    show: Show,
 ) -> u8 {
-    let Some((mut reader, mut second)) = open_both(rt, plan, vcd, hints) else {
+    let Some((mut reader, mut second)) = open_both(rt, plan, vcd, show.hints) else {
         return 2;
     };
-    let mut out = Watched::new(Sheet::new(rt.alloc(), io::writer(rt), false));
+    let mut out = Watched::new(Sheet::new(rt.alloc(), io::writer(rt), show.form()));
     let Names { scl, sda } = names;
     let ended = run_capture(rt, rt.alloc(), &mut reader, &mut second, &mut out, scl, sda);
     let status = status_of(rt, ended);
-    if hints {
+    if show.hints {
         let (read, error) = last_read(plan, &mut reader, vcd, &mut second);
-        let outcome = outcome(read, error, out.into_inner(), None, ended);
+        let outcome = outcome(read, error, out.into_inner(), None, ended, show);
         advise_on_capture(rt, file_of(reader), file_of(second), names, outcome);
     }
     status
@@ -215,42 +273,42 @@ fn spell<R: Files + Input + Print + Eprint + AllocGlobal>(
     rt: &R,
     plan: Named<'_>,
     output: Option<&str>,
-    hints: bool,
+    show: Show,
 ) -> u8 {
-    let Some(mut reader) = open(rt, plan, hints) else {
+    let Some(mut reader) = open(rt, plan, show.hints) else {
         return 2;
     };
-    let mut out = Watched::new(Sheet::new(rt.alloc(), io::writer(rt), output.is_some()));
+    let mut out = Watched::new(Sheet::new(rt.alloc(), io::writer(rt), form_of(output)));
     let ended = run_print(rt.alloc(), &mut reader, &mut out);
-    finish(rt, plan, reader, out.into_inner(), output, ended, hints)
+    finish(rt, plan, reader, out.into_inner(), output, ended, show)
 }
 
 fn abbreviate<R: Files + Input + Print + Eprint + AllocGlobal>(
     rt: &R,
     plan: Named<'_>,
     output: Option<&str>,
-    hints: bool,
+    show: Show,
 ) -> u8 {
-    let Some(mut reader) = open(rt, plan, hints) else {
+    let Some(mut reader) = open(rt, plan, show.hints) else {
         return 2;
     };
-    let mut out = Watched::new(Sheet::new(rt.alloc(), io::writer(rt), output.is_some()));
+    let mut out = Watched::new(Sheet::new(rt.alloc(), io::writer(rt), form_of(output)));
     let ended = run_brief(rt.alloc(), &mut reader, &mut out);
-    finish(rt, plan, reader, out.into_inner(), output, ended, hints)
+    finish(rt, plan, reader, out.into_inner(), output, ended, show)
 }
 
 fn expand<R: Files + Input + Print + Eprint + AllocGlobal>(
     rt: &R,
     brief: Named<'_>,
     output: Option<&str>,
-    hints: bool,
+    show: Show,
 ) -> u8 {
-    let Some(mut reader) = open(rt, brief, hints) else {
+    let Some(mut reader) = open(rt, brief, show.hints) else {
         return 2;
     };
-    let mut out = Watched::new(Sheet::new(rt.alloc(), io::writer(rt), output.is_some()));
+    let mut out = Watched::new(Sheet::new(rt.alloc(), io::writer(rt), form_of(output)));
     let ended = run_expand(rt.alloc(), &mut reader, &mut out);
-    finish(rt, brief, reader, out.into_inner(), output, ended, hints)
+    finish(rt, brief, reader, out.into_inner(), output, ended, show)
 }
 
 // Writes the file of a run that is to write one, and answers the status of a run over one text, with the line of a
@@ -262,14 +320,14 @@ fn finish<R: Files + Input + Eprint + AllocGlobal, W: Write + Drop>(
     mut out: Sheet<W>,
     output: Option<&str>,
     ended: Result<Status, RunError>,
-    hints: bool,
+    show: Show,
 ) -> u8 {
     let error = reading_error(&mut source);
     let file = file_of(source);
     let ended = out.settle(rt, output, metadata_of(rt, &file), ended);
     let status = status_of(rt, ended);
-    if hints {
-        let outcome = outcome(read, error, out, output, ended);
+    if show.hints {
+        let outcome = outcome(read, error, out, output, ended, show);
         advise_on_text(rt, file, outcome);
     }
     status
@@ -282,6 +340,7 @@ pub fn outcome<'a, W: Drop>(
     out: Sheet<W>,
     output: Option<&'a str>,
     ended: Result<Status, RunError>,
+    show: Show,
 ) -> Outcome<'a> {
     let (report, unwritten) = out.into_parts();
     Outcome {
@@ -290,6 +349,7 @@ pub fn outcome<'a, W: Drop>(
         error: error.or(unwritten),
         output,
         report,
+        is_colored: show.colors_err,
     }
 }
 
