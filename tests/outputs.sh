@@ -196,6 +196,52 @@ judge "the path of standard output"
 has out "$cert"
 judge "the path of standard output, which is a pipe"
 
+# Colours are in no file, and nowhere where nobody sees a terminal. Where they are asked for, the words alone have them.
+red=$'\e[31m'
+green=$'\e[32m'
+plain=$'\e[0m'
+# shown NAME TEXT ARG..: what a run writes on standard output, and its hints behind it.
+shown() {
+    "$twire" "${@:3}" >out 2>&1
+    has out "$2"
+    judge "$1"
+}
+shown "a safe plan in colours" "${green}safe${plain}: 1 pairs" check plan --color always
+shown "an unsafe plan in colours" "pair 0 a/m b/n: stop against data after 10010000l
+${red}unsafe${plain}: 1 of 1 pairs" check unsafe --color always
+echo "$cert" >right.cert
+shown "a right certificate in colours" "accepted ${green}safe${plain}" verify plan right.cert --color always
+echo "$unsafe_cert" >fault.cert
+shown "a right fault in colours" "accepted ${red}unsafe${plain}" verify unsafe fault.cert --color always
+"$tests/../tools/dump" 100100100 >other.vcd
+shown "a transaction that nobody explains in colours" "5-160 ${red}unexplained${plain}
+1 transactions, 1 unexplained" capture plan other.vcd --color always
+shown "marks in a colour" "refused P3 line 1
+hint: line 1 of the plan:
+hint:   plan 1 ;
+hint:          ${red}^${plain}
+hint: expected here: 'message', 'controller' or 'interrupt'" check refused --color always --hints always
+shown "no colours in a certificate" "$cert" certify plan --color always
+NO_COLOR=1 shown "colours that are asked for, where the environment has none" "${green}safe${plain}: 1 pairs" check plan --color always
+shown "no word on colours" "safe: 1 pairs" check plan
+shown "colours where somebody sees a terminal" "safe: 1 pairs" check plan --color auto
+shown "no colours" "safe: 1 pairs" check plan --color never
+ran 0 "" certify plan -o colored.cert --color always
+has colored.cert "$cert"
+judge "no colours in a file"
+
+# On a terminal, whose lines end in CR LF.
+if type -P script >/dev/null; then
+    script -qec "'$twire' check plan" /dev/null </dev/null | tr -d '\r' >out
+    has out "${green}safe${plain}: 1 pairs"
+    judge "colours on a terminal"
+    NO_COLOR=1 script -qec "'$twire' check plan" /dev/null </dev/null | tr -d '\r' >out
+    has out "safe: 1 pairs"
+    judge "no colours on a terminal, where the environment has none"
+else
+    echo "left out: colours on a terminal (no command 'script')"
+fi
+
 # fault NAME ARG..: a command line that is refused, with a message that is not compared.
 fault() {
     local name=$1

@@ -52,7 +52,7 @@ pub fn bench<R: Files + HasInput + Print + Eprint + AllocGlobal + Threads + Wait
 /// Rehearses a plan by the certificate that is made of it here.
 pub fn bench_alone<
     R: Files + HasInput + Print + Eprint + AllocGlobal + Threads + Wait + Clock + Sync,
->(rt: &R, plan: Named<'_>, play: Play<'_>, hints: bool) -> u8 {
+>(rt: &R, plan: Named<'_>, play: Play<'_>, show: Show) -> u8 {
     let Some(mut reader) = open(rt, plan, show.hints) else {
         return 2;
     };
