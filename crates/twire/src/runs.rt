@@ -19,13 +19,13 @@ use std::time::Clock;
 
 /// What people get beside the exact report: hints, and colours in the report and in hints.
 #[derive(Clone, Copy)]
-pub struct Show {
+pub struct Extras {
     pub hints: bool,
     pub colors_out: bool,
     pub colors_err: bool,
 }
 
-impl Show {
+impl Extras {
     /// How a report is written that has words for people.
     pub fn form(self) -> Form {
         if self.colors_out {
@@ -78,8 +78,8 @@ fn run_words<R: Files + Env + Input + Print + Eprint + AllocGlobal + Threads + W
                 colors,
             },
         ) => {
-            let show = show_of(rt, hints, colors, terminals);
-            Ok(do_request(rt, request, show))
+            let extras = extras_of(rt, hints, colors, terminals);
+            Ok(do_request(rt, request, extras))
         }
         Ok(Asked::Show(text)) => show(rt, text.as_str()),
         Ok(Asked::Refuse(text)) => Ok(refuse(rt, text.as_str())),
@@ -87,9 +87,14 @@ fn run_words<R: Files + Env + Input + Print + Eprint + AllocGlobal + Threads + W
     }
 }
 
-fn show_of<R: Env + AllocGlobal>(rt: &R, hints: When, colors: When, terminals: Terminals) -> Show {
+fn extras_of<R: Env + AllocGlobal>(
+    rt: &R,
+    hints: When,
+    colors: When,
+    terminals: Terminals,
+) -> Extras {
     let take_colors = takes_colors(rt);
-    Show {
+    Extras {
         hints: are_wanted(hints, terminals.err),
         colors_out: are_wanted(colors, terminals.out && take_colors),
         colors_err: are_wanted(colors, terminals.err && take_colors),
@@ -115,13 +120,13 @@ fn are_wanted(when: When, on_terminal: bool) -> bool {
 fn do_request<R: Files + Input + Print + Eprint + AllocGlobal + Threads + Wait + Clock + Sync>(
     rt: &R,
     request: Request<'_>,
-    show: Show,
+    extras: Extras,
 ) -> u8 {
     match request {
-        Request::Check { plan, workers } => check(rt, the_plan(plan), workers, show),
-        Request::Certify { plan, output } => certify(rt, the_plan(plan), output, show),
+        Request::Check { plan, workers } => check(rt, the_plan(plan), workers, extras),
+        Request::Certify { plan, output } => certify(rt, the_plan(plan), output, extras),
         Request::Verify { plan, cert } => {
-            verify(rt, the_plan(plan), the_certificate(cert), show)
+            verify(rt, the_plan(plan), the_certificate(cert), extras)
         }
         Request::Capture {
             plan,
@@ -133,7 +138,7 @@ fn do_request<R: Files + Input + Print + Eprint + AllocGlobal + Threads + Wait +
             the_plan(plan),
             the_capture(vcd),
             Names { scl, sda },
-            show,
+            extras,
         ),
         Request::Bench {
             plan,
@@ -150,13 +155,13 @@ fn do_request<R: Files + Input + Print + Eprint + AllocGlobal + Threads + Wait +
                 rest,
             };
             match cert {
-                Some(cert) => bench(rt, the_plan(plan), the_certificate(cert), play, show),
-                None => bench_alone(rt, the_plan(plan), play, show),
+                Some(cert) => bench(rt, the_plan(plan), the_certificate(cert), play, extras),
+                None => bench_alone(rt, the_plan(plan), play, extras),
             }
         }
-        Request::Expand { brief, output } => expand(rt, the_brief(brief), output, show),
-        Request::Print { plan, output } => spell(rt, the_plan(plan), output, show),
-        Request::Brief { plan, output } => abbreviate(rt, the_plan(plan), output, show),
+        Request::Expand { brief, output } => expand(rt, the_brief(brief), output, extras),
+        Request::Print { plan, output } => spell(rt, the_plan(plan), output, extras),
+        Request::Brief { plan, output } => abbreviate(rt, the_plan(plan), output, extras),
     }
 }
 
@@ -196,12 +201,12 @@ fn check<R: Files + Input + Print + Eprint + AllocGlobal + Threads + Sync>(
     rt: &R,
     plan: Named<'_>,
     workers: u32,
-    show: Show,
+    extras: Extras,
 ) -> u8 {
-    let Some(mut reader) = open(rt, plan, show.hints) else {
+    let Some(mut reader) = open(rt, plan, extras.hints) else {
         return 2;
     };
-    let mut out = Watched::new(Sheet::new(rt.alloc(), io::writer(rt), show.form()));
+    let mut out = Watched::new(Sheet::new(rt.alloc(), io::writer(rt), extras.form()));
     let ended = run_check(
         rt,
         rt.alloc(),
@@ -210,38 +215,38 @@ fn check<R: Files + Input + Print + Eprint + AllocGlobal + Threads + Sync>(
         workers,
         &report::NoGate,
     );
-    finish(rt, plan, reader, out.into_inner(), None, ended, show)
+    finish(rt, plan, reader, out.into_inner(), None, ended, extras)
 }
 
 fn certify<R: Files + Input + Print + Eprint + AllocGlobal>(
     rt: &R,
     plan: Named<'_>,
     output: Option<&str>,
-    show: Show,
+    extras: Extras,
 ) -> u8 {
-    let Some(mut reader) = open(rt, plan, show.hints) else {
+    let Some(mut reader) = open(rt, plan, extras.hints) else {
         return 2;
     };
     let mut out = Watched::new(Sheet::new(rt.alloc(), io::writer(rt), form_of(output)));
     let ended = run_certify(rt.alloc(), &mut reader, &mut out);
-    finish(rt, plan, reader, out.into_inner(), output, ended, show)
+    finish(rt, plan, reader, out.into_inner(), output, ended, extras)
 }
 
 fn verify<R: Files + Input + Print + Eprint + AllocGlobal>(
     rt: &R,
     plan: Named<'_>,
     cert: Named<'_>,
-    show: Show,
+    extras: Extras,
 ) -> u8 {
-    let Some((mut reader, mut second)) = open_both(rt, plan, cert, show.hints) else {
+    let Some((mut reader, mut second)) = open_both(rt, plan, cert, extras.hints) else {
         return 2;
     };
-    let mut out = Watched::new(Sheet::new(rt.alloc(), io::writer(rt), show.form()));
+    let mut out = Watched::new(Sheet::new(rt.alloc(), io::writer(rt), extras.form()));
     let ended = run_verify(rt.alloc(), &mut reader, &mut second, &mut out);
     let status = status_of(rt, ended);
-    if show.hints {
+    if extras.hints {
         let (read, error) = last_read(plan, &mut reader, cert, &mut second);
-        let outcome = outcome(read, error, out.into_inner(), None, ended, show);
+        let outcome = outcome(read, error, out.into_inner(), None, ended, extras);
         advise_on_certified(rt, file_of(reader), file_of(second), "", outcome);
     }
     status
@@ -252,18 +257,18 @@ fn capture<R: Files + Input + Print + Eprint + AllocGlobal + Threads + Sync>(
     plan: Named<'_>,
     vcd: Named<'_>,
     names: Names<'_>,
-    show: Show,
+    extras: Extras,
 ) -> u8 {
-    let Some((mut reader, mut second)) = open_both(rt, plan, vcd, show.hints) else {
+    let Some((mut reader, mut second)) = open_both(rt, plan, vcd, extras.hints) else {
         return 2;
     };
-    let mut out = Watched::new(Sheet::new(rt.alloc(), io::writer(rt), show.form()));
+    let mut out = Watched::new(Sheet::new(rt.alloc(), io::writer(rt), extras.form()));
     let Names { scl, sda } = names;
     let ended = run_capture(rt, rt.alloc(), &mut reader, &mut second, &mut out, scl, sda);
     let status = status_of(rt, ended);
-    if show.hints {
+    if extras.hints {
         let (read, error) = last_read(plan, &mut reader, vcd, &mut second);
-        let outcome = outcome(read, error, out.into_inner(), None, ended, show);
+        let outcome = outcome(read, error, out.into_inner(), None, ended, extras);
         advise_on_capture(rt, file_of(reader), file_of(second), names, outcome);
     }
     status
@@ -273,42 +278,42 @@ fn spell<R: Files + Input + Print + Eprint + AllocGlobal>(
     rt: &R,
     plan: Named<'_>,
     output: Option<&str>,
-    show: Show,
+    extras: Extras,
 ) -> u8 {
-    let Some(mut reader) = open(rt, plan, show.hints) else {
+    let Some(mut reader) = open(rt, plan, extras.hints) else {
         return 2;
     };
     let mut out = Watched::new(Sheet::new(rt.alloc(), io::writer(rt), form_of(output)));
     let ended = run_print(rt.alloc(), &mut reader, &mut out);
-    finish(rt, plan, reader, out.into_inner(), output, ended, show)
+    finish(rt, plan, reader, out.into_inner(), output, ended, extras)
 }
 
 fn abbreviate<R: Files + Input + Print + Eprint + AllocGlobal>(
     rt: &R,
     plan: Named<'_>,
     output: Option<&str>,
-    show: Show,
+    extras: Extras,
 ) -> u8 {
-    let Some(mut reader) = open(rt, plan, show.hints) else {
+    let Some(mut reader) = open(rt, plan, extras.hints) else {
         return 2;
     };
     let mut out = Watched::new(Sheet::new(rt.alloc(), io::writer(rt), form_of(output)));
     let ended = run_brief(rt.alloc(), &mut reader, &mut out);
-    finish(rt, plan, reader, out.into_inner(), output, ended, show)
+    finish(rt, plan, reader, out.into_inner(), output, ended, extras)
 }
 
 fn expand<R: Files + Input + Print + Eprint + AllocGlobal>(
     rt: &R,
     brief: Named<'_>,
     output: Option<&str>,
-    show: Show,
+    extras: Extras,
 ) -> u8 {
-    let Some(mut reader) = open(rt, brief, show.hints) else {
+    let Some(mut reader) = open(rt, brief, extras.hints) else {
         return 2;
     };
     let mut out = Watched::new(Sheet::new(rt.alloc(), io::writer(rt), form_of(output)));
     let ended = run_expand(rt.alloc(), &mut reader, &mut out);
-    finish(rt, brief, reader, out.into_inner(), output, ended, show)
+    finish(rt, brief, reader, out.into_inner(), output, ended, extras)
 }
 
 // Writes the file of a run that is to write one, and answers the status of a run over one text, with the line of a
@@ -320,14 +325,14 @@ fn finish<R: Files + Input + Eprint + AllocGlobal, W: Write + Drop>(
     mut out: Sheet<W>,
     output: Option<&str>,
     ended: Result<Status, RunError>,
-    show: Show,
+    extras: Extras,
 ) -> u8 {
     let error = reading_error(&mut source);
     let file = file_of(source);
     let ended = out.settle(rt, output, metadata_of(rt, &file), ended);
     let status = status_of(rt, ended);
-    if show.hints {
-        let outcome = outcome(read, error, out, output, ended, show);
+    if extras.hints {
+        let outcome = outcome(read, error, out, output, ended, extras);
         advise_on_text(rt, file, outcome);
     }
     status
@@ -340,7 +345,7 @@ pub fn outcome<'a, W: Drop>(
     out: Sheet<W>,
     output: Option<&'a str>,
     ended: Result<Status, RunError>,
-    show: Show,
+    extras: Extras,
 ) -> Outcome<'a> {
     let (report, unwritten) = out.into_parts();
     Outcome {
@@ -349,7 +354,7 @@ pub fn outcome<'a, W: Drop>(
         error: error.or(unwritten),
         output,
         report,
-        is_colored: show.colors_err,
+        is_colored: extras.colors_err,
     }
 }
 
