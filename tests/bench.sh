@@ -140,7 +140,55 @@ won a/m" "" interrupt.plan interrupt.cert "a/m,!t"
 expect "an interrupt alone" 0 "wire 10010001c
 won !t" "" interrupt.plan interrupt.cert "!t"
 
+# What targets answer past the end of the answers.
+expect "the rest of the answers" 0 "wire 10010000l11001111ls
+won b/n c/o" "" three.plan three.cert a/m,b/n,c/o --fill 1 --rest 0
+expect "the rest of the answers where it is said to be 1" 0 "wire 10010000hs
+won a/m b/n c/o" "" three.plan three.cert a/m,b/n,c/o --rest 1
+expect "answers, and then others" 0 "wire 10010000hs
+won a/m b/n c/o" "" three.plan three.cert a/m,b/n,c/o --answers 000000001 --rest 0
+expect "answers that end before the second byte" 0 "wire 10010000l11001111hs
+won b/n c/o" "" three.plan three.cert a/m,b/n,c/o --fill 1 --answers 000000000 --rest 1
+
+# A certificate that is made here.
+expect "no certificate" 0 "wire 10010000l11001111ls
+won b/n c/o" "" three.plan a/m,b/n,c/o --certify --fill 1 --answers $acks
+expect "no certificate, the option first" 0 "wire 10010000hs
+won a/m" "" --certify three.plan a/m
+expect "no certificate, the plan from standard input" 0 "wire 10010000hs
+won a/m" "" - a/m --certify <three.plan
+write_plan unsafe.plan "plan 1" "message m write 1001000 stop else stop ;" \
+    "message n write 1001000 00000000 stop else stop else stop ;" "controller a m ;" "controller b n ;"
+expect "no certificate of an unsafe plan" 1 "accepted unsafe" "" unsafe.plan a/m,b/n --certify
+expect "no certificate of a refused plan" 2 "" "refused P2 line 1" three.cert a/m --certify
+expect "no certificate of a missing plan" 2 "" "refused read" missing.plan a/m --certify
+expect "no certificate, and an unknown starter" 2 "" "refused B2" three.plan q --certify
+
+# Hints on starters.
+hint() {
+    printf 'hint: %s\n' "$@"
+}
+labels=("  !t" "  a/m")
+expect "hints on no starter" 2 "" "refused B1
+$(hint "no starter is named: give labels, joined by commas" "labels of the plan:" "${labels[@]}")" \
+    interrupt.plan interrupt.cert "" --hints always
+expect "hints on an unknown starter" 2 "" "refused B2
+$(hint "no participant of the plan has the label 'b/o'" "labels of the plan, the nearest first:" \
+    "  b/n" "  c/o" "  a/m")" three.plan three.cert a/m,b/o --hints always
+expect "hints on a starter that stands there twice" 2 "" "refused B3
+$(hint "'a/m' stands there twice" "a controller starts one message at a time")" three.plan a/m,b/n,a/m --certify --hints always
+write_plan never.plan "plan 2" "${three[@]}" "never c a ;"
+expect "hints on starters that never start together" 2 "" "refused B8
+$(hint "the plan has 'never c a ;': these two never start together")" never.plan a/m,b/n,c/o --certify --hints always
+expect "hints on a certificate of another plan" 2 "wrong C2" \
+    "$(hint "a certificate speaks of one plan alone: where the plan was changed, have" \
+        "it written again by 'twire certify PLAN -o CERT'")" never.plan three.cert a/m --hints always
+
 # Command lines.
+fault "a rest that is no bit" three.plan three.cert a/m --rest l
+fault "a certificate beside --certify" three.plan three.cert a/m --certify
+fault "no starters beside --certify" three.plan --certify
+fault "standard input twice" - - a/m
 fault "a fill that is no bit" three.plan three.cert a/m --fill 2
 fault "a fill of two bits" three.plan three.cert a/m --fill 01
 fault "an empty fill" three.plan three.cert a/m --fill ""
@@ -149,7 +197,7 @@ fault "answers with a space" three.plan three.cert a/m --answers "0 0"
 fault "a fault of the command line before a missing file" missing.plan three.cert a/m --answers l
 fault "fill twice" three.plan three.cert a/m --fill 0 --fill 0
 fault "no starters" three.plan three.cert
-fault "no certificate" three.plan
+fault "the plan alone" three.plan
 fault "no plan"
 fault "a word too many" three.plan three.cert a/m b/n
 
@@ -166,6 +214,11 @@ fi
 examples=$tests/../examples
 expect "the example" 0 "wire 10010000l00000001l00100000ls
 won guard/write_alarm" "" "$examples/two_writers.plan" "$examples/two_writers.cert" main/write_limit,guard/write_alarm --answers 000000000000000000000000000
+
+# What the help shows is what the program writes.
+read -ra words < <(sed -n '/^  twire bench /{N;s/\n//;s/^  twire bench //;p}' "$tests/expected/bench_help.txt")
+expect "the example of the help" 0 "$(sed -n 's/^  \(wire [^ ]*\) .*/\1/p; s/^  \(won [^ ]*\) .*/\1/p' "$tests/expected/bench_help.txt")" "" \
+    "$tests/../${words[0]}" "${words[@]:1}"
 
 # As many starters as there may be, and the longest run. 32 controllers send 256 headers, all acknowledged; 32 interrupts lose
 # to them in bit 1.

@@ -367,7 +367,9 @@ want 2 "" "refused P3 line 2
 hint: line 2 of the brief:
 hint:   message m write 0x51 0x5 any ;
 hint:                        ^^^
-hint: expected here: 'write', 'read', 'else', ';', a name (a letter, then letters, digits and '_', 32 at most), 'any' or a data byte ('0x' and two digits, or '0b' and eight of '0', '1' and 'x')"
+hint: expected here: 'write', 'read', 'else', ';', a name (a letter, then
+hint: letters, digits and '_', 32 at most), 'any' or a data byte ('0x' and two
+hint: digits, or '0b' and eight of '0', '1' and 'x')"
 run "hints on a brief" expand here.brief --hints always
 want 2 "" "refused P3 line 2
 hint: something stands here that cannot stand in its place"
@@ -378,7 +380,8 @@ want 2 "" "refused P2 line 1
 hint: line 1 of the plan:
 hint:   brief 1
 hint:   ^^^^^
-hint: a plan begins with 'plan 1', or with 'plan 2' where it has ranges of counts or 'never'
+hint: a plan begins with 'plan 1', or with 'plan 2' where it has ranges of
+hint: counts or 'never'
 hint: this is a brief: 'twire expand' writes the plan that it means"
 run "hints on a brief in the place of a plan" check board.brief --hints always
 want 2 "" "refused P2 line 1
@@ -393,7 +396,7 @@ want 2 "" "refused brief name
 hint: the plan has the name 'byte', which is a word of briefs"
 run "hints on a plan that has no brief" brief named.plan --hints always
 want 2 "" "refused read
-hint: the brief \"missing.brief\" cannot be opened:
+hint: BRIEF, the brief \"missing.brief\", cannot be opened:
 hint: No such file or directory (os error 2)"
 run "hints on a missing brief" expand missing.brief --hints always
 

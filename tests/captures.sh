@@ -113,7 +113,8 @@ $(hint "no signal of one bit has the name 'sda'" "these signals have one bit, th
     plan named --scl clock_line --hints always
 expect "hints on a token" 2 "" "refused V2 line 26
 $(hint "line 26 of the capture:" "  U!" "  ^^" \
-    "this is one of VHDL's nine states, and only '0', '1', 'x' and 'z' are read: have the dump written with four states (GHDL: --vcd-4states)")" \
+    "this is one of VHDL's nine states, and only '0', '1', 'x' and 'z' are" \
+    "read: have the dump written with four states (GHDL: --vcd-4states)")" \
     "$example" nine_states --hints always
 expect "hints on a time" 2 "" "refused V3 line 8
 $(hint "line 8 of the capture:" "  #5 #4" "     ^^" "the last time was 5, and times never go back")" plan back --hints always
@@ -129,8 +130,18 @@ expect "hints on a report without a transaction" 0 "$silent" \
         "the names of the two lines are given with --scl NAME and --sda NAME")" plan quiet --hints always
 expect "no hints on a report with a transaction" 0 $'5-160 a/m\n1 transactions, 0 unexplained' "" plan acknowledged --hints always
 expect "no hints on one that goes on" 0 $'5- unfinished\n0 transactions, 0 unexplained' "" plan cut --hints always
-expect "hints on a missing file" 2 "" "refused read"$'\n'"$(hint "the capture \"missing\" cannot be opened:" \
+expect "hints on a missing file" 2 "" "refused read"$'\n'"$(hint "VCD, the capture \"missing\", cannot be opened:" \
     "No such file or directory (os error 2)")" plan missing --hints always
+
+expect "hints on a plan in the place of a capture" 2 "" "refused V2 line 1
+$(hint "line 1 of the capture:" "  plan 1" "  ^^^^" \
+    "before '\$enddefinitions \$end' only commands can stand, as '\$var wire 1 !" "scl \$end'" \
+    "this is a plan: commands that read a plan take it as it is")" plan plan --hints always
+zip_head=$'PK\003\004'
+printf '%s' "$zip_head" >session.sr
+expect "hints on a session of sigrok" 2 "" "refused V2 line 1
+$(hint "this is a ZIP archive, as a session of sigrok is (.sr): for a dump of one," \
+    "'sigrok-cli -i FILE -O vcd -o OUT'")" plan session.sr --hints always
 
 for when in never auto; do
     expect "hints $when: a token" 2 "" "refused V2 line 26" "$example" nine_states --hints "$when"

@@ -359,28 +359,71 @@ want 0 "safe: 1 pairs" ""
 run "no hints on a safe plan" check safe.plan --hints always
 want 1 "$unsafe_report" ""
 run "no hints on an unsafe plan" check unsafe.plan --hints always
-want 2 "wrong C5 pair 0" ""
-run "no hints on a wrong certificate" verify unsafe.plan safe.cert --hints always
+want 2 "wrong C5 pair 0" "hint: a certificate speaks of one plan alone: where the plan was changed, have
+hint: it written again by 'twire certify PLAN -o CERT'"
+run "hints on a certificate of another plan" verify unsafe.plan safe.cert --hints always
+want 2 "wrong C1 line 3" "hint: line 3 of the certificate:
+hint:   B B . .
+hint:          ^
+hint: the line ends before its proof does"
+printf '%s\n' "cert 1" "pairs 1" "B B . ." >short.cert
+run "hints on a proof that is too short" verify safe.plan short.cert --hints always
+want 2 "wrong C1 line 1" "hint: the lines of this certificate end in CR LF, and are to end in LF alone
+hint: git leaves certificates as they are by this line in .gitattributes:
+hint:   *.cert -text"
+sed 's/$/\r/' safe.cert >returns.cert
+run "hints on a certificate with CR LF" verify safe.plan returns.cert --hints always
+want 2 "wrong C1 line 1" "hint: line 1 of the certificate is no line of a certificate in this place"
+run "hints on a certificate from standard input" verify safe.plan - --hints always <returns.cert
+want 2 "" "refused P2 line 1
+hint: line 1 of the plan:
+hint:   cert 1
+hint:   ^^^^
+hint: a plan begins with 'plan 1', or with 'plan 2' where it has ranges of
+hint: counts or 'never'
+hint: this is a certificate: 'twire verify PLAN CERT' takes it after its plan"
+run "hints on a certificate in the place of a plan" check safe.cert --hints always
+gzip -c safe.plan >safe.plan.gz
+want 2 "" "refused P3 line 1
+hint: this file is compressed by gzip: unpack it first with 'gunzip'"
+run "hints on a compressed plan" check safe.plan.gz --hints always
+want 2 "wrong C1 line 1" "hint: this file is compressed by gzip: unpack it first with 'gunzip'"
+run "hints on a compressed file in the place of a certificate" verify safe.plan safe.plan.gz --hints always
+
+# What was not looked at is told of a safe plan.
+write_plan spare.plan "plan 2" "message m $header ;" "message n $header ;" "controller a m ;" "controller b m ;" "never a b ;"
+left_out="hint: messages that no controller lists, which were not looked at: 1: n
+hint: 'never a b ;' leaves out pairs: 1
+hint: the plan has no two participants that may start together: no pair was
+hint: looked at"
+want 0 "safe: 0 pairs" "$left_out"
+run "hints on a safe plan of which nothing was looked at" check spare.plan --hints always
+printf 'cert 1\npairs 0\n' >spare.cert
+want 0 "accepted safe" "$left_out"
+run "hints on a certificate of such a plan" verify spare.plan spare.cert --hints always
+want 0 "safe: 0 pairs" ""
+run "no word on hints on a safe plan" check spare.plan
+
 none="No such file or directory (os error 2)"
 want 2 "" "refused read
-hint: the plan \"missing.plan\" cannot be opened:
+hint: PLAN, the plan \"missing.plan\", cannot be opened:
 hint: $none"
 run "hints on a missing plan" check missing.plan --hints always
 run "hints on a missing plan with a certificate" verify missing.plan safe.cert --hints always
 want 2 "" "refused read
-hint: the certificate \"missing.cert\" cannot be opened:
+hint: CERT, the certificate \"missing.cert\", cannot be opened:
 hint: $none"
 run "hints on a missing certificate" verify safe.plan missing.cert --hints always
 want 2 "" "refused read
-hint: the capture \"a\\nb.vcd\" cannot be opened:
+hint: VCD, the capture \"a\\nb.vcd\", cannot be opened:
 hint: $none"
 run "hints on a missing capture whose name has a line feed" capture safe.plan $'a\nb.vcd' --hints always
 want 2 "" "refused read
-hint: the certificate \"directory\" was opened, and cannot be read to its end
-hint: is it a directory?"
+hint: CERT, the certificate \"directory\", cannot be read to its end:
+hint: Is a directory (os error 21)"
 run "hints on a directory in the place of a certificate" verify safe.plan directory --hints always
 want 2 "" "refused read
-hint: the plan is to come from standard input, which is closed"
+hint: PLAN, the plan, is to come from standard input, which is closed"
 run "hints on closed standard input" check - --hints always <&-
 want 2 "" "refused workers
 hint: '--workers' takes 1 to 8"
@@ -390,7 +433,8 @@ if [[ -c /dev/full ]]; then
     echo "$?" >status
     : >out
     want 2 "" "refused write
-hint: standard output is closed or full: the report is not whole"
+hint: standard output did not take the whole report:
+hint: No space left on device (os error 28)"
     compare "hints on a full device"
 fi
 

@@ -8,8 +8,12 @@ use std::alloc::{AllocError, Global};
 /// What a command line comes to.
 #[derive(Debug, Drop)]
 pub enum Asked<'a> {
-    /// A run, and whether hints are wanted with it.
-    Run { request: Request<'a>, hints: When },
+    /// A run, and whether hints and colours are wanted with it.
+    Run {
+        request: Request<'a>,
+        hints: When,
+        colors: When,
+    },
     /// The help or the version, for standard output.
     Show(String),
     /// Why the line does not parse, for standard error.
@@ -73,10 +77,10 @@ pub enum Request<'a> {
     },
 }
 
-/// Whether hints for people are wanted on standard error.
+/// When something for people is wanted.
 #[derive(Clone, Copy, Debug, PartialEq, Eq)]
 pub enum When {
-    /// Where standard error is a terminal.
+    /// Where somebody sees it on a terminal.
     Auto,
     Always,
     Never,
@@ -85,8 +89,12 @@ pub enum When {
 /// What the words of a command line ask for. The first one is the program's name.
 pub fn read_words<'a>(alloc: Global, words: &'a [String]) -> Result<Asked<'a>, AllocError> {
     match parse(alloc, words) {
-        Ok(Some((request, hints))) => match fault_of(request) {
-            None => Ok(Asked::Run { request, hints }),
+        Ok(Some((request, hints, colors))) => match fault_of(request) {
+            None => Ok(Asked::Run {
+                request,
+                hints,
+                colors,
+            }),
             Some(fault) => refusal(alloc, fault),
         },
         Ok(None) => refusal(alloc, TOO_MANY_WORDS),
@@ -169,10 +177,14 @@ struct Found<'a> {
     most: Option<u32>,
     output: Option<&'a str>,
     hints: Option<&'a str>,
+    color: Option<&'a str>,
 }
 
 // There is no request where a word is missing, which clap refuses by itself, or one too many stands beside `--certify`.
-fn parse<'a>(alloc: Global, words: &'a [String]) -> Result<Option<(Request<'a>, When)>, Error> {
+fn parse<'a>(
+    alloc: Global,
+    words: &'a [String],
+) -> Result<Option<(Request<'a>, When, When)>, Error> {
     let matches = program(alloc)?.try_get_matches_from(words)?;
     Ok(match matches.subcommand() {
         Some((name, matches)) => asked_of(name, found_in(matches)),
@@ -198,6 +210,7 @@ fn found_in<'a>(matches: &ArgMatches<'a>) -> Found<'a> {
         most: matches.get_one::<u32>("most"),
         output: output_of(matches.get_str("output")),
         hints: matches.get_str("hints"),
+        color: matches.get_str("color"),
     }
 }
 
@@ -206,8 +219,9 @@ fn output_of(path: Option<&str>) -> Option<&str> {
     path.filter(|path| *path != "-")
 }
 
-fn asked_of<'a>(name: &str, found: Found<'a>) -> Option<(Request<'a>, When)> {
-    Some((request_of(name, found)?, hints_of(found)))
+fn asked_of<'a>(name: &str, found: Found<'a>) -> Option<(Request<'a>, When, When)> {
+    let request = request_of(name, found)?;
+    Some((request, when_of(found.hints), when_of(found.color)))
 }
 
 fn request_of<'a>(name: &str, found: Found<'a>) -> Option<Request<'a>> {
@@ -271,8 +285,8 @@ fn bench_of<'a>(found: Found<'a>) -> Option<Request<'a>> {
     })
 }
 
-fn hints_of(found: Found<'_>) -> When {
-    match found.hints {
+fn when_of(word: Option<&str>) -> When {
+    match word {
         Some("always") => When::Always,
         Some("never") => When::Never,
         _ => When::Auto,

@@ -1,7 +1,7 @@
 // Clap's commands, from the table. A `Command` or an `Arg` that a function holds at a `?` makes its proof long, so few do.
 
 use crate::help::{ABOUT, AFTER_HELP, VERSION};
-use crate::table::{Argument, COMMANDS, Entry, HINTS};
+use crate::table::{Argument, COLOR, COMMANDS, Entry, HINTS};
 use clap::{Arg, ArgAction, Command, value_parser};
 use std::alloc::{AllocError, Global};
 
@@ -12,7 +12,7 @@ pub fn program<'a>(alloc: Global) -> Result<Command<'a>, AllocError> {
 }
 
 fn program_alone<'a>(alloc: Global) -> Result<Command<'a>, AllocError> {
-    let hints = argument(alloc, HINTS)?.global(true);
+    let options = options(alloc)?;
     Command::new(alloc, "twire")
         .version(VERSION)
         .about(ABOUT)
@@ -20,7 +20,16 @@ fn program_alone<'a>(alloc: Global) -> Result<Command<'a>, AllocError> {
         .subcommand_required(true)
         .arg_required_else_help(true)
         .bin_name("twire")?
-        .arg(hints)
+        .args(options)
+}
+
+// The options of all commands.
+fn options<'a>(alloc: Global) -> Result<Vec<Arg<'a>>, AllocError> {
+    let mut options = Vec::new(alloc);
+    for one in [HINTS, COLOR] {
+        options.push(argument(alloc, one)?.global(true))?;
+    }
+    Ok(options)
 }
 
 fn commands<'a>(alloc: Global) -> Result<Vec<Command<'a>>, AllocError> {

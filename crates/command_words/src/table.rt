@@ -63,13 +63,22 @@ pub enum Argument {
     },
 }
 
-/// The option of all commands.
+/// An option of all commands.
 pub const HINTS: Argument = Argument::Choice {
     id: "hints",
     value_name: "WHEN",
     default: "auto",
     values: &["auto", "always", "never"],
     help: "Hints for people: auto (on a terminal), always, never",
+};
+
+/// An option of all commands.
+pub const COLOR: Argument = Argument::Choice {
+    id: "color",
+    value_name: "WHEN",
+    default: "auto",
+    values: &["auto", "always", "never"],
+    help: "Colours for people: auto (on a terminal), always, never",
 };
 
 /// The commands, in the order of the help.
@@ -167,7 +176,7 @@ const STARTERS: Argument = Argument::WordUnless {
 
 const CERTIFIED: Argument = Argument::Flag {
     id: "certify",
-    help: "Make the certificate here: 'bench PLAN STARTERS --certify'",
+    help: "Make the certificate here: 'bench PLAN STARTERS'",
 };
 
 const OUTPUT: Argument = Argument::File {
@@ -229,5 +238,5 @@ const REST: Argument = Argument::Choice {
     value_name: "BIT",
     default: "1",
     values: &["0", "1"],
-    help: "What they answer past the end of BITS, 0 or 1 [default: 1]",
+    help: "What they answer after BITS, 0 or 1 [default: 1]",
 };

@@ -1,16 +1,14 @@
 // After a certificate that is wrong.
 
-use crate::kinds::{Kind, LOOKED_AT, kind_of, push_kind};
+use crate::finding::LineFinder;
+use crate::kinds::{Kind, kind_of, push_kind};
 use crate::lines::Lines;
-use crate::marking::{first_line, push_marked};
-use crate::pieces::{Piece, line_start};
+use crate::marking::push_marked;
+use crate::pieces::Piece;
 use crate::proof_lines::{Flaw, flaw_in};
-use crate::reading::part;
+use crate::reading::read_again;
 use std::alloc::{AllocError, Global};
 use std::io::{Read, Seek};
-
-// The longest certificate that is read once more: 16 MiB.
-const MOST: usize = 1 << 24;
 
 const ONE_PLAN: &str =
     "a certificate speaks of one plan alone: where the plan was changed, have it written again by 'twire certify PLAN -o CERT'";
@@ -62,10 +60,9 @@ fn push_line<F: Read + Seek + Drop>(
     line: u64,
 ) -> Result<(), AllocError> {
     if let Some(mut file) = file {
-        if let Ok(text) = part(alloc, &mut file, 0, MOST.saturating_add(1)) {
-            if text.len() <= MOST {
-                return push_text(alloc, lines, text.as_slice(), wrong, line);
-            }
+        let mut finder = LineFinder::new(alloc, line);
+        if read_again(alloc, &mut file, &mut finder).is_ok() && finder.is_found() {
+            return push_found(alloc, lines, &finder, wrong, line);
         }
     }
     push_words(alloc, lines, wrong, line)
@@ -81,27 +78,25 @@ fn push_words(alloc: Global, lines: &mut Lines, wrong: Wrong, line: u64) -> Resu
     lines.say(words.as_str())
 }
 
-fn push_text(
+fn push_found(
     alloc: Global,
     lines: &mut Lines,
-    text: &[u8],
+    found: &LineFinder,
     wrong: Wrong,
     line: u64,
 ) -> Result<(), AllocError> {
-    let kind = kind_of(text.get(..LOOKED_AT).unwrap_or(text));
+    let kind = kind_of(found.head());
     if kind.is_some_and(Kind::is_binary) {
         return push_kind(lines, kind, Kind::Certificate);
     }
-    if text.windows(2).any(|two| two == b"\r\n".as_slice()) {
+    if found.has_carriage_return() {
         return push_carriage_returns(lines);
     }
-    let Some(start) = line_start(text, line) else {
+    if found.is_long() {
         return push_words(alloc, lines, wrong, line);
-    };
-    let rest = text.get(start..).unwrap_or(&[]);
-    let content = first_line(rest);
-    let flaw = flaw_in(alloc, content, line, text, content.len() < rest.len())?;
-    push_flaw(alloc, lines, content, line, flaw)?;
+    }
+    let flaw = flaw_in(alloc, found.line(), line, found.head(), found.is_ended())?;
+    push_flaw(alloc, lines, found.line(), line, flaw)?;
     push_kind(lines, kind, Kind::Certificate)
 }
 

@@ -4,7 +4,7 @@
 //! Nothing here decides anything. A refusal is the caller's, and the file is read once more, in blocks, to find its place:
 //! `plans` asks the reader of plans or of briefs (`languages`) about beginnings of the text (`expecting`, `words`), `dumps`
 //! follows a dump token by token (`tokens`, `judging`), `naming` lists the signals of a dump (`likeness`), `silence` counts
-//! what was seen of the bus, `certs` follows one line of a certificate (`proof_lines`), and `starters` looks for labels in the
+//! what was seen of the bus, `certs` follows one line of a certificate (`finding`, `proof_lines`), and `starters` looks for labels in the
 //! plan. `kinds` tells by its first bytes what a file is that stands in the place of another. `safety` says what a safe plan
 //! leaves out, and `devices` which file failed. `marking` shows the place in its line, and `lines` puts the word `hint:`
 //! before each line, and breaks them for 80 columns. Where the file cannot be read once more, or has changed, only the words
@@ -15,6 +15,7 @@ mod certs;
 mod devices;
 mod dumps;
 mod expecting;
+mod finding;
 mod judging;
 mod kinds;
 mod languages;

@@ -1,6 +1,7 @@
 // How like one another two names are.
 
 use std::alloc::{AllocError, Global};
+use strsim::generic_levenshtein;
 
 // How many names are kept, and how many bytes of a name are compared.
 const MOST: usize = 10;
@@ -76,44 +77,18 @@ fn has_within(wanted: &[u8], name: &[u8]) -> bool {
             .any(|part| part.eq_ignore_ascii_case(wanted))
 }
 
-// The least number of edits that make one name the other.
+// The least number of edits that make one name the other, in letters of either case.
 fn edits(alloc: Global, wanted: &[u8], name: &[u8]) -> Result<usize, AllocError> {
-    let mut row: Vec<usize> = Vec::new(alloc);
-    row.push(0)?;
-    for k in 0..wanted.len().min(COMPARED) {
-        row.push(k.saturating_add(1))?;
-    }
-    for letter in name.iter().take(COMPARED) {
-        row = next_row(alloc, row.as_slice(), wanted, *letter)?;
-    }
-    Ok(row.last().copied().unwrap_or(0))
+    let wanted = compared(alloc, wanted)?;
+    let name = compared(alloc, name)?;
+    generic_levenshtein(alloc, wanted.as_slice(), name.as_slice())
 }
 
-// From the edits for a beginning of the name to those for one letter more: one number for each beginning of the wanted name.
-fn next_row(
-    alloc: Global,
-    row: &[usize],
-    wanted: &[u8],
-    letter: u8,
-) -> Result<Vec<usize>, AllocError> {
-    let mut next = Vec::new(alloc);
-    let Some((first, rest)) = row.split_first() else {
-        return Ok(next);
-    };
-    let mut across = *first;
-    let mut left = first.saturating_add(1);
-    next.push(left)?;
-    for (above, other) in rest.iter().zip(wanted) {
-        let changed = if other.eq_ignore_ascii_case(&letter) {
-            across
-        } else {
-            across.saturating_add(1)
-        };
-        left = changed
-            .min(above.saturating_add(1))
-            .min(left.saturating_add(1));
-        across = *above;
-        next.push(left)?;
+// What is compared of a name.
+fn compared(alloc: Global, name: &[u8]) -> Result<Vec<u8>, AllocError> {
+    let mut letters = Vec::new(alloc);
+    for byte in name.iter().take(COMPARED) {
+        letters.push(byte.to_ascii_lowercase())?;
     }
-    Ok(next)
+    Ok(letters)
 }

@@ -4,13 +4,23 @@
 #[cfg(test)]
 mod briefs;
 #[cfg(test)]
+mod certs;
+#[cfg(test)]
+mod devices;
+#[cfg(test)]
 mod dumps;
+#[cfg(test)]
+mod kinds;
 #[cfg(test)]
 mod naming;
 #[cfg(test)]
 mod plans;
 #[cfg(test)]
+mod safety;
+#[cfg(test)]
 mod silence;
+#[cfg(test)]
+mod starters;
 
 use hints::Names;
 use std::io::Cursor;

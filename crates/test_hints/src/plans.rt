@@ -92,7 +92,9 @@ hint: expected here: 'message', 'controller' or 'interrupt'
 }
 
 #[test]
-fn a_range_in_the_first_version_is_marked_whole(rt: HostRuntime) -> Result<(), Fail> {
+fn a_range_in_the_first_version_is_marked_whole_and_told_its_version(
+    rt: HostRuntime,
+) -> Result<(), Fail> {
     expect(
         &rt,
         rt.alloc(),
@@ -100,7 +102,38 @@ fn a_range_in_the_first_version_is_marked_whole(rt: HostRuntime) -> Result<(), F
         "hint: line 1 of the plan:
 hint:   plan 1 message m read 1001000 2..4 stop else stop ;
 hint:                                 ^^^^
+hint: ranges, as '2..4', are of 'plan 2': let the text begin with that
 hint: expected here: a count from 1 to 255
+",
+    )
+}
+
+#[test]
+fn never_in_the_first_version_is_told_its_version(rt: HostRuntime) -> Result<(), Fail> {
+    expect(
+        &rt,
+        rt.alloc(),
+        "plan 1 controller a ; controller b ; never a b ;",
+        "hint: line 1 of the plan:
+hint:   plan 1 controller a ; controller b ; never a b ;
+hint:                                        ^^^^^
+hint: 'never' is of 'plan 2': let the text begin with that
+hint: expected here: 'message', 'controller' or 'interrupt'
+",
+    )
+}
+
+#[test]
+fn a_word_of_the_language_is_no_name(rt: HostRuntime) -> Result<(), Fail> {
+    expect(
+        &rt,
+        rt.alloc(),
+        "plan 1\nmessage stop write 1001000 stop else stop ;\n",
+        "hint: line 2 of the plan:
+hint:   message stop write 1001000 stop else stop ;
+hint:           ^^^^
+hint: 'stop' is a word of every plan, and cannot be a name
+hint: expected here: a name (a letter, then letters, digits and '_', 32 at most)
 ",
     )
 }

@@ -107,9 +107,11 @@ fn a_capture_that_is_no_file_is_told_the_usual_causes(rt: HostRuntime) -> Result
     assert_eq!(rt;
         found.as_str(),
         "hint: no START on a free bus was seen in the capture. The usual causes:
-hint:   the names are those of other signals: of several with one name the first counts
+hint:   the names are those of other signals: of several with one name the first
+hint:   counts
 hint:   the two names are exchanged
-hint:   the two lines are never HIGH together, so the bus is never known to be free
+hint:   the two lines are never HIGH together, so the bus is never known to be
+hint:   free
 hint:   a level is 'x' all the time
 "
     );

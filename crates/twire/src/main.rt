@@ -2,15 +2,20 @@
 #![tactic(auto)]
 
 mod advice;
+mod colors;
 mod inputs;
 mod outputs;
 mod rehearsals;
 mod runs;
 
+use runs::Terminals;
 use std::io::IsTerminal;
 use std::process::ExitCode;
 
 fn main(rt: HostRuntime) -> ExitCode {
-    let on_terminal = rt.stderr().is_terminal();
-    ExitCode::from(runs::run(&rt, on_terminal))
+    let terminals = Terminals {
+        out: rt.stdout().is_terminal(),
+        err: rt.stderr().is_terminal(),
+    };
+    ExitCode::from(runs::run(&rt, terminals))
 }

@@ -1,5 +1,6 @@
 // What a run writes to: standard output, or a file that appears whole or not at all.
 
+use crate::colors::colored_report;
 use report::{RunError, Status};
 use std::alloc::Global;
 use std::fs::{self, Metadata, OpenFile, OpenOptions, Permissions};
@@ -13,11 +14,21 @@ const KEPT: usize = 64;
 // How many names are tried for the file that is written first.
 const NAMES: u32 = 1_000;
 
+/// Where a report goes: to standard output, there with its words in colours, or into memory.
+#[derive(Clone, Copy)]
+pub enum Form {
+    Plain,
+    Colored,
+    Held,
+}
+
 /// What takes a report: standard output, or memory, from which a file is written once the report is whole. It keeps the
 /// beginning of the report, and the last error.
 #[derive(Drop)]
 pub struct Sheet<W> {
+    alloc: Global,
     standard: W,
+    is_colored: bool,
     held: Option<Vec<u8>>,
     beginning: String,
     error: Option<io::Error>,
@@ -25,10 +36,16 @@ pub struct Sheet<W> {
 
 impl<W> Sheet<W> {
     /// The writer, or memory in its place.
-    pub fn new(alloc: Global, writer: W, is_held: bool) -> Sheet<W> {
+    pub fn new(alloc: Global, writer: W, form: Form) -> Sheet<W> {
+        let held = match form {
+            Form::Held => Some(Vec::new(alloc)),
+            Form::Plain | Form::Colored => None,
+        };
         Sheet {
+            alloc,
             standard: writer,
-            held: is_held.then(|| Vec::new(alloc)),
+            is_colored: matches!(form, Form::Colored),
+            held,
             beginning: String::new(alloc),
             error: None,
         }
@@ -91,6 +108,7 @@ impl<W: Write> Write for Sheet<W> {
     fn write(&mut self, buf: &[u8]) -> io::Result<usize> {
         let written = match &mut self.held {
             Some(text) => text.write(buf),
+            None if self.is_colored => write_colored(self.alloc, &mut self.standard, buf),
             None => self.standard.write(buf),
         };
         match written {
@@ -109,6 +127,13 @@ impl<W: Write> Write for Sheet<W> {
     fn flush(&mut self) -> io::Result<()> {
         self.standard.flush()
     }
+}
+
+// Writes all of a report, with its words in colours. A report comes whole in its first call.
+fn write_colored<W: Write>(alloc: Global, standard: &mut W, report: &[u8]) -> io::Result<usize> {
+    let text = colored_report(alloc, report)?;
+    standard.write_all(text.as_slice())?;
+    Ok(report.len())
 }
 
 // Makes these bytes the file of this path, whole, or leaves what was there. They are written into a new file of the same

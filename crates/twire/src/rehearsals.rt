@@ -3,7 +3,7 @@
 use crate::advice::advise_on_certified;
 use crate::inputs::{file_of, open, open_both, reading_error};
 use crate::outputs::Sheet;
-use crate::runs::{last_read, outcome, status_of};
+use crate::runs::{Extras, last_read, outcome, status_of};
 use bench_run::{NoGate, run_bench};
 use explain_run::explain_bench;
 use hints::Named;
@@ -35,17 +35,17 @@ pub fn bench<R: Files + HasInput + Print + Eprint + AllocGlobal + Threads + Wait
     plan: Named<'_>,
     cert: Named<'_>,
     play: Play<'_>,
-    hints: bool,
+    extras: Extras,
 ) -> u8 {
-    let Some((mut reader, mut second)) = open_both(rt, plan, cert, hints) else {
+    let Some((mut reader, mut second)) = open_both(rt, plan, cert, extras.hints) else {
         return 2;
     };
-    let mut out = Watched::new(Sheet::new(rt.alloc(), io::writer(rt), false));
+    let mut out = Watched::new(Sheet::new(rt.alloc(), io::writer(rt), extras.form()));
     let ended = rehearse(rt, &mut reader, &mut second, &mut out, play);
     let status = status_of(rt, ended);
-    if hints {
+    if extras.hints {
         let (read, error) = last_read(plan, &mut reader, cert, &mut second);
-        let outcome = outcome(read, error, out.into_inner(), None, ended);
+        let outcome = outcome(read, error, out.into_inner(), None, ended, extras);
         advise_on_certified(rt, file_of(reader), file_of(second), play.starters, outcome);
     }
     status
@@ -54,16 +54,16 @@ pub fn bench<R: Files + HasInput + Print + Eprint + AllocGlobal + Threads + Wait
 /// Rehearses a plan by the certificate that is made of it here.
 pub fn bench_alone<
     R: Files + HasInput + Print + Eprint + AllocGlobal + Threads + Wait + Clock + Sync,
->(rt: &R, plan: Named<'_>, play: Play<'_>, hints: bool) -> u8 {
-    let Some(mut reader) = open(rt, plan, hints) else {
+>(rt: &R, plan: Named<'_>, play: Play<'_>, extras: Extras) -> u8 {
+    let Some(mut reader) = open(rt, plan, extras.hints) else {
         return 2;
     };
-    let mut out = Watched::new(Sheet::new(rt.alloc(), io::writer(rt), false));
+    let mut out = Watched::new(Sheet::new(rt.alloc(), io::writer(rt), extras.form()));
     let ended = rehearse_alone(rt, &mut reader, &mut out, play);
     let status = status_of(rt, ended);
-    if hints {
+    if extras.hints {
         let error = reading_error(&mut reader);
-        let outcome = outcome(plan, error, out.into_inner(), None, ended);
+        let outcome = outcome(plan, error, out.into_inner(), None, ended, extras);
         advise_on_certified(rt, file_of(reader), None, play.starters, outcome);
     }
     status

@@ -2,7 +2,7 @@
 
 use crate::advice::{Outcome, advise_on_capture, advise_on_certified, advise_on_text};
 use crate::inputs::{Source, file_of, metadata_of, open, open_both, reading_error};
-use crate::outputs::Sheet;
+use crate::outputs::{Form, Sheet};
 use crate::rehearsals::{Play, bench, bench_alone};
 use command_words::{Asked, Request, When, read_words};
 use explain_run::{explain_capture, explain_check, explain_verify};
@@ -18,13 +18,39 @@ use std::sync::Wait;
 use std::thread::Threads;
 use std::time::Clock;
 
-/// Does what the command line asks for, and answers the exit status. Where nothing else is said, hints for people are
-/// given if somebody sees them on a terminal.
+/// What people get beside the exact report: hints, and colours in the report and in hints.
+#[derive(Clone, Copy)]
+pub struct Extras {
+    pub hints: bool,
+    pub colors_out: bool,
+    pub colors_err: bool,
+}
+
+impl Extras {
+    /// How a report is written that has words for people.
+    pub fn form(self) -> Form {
+        if self.colors_out {
+            Form::Colored
+        } else {
+            Form::Plain
+        }
+    }
+}
+
+/// Which of the two standard streams somebody sees on a terminal.
+#[derive(Clone, Copy)]
+pub struct Terminals {
+    pub out: bool,
+    pub err: bool,
+}
+
+/// Does what the command line asks for, and answers the exit status. Where nothing else is said, hints for people and colours
+/// are given where somebody sees them on a terminal.
 pub fn run<R: Files + Env + Input + Print + Eprint + AllocGlobal + Threads + Wait + Clock + Sync>(
     rt: &R,
-    on_terminal: bool,
+    terminals: Terminals,
 ) -> u8 {
-    match run_words(rt, on_terminal) {
+    match run_words(rt, terminals) {
         Ok(status) => status,
         Err(error) => refused(rt, error),
     }
@@ -39,15 +65,22 @@ pub fn refused<R: Eprint>(rt: &R, error: RunError) -> u8 {
 
 fn run_words<R: Files + Env + Input + Print + Eprint + AllocGlobal + Threads + Wait + Clock + Sync>(
     rt: &R,
-    on_terminal: bool,
+    terminals: Terminals,
 ) -> Result<u8, RunError> {
     let words: Vec<String> = match env::args(rt) {
         Ok(words) => words.collect(rt.alloc())?,
         Err(error) => return no_words(rt, &error),
     };
     match read_words(rt.alloc(), words.as_slice()) {
-        Ok(Asked::Run { request, hints }) => {
-            Ok(do_request(rt, request, are_wanted(hints, on_terminal)))
+        Ok(
+            Asked::Run {
+                request,
+                hints,
+                colors,
+            },
+        ) => {
+            let extras = extras_of(rt, hints, colors, terminals);
+            Ok(do_request(rt, request, extras))
         }
         Ok(Asked::Show(text)) => show(rt, text.as_str()),
         Ok(Asked::Refuse(text)) => Ok(refuse(rt, text.as_str())),
@@ -55,8 +88,30 @@ fn run_words<R: Files + Env + Input + Print + Eprint + AllocGlobal + Threads + W
     }
 }
 
-fn are_wanted(hints: When, on_terminal: bool) -> bool {
-    match hints {
+fn extras_of<R: Env + AllocGlobal>(
+    rt: &R,
+    hints: When,
+    colors: When,
+    terminals: Terminals,
+) -> Extras {
+    let take_colors = takes_colors(rt);
+    Extras {
+        hints: are_wanted(hints, terminals.err),
+        colors_out: are_wanted(colors, terminals.out && take_colors),
+        colors_err: are_wanted(colors, terminals.err && take_colors),
+    }
+}
+
+// Whether the environment says nothing against colours, as NO_COLOR does where it has a text.
+fn takes_colors<R: Env + AllocGlobal>(rt: &R) -> bool {
+    match env::var(rt, "NO_COLOR") {
+        Ok(text) => text.is_empty(),
+        Err(_) => true,
+    }
+}
+
+fn are_wanted(when: When, on_terminal: bool) -> bool {
+    match when {
         When::Auto => on_terminal,
         When::Always => true,
         When::Never => false,
@@ -66,20 +121,20 @@ fn are_wanted(hints: When, on_terminal: bool) -> bool {
 fn do_request<R: Files + Input + Print + Eprint + AllocGlobal + Threads + Wait + Clock + Sync>(
     rt: &R,
     request: Request<'_>,
-    hints: bool,
+    extras: Extras,
 ) -> u8 {
     match request {
         Request::Check {
             plan,
             workers,
             explain,
-        } => check(rt, the_plan(plan), workers, explain, hints),
-        Request::Certify { plan, output } => certify(rt, the_plan(plan), output, hints),
+        } => check(rt, the_plan(plan), workers, explain, extras),
+        Request::Certify { plan, output } => certify(rt, the_plan(plan), output, extras),
         Request::Verify {
             plan,
             cert,
             explain,
-        } => verify(rt, the_plan(plan), the_certificate(cert), explain, hints),
+        } => verify(rt, the_plan(plan), the_certificate(cert), explain, extras),
         Request::Capture {
             plan,
             vcd,
@@ -92,7 +147,7 @@ fn do_request<R: Files + Input + Print + Eprint + AllocGlobal + Threads + Wait +
             the_capture(vcd),
             Names { scl, sda },
             explain,
-            hints,
+            extras,
         ),
         Request::Bench {
             plan,
@@ -111,13 +166,13 @@ fn do_request<R: Files + Input + Print + Eprint + AllocGlobal + Threads + Wait +
                 explain,
             };
             match cert {
-                Some(cert) => bench(rt, the_plan(plan), the_certificate(cert), play, hints),
-                None => bench_alone(rt, the_plan(plan), play, hints),
+                Some(cert) => bench(rt, the_plan(plan), the_certificate(cert), play, extras),
+                None => bench_alone(rt, the_plan(plan), play, extras),
             }
         }
-        Request::Expand { brief, output } => expand(rt, the_brief(brief), output, hints),
-        Request::Print { plan, output } => spell(rt, the_plan(plan), output, hints),
-        Request::Brief { plan, output } => abbreviate(rt, the_plan(plan), output, hints),
+        Request::Expand { brief, output } => expand(rt, the_brief(brief), output, extras),
+        Request::Print { plan, output } => spell(rt, the_plan(plan), output, extras),
+        Request::Brief { plan, output } => abbreviate(rt, the_plan(plan), output, extras),
     }
 }
 
@@ -137,6 +192,14 @@ fn the_capture(path: &str) -> Named<'_> {
     named("VCD", "capture", path)
 }
 
+// A text that a command writes has no words for people.
+fn form_of(output: Option<&str>) -> Form {
+    match output {
+        Some(_) => Form::Held,
+        None => Form::Plain,
+    }
+}
+
 fn named<'a>(argument: &'static str, what: &'static str, path: &'a str) -> Named<'a> {
     Named {
         argument,
@@ -150,32 +213,32 @@ fn check<R: Files + Input + Print + Eprint + AllocGlobal + Threads + Sync>(
     plan: Named<'_>,
     workers: u32,
     explain: Option<u32>,
-    hints: bool,
+    extras: Extras,
 ) -> u8 {
-    let Some(mut reader) = open(rt, plan, hints) else {
+    let Some(mut reader) = open(rt, plan, extras.hints) else {
         return 2;
     };
-    let mut out = Watched::new(Sheet::new(rt.alloc(), io::writer(rt), false));
+    let mut out = Watched::new(Sheet::new(rt.alloc(), io::writer(rt), extras.form()));
     let alloc = rt.alloc();
     let ended = match explain {
         Some(most) => explain_check(rt, alloc, &mut reader, &mut out, workers, most),
         None => run_check(rt, alloc, &mut reader, &mut out, workers, &report::NoGate),
     };
-    finish(rt, plan, reader, out.into_inner(), None, ended, hints)
+    finish(rt, plan, reader, out.into_inner(), None, ended, extras)
 }
 
 fn certify<R: Files + Input + Print + Eprint + AllocGlobal>(
     rt: &R,
     plan: Named<'_>,
     output: Option<&str>,
-    hints: bool,
+    extras: Extras,
 ) -> u8 {
-    let Some(mut reader) = open(rt, plan, hints) else {
+    let Some(mut reader) = open(rt, plan, extras.hints) else {
         return 2;
     };
-    let mut out = Watched::new(Sheet::new(rt.alloc(), io::writer(rt), output.is_some()));
+    let mut out = Watched::new(Sheet::new(rt.alloc(), io::writer(rt), form_of(output)));
     let ended = run_certify(rt.alloc(), &mut reader, &mut out);
-    finish(rt, plan, reader, out.into_inner(), output, ended, hints)
+    finish(rt, plan, reader, out.into_inner(), output, ended, extras)
 }
 
 fn verify<R: Files + Input + Print + Eprint + AllocGlobal>(
@@ -183,21 +246,21 @@ fn verify<R: Files + Input + Print + Eprint + AllocGlobal>(
     plan: Named<'_>,
     cert: Named<'_>,
     explain: bool,
-    hints: bool,
+    extras: Extras,
 ) -> u8 {
-    let Some((mut reader, mut second)) = open_both(rt, plan, cert, hints) else {
+    let Some((mut reader, mut second)) = open_both(rt, plan, cert, extras.hints) else {
         return 2;
     };
-    let mut out = Watched::new(Sheet::new(rt.alloc(), io::writer(rt), false));
+    let mut out = Watched::new(Sheet::new(rt.alloc(), io::writer(rt), extras.form()));
     let ended = if explain {
         explain_verify(rt.alloc(), &mut reader, &mut second, &mut out)
     } else {
         run_verify(rt.alloc(), &mut reader, &mut second, &mut out)
     };
     let status = status_of(rt, ended);
-    if hints {
+    if extras.hints {
         let (read, error) = last_read(plan, &mut reader, cert, &mut second);
-        let outcome = outcome(read, error, out.into_inner(), None, ended);
+        let outcome = outcome(read, error, out.into_inner(), None, ended, extras);
         advise_on_certified(rt, file_of(reader), file_of(second), "", outcome);
     }
     status
@@ -209,12 +272,12 @@ fn capture<R: Files + Input + Print + Eprint + AllocGlobal + Threads + Sync>(
     vcd: Named<'_>,
     names: Names<'_>,
     explain: bool,
-    hints: bool,
+    extras: Extras,
 ) -> u8 {
-    let Some((mut reader, mut second)) = open_both(rt, plan, vcd, hints) else {
+    let Some((mut reader, mut second)) = open_both(rt, plan, vcd, extras.hints) else {
         return 2;
     };
-    let mut out = Watched::new(Sheet::new(rt.alloc(), io::writer(rt), false));
+    let mut out = Watched::new(Sheet::new(rt.alloc(), io::writer(rt), extras.form()));
     let Names { scl, sda } = names;
     let alloc = rt.alloc();
     let ended = if explain {
@@ -223,9 +286,9 @@ fn capture<R: Files + Input + Print + Eprint + AllocGlobal + Threads + Sync>(
         run_capture(rt, alloc, &mut reader, &mut second, &mut out, scl, sda)
     };
     let status = status_of(rt, ended);
-    if hints {
+    if extras.hints {
         let (read, error) = last_read(plan, &mut reader, vcd, &mut second);
-        let outcome = outcome(read, error, out.into_inner(), None, ended);
+        let outcome = outcome(read, error, out.into_inner(), None, ended, extras);
         advise_on_capture(rt, file_of(reader), file_of(second), names, outcome);
     }
     status
@@ -235,42 +298,42 @@ fn spell<R: Files + Input + Print + Eprint + AllocGlobal>(
     rt: &R,
     plan: Named<'_>,
     output: Option<&str>,
-    hints: bool,
+    extras: Extras,
 ) -> u8 {
-    let Some(mut reader) = open(rt, plan, hints) else {
+    let Some(mut reader) = open(rt, plan, extras.hints) else {
         return 2;
     };
-    let mut out = Watched::new(Sheet::new(rt.alloc(), io::writer(rt), output.is_some()));
+    let mut out = Watched::new(Sheet::new(rt.alloc(), io::writer(rt), form_of(output)));
     let ended = run_print(rt.alloc(), &mut reader, &mut out);
-    finish(rt, plan, reader, out.into_inner(), output, ended, hints)
+    finish(rt, plan, reader, out.into_inner(), output, ended, extras)
 }
 
 fn abbreviate<R: Files + Input + Print + Eprint + AllocGlobal>(
     rt: &R,
     plan: Named<'_>,
     output: Option<&str>,
-    hints: bool,
+    extras: Extras,
 ) -> u8 {
-    let Some(mut reader) = open(rt, plan, hints) else {
+    let Some(mut reader) = open(rt, plan, extras.hints) else {
         return 2;
     };
-    let mut out = Watched::new(Sheet::new(rt.alloc(), io::writer(rt), output.is_some()));
+    let mut out = Watched::new(Sheet::new(rt.alloc(), io::writer(rt), form_of(output)));
     let ended = run_brief(rt.alloc(), &mut reader, &mut out);
-    finish(rt, plan, reader, out.into_inner(), output, ended, hints)
+    finish(rt, plan, reader, out.into_inner(), output, ended, extras)
 }
 
 fn expand<R: Files + Input + Print + Eprint + AllocGlobal>(
     rt: &R,
     brief: Named<'_>,
     output: Option<&str>,
-    hints: bool,
+    extras: Extras,
 ) -> u8 {
-    let Some(mut reader) = open(rt, brief, hints) else {
+    let Some(mut reader) = open(rt, brief, extras.hints) else {
         return 2;
     };
-    let mut out = Watched::new(Sheet::new(rt.alloc(), io::writer(rt), output.is_some()));
+    let mut out = Watched::new(Sheet::new(rt.alloc(), io::writer(rt), form_of(output)));
     let ended = run_expand(rt.alloc(), &mut reader, &mut out);
-    finish(rt, brief, reader, out.into_inner(), output, ended, hints)
+    finish(rt, brief, reader, out.into_inner(), output, ended, extras)
 }
 
 // Writes the file of a run that is to write one, and answers the status of a run over one text, with the line of a
@@ -282,14 +345,14 @@ fn finish<R: Files + Input + Eprint + AllocGlobal, W: Write + Drop>(
     mut out: Sheet<W>,
     output: Option<&str>,
     ended: Result<Status, RunError>,
-    hints: bool,
+    extras: Extras,
 ) -> u8 {
     let error = reading_error(&mut source);
     let file = file_of(source);
     let ended = out.settle(rt, output, metadata_of(rt, &file), ended);
     let status = status_of(rt, ended);
-    if hints {
-        let outcome = outcome(read, error, out, output, ended);
+    if extras.hints {
+        let outcome = outcome(read, error, out, output, ended, extras);
         advise_on_text(rt, file, outcome);
     }
     status
@@ -302,6 +365,7 @@ pub fn outcome<'a, W: Drop>(
     out: Sheet<W>,
     output: Option<&'a str>,
     ended: Result<Status, RunError>,
+    extras: Extras,
 ) -> Outcome<'a> {
     let (report, unwritten) = out.into_parts();
     Outcome {
@@ -310,6 +374,7 @@ pub fn outcome<'a, W: Drop>(
         error: error.or(unwritten),
         output,
         report,
+        is_colored: extras.colors_err,
     }
 }
 

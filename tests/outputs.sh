@@ -1,0 +1,263 @@
+#!/usr/bin/env bash
+# Files that twire writes: each is there whole or not at all, and a run that ends without its report leaves what was there.
+# The last line is 'N passed, M failed', and the exit status is 1 where a case fails.
+#
+# It runs the launcher at the top of the repository, or the program that TWIRE names.
+set -u
+
+tests=$(dirname -- "$(readlink -f -- "${BASH_SOURCE[0]}")")
+twire=$(readlink -f -- "${TWIRE:-$tests/../twire}")
+work=$(mktemp -d)
+trap 'rm -rf -- "$work"' EXIT
+cd -- "$work" || exit 1
+
+passed=0
+failed=0
+
+# judge NAME: a case, which passes where nothing stands in the file wrong and in the folder nothing that was not there.
+judge() {
+    ls -A | grep -E '\.part$' >>wrong
+    if [[ -s wrong ]]; then
+        failed=$((failed + 1))
+        echo "FAILED: $1"
+        cat wrong
+    else
+        passed=$((passed + 1))
+    fi
+    : >wrong
+}
+
+# ran STATUS ERR ARG..: a run with this status and this on standard error, which writes no report on standard output.
+ran() {
+    local status=$1 err=$2
+    shift 2
+    "$twire" "$@" >out 2>err
+    local found=$?
+    [[ $found == "$status" ]] || echo "$*: status $found" >>wrong
+    [[ $(cat err) == "$err" ]] || { echo "$*: on standard error" && cat err; } >>wrong
+    [[ ! -s out ]] || { echo "$*: on standard output" && cat out; } >>wrong
+}
+
+# has FILE TEXT: the file has this text and no more.
+has() {
+    [[ -f $1 && $(cat "$1") == "$2" ]] || echo "$1: $(cat "$1" 2>&1)" >>wrong
+}
+
+"$twire" --version >/dev/null 2>&1
+: >wrong
+
+plan="plan 1
+message m write 1001000 stop else stop ;
+message n write 1001001 stop else stop ;
+controller a m ;
+controller b n ;"
+cert="cert 1
+pairs 1
+P6"
+brief="brief 1
+message m write 0x48 ;
+message n write 0x49 ;
+controller a m ;
+controller b n ;"
+unsafe_cert="cert 1
+fault 0 10010000l stop data"
+echo "$plan" >plan
+echo "$brief" >brief
+echo "plan 1 ;" >refused
+sed 's/write 1001001/write 1001000 00000000 stop else/' plan >unsafe
+
+ran 0 "" certify plan -o new.cert
+has new.cert "$cert"
+judge "a certificate in a new file"
+ran 0 "" certify plan --output=long.cert
+has long.cert "$cert"
+judge "a certificate by the long option"
+ran 1 "" certify unsafe -o new.cert
+has new.cert "$unsafe_cert"
+judge "the certificate of an unsafe plan in the place of an old one"
+ran 0 "" expand brief -o new.plan
+has new.plan "$plan"
+judge "a plan of a brief"
+ran 0 "" print plan -o printed
+has printed "$plan"
+judge "a canonical spelling"
+ran 0 "" brief plan -o new.brief
+has new.brief "$brief"
+judge "a brief of a plan"
+ran 0 "" certify - -o input.cert <plan
+has input.cert "$cert"
+judge "a certificate of a plan from standard input"
+
+# What is refused leaves the old file.
+echo "kept" >kept
+ran 2 "refused P3 line 1" certify refused -o kept
+has kept "kept"
+judge "certify of a refused plan"
+ran 2 "refused P2 line 1" expand refused -o kept
+has kept "kept"
+judge "expand of a refused brief"
+ran 2 "refused P3 line 1" print refused -o kept
+has kept "kept"
+judge "print of a refused plan"
+ran 2 "refused read" certify missing -o kept
+has kept "kept"
+judge "certify of a missing plan"
+ran 2 "refused P3 line 1" certify refused -o never_written
+[[ ! -e never_written ]] || echo "the file is there" >>wrong
+judge "no file of a refused plan"
+
+# The file that was read is not written over, by whatever name.
+ln -s plan link
+ln plan other_name
+for name in plan ./plan link other_name "$work/plan"; do
+    ran 2 "refused write
+hint: the output \"$name\" was not written:
+hint: it is the file that was read" certify plan -o "$name" --hints always
+    has plan "$plan"
+    judge "the plan itself as the certificate, by the name ${name##*/}"
+done
+ran 2 "refused write" certify - -o plan <plan
+has plan "$plan"
+judge "the plan from standard input as the certificate"
+"$twire" certify plan -o /dev/fd/1 >&- 2>err
+[[ $? == 2 ]] || echo "another status" >>wrong
+has plan "$plan"
+judge "a closed descriptor that the plan comes to have"
+ran 2 "refused write" certify plan -o /dev/fd/9 9>&-
+judge "a closed descriptor"
+rm link other_name
+
+# Where the file cannot be written.
+mkdir folder
+for name in folder folder/ missing/new.cert plan/new.cert "" /; do
+    ran 2 "refused write" certify plan -o "$name"
+    judge "a certificate in the place of '$name'"
+done
+[[ -z $(ls -A folder) ]] || echo "something is left in the folder" >>wrong
+judge "nothing is left in the folder"
+if [[ -c /dev/full ]]; then
+    ran 2 "refused write
+hint: the output \"/dev/full\" was not written:
+hint: No space left on device (os error 28)" certify plan -o /dev/full --hints always
+    judge "a full device"
+fi
+(
+    ulimit -f 0
+    trap '' XFSZ
+    "$twire" certify plan -o kept >out 2>err
+    echo "$?" >&3
+) 3>&1 >/dev/null 2>&1 | grep -qx 2 || echo "another status" >>wrong
+has kept "kept"
+judge "a file that may not have a byte"
+
+# What stands there already.
+ran 0 "" certify plan -o /dev/null
+[[ -c /dev/null ]] || echo "it is no device any more" >>wrong
+judge "the null device stays one"
+mkfifo fifo
+cat fifo >through &
+ran 0 "" certify plan -o fifo
+wait
+has through "$cert"
+[[ -p fifo ]] || echo "it is no FIFO any more" >>wrong
+judge "a FIFO takes the certificate and stays one"
+echo "old" >folder/old.cert
+ln -s folder/old.cert link.cert
+ran 0 "" certify plan -o link.cert
+has folder/old.cert "$cert"
+[[ -L link.cert ]] || echo "it is no link any more" >>wrong
+judge "a link stays one, and its file is replaced"
+echo "old" >mode.cert
+chmod 640 mode.cert
+ran 0 "" certify plan -o mode.cert
+[[ $(stat -c %a mode.cert) == 640 ]] || echo "its mode is $(stat -c %a mode.cert)" >>wrong
+judge "a replaced file keeps its mode"
+echo "old" >two.cert
+ln two.cert second.cert
+ran 0 "" certify plan -o two.cert
+has two.cert "$cert"
+has second.cert "old"
+judge "another name of the replaced file keeps the old text"
+echo "somebody's" >.twire-0.part
+ran 0 "" certify plan -o beside.cert
+has beside.cert "$cert"
+has .twire-0.part "somebody's"
+rm .twire-0.part
+judge "a file of the name that is taken first is left"
+
+# Standard output by another name.
+"$twire" certify plan -o - >out 2>err || echo "another status" >>wrong
+has out "$cert"
+judge "- is standard output"
+"$twire" certify plan -o /dev/stdout >out 2>err || echo "another status" >>wrong
+has out "$cert"
+judge "the path of standard output"
+"$twire" certify plan -o /dev/stdout 2>err | cat >out
+has out "$cert"
+judge "the path of standard output, which is a pipe"
+
+# Colours are in no file, and nowhere where nobody sees a terminal. Where they are asked for, the words alone have them.
+red=$'\e[31m'
+green=$'\e[32m'
+plain=$'\e[0m'
+# shown NAME TEXT ARG..: what a run writes on standard output, and its hints behind it.
+shown() {
+    "$twire" "${@:3}" >out 2>&1
+    has out "$2"
+    judge "$1"
+}
+shown "a safe plan in colours" "${green}safe${plain}: 1 pairs" check plan --color always
+shown "an unsafe plan in colours" "pair 0 a/m b/n: stop against data after 10010000l
+${red}unsafe${plain}: 1 of 1 pairs" check unsafe --color always
+echo "$cert" >right.cert
+shown "a right certificate in colours" "accepted ${green}safe${plain}" verify plan right.cert --color always
+echo "$unsafe_cert" >fault.cert
+shown "a right fault in colours" "accepted ${red}unsafe${plain}" verify unsafe fault.cert --color always
+"$tests/../tools/dump" 100100100 >other.vcd
+shown "a transaction that nobody explains in colours" "5-160 ${red}unexplained${plain}
+1 transactions, 1 unexplained" capture plan other.vcd --color always
+shown "marks in a colour" "refused P3 line 1
+hint: line 1 of the plan:
+hint:   plan 1 ;
+hint:          ${red}^${plain}
+hint: expected here: 'message', 'controller' or 'interrupt'" check refused --color always --hints always
+shown "no colours in a certificate" "$cert" certify plan --color always
+NO_COLOR=1 shown "colours that are asked for, where the environment has none" "${green}safe${plain}: 1 pairs" check plan --color always
+shown "no word on colours" "safe: 1 pairs" check plan
+shown "colours where somebody sees a terminal" "safe: 1 pairs" check plan --color auto
+shown "no colours" "safe: 1 pairs" check plan --color never
+ran 0 "" certify plan -o colored.cert --color always
+has colored.cert "$cert"
+judge "no colours in a file"
+
+# On a terminal, whose lines end in CR LF.
+if type -P script >/dev/null; then
+    script -qec "'$twire' check plan" /dev/null </dev/null | tr -d '\r' >out
+    has out "${green}safe${plain}: 1 pairs"
+    judge "colours on a terminal"
+    NO_COLOR=1 script -qec "'$twire' check plan" /dev/null </dev/null | tr -d '\r' >out
+    has out "safe: 1 pairs"
+    judge "no colours on a terminal, where the environment has none"
+else
+    echo "left out: colours on a terminal (no command 'script')"
+fi
+
+# fault NAME ARG..: a command line that is refused, with a message that is not compared.
+fault() {
+    local name=$1
+    shift
+    "$twire" "$@" >out 2>err
+    [[ $? == 2 && ! -s out ]] && grep -q '^error: ' err || { cat out err; } >>wrong
+    has kept "kept"
+    judge "$name"
+}
+fault "no name of a file" certify plan -o
+fault "two files" certify plan -o kept -o other
+fault "check writes no file" check plan -o kept
+fault "verify writes no file" verify plan new.cert -o kept
+fault "standard input as both files" verify - -
+fault "standard input as both files, by two names" verify /dev/stdin /dev/fd/0
+fault "standard input as the plan and the capture" capture - /dev/stdin
+
+echo "$passed passed, $failed failed"
+((failed == 0))
