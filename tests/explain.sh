@@ -91,15 +91,14 @@ plan 'plan 1' \
     'controller a w ;' 'controller b r ;'
 want 1 "pair 0 a/w b/r: data against restart after 10010000l00000001l
     bus  S 48 Wr A 01 A
-    a/w  S 48 Wr A 01 A 02           next: a data bit
-    b/r  S 48 Wr A 0000000x A Sr     next: a repeated START
+    a/w  S 48 Wr A 01 A 02        next: a data bit
+    b/r  S 48 Wr A 0000000x A Sr  next: a repeated START
     slot 18, UM10204 3.1.8: a data bit meets a repeated START. Both send alike
     until here.
     b/r may send either bit before it in slot 16
 unsafe: 1 of 1 pairs
     to mend it: a bit before that slot, known in both and different; or the same
     shape from there on; or never a b ;" ""
-sed -i 's/ A 02           next/ A 02        next/; s/x A Sr     next/x A Sr  next/' want_out
 run "a repeated START meets a data bit, after an open bit" check --explain p.plan
 
 plan 'plan 1' 'message get read 1001000 1 stop else stop ;' 'controller a get ;' 'interrupt al 1001000 ;' \
@@ -128,7 +127,7 @@ unsafe: 3 of 3 pairs
     no 'never' keeps an interrupt away: pair 0 pair 1 pair 2" ""
 run "interrupts, which no never keeps away" check --explain p.plan
 
-plan 'plan 1' 'message one read 1001000 1 again write 1001000 stop else stop else stop ;' \
+plan 'plan 2' 'message one read 1001000 1 again write 1001000 stop else stop else stop ;' \
     'message few read 1001000 1..3 stop else stop ;' 'controller a one ;' 'controller b few ;'
 want 1 "pair 0 a/one b/few: restart against stop after 10010001lllllllll1
     bus    S 48 Rd A 00 NA
@@ -246,7 +245,7 @@ want 1 "5-160 unexplained
 run "who goes along furthest with a transaction that nobody explains" capture --explain p.plan \
     "$examples/stop_meets_data.vcd"
 "$tests/../tools/dump" 00100000000 >d.vcd
-want 1 "5-180 unexplained
+want 1 "5-190 unexplained
     S 10 Wr A 00 P
     the STOP comes after 2 of a byte's nine bits: is it a glitch? 0 bits follow
     it on a free bus
@@ -256,13 +255,26 @@ want 1 "5-180 unexplained
 1 transactions, 1 unexplained" ""
 run "a STOP in the middle of a byte" capture --explain p.plan d.vcd
 "$tests/../tools/dump" 001000000r001000010101010101 >d.vcd
-want 1 "5-350 unexplained
+want 1 "5-450 unexplained
     S 10 Wr A Sr 10 Rd A aa NA P
     b/n leaves at slot 9: it sends 0 there, the wire has a repeated START
     b/o leaves at slot 9: it sends 1 there, the wire has a repeated START
     b/q leaves at slot 7: it sends 1 there, the wire has 0
 1 transactions, 1 unexplained" ""
 run "a repeated START and a read" capture --explain p.plan d.vcd
+
+# After START, SDA is LOW for a moment while SCL is HIGH. Then come two bits of a bus that is free by now.
+{
+    printf '%s\n' '$var wire 1 ! scl $end' '$var wire 1 " sda $end' '$enddefinitions $end' '#0 1! 1"' '#10 0"' '#11 1"'
+    printf '#%s 0!\n#%s 1!\n' 20 30 40 50
+} >d.vcd
+want 1 "10-11 unexplained
+    S P
+    b/n leaves at slot 0: it sends 0 there, the wire has a STOP
+    b/o leaves at slot 0: it sends 0 there, the wire has a STOP
+    b/q leaves at slot 0: it sends 0 there, the wire has a STOP
+1 transactions, 1 unexplained" ""
+run "a glitch" capture --explain p.plan d.vcd
 
 # ---- Without the lines for people the report is the exact one.
 
