@@ -247,8 +247,7 @@ run "who goes along furthest with a transaction that nobody explains" capture --
 "$tests/../tools/dump" 00100000000 >d.vcd
 want 1 "5-190 unexplained
     S 10 Wr A 00 P
-    the STOP comes after 2 of a byte's nine bits: is it a glitch? 0 bits follow
-    it on a free bus
+    the STOP comes after 2 of a byte's nine bits: is it a glitch?
     b/n leaves at slot 11: it sends 0 there, the wire has a STOP
     b/o leaves at slot 9: it sends 1 there, the wire has 0
     b/q leaves at slot 7: it sends 1 there, the wire has 0
@@ -270,9 +269,10 @@ run "a repeated START and a read" capture --explain p.plan d.vcd
 } >d.vcd
 want 1 "10-11 unexplained
     S P
+    2 bits follow on a free bus: is the STOP a glitch?
+    a/m leaves at slot 0: it sends 1 there, the wire has a STOP
     b/n leaves at slot 0: it sends 0 there, the wire has a STOP
     b/o leaves at slot 0: it sends 0 there, the wire has a STOP
-    b/q leaves at slot 0: it sends 0 there, the wire has a STOP
 1 transactions, 1 unexplained" ""
 run "a glitch" capture --explain p.plan d.vcd
 
