@@ -30,7 +30,7 @@ pub fn below_transaction(
     let words = words_of(alloc, marks)?;
     below.hang("", 0, words.as_str())?;
     if let Until::Stopped(_) = transaction.until {
-        push_cut_byte(alloc, &mut below, marks, following)?;
+        push_glitch(alloc, &mut below, marks, following)?;
         if is_unexplained {
             push_nearest(alloc, &mut below, plan, marks)?;
         }
@@ -46,21 +46,27 @@ fn words_of(alloc: Global, marks: &[Mark]) -> Result<String, AllocError> {
     words.finish()
 }
 
-// A STOP in the middle of a byte.
-fn push_cut_byte(
+// A STOP in the middle of a byte, and one after which bits go on as if there had been none.
+fn push_glitch(
     alloc: Global,
     below: &mut Below,
     marks: &[Mark],
     following: Following,
 ) -> Result<(), AllocError> {
     let bits = last_bits(marks);
-    if bits == 0 {
-        return Ok(());
+    if bits != 0 {
+        let words = format!(in alloc;
+            "the STOP comes after {bits} of a byte's nine bits: is it a glitch?"
+        )?;
+        below.say(words.as_str())?;
     }
-    let words = format!(in alloc;
-        "the STOP comes after {bits} of a byte's nine bits: is it a glitch? {following} bits follow it on a free bus"
-    )?;
-    below.say(words.as_str())
+    if following != 0 {
+        let words = format!(in alloc;
+            "{following} bits follow on a free bus: is the STOP a glitch?"
+        )?;
+        below.say(words.as_str())?;
+    }
+    Ok(())
 }
 
 // How many bits of a byte that is not whole come before the STOP at the end.
