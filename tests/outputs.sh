@@ -213,7 +213,7 @@ echo "$cert" >right.cert
 shown "a right certificate in colours" "accepted ${green}safe${plain}" verify plan right.cert --color always
 echo "$unsafe_cert" >fault.cert
 shown "a right fault in colours" "accepted ${red}unsafe${plain}" verify unsafe fault.cert --color always
-"$tests/../tools/dump" 100100100 >other.vcd
+"$tests/../tools/dump" 100101000 >other.vcd
 shown "a transaction that nobody explains in colours" "5-160 ${red}unexplained${plain}
 1 transactions, 1 unexplained" capture plan other.vcd --color always
 shown "marks in a colour" "refused P3 line 1

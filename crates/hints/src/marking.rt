@@ -9,7 +9,7 @@ const PLACE: usize = 30;
 const AFTER: usize = 16;
 
 // How many columns a quoted name has.
-const QUOTED: usize = 40;
+const QUOTED: usize = 70;
 
 /// How many bytes before and after the beginning of a place are enough to show it.
 pub(crate) const MARGIN: usize = 128;

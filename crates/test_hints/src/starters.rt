@@ -63,6 +63,29 @@ hint:   !alert
 }
 
 #[test]
+fn the_longest_names_are_shown_whole(rt: HostRuntime) -> Result<(), Fail> {
+    let plan = b"plan 1
+message a1234567890123456789012345678901 write 1001000 stop else stop ;
+controller b1234567890123456789012345678901 a1234567890123456789012345678901 ;
+";
+    let found = on_starters(
+        rt.alloc(),
+        file(plan),
+        "b1234567890123456789012345678901/a123456789012345678901234567890",
+        OpenError::Unknown,
+    )?;
+    assert_eq!(&rt;
+        found.as_str(),
+        "hint: no participant of the plan has the label
+hint: 'b1234567890123456789012345678901/a123456789012345678901234567890'
+hint: labels of the plan, the nearest first:
+hint:   b1234567890123456789012345678901/a1234567890123456789012345678901
+"
+    );
+    Ok(())
+}
+
+#[test]
 fn a_label_that_stands_twice_is_told(rt: HostRuntime) -> Result<(), Fail> {
     expect(
         &rt,
