@@ -6,8 +6,9 @@ ghost use Rattle.plan_core.specs.PlanContents.{plan_contents};
 ghost use Rattle.bench_run.specs.Lines.{rehearsal_lines};
 
 use bus_bench::Played;
+use certificate::push_wire;
 use plan_core::Plan;
-use run_parts::{push_labels, push_wire};
+use run_parts::push_labels;
 use std::alloc::{AllocError, Global};
 
 /// The wire, and those who were live at its end.

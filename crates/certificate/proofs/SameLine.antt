@@ -4,7 +4,7 @@ use Rattle.std.specs.Prelude.{Ok}
 use Rattle.certificate.specs.declared.lines.ProofLines.{ProofLines}
 use Rattle.certificate.specs.Places.{place}
 use Rattle.certificate.specs.Proofs.{ProofTree}
-use Rattle.certificate.specs.Reader.{Place, line_at}
+use Rattle.certificate.specs.Reader.{line_at}
 use Rattle.certificate.specs.Reading.{AddsTree}
 use Rattle.certificate.specs.Texts.{SpellsLine, proof_line}
 use Rattle.certificate.proofs.AgainLemmas.{line_again}

@@ -25,6 +25,26 @@ pub fn print_cert(alloc: Global, cert: &CertText) -> Result<Vec<u8>, AllocError>
     print(alloc, cert)
 }
 
+/// The line of a proof, with its line feed: what `print_cert` writes of it.
+pub fn print_line(alloc: Global, proof: &Cert) -> Result<Vec<u8>, AllocError>
+    ensures { IfOk result (λ text. text.items ≡ proof_line (proof_tree proof.now)) }
+{
+    let mut text = String::new(alloc);
+    line(alloc, &mut text, proof)?;
+    text.shrink_to_fit();
+    Ok(text.into_bytes())
+}
+
+/// Adds the symbols of a wire, as certificates and reports have them.
+pub fn push_wire(text: &mut String, wire: &[Item]) -> Result<(), AllocError>
+    ensures { OnOk result (string_bytes text.new ≡ string_bytes text.old ++ wire_text wire.now) }
+{
+    for item in wire {
+        text.push(item.symbol())?;
+    }
+    Ok(())
+}
+
 // The spelling.
 fn print(alloc: Global, cert: &CertText) -> Result<Vec<u8>, AllocError>
     ensures { IfOk result (λ text. text.items ≡ cert_text (certificate_of cert.now)) }
@@ -57,17 +77,8 @@ fn flaw(text: &mut String, pair: u32, fault: &Fault) -> Result<(), AllocError>
         ≡ string_bytes text.old ++ flaw_text pair fault.now.wire.items fault.now.first fault.now.second) }
 {
     write!(text, "fault {pair} ")?;
-    wire(text, &fault.wire)?;
+    push_wire(text, &fault.wire)?;
     write!(text, " {} {}\n", fault.first.word(), fault.second.word())
-}
-
-fn wire(text: &mut String, items: &[Item]) -> Result<(), AllocError>
-    ensures { OnOk result (string_bytes text.new ≡ string_bytes text.old ++ wire_text items.now) }
-{
-    for item in items {
-        text.push(item.symbol())?;
-    }
-    Ok(())
 }
 
 // A proof on a line of its own. What is still to be written is kept in a list, so that a long path needs no deep calls.

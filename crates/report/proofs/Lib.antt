@@ -1,4 +1,5 @@
 pub mod AcceptedLemmas
+pub mod BlockLemmas
 pub mod PrintableLemmas
 pub mod CertificateLemmas
 pub mod LineLemmas

@@ -3,9 +3,11 @@
 ghost use Rattle.std.specs.Prelude.{◌≡◌, IfOk, IfErr, string_bytes};
 ghost use Rattle.report.specs.Certificates.{Certified, Verified};
 ghost use Rattle.run_parts.specs.Answers.{verify_line, answer_status};
+ghost use Rattle.run_parts.specs.Devices.{by_parts};
 ghost use Rattle.run_parts.specs.PlanTexts.{RefusesPlan, SpellsPlan};
 ghost use Rattle.run_parts.specs.Runs.{ReadsText, HaltsAtText, ReadsBoth, HaltsAtBoth, Reports, Stops};
 
+use crate::blocks::{BLOCK, write_in_blocks};
 use crate::checks::status_of;
 use cert_check::check_certificate;
 use plan_text::read_plan;
@@ -14,10 +16,11 @@ use run_parts::{
     Input, Output, RunError, Status, answer_line, read_within, status_of_answer, write_lines,
 };
 use std::alloc::Global;
-use verdicts::{certificate_text, faults};
+use verdicts::{certificate_lines, faults};
 
 /// Writes the certificate of the plan that the reader gives: the proofs of all pairs where the plan is safe, and else
-/// the first fault of the first pair that has one. The status is `Good` or `Bad`.
+/// the first fault of the first pair that has one. The status is `Good` or `Bad`. A line that stands in it many times is
+/// held once, and the writer is given it in blocks, a part of what is left in each call.
 ///
 /// # Errors
 ///
@@ -30,16 +33,19 @@ pub fn run_certify<I: Input, O: Output>(
     out: &mut O,
 ) -> Result<Status, RunError>
     ensures report { IfOk result (λ status.
-        Reports (ReadsText I.reader) Certified O.writer plan.old out.old status plan.new out.new) }
+        Reports (ReadsText I.reader) Certified (by_parts O.writer) plan.old out.old status plan.new out.new) }
     ensures stops { IfErr result (λ error.
-        Stops (ReadsText I.reader) Certified O.writer (HaltsAtText I.reader RefusesPlan)
+        Stops (ReadsText I.reader) Certified (by_parts O.writer) (HaltsAtText I.reader RefusesPlan)
         plan.old out.old error plan.new out.new) }
 {
     let text = read_within(alloc, plan, READS)?;
     let plan = read_plan(alloc, text.as_slice())?;
     let faults = faults(alloc, &plan)?;
-    let report = certificate_text(alloc, &plan, &faults)?;
-    write_lines(out, report.as_slice(), status_of(faults.is_safe()))
+    let report = certificate_lines(alloc, &plan, &faults)?;
+    let status = status_of(faults.is_safe());
+    let mut block = Vec::with_capacity(alloc, BLOCK)?;
+    write_in_blocks(out, &mut block, &report)?;
+    Ok(status)
 }
 
 /// Writes what the certificate that the second reader gives says of the plan that the first reader gives: `accepted safe`,

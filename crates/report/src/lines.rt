@@ -8,9 +8,8 @@ ghost use Rattle.verdicts.specs.Faults.{AreFaults, fault_list};
 ghost use Rattle.report.specs.FaultLines.{fault_report};
 ghost use Rattle.report.specs.Lines.{fault_text, fault_line, last_line};
 
-use certificate::Fault;
+use certificate::{Fault, push_wire};
 use plan_core::Plan;
-use run_parts::push_wire;
 use std::alloc::{AllocError, Global};
 use verdicts::Faults;
 

@@ -33,10 +33,10 @@ module _ {D : Type 0} (writer : Writer D) (start : D) (report : List ℕ) where
   pub nothing_written : Writing report start
   nothing_written = record { front = []; split = refl; written = no_write; appended = Appends-nil (writer.contents start) }
 
-  pub one_more_written : (left : List ℕ) (n : ℕ) (before after : D) → Writing left before → writer.takes before left (Some n) after → 0 < n → writer.has_failed after ≡ false → Appends (writer.contents before) (writer.contents after) (take n left) → Writing (drop n left) after
-  one_more_written left n before after so_far call some sound grown = record {
+  pub one_more_written : (left : List ℕ) (n : ℕ) (before after : D) → Writing left before → writer.takes before left (Some n) after → 0 < n → n ≤ length left → writer.has_failed after ≡ false → Appends (writer.contents before) (writer.contents after) (take n left) → Writing (drop n left) after
+  one_more_written left n before after so_far call some within sound grown = record {
     front = so_far.front ++ take n left;
     split = so_far.split ∙ ap (λ l. so_far.front ++ l) (sym (take-append-drop n left)) ∙ sym (append_assoc so_far.front (take n left) (drop n left));
-    written = next_write so_far.written call some sound;
+    written = next_write so_far.written call some within sound;
     appended = Appends-trans _ _ _ _ _ so_far.appended grown;
   }

@@ -1,6 +1,6 @@
 -- What a reader and a writer say of themselves, and what calls to them have done.
-use Rattle.std.specs.Prelude.{◌≡◌, ℕ, zero, suc, ◌<◌, Bool, false, List, [], ◌++◌, length, take, drop}
-use Rattle.std.specs.Prelude.{Option, None, Some, Result, Ok, Err}
+use Rattle.std.specs.Prelude.{◌≡◌, ℕ, zero, suc, ◌<◌, ◌≤◌, Bool, false, List, [], ◌++◌, length, take, drop}
+use Rattle.std.specs.Prelude.{Option, None, Some, IfSome, Result, Ok, Err}
 
 -- what is known of a reader of this type
 pub record Reader (D : Type 0) : Type 1 where
@@ -40,6 +40,23 @@ pub data HasGiven {D : Type 0} (reader : Reader D) (start : D) : ℕ → List �
       reader.has_failed after ≡ false →
       HasGiven reader start (suc reads) (text ++ piece) after
 
+-- a write that is given a part of these bytes, the first of them, takes so many or answers an error
+pub record TakesPart {D : Type 0} (writer : Writer D) (before : D) (bytes : List ℕ) (taken : Option ℕ) (after : D) : Type 0 where
+  pub part : List ℕ
+  pub rest : List ℕ
+  pub split : bytes ≡ part ++ rest
+  pub some : 0 < length part
+  pub within : IfSome taken (λ n. n ≤ length part)
+  pub call : writer.takes before part taken after
+
+-- the writer as one that is given what it is to write in parts
+abbrev pub by_parts : {D : Type 0} → Writer D → Writer D
+by_parts writer = record {
+  contents = writer.contents;
+  has_failed = writer.has_failed;
+  takes = λ before bytes taken after. TakesPart writer before bytes taken after;
+}
+
 -- the last bytes of this report are left: each write from `start` on was of all that was left, and took some of it
 pub data HasTaken {D : Type 0} (writer : Writer D) (start : D) (report : List ℕ) : List ℕ → D → Type 0 where
   no_write : HasTaken writer start report report start
@@ -47,5 +64,6 @@ pub data HasTaken {D : Type 0} (writer : Writer D) (start : D) (report : List �
       HasTaken writer start report left before →
       writer.takes before left (Some n) after →
       0 < n →
+      n ≤ length left →
       writer.has_failed after ≡ false →
       HasTaken writer start report (drop n left) after

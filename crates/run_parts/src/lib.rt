@@ -15,5 +15,5 @@ pub use devices::traits::{Input, Output};
 pub use devices::watched::Watched;
 pub use devices::writing::write_report;
 pub use errors::RunError;
-pub use lines::{push_labels, push_wire};
+pub use lines::push_labels;
 pub use runs::{Status, write_lines};

@@ -1,24 +1,12 @@
 // Parts of lines that several reports have.
 
 ghost use Rattle.std.specs.Prelude.{◌≡◌, ℕ, ◌<◌, ◌++◌, Contains, string_bytes, OnOk};
-ghost use Rattle.message_tree.specs.Symbols.{wire_text};
 ghost use Rattle.plan_core.specs.Participants.{participant_count};
 ghost use Rattle.plan_core.specs.PlanContents.{plan_contents};
 ghost use Rattle.run_parts.specs.Lines.{labels};
 
-use message_tree::Item;
 use plan_core::Plan;
 use std::alloc::{AllocError, Global};
-
-/// Adds the symbols of a wire.
-pub fn push_wire(report: &mut String, wire: &[Item]) -> Result<(), AllocError>
-    ensures { OnOk result (string_bytes report.new ≡ string_bytes report.old ++ wire_text wire.now) }
-{
-    for item in wire {
-        report.push(item.symbol())?;
-    }
-    Ok(())
-}
 
 /// Adds the labels of participants, each after a space.
 pub fn push_labels(

@@ -2,10 +2,9 @@
 use Rattle.std.proofs.Common.{◌≡◌, ◌⊎◌, ℕ, zero, suc, ◌+◌, ◌<◌, Bool, true, false, ◌==◌, Some, List, [], ◌∷◌, ◌++◌, Vec, vec_len, Global, codes, decimal, drop, length, length-append, map, replicate, set, slice_get, append-nil, add-one, refl, ap, sym, ◌∙◌, append_assoc, subst, arith, inl, inr}
 use Rattle.std.specs.List.{flat_map}
 use Rattle.std.proofs.lemmas.Bool.{cases_eq}
-use Rattle.std.proofs.lemmas.List.{map_push}
+use Rattle.std.proofs.lemmas.List.{map_push, flat_map_more}
 use Rattle.certificate.specs.Certificates.{Certificate, proofs, flaw}
-use Rattle.certificate.specs.declared.values.Cert.{Cert}
-use Rattle.certificate.specs.Proofs.{ProofTree, proof_tree}
+use Rattle.certificate.specs.Proofs.{ProofTree}
 use Rattle.certificate.specs.Texts.{proof_line, cert_text}
 use Rattle.certificate.specs.declared.values.Fault.{Fault}
 use Rattle.pair_walk.specs.declared.walk_pair.Outcome.{Outcome}
@@ -18,7 +17,8 @@ use Rattle.plan_core.specs.Limits.{IsWithinLimits}
 use Rattle.plan_core.specs.Pairs.{pairs_of}
 use Rattle.verdicts.specs.Certificates.{outcome_certificate, certificate_for, IsCertificateText}
 use Rattle.verdicts.specs.Faults.{AreFaults, outcome_fault, faults_of}
-use Rattle.verdicts.specs.Lines.{IsProofLine, AreLines, HasLine}
+use Rattle.verdicts.specs.Lines.{IsProofLine, AreLines, HasLine, HaveLines}
+use Rattle.verdicts.specs.Texts.{bytes_of, lines_at, joined}
 use Rattle.plan_core.specs.SenderPlaces.{place, place_count}
 use Rattle.verdicts.proofs.FaultLemmas.{some_cert}
 use Rattle.std.proofs.lemmas.List.{length-set}
@@ -53,6 +53,12 @@ module _ (plan : Contents) (within : IsWithinLimits plan) (lines : List (Vec ℕ
       let here : slice_get lines (place plan x y) ≡ Some line = ap (slice_get lines) (sym (is_place x y e)) ∙ got in
       elim (so_far.right i x y line e here) [ inl none ↦ absurd (some none) | inr right ↦ (line, here, right) ]
 
+  pub line_here : HasLine plan lines i → (line : Vec ℕ Global) × (slice_get lines q ≡ Some line)
+  line_here has =
+      let p = some_at (pairs_of plan) i is_pair in
+      let l = has p.0.0 p.0.1 p.1 in
+      (l.0, ap (slice_get lines) (is_place p.0.0 p.0.1 p.1) ∙ l.1)
+
   pub line_there : (line : Vec ℕ Global) → slice_get lines q ≡ Some line → HasLine plan lines i → (x y : ℕ) → slice_get (pairs_of plan) i ≡ Some (x, y) → IsProofLine plan x y line.items
   line_there line got has x y e =
       let l = has x y e in
@@ -79,6 +85,14 @@ module _ (plan : Contents) (within : IsWithinLimits plan) (lines : List (Vec ℕ
         | inr other ↦ so_far.right j v w l e (sym (get_set_other lines q (place plan v w) line other) ∙ f)
       ];
     }
+
+    pub line_kept : (j : ℕ) → HasLine plan lines j → HasLine plan (set lines q line) j
+    line_kept j has x y e = elim (cases_eq (place plan x y) q) [
+      | inl same ↦
+          let at : slice_get (set lines q line) (place plan x y) ≡ Some line = ap (slice_get (set lines q line)) same ∙ get_set_same lines q line line_place in
+          (line, at, line_at j x y e same)
+      | inr other ↦ let l = has x y e in (l.0, get_set_other lines q (place plan x y) line other ∙ l.1, l.2)
+    ]
 
     pub line_added : HasLine plan (set lines q line) i
     line_added x y e =
@@ -110,28 +124,9 @@ no_line_is_made plan lines n all e = record {
       inl (sym (get_replicate n (place plan x y) [] line.items got));
 }
 
--- ---- a line of its own
-
-abbrev head_of : ℕ → List ℕ
-head_of n = codes "cert 1\npairs " ++ (decimal n ++ codes "\n")
-
-behind_head : (t : ProofTree) → cert_text (proofs (t ∷ [])) ≡ head_of 1 ++ proof_line t
-behind_head t =
-    ap (λ (cs : List ℕ). codes "cert 1\npairs " ++ (decimal 1 ++ (codes "\n" ++ cs))) (append-nil (proof_line t)) ∙ sym (append_assoc (codes "cert 1\npairs ") (decimal 1 ++ codes "\n") (proof_line t) ∙ ap (λ (cs : List ℕ). codes "cert 1\npairs " ++ cs) (append_assoc (decimal 1) (codes "\n") (proof_line t)))
-
-drop_front : (front back : List ℕ) → drop (length front) (front ++ back) ≡ back
-drop_front [] back = refl
-drop_front (c ∷ front) back = drop_front front back
-
--- the text of the certificate of one proof, after its heading
-pub line_behind_head : (proof : Cert) (before pushed : List Cert) (text head : List ℕ) (n : ℕ) → before ≡ [] → pushed ≡ before ++ proof ∷ [] → text ≡ cert_text (proofs (map proof_tree pushed)) → head ≡ codes "cert 1\npairs " ++ (decimal 1 ++ codes "\n") → n ≡ length head → (n < length text) × (drop n text ≡ proof_line (proof_tree proof))
-line_behind_head proof before pushed text head n empty push is_text is_head is_n =
-    let t = proof_tree proof in
-    let one : map proof_tree pushed ≡ t ∷ [] = ap (map proof_tree) (push ∙ ap (λ (ps : List Cert). ps ++ proof ∷ []) empty) in
-    let whole : text ≡ head ++ proof_line t = is_text ∙ (ap (λ (ts : List ProofTree). cert_text (proofs ts)) one ∙ (behind_head t ∙ ap (λ (cs : List ℕ). cs ++ proof_line t) (sym is_head))) in
-    let long : length text ≡ length head + length (proof_line t) = ap (λ (cs : List ℕ). length cs) whole ∙ length-append head (proof_line t) in
-    let some : 0 < length (proof_line t) = omega (arith, length-append {A = ℕ}) in
-    (omega (arith, is_n, long, some), ap (λ m. drop m text) is_n ∙ (ap (λ (cs : List ℕ). drop (length head) cs) whole ∙ drop_front head (proof_line t)))
+pub have_next : (plan : Contents) (lines : List (Vec ℕ Global)) (n : ℕ) → HaveLines plan lines n → HasLine plan lines n → HaveLines plan lines (n + 1)
+have_next plan lines n before here i h =
+    elim (cases_eq i n) [ inl e ↦ subst (HasLine plan lines) (sym e) here | inr ne ↦ before i (omega (arith, ne)) ]
 
 -- ---- the certificate of proofs
 
@@ -174,6 +169,35 @@ one_line_more plan head text more line n so_far is_pair right e =
       ];
       written = e ∙ (ap (λ (cs : List ℕ). text ++ cs) t.2 ∙ (ap (λ (cs : List ℕ). cs ++ proof_line t.0) so_far.written ∙ (append_assoc head (flat_map proof_line so_far.trees) (proof_line t.0) ∙ ap (λ (cs : List ℕ). head ++ cs) (sym (lines_push so_far.trees t.0)))));
     }
+
+rest_suc : {X : Type 0} (xs : List X) (k : ℕ) (x : X) → slice_get xs k ≡ Some x → drop k xs ≡ x ∷ drop (suc k) xs
+rest_suc [] k x e = cc
+rest_suc (y ∷ xs) zero x e = let d : y ≡ x = cc in ap (λ z. z ∷ xs) d
+rest_suc (y ∷ xs) (suc k) x e = rest_suc xs k x e
+
+pub rest_at : {X : Type 0} (xs : List X) (k : ℕ) (x : X) → slice_get xs k ≡ Some x → drop k xs ≡ x ∷ drop (k + 1) xs
+rest_at xs k x e = rw add-one (rest_suc xs k x e)
+
+pub line_goes_on : (text more : List ℕ) (lines : List (List ℕ)) (k : ℕ) (line whole : List ℕ) → text ++ joined (drop k lines) ≡ whole → slice_get lines k ≡ Some line → more ≡ text ++ line → more ++ joined (drop (k + 1) lines) ≡ whole
+line_goes_on text more lines k line whole so_far got e =
+    let rest : drop k lines ≡ line ∷ drop (k + 1) lines = rest_at lines k line got in
+    ap (λ (cs : List ℕ). cs ++ joined (drop (k + 1) lines)) e ∙ (append_assoc text line (joined (drop (k + 1) lines)) ∙ (sym (ap (λ (ls : List (List ℕ)). text ++ joined ls) rest) ∙ so_far))
+
+-- the line at one more place stands after the others
+line_more : (head : List ℕ) (lines : List (Vec ℕ Global)) (order more : List ℕ) (q : ℕ) (line : Vec ℕ Global) → slice_get lines q ≡ Some line → more ≡ order ++ q ∷ [] → head ++ joined (lines_at lines more) ≡ (head ++ joined (lines_at lines order)) ++ line.items
+line_more head lines order more q line got e =
+    let at : ℕ → List ℕ = λ k. bytes_of (slice_get lines k) in
+    let all : lines_at lines more ≡ lines_at lines order ++ line.items ∷ [] =
+    ap (λ (ks : List ℕ). lines_at lines ks) e ∙ (map_push at order q ∙ ap (λ (l : List ℕ). lines_at lines order ++ l ∷ []) (ap bytes_of got)) in
+    ap (λ (ls : List (List ℕ)). head ++ joined ls) all ∙ sym (flat_map_more (λ (l : List ℕ). l) head (lines_at lines order) line.items)
+
+module _ (plan : Contents) (within : IsWithinLimits plan) (lines : List (Vec ℕ Global)) (are : AreLines plan lines) (all : HaveLines plan lines (length (pairs_of plan))) (head order more : List ℕ) (n q : ℕ) (so_far : HasProofs plan head (head ++ joined (lines_at lines order)) n) (is_pair : n < length (pairs_of plan)) (is_place : (x y : ℕ) → slice_get (pairs_of plan) n ≡ Some (x, y) → q ≡ place plan x y) (e : more ≡ order ++ q ∷ []) where
+  pub one_place_more : HasProofs plan head (head ++ joined (lines_at lines more)) (n + 1)
+  one_place_more =
+      let has = all n is_pair in
+      let l = line_here plan within lines are n q is_pair is_place has in
+      let right = line_there plan within lines are n q is_pair is_place l.0 l.1 has in
+      one_line_more plan head (head ++ joined (lines_at lines order)) (head ++ joined (lines_at lines more)) l.0.items n so_far is_pair right (line_more head lines order more q l.0 l.1 e)
 
 -- the verdicts that these proofs are
 verdicts_from : ℕ → List ProofTree → List Verdict

@@ -6,4 +6,5 @@ pub mod Lines
 pub mod Parts
 pub mod Samples
 pub mod Tables
+pub mod Texts
 pub mod Verdicts

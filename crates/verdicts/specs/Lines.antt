@@ -1,6 +1,6 @@
 -- The lines of proofs, kept at the places of the senders whose proofs they are.
 -- Only private contracts and proofs use this.
-use Rattle.std.specs.Prelude.{◌≡◌, ◌⊎◌, ℕ, Some, List, [], Vec, length, slice_get}
+use Rattle.std.specs.Prelude.{◌≡◌, ◌⊎◌, ℕ, ◌<◌, Some, List, [], Vec, length, slice_get}
 use Rattle.std.specs.declared.alloc.Global.{Global}
 use Rattle.certificate.specs.Proofs.{ProofTree}
 use Rattle.certificate.specs.Texts.{proof_line}
@@ -24,3 +24,7 @@ abbrev pub HasLine : Contents → List (Vec ℕ Global) → ℕ → Type 0
 HasLine plan lines i =
     (x y : ℕ) → slice_get (pairs_of plan) i ≡ Some (x, y) →
     (line : Vec ℕ Global) × (slice_get lines (place plan x y) ≡ Some line) × IsProofLine plan x y line.items
+
+-- the lines of the first n pairs are made
+abbrev pub HaveLines : Contents → List (Vec ℕ Global) → ℕ → Type 0
+HaveLines plan lines n = (i : ℕ) → i < n → HasLine plan lines i

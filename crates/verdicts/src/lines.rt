@@ -5,17 +5,29 @@ ghost use Rattle.std.specs.Prelude.{string_bytes, codes, decimal};
 ghost use Rattle.plan_core.specs.PlanContents.{plan_contents};
 ghost use Rattle.plan_core.specs.Faults.{IsSafe};
 ghost use Rattle.plan_core.specs.Pairs.{pairs_of};
-ghost use Rattle.certificate.specs.Proofs.{proof_tree};
-ghost use Rattle.certificate.specs.Texts.{proof_line};
-ghost use Rattle.verdicts.specs.Lines.{IsProofLine, AreLines, HasLine};
+ghost use Rattle.verdicts.specs.Lines.{IsProofLine, AreLines, HasLine, HaveLines};
 
-use certificate::{Cert, CertText, print_cert};
+use certificate::print_line;
 use pair_walk::{Outcome, walk};
 use plan_core::Plan;
 use std::alloc::{AllocError, Global};
 
-/// So many lines that are not yet made: they are empty.
-pub(crate) fn no_lines(alloc: Global, n: usize) -> Result<Vec<Vec<u8>>, AllocError>
+/// The lines of the proofs of all pairs, each at the place of its two senders.
+pub(crate) fn proof_lines(alloc: Global, plan: &Plan) -> Result<Vec<Vec<u8>>, AllocError>
+    requires { IsSafe (plan_contents plan.now) }
+    ensures lines { IfOk result (λ lines. AreLines (plan_contents plan.now) lines.items) }
+    ensures made { IfOk result (λ lines.
+        HaveLines (plan_contents plan.now) lines.items (length (pairs_of (plan_contents plan.now)))) }
+{
+    let mut lines = no_lines(alloc, plan.sender_places())?;
+    for i in 0..plan.pair_count() {
+        make_line(alloc, plan, &mut lines, i)?;
+    }
+    Ok(lines)
+}
+
+// So many lines that are not yet made: they are empty.
+fn no_lines(alloc: Global, n: usize) -> Result<Vec<Vec<u8>>, AllocError>
     ensures { IfOk result (λ lines. map (λ line. line.items) lines.items ≡ replicate n []) }
 {
     let mut lines = Vec::with_capacity(alloc, n)?;
@@ -25,18 +37,15 @@ pub(crate) fn no_lines(alloc: Global, n: usize) -> Result<Vec<Vec<u8>>, AllocErr
     Ok(lines)
 }
 
-/// Makes the line of pair `i`, unless that of its two senders is made.
-pub(crate) fn make_line(
-    alloc: Global,
-    plan: &Plan,
-    lines: &mut Vec<Vec<u8>>,
-    i: u32,
-) -> Result<(), AllocError>
+// Makes the line of pair `i`, unless that of its two senders is made.
+fn make_line(alloc: Global, plan: &Plan, lines: &mut Vec<Vec<u8>>, i: u32) -> Result<(), AllocError>
     requires safe { IsSafe (plan_contents plan.now) }
     requires pair { i < length (pairs_of (plan_contents plan.now)) }
     requires lines { AreLines (plan_contents plan.now) lines.old.items }
     ensures lines { OnOk result (AreLines (plan_contents plan.now) lines.new.items) }
     ensures made { OnOk result (HasLine (plan_contents plan.now) lines.new.items i) }
+    ensures keeps { OnOk result ((j : ℕ) →
+        HasLine (plan_contents plan.now) lines.old.items j → HasLine (plan_contents plan.now) lines.new.items j) }
 {
     let place = plan.sender_place(i);
     if !lines[place].is_empty() {
@@ -54,20 +63,9 @@ fn line_of_pair(alloc: Global, plan: &Plan, i: u32) -> Result<Vec<u8>, AllocErro
         IsProofLine (plan_contents plan.now) x y line.items) }
 {
     match walk(alloc, plan, i)?.outcome {
-        Outcome::Safe(proof) => line_of(alloc, proof),
+        Outcome::Safe(proof) => print_line(alloc, &proof),
         Outcome::Unsafe(_) => unreachable!(),
     }
-}
-
-// The line of a proof: what the certificate of this proof alone has after its heading.
-fn line_of(alloc: Global, proof: Cert) -> Result<Vec<u8>, AllocError>
-    ensures { IfOk result (λ line. line.items ≡ proof_line (proof_tree proof)) }
-{
-    let head = heading(alloc, 1)?;
-    let mut proofs = Vec::new(alloc);
-    proofs.push(proof)?;
-    let mut text = print_cert(alloc, &CertText::Proofs(proofs))?;
-    Ok(text.split_off(head.len())?)
 }
 
 /// The two lines before so many proofs.

@@ -2,7 +2,7 @@ use Rattle.std.proofs.Common.{length, refl, arith}
 use Rattle.std.proofs.lemmas.Option.{slice_get_read}
 use Rattle.plan_core.proofs.PlanLemmas.{limits_of}
 use Rattle.plan_core.specs.PlanContents.{plan_contents}
-use Rattle.verdicts.proofs.ProofLines.{line_place, line_made, lines_more, line_added, not_empty}
+use Rattle.verdicts.proofs.ProofLines.{line_place, line_made, lines_more, line_kept, line_added, not_empty}
 use Rattle.verdicts.proofs.lines.make_line.Goals as goal
 
 pub index-requires : goal.index-requires
@@ -34,3 +34,8 @@ pub returns-clause-made : goal.returns-clause-made
 returns-clause-made c =
     let plan = c.args.plan.now in
     line_added (plan_contents plan) (limits_of plan) c.args.lines.now.items c.requires.lines c.args.i c.sender_place-place.result c.requires.pair c.sender_place-place.ensures.place c.in_ok-lines.field-0 c.in_ok-lines.ensures
+
+pub returns-clause-keeps : goal.returns-clause-keeps
+returns-clause-keeps c =
+    let plan = c.args.plan.now in
+    line_kept (plan_contents plan) (limits_of plan) c.args.lines.now.items c.requires.lines c.args.i c.sender_place-place.result c.requires.pair c.sender_place-place.ensures.place c.in_ok-lines.field-0 c.in_ok-lines.ensures
