@@ -69,7 +69,10 @@ impl Below {
         self.begin(title, columns)?;
         let mut left_out = 0;
         if words.len() > room {
-            left_out = words.len().saturating_add(KEPT_COLUMNS).saturating_sub(room);
+            left_out = words
+                .len()
+                .saturating_add(KEPT_COLUMNS)
+                .saturating_sub(room);
         }
         let mut at = 0usize;
         for (k, word) in words.split(' ').enumerate() {
@@ -116,7 +119,5 @@ impl Below {
 
 /// How many columns are left on a line after the margin and so many more.
 pub(crate) fn room_after(columns: usize) -> usize {
-    COLUMNS
-        .saturating_sub(MARGIN.len())
-        .saturating_sub(columns)
+    COLUMNS.saturating_sub(MARGIN.len()).saturating_sub(columns)
 }

@@ -13,8 +13,6 @@ use std::alloc::{AllocError, Global};
 // How many columns the labels of rows have at most; a longer one has a line of its own.
 const LABELS: usize = 22;
 
-
-
 /// What is said below the line `wire WIRE` in the report of a rehearsal: the slots in which bytes begin, the bytes, the
 /// wire, and for each starter what it puts in each slot, with `.` where it listens, up to the slot in which it loses. `fill`
 /// is what is sent for an open bit.
@@ -165,7 +163,11 @@ fn slots_line(alloc: Global, block: &[Cell]) -> Result<String, AllocError> {
     let mut line = String::new(alloc);
     for cell in block {
         let number = format!(in alloc; "{}", cell.from)?;
-        pad(&mut line, if cell.is_byte() { number.as_str() } else { "" }, cell.size)?;
+        pad(
+            &mut line,
+            if cell.is_byte() { number.as_str() } else { "" },
+            cell.size,
+        )?;
     }
     Ok(line)
 }
@@ -190,7 +192,9 @@ fn wire_symbols(alloc: Global, wire: &[Item]) -> Result<String, AllocError> {
 fn symbols_line(alloc: Global, symbols: &str, block: &[Cell]) -> Result<String, AllocError> {
     let mut line = String::new(alloc);
     for cell in block {
-        let shown = symbols.get(cell.from..cell.end().min(symbols.len())).unwrap_or("");
+        let shown = symbols
+            .get(cell.from..cell.end().min(symbols.len()))
+            .unwrap_or("");
         pad(&mut line, shown, cell.size)?;
     }
     Ok(line)

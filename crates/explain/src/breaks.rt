@@ -94,7 +94,8 @@ fn proves_bytes<'a>(
     let refused = answered(both, true, false);
     let acked = answered(both, false, are_reads);
     match (acked, refused) {
-        (Some(acked), Some(refused)) if listens(acked.first) == are_reads && listens(acked.second) == are_reads => {
+        (Some(acked), Some(refused))
+            if listens(acked.first) == are_reads && listens(acked.second) == are_reads => {
             left.push(refused)?;
             left.push(acked)?;
             Ok(Ok(()))
@@ -126,7 +127,10 @@ fn after_answer<'a>(start: Place<'a>, answer: bool) -> Option<Place<'a>> {
 fn after_bits<'a>(start: Place<'a>, bits: u32) -> Option<Place<'a>> {
     let mut place = start;
     for _ in 0..bits {
-        place = after(&place, Item::Sent(place.offered() == Offered::Bit(Bit::One)))?;
+        place = after(
+            &place,
+            Item::Sent(place.offered() == Offered::Bit(Bit::One)),
+        )?;
     }
     Some(place)
 }

@@ -37,7 +37,9 @@ impl Cell {
 
     /// What the bytes of the wire have there.
     pub(crate) fn words(&self, alloc: Global, wire: &[Item]) -> Result<String, AllocError> {
-        let items = wire.get(self.from..self.end().min(wire.len())).unwrap_or(&[]);
+        let items = wire
+            .get(self.from..self.end().min(wire.len()))
+            .unwrap_or(&[]);
         let mut shown = String::new(alloc);
         match self.part {
             Part::Acknowledge => shown.push(acknowledge(items))?,

@@ -55,7 +55,8 @@ fn push_pair(
 // The line of a pair's proof, where the text has proofs.
 fn proof_line(cert: &[u8], pair: u32) -> Option<&[u8]> {
     let rest = cert.strip_prefix(b"cert 1\npairs ")?;
-    rest.split(|byte| *byte == b'\n').nth((pair as usize).saturating_add(1))
+    rest.split(|byte| *byte == b'\n')
+        .nth((pair as usize).saturating_add(1))
 }
 
 fn push_counts(
@@ -64,7 +65,11 @@ fn push_counts(
     plan: &Plan,
     cert: &[u8],
 ) -> Result<(), AllocError> {
-    let lines = cert.iter().filter(|byte| **byte == b'\n').count().saturating_sub(2);
+    let lines = cert
+        .iter()
+        .filter(|byte| **byte == b'\n')
+        .count()
+        .saturating_sub(2);
     let words = format!(in alloc;
         "the plan has {} pairs, and the certificate has {lines} lines of proofs",
         plan.pair_count()

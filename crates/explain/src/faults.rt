@@ -220,7 +220,11 @@ fn push_with_interrupts(
         return Ok(());
     }
     let mut words = String::from_str(alloc, "no 'never' keeps an interrupt away:")?;
-    for (k, pair) in pairs.iter().filter(|it| has_interrupt(plan, **it)).enumerate() {
+    for (k, pair) in pairs
+        .iter()
+        .filter(|it| has_interrupt(plan, **it))
+        .enumerate()
+    {
         if k == RANGES {
             write!(words, " and {} more", count.saturating_sub(k))?;
             break;

@@ -8,18 +8,17 @@
 #![tactic(auto)]
 
 mod below;
+pub mod benches;
 mod breaks;
+pub mod captures;
 mod cells;
+pub mod certificates;
+pub mod faults;
 mod meeting;
+pub mod plans;
 mod sending;
 mod wires;
 mod words;
-
-pub mod benches;
-pub mod captures;
-pub mod certificates;
-pub mod faults;
-pub mod plans;
 
 pub use benches::below_wire;
 pub use captures::{Following, below_transaction};

@@ -51,8 +51,13 @@ fn explain_lines<O: Output>(
         page.line(out, line)?;
         if let Some(it) = heard.get(k) {
             let is_unexplained = line.ends_with(" unexplained");
-            let below =
-                below_transaction(alloc, plan, &it.transaction, is_unexplained, it.following)?;
+            let below = below_transaction(
+                alloc,
+                plan,
+                &it.transaction,
+                is_unexplained,
+                it.following,
+            )?;
             page.below(out, below.as_str())?;
         }
     }

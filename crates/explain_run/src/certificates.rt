@@ -36,11 +36,7 @@ pub fn explain_verify<I: Input, J: Input, O: Output>(
     Ok(status)
 }
 
-fn verified(
-    alloc: Global,
-    text: &[u8],
-    proofs: &[u8],
-) -> Result<(Vec<u8>, Status), RunError> {
+fn verified(alloc: Global, text: &[u8], proofs: &[u8]) -> Result<(Vec<u8>, Status), RunError> {
     let mut read = Watched::new(text);
     let mut second = Watched::new(proofs);
     let mut written = Watched::new(Vec::new(alloc));

@@ -4,7 +4,9 @@ use crate::pages::Page;
 use crate::texts::{plan_of, text_of};
 use explain::{Endings, below_pair, below_safe, below_unsafe};
 use plan_core::Plan;
-use report::{Input, NoGate, Output, RunError, Status, Watched, read_within, run_certify, run_check};
+use report::{
+    Input, NoGate, Output, RunError, Status, Watched, read_within, run_certify, run_check,
+};
 use run_parts::devices::reading::READS;
 use std::alloc::{AllocError, Global};
 use std::io::{self, Write};
@@ -33,7 +35,13 @@ pub fn explain_check<R: Threads + Sync, I: Input, O: Output>(
     let mut read = Watched::new(text.as_slice());
     let status = run_check(rt, alloc, &mut read, &mut written, workers, &NoGate)?;
     let report = written.into_inner();
-    explain_report(alloc, text.as_slice(), text_of(report.as_slice()), out, most)?;
+    explain_report(
+        alloc,
+        text.as_slice(),
+        text_of(report.as_slice()),
+        out,
+        most,
+    )?;
     Ok(status)
 }
 
