@@ -194,7 +194,7 @@ const WORKERS: Argument = Argument::Number {
 
 const EXPLAIN: Argument = Argument::Flag {
     id: "explain",
-    help: "Say below each line of the report what it means, in bytes",
+    help: "Say below each line what it means, in bytes",
 };
 
 const MOST: Argument = Argument::Number {
