@@ -88,7 +88,7 @@ fn push_same(
     starters: &str,
 ) -> Result<(), AllocError> {
     if let Some(plan) = plan {
-        if let Some((first, second)) = first_two(alloc, plan, starters, are_one)? {
+        if let Some((first, second)) = first_two(alloc, plan, starters, Clash::OneController)? {
             let line = if first == second {
                 let label = plan.label(alloc, first)?;
                 format!(in alloc; "'{label}' stands there twice")?
@@ -110,7 +110,7 @@ fn push_never(
     starters: &str,
 ) -> Result<(), AllocError> {
     if let Some(plan) = plan {
-        if let Some((first, second)) = first_two(alloc, plan, starters, are_forbidden)? {
+        if let Some((first, second)) = first_two(alloc, plan, starters, Clash::Never)? {
             return push_item(alloc, lines, plan, first, second);
         }
     }
@@ -152,33 +152,41 @@ fn is_of(plan: &Plan, i: u32, wanted: u32) -> bool {
     }
 }
 
-fn are_one(plan: &Plan, first: u32, second: u32) -> bool {
-    let count = plan.participants();
-    first < count && second < count && (first == second || plan.same_controller(first, second))
+// Why two starters cannot start together.
+#[derive(Clone, Copy)]
+enum Clash {
+    OneController,
+    Never,
 }
 
-fn are_forbidden(plan: &Plan, first: u32, second: u32) -> bool {
+fn has_clash(plan: &Plan, clash: Clash, first: u32, second: u32) -> bool {
     let count = plan.participants();
-    first < count && second < count && plan.forbids(first, second)
+    if first >= count || second >= count {
+        return false;
+    }
+    match clash {
+        Clash::OneController => first == second || plan.same_controller(first, second),
+        Clash::Never => plan.forbids(first, second),
+    }
 }
 
 // The first starter that cannot start with one before it, after that one.
-fn first_two<G: Fn(&Plan, u32, u32) -> bool>(
+fn first_two(
     alloc: Global,
     plan: &Plan,
     starters: &str,
-    clash: G,
+    clash: Clash,
 ) -> Result<Option<(u32, u32)>, AllocError> {
     let mut before: Vec<u32> = Vec::new(alloc);
     for label in starters.split(',') {
-        let Some(starter) = plan.find(label) else {
-            continue;
-        };
-        let found = before.iter().find(|other| clash(plan, **other, starter));
-        if let Some(other) = found {
-            return Ok(Some((*other, starter)));
+        if let Some(starter) = plan.find(label) {
+            for other in before.as_slice() {
+                if has_clash(plan, clash, *other, starter) {
+                    return Ok(Some((*other, starter)));
+                }
+            }
+            before.push(starter)?;
         }
-        before.push(starter)?;
     }
     Ok(None)
 }

@@ -31,7 +31,8 @@ fn push_line(text: &mut Vec<u8>, line: &[u8]) -> Result<(), AllocError> {
         push_word(text, b"accepted ", RED, b"unsafe")?;
         push_rest(text, b"", b"\n")
     } else if let Some(times) = unexplained(line) {
-        push_word(text, times, RED, b" unexplained")?;
+        text.extend_from_slice(times)?;
+        push_word(text, b" ", RED, b"unexplained")?;
         push_rest(text, b"", b"\n")
     } else {
         text.extend_from_slice(line)

@@ -1,5 +1,7 @@
 // What a run writes to: standard output, or a file that appears whole or not at all.
 
+ghost use Rattle.std.specs.Io.{WritesAtMost};
+
 use crate::colors::colored_report;
 use report::{RunError, Status};
 use std::alloc::Global;
@@ -130,7 +132,9 @@ impl<W: Write> Write for Sheet<W> {
 }
 
 // Writes all of a report, with its words in colours. A report comes whole in its first call.
-fn write_colored<W: Write>(alloc: Global, standard: &mut W, report: &[u8]) -> io::Result<usize> {
+fn write_colored<W: Write>(alloc: Global, standard: &mut W, report: &[u8]) -> io::Result<usize>
+    ensures bound { WritesAtMost result report.now }
+{
     let text = colored_report(alloc, report)?;
     standard.write_all(text.as_slice())?;
     Ok(report.len())
