@@ -355,7 +355,12 @@ fn begins_frame(reading: &Reading<'_>) -> bool {
 }
 
 // So many more bytes on the path of this level, each a node.
-fn count_bytes(word: Word<'_>, level: &mut Level, nodes: &mut u32, more: u32) -> Result<(), Refusal> {
+fn count_bytes(
+    word: Word<'_>,
+    level: &mut Level,
+    nodes: &mut u32,
+    more: u32,
+) -> Result<(), Refusal> {
     level.path = level.path.saturating_add(more);
     *nodes = nodes.saturating_add(level.copies.saturating_mul(more));
     if level.path > MOST_BYTES || *nodes > MOST_NODES {

@@ -4,11 +4,26 @@ use fixtures::Dice;
 use std::alloc::{AllocError, Global};
 
 const ADDRESSES: [&str; 8] = [
-    "0x48", "0x50", "0xX1", "0x3X", "0b1001000", "0b10x1x00", "d", "e",
+    "0x48",
+    "0x50",
+    "0xX1",
+    "0x3X",
+    "0b1001000",
+    "0b10x1x00",
+    "d",
+    "e",
 ];
 
 const BYTES: [&str; 9] = [
-    "any", "0x00", "0xfF", "0xX0", "0x1X", "0b0011000x", "0b11110000", "p", "q",
+    "any",
+    "0x00",
+    "0xfF",
+    "0xX0",
+    "0x1X",
+    "0b0011000x",
+    "0b11110000",
+    "p",
+    "q",
 ];
 
 const COUNTS: [&str; 5] = ["1", "2", "007", "1..3", "2..16"];
@@ -46,11 +61,7 @@ enum Next {
 
 const MOST_STEPS: usize = 40;
 
-fn push_frames(
-    alloc: Global,
-    text: &mut String,
-    dice: &mut Dice,
-) -> Result<(), AllocError> {
+fn push_frames(alloc: Global, text: &mut String, dice: &mut Dice) -> Result<(), AllocError> {
     let mut next = Next::Frame;
     // For each parenthesis that is open, whether data bytes may follow it.
     let mut open = Vec::new(alloc);

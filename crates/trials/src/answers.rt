@@ -4,9 +4,7 @@ use crate::scripts::run_seats;
 use bench_run::{NoGate, run_bench};
 use plan_text::{print_plan, read_plan};
 use reference::commands::{self, Answer};
-use report::{
-    run_brief, run_capture, run_certify, run_check, run_expand, run_print, run_verify,
-};
+use report::{run_brief, run_capture, run_certify, run_check, run_expand, run_print, run_verify};
 use run_parts::{Input, Output, RunError, Status, Watched};
 use std::alloc::{AllocError, Global};
 use std::sync::Wait;
