@@ -7,6 +7,7 @@
 
 pub mod benches;
 mod bit_by_bit;
+mod briefs;
 pub mod captures;
 pub mod certificates;
 pub mod commands;
