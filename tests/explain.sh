@@ -262,10 +262,11 @@ want 1 "5-450 unexplained
 1 transactions, 1 unexplained" ""
 run "a repeated START and a read" capture --explain p.plan d.vcd
 
-# After START, SDA is LOW for a moment while SCL is HIGH. Then come two bits of a bus that is free by now.
+# SDA is LOW for a moment while SCL is HIGH: a START and a STOP. SCL falls, which ends a HIGH period in which SDA moved, and
+# then two bits come on a bus that is free by now.
 {
     printf '%s\n' '$var wire 1 ! scl $end' '$var wire 1 " sda $end' '$enddefinitions $end' '#0 1! 1"' '#10 0"' '#11 1"'
-    printf '#%s 0!\n#%s 1!\n' 20 30 40 50
+    printf '#%s 0!\n#%s 1!\n' 20 30 40 50 60 70
 } >d.vcd
 want 1 "10-11 unexplained
     S P
