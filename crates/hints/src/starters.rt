@@ -90,17 +90,26 @@ fn push_same(
     if let Some(plan) = plan {
         if let Some((first, second)) = first_two(alloc, plan, starters, Clash::OneController)? {
             let line = if first == second {
-                let label = plan.label(alloc, first)?;
+                let label = label_of(alloc, plan, first)?;
                 format!(in alloc; "'{label}' stands there twice")?
             } else {
-                let first = plan.label(alloc, first)?;
-                let second = plan.label(alloc, second)?;
+                let first = label_of(alloc, plan, first)?;
+                let second = label_of(alloc, plan, second)?;
                 format!(in alloc; "'{first}' and '{second}' are of one controller")?
             };
             lines.say(line.as_str())?;
         }
     }
     lines.say("a controller starts one message at a time")
+}
+
+// The label of a participant, and nothing for a number that is none.
+fn label_of(alloc: Global, plan: &Plan, i: u32) -> Result<String, AllocError> {
+    if i < plan.participants() {
+        plan.label(alloc, i)
+    } else {
+        Ok(String::new(alloc))
+    }
 }
 
 fn push_never(
