@@ -1,7 +1,6 @@
 // The commands, from the bytes of their files to what they write and their status.
 
 use crate::benches::{Player, play_on};
-use crate::briefs::{expansion, has_brief_word};
 use crate::captures::{Word, events_of, samples_of, transactions_of};
 use crate::certificates::{Flaw, Reading, read_certificate};
 use crate::dumps::words_of;
@@ -347,25 +346,6 @@ pub fn labels(alloc: Global, plan: &[u8]) -> Result<Vec<String>, AllocError> {
         }
     }
     Ok(labels)
-}
-
-/// `twire expand BRIEF`.
-pub fn expand(alloc: Global, brief: &[u8]) -> Result<Answer, AllocError> {
-    match expansion(alloc, brief) {
-        Ok(plan) => answered(alloc, 0, spelling(alloc, plan.as_bytes())?),
-        Err(refusal) => refused_plan(alloc, refusal),
-    }
-}
-
-/// `twire brief PLAN`, with the canonical spelling of the plan in place of a brief.
-pub fn brief(alloc: Global, plan: &[u8]) -> Result<Answer, AllocError> {
-    match items_of(alloc, plan) {
-        Ok(items) if has_brief_word(&items) => {
-            refused(alloc, String::from_str(alloc, "brief name")?)
-        }
-        Ok(items) => answered(alloc, 0, spelt(alloc, &items)?),
-        Err(refusal) => refused_plan(alloc, refusal),
-    }
 }
 
 /// The canonical spelling of a plan, or nothing where the text spells none.

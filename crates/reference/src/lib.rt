@@ -7,7 +7,6 @@
 
 pub mod benches;
 mod bit_by_bit;
-mod briefs;
 pub mod captures;
 pub mod certificates;
 pub mod commands;

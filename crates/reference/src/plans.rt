@@ -46,20 +46,19 @@ impl<T: Drop> From<AllocFailed<T>> for Refusal {
     }
 }
 
-/// A word, and the line on which it stands.
+// A word, and the line on which it stands.
 #[derive(Clone, Copy)]
-pub struct Word<'a> {
-    pub text: &'a [u8],
-    pub line: u64,
+struct Word<'a> {
+    text: &'a [u8],
+    line: u64,
 }
 
 impl Word<'_> {
-    pub fn is(&self, text: &str) -> bool {
+    fn is(&self, text: &str) -> bool {
         self.text == text.as_bytes()
     }
 
-    /// The refusal of this code at this word.
-    pub fn refused(&self, code: u8) -> Refusal {
+    fn refused(&self, code: u8) -> Refusal {
         Refusal::At {
             code,
             line: self.line,
@@ -67,53 +66,31 @@ impl Word<'_> {
     }
 }
 
-/// What follows the last word.
+// What follows the last word.
 #[derive(Clone, Copy)]
-pub enum Ending {
-    /// The end of the text, on this line.
+enum Ending {
+    // The end of the text, on this line.
     Text(u64),
-    /// A byte that cannot stand in a text.
+    // A byte that cannot stand in a text.
     Byte(Refusal),
 }
 
-/// Which characters make up words: those that are words by themselves, and from which word on a dot may stand in one. And
-/// which words are no names beside those of a plan.
-#[derive(Clone, Copy)]
-pub struct Language {
-    pub signs: &'static [u8],
-    pub dots_from: usize,
-    pub reserved: &'static [&'static str],
-}
-
-const FIRST: Language = Language {
-    signs: b";",
-    dots_from: usize::MAX,
-    reserved: &[],
-};
-
-const SECOND: Language = Language {
-    signs: b";",
-    dots_from: 2,
-    reserved: &[],
-};
-
-/// The words of a text, of which so many have been read.
+// The words of a text, of which so many have been read.
 #[derive(Drop)]
-pub struct Reading<'a> {
-    pub words: Vec<Word<'a>>,
-    pub ending: Ending,
-    pub at: usize,
-    pub language: Language,
+struct Reading<'a> {
+    words: Vec<Word<'a>>,
+    ending: Ending,
+    at: usize,
     second: bool,
 }
 
-pub const MOST_NODES: u32 = 4096;
+const MOST_NODES: u32 = 4096;
 
-pub const MOST_BYTES: u32 = 256;
+const MOST_BYTES: u32 = 256;
 
-pub const MOST_MESSAGES: usize = 256;
+const MOST_MESSAGES: usize = 256;
 
-pub const MOST_OTHERS: usize = 32;
+const MOST_OTHERS: usize = 32;
 
 const MOST_SENDINGS: usize = 512;
 
@@ -132,18 +109,14 @@ const RESERVED: [&str; 10] = [
 
 /// The items of the plan that the text spells, or its first refusal.
 pub fn items_of<'a>(alloc: Global, text: &'a [u8]) -> Result<Items<'a>, Refusal> {
-    let mut items = no_items(alloc);
-    read_text(alloc, text, &mut items)?;
-    Ok(items)
-}
-
-pub fn no_items<'a>(alloc: Global) -> Items<'a> {
-    Items {
+    let mut items = Items {
         messages: Vec::new(alloc),
         controllers: Vec::new(alloc),
         interrupts: Vec::new(alloc),
         nevers: Vec::new(alloc),
-    }
+    };
+    read_text(alloc, text, &mut items)?;
+    Ok(items)
 }
 
 fn read_text<'a>(alloc: Global, text: &'a [u8], items: &mut Items<'a>) -> Result<(), Refusal> {
@@ -181,8 +154,8 @@ fn read_item<'a>(
 
 // Only in a text of version 2 a dot may stand, in the words after the second.
 fn read_version<'a>(alloc: Global, text: &'a [u8]) -> Result<Reading<'a>, Refusal> {
-    let second = is_second(&mut words_of(alloc, text, FIRST)?)?;
-    let mut reading = words_of(alloc, text, if second { SECOND } else { FIRST })?;
+    let second = is_second(&mut words_of(alloc, text, false)?)?;
+    let mut reading = words_of(alloc, text, second)?;
     reading.at = 2;
     reading.second = second;
     Ok(reading)
@@ -201,15 +174,15 @@ fn is_second(reading: &mut Reading<'_>) -> Result<bool, Refusal> {
     Ok(version.is("2"))
 }
 
-pub fn version_word<'a>(reading: &mut Reading<'a>) -> Result<Word<'a>, Refusal> {
+fn version_word<'a>(reading: &mut Reading<'a>) -> Result<Word<'a>, Refusal> {
     match (reading.words.get(reading.at), reading.ending) {
         (None, Ending::Text(line)) => Err(Refusal::At { code: 2, line }),
         _ => next(reading),
     }
 }
 
-/// The next word of an item.
-pub fn next<'a>(reading: &mut Reading<'a>) -> Result<Word<'a>, Refusal> {
+// The next word of an item.
+fn next<'a>(reading: &mut Reading<'a>) -> Result<Word<'a>, Refusal> {
     let at = reading.at;
     reading.at = at.saturating_add(1);
     match (reading.words.get(at), reading.ending) {
@@ -219,7 +192,7 @@ pub fn next<'a>(reading: &mut Reading<'a>) -> Result<Word<'a>, Refusal> {
     }
 }
 
-pub fn expect(reading: &mut Reading<'_>, text: &str) -> Result<(), Refusal> {
+fn expect(reading: &mut Reading<'_>, text: &str) -> Result<(), Refusal> {
     let word = next(reading)?;
     if word.is(text) {
         Ok(())
@@ -230,12 +203,7 @@ pub fn expect(reading: &mut Reading<'_>, text: &str) -> Result<(), Refusal> {
 
 // ---- words
 
-/// All words of a text.
-pub fn words_of<'a>(
-    alloc: Global,
-    text: &'a [u8],
-    language: Language,
-) -> Result<Reading<'a>, AllocError> {
+fn words_of<'a>(alloc: Global, text: &'a [u8], dots: bool) -> Result<Reading<'a>, AllocError> {
     let mut words = Vec::new(alloc);
     let mut line = 1u64;
     let mut left = text;
@@ -246,7 +214,7 @@ pub fn words_of<'a>(
             ending = Ending::Text(line);
             break;
         };
-        let length = word_length(left, language.signs, words.len() >= language.dots_from);
+        let length = word_length(left, dots && words.len() >= 2);
         if !first.is_ascii() {
             ending = Ending::Byte(Refusal::At { code: 1, line });
             break;
@@ -267,7 +235,6 @@ pub fn words_of<'a>(
         words,
         ending,
         at: 0,
-        language,
         second: false,
     })
 }
@@ -277,10 +244,8 @@ fn is_white(byte: u8) -> bool {
 }
 
 // How many bytes the word has that stands here, and 0 where none does.
-fn word_length(text: &[u8], signs: &[u8], dots: bool) -> usize {
-    if let Some(first) = text.first()
-        && signs.contains(first)
-    {
+fn word_length(text: &[u8], dots: bool) -> usize {
+    if text.first() == Some(&b';') {
         return 1;
     }
     let mut length = 0usize;
@@ -293,8 +258,7 @@ fn word_length(text: &[u8], signs: &[u8], dots: bool) -> usize {
     length
 }
 
-/// Whether a plan may have this name, or a brief, which has further words of its own.
-pub fn is_name(text: &[u8], language: Language) -> bool {
+fn is_name(text: &[u8]) -> bool {
     let Some((first, rest)) = text.split_first() else {
         return false;
     };
@@ -308,26 +272,20 @@ pub fn is_name(text: &[u8], language: Language) -> bool {
             return false;
         }
     }
-    for word in language.reserved {
-        if text == word.as_bytes() {
-            return false;
-        }
-    }
     first.is_ascii_alphabetic() && text.len() <= 32
 }
 
-/// The next word, which is to be a name.
-pub fn next_name<'a>(reading: &mut Reading<'a>) -> Result<Word<'a>, Refusal> {
+fn next_name<'a>(reading: &mut Reading<'a>) -> Result<Word<'a>, Refusal> {
     let word = next(reading)?;
-    if is_name(word.text, reading.language) {
+    if is_name(word.text) {
         Ok(word)
     } else {
         Err(word.refused(3))
     }
 }
 
-/// So many of these characters.
-pub fn has_form(text: &[u8], length: usize, open: bool) -> bool {
+// So many of these characters.
+fn has_form(text: &[u8], length: usize, open: bool) -> bool {
     for byte in text {
         if !matches!(*byte, b'0' | b'1') && !(open && *byte == b'x') {
             return false;
@@ -338,7 +296,7 @@ pub fn has_form(text: &[u8], length: usize, open: bool) -> bool {
 
 // ---- items
 
-pub fn find_named(list: &[Named<'_>], name: &[u8]) -> Option<usize> {
+fn find_named(list: &[Named<'_>], name: &[u8]) -> Option<usize> {
     for (k, one) in list.iter().enumerate() {
         if one.name == name {
             return Some(k);
@@ -356,8 +314,8 @@ fn find_controller(list: &[Controller<'_>], name: &[u8]) -> Option<usize> {
     None
 }
 
-/// The name of one more item is refused where its kind has it, or has no room.
-pub fn refuse_name(name: Word<'_>, known: bool, full: bool) -> Result<(), Refusal> {
+// The name of one more item is refused where its kind has it, or has no room.
+fn refuse_name(name: Word<'_>, known: bool, full: bool) -> Result<(), Refusal> {
     if known {
         Err(name.refused(7))
     } else if full {
@@ -502,8 +460,7 @@ fn read_tail<'a>(
     Ok(())
 }
 
-/// The rest of a controller.
-pub fn read_controller<'a>(
+fn read_controller<'a>(
     alloc: Global,
     reading: &mut Reading<'a>,
     items: &mut Items<'a>,
@@ -521,7 +478,7 @@ pub fn read_controller<'a>(
         if word.is(";") {
             break;
         }
-        if !is_name(word.text, reading.language) {
+        if !is_name(word.text) {
             return Err(word.refused(3));
         }
         let message = find_named(&items.messages, word.text).ok_or(word.refused(8))?;
@@ -569,8 +526,7 @@ fn two<'a>(alloc: Global, x: &'a [u8], y: &'a [u8]) -> Result<Vec<&'a [u8]>, All
     Ok(words)
 }
 
-/// The rest of a `never`.
-pub fn read_never(reading: &mut Reading<'_>, items: &mut Items<'_>) -> Result<(), Refusal> {
+fn read_never(reading: &mut Reading<'_>, items: &mut Items<'_>) -> Result<(), Refusal> {
     let word = next_name(reading)?;
     let first = find_controller(&items.controllers, word.text).ok_or(word.refused(8))?;
     let word = next_name(reading)?;

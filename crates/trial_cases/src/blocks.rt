@@ -54,7 +54,7 @@ fn put_part<'a>(block: &mut Block<'a>, part: &'a str) -> Result<(), CaseError> {
         None => (part, None),
     };
     match title {
-        "plan" | "brief" => block.plan = lines,
+        "plan" => block.plan = lines,
         "certificate" | "dump" | "script" => block.second = lines,
         "output" => block.out = lines,
         "refusal" => block.refusal = refusal_of(lines.unwrap_or("").trim())?,

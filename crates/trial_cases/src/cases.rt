@@ -8,7 +8,6 @@ use std::alloc::{AllocError, Global};
 #[derive(Drop)]
 pub struct Asked {
     pub command: Command,
-    /// The plan, or the brief.
     pub plan: Vec<u8>,
     /// The certificate, the capture or the script.
     pub second: Vec<u8>,
@@ -37,33 +36,9 @@ pub fn said_plainly(alloc: Global, asked: &Asked) -> Result<Answer, AllocError> 
             answers,
         } => commands::bench(alloc, plan, second, starters, *fill, answers),
         Command::Print => spelt_plainly(alloc, plan),
-        Command::Expand => commands::expand(alloc, plan),
-        Command::Brief => commands::brief(alloc, plan),
         Command::Seats { starters, answers } => {
             commands::seats(alloc, plan, second, starters, answers)
         }
-    }
-}
-
-/// What was found, as the plain program can say it: a brief that was written is expanded plainly.
-pub fn found_plainly(alloc: Global, asked: &Asked, found: Answer) -> Result<Answer, AllocError> {
-    match &asked.command {
-        Command::Brief if found.status == 0 => commands::expand(alloc, found.out.as_bytes()),
-        _ => Ok(found),
-    }
-}
-
-/// What is wanted of a case, as the plain program can say it.
-pub fn wanted_plainly(alloc: Global, case: &Case) -> Result<Answer, AllocError> {
-    match &case.asked.command {
-        Command::Brief if case.wanted.status == 0 => {
-            commands::expand(alloc, case.wanted.out.as_bytes())
-        }
-        _ => Ok(Answer {
-            status: case.wanted.status,
-            out: case.wanted.out.clone()?,
-            refusal: case.wanted.refusal.clone()?,
-        }),
     }
 }
 

@@ -21,8 +21,6 @@ pub enum Command {
         answers: String,
     },
     Print,
-    Expand,
-    Brief,
     Seats {
         starters: String,
         answers: String,
@@ -38,8 +36,6 @@ impl Command {
             Command::Capture { .. } => "capture",
             Command::Bench { .. } => "bench",
             Command::Print => "print",
-            Command::Expand => "expand",
-            Command::Brief => "brief",
             Command::Seats { .. } => "seats",
         }
     }
@@ -106,8 +102,6 @@ fn other_of(alloc: Global, name: &str, options: &Options<'_>) -> Result<Command,
         "certify" => Ok(Command::Certify),
         "verify" => Ok(Command::Verify),
         "print" => Ok(Command::Print),
-        "expand" => Ok(Command::Expand),
-        "brief" => Ok(Command::Brief),
         "capture" => Ok(Command::Capture {
             scl: String::from_str(alloc, options.scl)?,
             sda: String::from_str(alloc, options.sda)?,

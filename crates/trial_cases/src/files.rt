@@ -8,7 +8,7 @@ use std::alloc::Global;
 use std::fs;
 use std::rt::Files;
 
-pub const FILES: [&str; 9] = [
+pub const FILES: [&str; 8] = [
     "plans",
     "checks",
     "certificates",
@@ -17,7 +17,6 @@ pub const FILES: [&str; 9] = [
     "seats",
     "refusals",
     "spellings",
-    "briefs",
 ];
 
 /// Adds the cases of a file. What stands before its first case is for people.

@@ -7,7 +7,6 @@ pub mod cases;
 pub mod commands;
 pub mod errors;
 pub mod files;
-mod made_up;
 pub mod mutations;
 pub mod seeds;
 pub mod tallies;

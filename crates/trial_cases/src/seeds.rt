@@ -2,8 +2,7 @@
 
 use crate::cases::{Asked, Case};
 use crate::commands::Command;
-use crate::made_up::made_up;
-use crate::mutations::{BRIEF_WORDS, CERT_WORDS, DUMP_WORDS, LABELS, PLAN_WORDS, copied, mutated};
+use crate::mutations::{CERT_WORDS, DUMP_WORDS, LABELS, PLAN_WORDS, copied, mutated};
 use fixtures::Dice;
 use reference::commands;
 use std::alloc::{AllocError, Global};
@@ -16,7 +15,6 @@ pub struct Seeds<'a> {
     refused: Vec<&'a [u8]>,
     certs: Vec<&'a [u8]>,
     dumps: Vec<&'a [u8]>,
-    briefs: Vec<&'a [u8]>,
 }
 
 /// The plain programs are slow, so larger files are left out.
@@ -29,7 +27,6 @@ impl<'a> Seeds<'a> {
             refused: Vec::new(alloc),
             certs: Vec::new(alloc),
             dumps: Vec::new(alloc),
-            briefs: Vec::new(alloc),
         }
     }
 
@@ -39,12 +36,6 @@ impl<'a> Seeds<'a> {
             return Ok(());
         }
         let plan = case.asked.plan.as_slice();
-        if let Command::Expand = &case.asked.command {
-            if plan.len() <= MOST_BYTES {
-                self.briefs.push(plan)?;
-            }
-            return Ok(());
-        }
         if plan.len() <= MOST_BYTES {
             let is_refused = case.wanted.refusal.as_str().starts_with('P');
             if is_refused {
@@ -69,7 +60,7 @@ impl<'a> Seeds<'a> {
 pub fn next_case(alloc: Global, seeds: &Seeds<'_>, dice: &mut Dice) -> Result<Asked, AllocError> {
     let plan = text_from(dice, &seeds.plans);
     let second = Vec::new(alloc);
-    match dice.index(7) {
+    match dice.index(5) {
         0 => {
             let workers = if dice.index(16) == 0 { 3 } else { 1 };
             let command = Command::Check { workers };
@@ -91,16 +82,6 @@ pub fn next_case(alloc: Global, seeds: &Seeds<'_>, dice: &mut Dice) -> Result<As
         }
         2 => verify_case(alloc, seeds, plan, dice),
         3 => capture_case(alloc, seeds, plan, dice),
-        4 => {
-            let command = Command::Brief;
-            let plan = any_plan(alloc, seeds, plan, dice)?;
-            Ok(Asked {
-                command,
-                plan,
-                second,
-            })
-        }
-        5 => expand_case(alloc, seeds, dice),
         _ => bench_case(alloc, seeds, plan, dice),
     }
 }
@@ -140,22 +121,6 @@ fn maybe_mutated(
     } else {
         copied(alloc, text)
     }
-}
-
-// A brief of the cases, or one that is made up, most often mutated.
-fn expand_case(alloc: Global, seeds: &Seeds<'_>, dice: &mut Dice) -> Result<Asked, AllocError> {
-    let brief = if dice.index(2) == 0 {
-        let brief = text_from(dice, &seeds.briefs);
-        maybe_mutated(alloc, brief, &BRIEF_WORDS, 7, dice)?
-    } else {
-        let brief = made_up(alloc, dice)?;
-        maybe_mutated(alloc, brief.as_bytes(), &BRIEF_WORDS, 3, dice)?
-    };
-    Ok(Asked {
-        command: Command::Expand,
-        plan: brief,
-        second: Vec::new(alloc),
-    })
 }
 
 // Most often the certificate is that of the plan.

@@ -4,7 +4,7 @@ use crate::scripts::run_seats;
 use bench_run::{NoGate, run_bench};
 use plan_text::{print_plan, read_plan};
 use reference::commands::{self, Answer};
-use report::{run_brief, run_capture, run_certify, run_check, run_expand, run_print, run_verify};
+use report::{run_capture, run_certify, run_check, run_print, run_verify};
 use run_parts::{Input, Output, RunError, Status, Watched};
 use std::alloc::{AllocError, Global};
 use std::sync::Wait;
@@ -48,8 +48,6 @@ pub fn run<R: Threads + Wait + Clock + Sync, I: Input, J: Input, O: Output>(
             rt, alloc, plan, second, out, starters, *fill, answers, &NoGate,
         ),
         Command::Print => run_print(alloc, plan, out),
-        Command::Expand => run_expand(alloc, plan, out),
-        Command::Brief => run_brief(alloc, plan, out),
         Command::Seats { starters, answers } => {
             run_seats(alloc, plan, second, out, starters, answers)
         }

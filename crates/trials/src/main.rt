@@ -35,7 +35,7 @@ use std::sync::Wait;
 use std::thread::Threads;
 use std::time::Clock;
 use std::{env, io};
-use trial_cases::cases::{Asked, Case, found_plainly, said_plainly};
+use trial_cases::cases::{Asked, Case, said_plainly};
 use trial_cases::files::{FILES, push_cases};
 use trial_cases::seeds::{Seeds, next_case};
 use trial_cases::tallies::Tallies;
@@ -198,7 +198,7 @@ fn is_said_alike<R: Print + Threads + Wait + Clock + Sync>(
     shows: bool,
 ) -> Result<bool> {
     let plain = said_plainly(alloc, asked)?;
-    let found = found_plainly(alloc, asked, said(rt, alloc, asked)?)?;
+    let found = said(rt, alloc, asked)?;
     let is_alike = found == plain && is_spelt_alike(alloc, &asked.plan)?;
     tallies.count(alloc, asked, &plain)?;
     if shows && !is_alike {

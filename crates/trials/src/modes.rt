@@ -10,7 +10,7 @@ use std::alloc::{AllocError, Global};
 use std::sync::Wait;
 use std::thread::Threads;
 use std::time::Clock;
-use trial_cases::cases::{Asked, Case, said_plainly, wanted_plainly};
+use trial_cases::cases::{Asked, Case, said_plainly};
 use trial_cases::commands::Command;
 use trial_cases::tried::Tried;
 
@@ -331,6 +331,5 @@ fn try_plainly<R: Threads + Wait + Clock + Sync + Print>(
     }
     let found = said_plainly(alloc, &case.asked)?;
     let is_spelt = is_spelt_alike(alloc, &case.asked.plan)?;
-    let wanted = wanted_plainly(alloc, case)?;
-    tried.count_devices(rt, case, "plainly", &wanted, &found, is_spelt)
+    tried.count_devices(rt, case, "plainly", &case.wanted, &found, is_spelt)
 }
