@@ -3,6 +3,7 @@ pub mod First
 pub mod Halting
 pub mod HeaderLemmas
 pub mod Interrupts
+pub mod MarkLemmas
 pub mod Nodes
 pub mod SharedLemmas
 pub mod Unique

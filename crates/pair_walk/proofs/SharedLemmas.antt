@@ -1,5 +1,5 @@
 -- What the numbers of a list of nodes show: one tree each, and of two numbers when their trees never clash.
-use Rattle.std.proofs.Common.{◌≡◌, ℕ, zero, suc, ◌+◌, ◌<◌, ◌≤◌, Bool, true, false, Option, Some, None, Result, Ok, Err, IfOk, OnOk, List, [], ◌∷◌, ◌++◌, length, length-append, slice_get, refl, ap, sym, ◌∙◌, subst, arith, inl, inr, ◌⊎◌}
+use Rattle.std.proofs.Common.{◌≡◌, ℕ, zero, suc, ◌+◌, ◌<◌, Bool, true, false, Some, Result, Ok, Err, IfOk, OnOk, List, [], ◌∷◌, ◌++◌, length, length-append, slice_get, refl, ap, sym, ◌∙◌, subst, arith, inl, inr, ◌⊎◌}
 use Rattle.std.specs.Bool.{OnTrue}
 use Rattle.std.specs.declared.alloc.AllocError.{AllocError}
 use Rattle.std.specs.Map.{values_of}
@@ -19,7 +19,7 @@ use Rattle.pair_walk.specs.declared.shared.Node.TheVariants as node
 use Rattle.pair_walk.specs.Canonical.{CanonicalFrames, CanonicalPayloads, CanonicalTails}
 use Rattle.pair_walk.specs.Shared.{ShowsFrame, ShowsPayload, ShowsTail, Keeps, NeverMeet, AreRoots}
 use Rattle.plan_core.specs.Contents.{Contents}
-use Rattle.pair_walk.proofs.HeaderLemmas.{first_in_header, never_in_header}
+use Rattle.pair_walk.proofs.HeaderLemmas.{first_in_header}
 use Rattle.pair_walk.proofs.Nodes.{writes_proved, reads_proved}
 
 pub on_true : (b : Bool) (P Q : Type 0) → (P → Q) → OnTrue b P → OnTrue b Q
@@ -146,11 +146,11 @@ mutual
 
 -- ---- a tree never clashes with itself
 
-never_itself : (xs : List Bit) → NeverSplit xs xs
+pub never_itself : (xs : List Bit) → NeverSplit xs xs
 never_itself xs k (inl h) = let d : Some Zero ≡ Some One = sym h.0 ∙ h.1 in cc
 never_itself xs k (inr h) = let d : Some One ≡ Some Zero = sym h.0 ∙ h.1 in cc
 
-meets_itself : (c : Count) → Meet c c
+pub meets_itself : (c : Count) → Meet c c
 meets_itself c = (least_of c, (omega arith, c.ordered), (omega arith, c.ordered))
 
 tails_between : (p : ProofTree) (r s : TailTree) → CanonicalTails p r s → CanonicalPayloads p (tree.last r) (tree.last s)
@@ -323,7 +323,7 @@ gathered_again now after i result f t e p n s =
 
 -- ---- one message more
 
-at_snoc : (xs : List ℕ) (x m y : ℕ) → slice_get (xs ++ x ∷ []) m ≡ Some y → (slice_get xs m ≡ Some y) ⊎ ((m ≡ length xs) × (x ≡ y))
+pub at_snoc : {A : Type 0} (xs : List A) (x : A) (m : ℕ) (y : A) → slice_get (xs ++ x ∷ []) m ≡ Some y → (slice_get xs m ≡ Some y) ⊎ ((m ≡ length xs) × (x ≡ y))
 at_snoc [] x zero y e = let d : x ≡ y = cc in inr (refl, d)
 at_snoc [] x (suc m) y e = cc
 at_snoc (z ∷ xs) x zero y e = inl e

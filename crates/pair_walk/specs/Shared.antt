@@ -11,6 +11,8 @@ use Rattle.plan_core.specs.Participants.{sender_at}
 use Rattle.pair_walk.specs.declared.shared.Node.{Node}
 use Rattle.pair_walk.specs.declared.shared.Node.TheVariants as node
 use Rattle.pair_walk.specs.declared.shared.SharedNodes.{SharedNodes}
+use Rattle.pair_walk.specs.declared.marks.Mark.{Mark}
+use Rattle.pair_walk.specs.Marks.{HaveMarks}
 use Rattle.pair_walk.specs.Canonical.{CanonicalFrames, CanonicalPayloads, CanonicalTails}
 use Rattle.pair_walk.specs.Verdicts.{IsFirstFaultIfAny}
 
@@ -31,11 +33,11 @@ abbrev mutual
   ShowsTail nodes k stop = slice_get nodes k ≡ Some node.Stop
   ShowsTail nodes k (again f) = (i : ℕ) × (slice_get nodes k ≡ Some (node.Again i)) × ShowsFrame nodes i f
 
--- each message of the plan is shown by the number that stands for it
-abbrev pub AreNodesOf : Contents → SharedNodes → Type 0
-AreNodesOf plan shared =
-    (m k : ℕ) (f : FrameTree) → slice_get (values_of plan.messages) m ≡ Some f →
-    slice_get shared.roots.items m ≡ Some k → ShowsFrame shared.nodes.items k f
+-- each message of the plan is shown by the number that stands for it, and the marks are these of the nodes
+pub record AreNodesOf (plan : Contents) (shared : SharedNodes) : Type 0 where
+  pub shown : (m k : ℕ) (f : FrameTree) → slice_get (values_of plan.messages) m ≡ Some f →
+      slice_get shared.roots.items m ≡ Some k → ShowsFrame shared.nodes.items k f
+  pub marked : HaveMarks shared.nodes.items shared.marks.marks.items
 
 -- whatever stood in the list still stands there
 abbrev pub Keeps : List Node → List Node → Type 0
@@ -47,6 +49,11 @@ pub record NeverMeet (nodes : List Node) (a b : ℕ) : Type 0 where
   pub payloads : (x y : PayloadTree) → ShowsPayload nodes a x → ShowsPayload nodes b y →
       (p : ProofTree) × CanonicalPayloads p x y
   pub tails : (r s : TailTree) → ShowsTail nodes a r → ShowsTail nodes b s → (p : ProofTree) × CanonicalTails p r s
+
+-- wherever these are marks, a and b never clash if these two places don't
+abbrev pub MeetsLater : List Mark → ℕ → ℕ → ℕ × ℕ → Type 0
+MeetsLater marks a b places =
+    (nodes : List Node) → HaveMarks nodes marks → NeverMeet nodes places.0 places.1 → NeverMeet nodes a b
 
 -- this number shows the message that participant x sends
 abbrev pub ShowsParticipant : Contents → List Node → ℕ → ℕ → Type 0

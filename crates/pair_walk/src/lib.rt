@@ -7,6 +7,7 @@ mod halts;
 mod headers;
 pub mod laws;
 mod makes;
+mod marks;
 pub mod quick;
 pub mod shared;
 mod starts;

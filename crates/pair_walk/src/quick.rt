@@ -41,25 +41,26 @@ fn never_faulty(plan: &Plan, shared: &SharedNodes, i: u32) -> bool
     ensures { OnTrue result (NeverFault (plan_contents plan.now) i) }
 {
     let (x, y) = plan.pair(i);
-    if let Some(a) = root_of(plan, shared, x) {
-        if let Some(b) = root_of(plan, shared, y) {
-            return never_clash(&shared.nodes, a, b);
+    if let Some((m, a)) = root_of(plan, shared, x) {
+        if let Some((n, b)) = root_of(plan, shared, y) {
+            let (c, d) = shared.marks.last_alike(m, n, a, b);
+            return never_clash(&shared.nodes, c, d);
         }
     }
     false
 }
 
-// The number that shows the message of participant `x`, where it sends one.
-fn root_of(plan: &Plan, shared: &SharedNodes, x: u32) -> Option<u32>
+// The message that participant `x` sends, where it sends one, and the number that shows it.
+fn root_of(plan: &Plan, shared: &SharedNodes, x: u32) -> Option<(u32, u32)>
     requires participant { x < participant_count (plan_contents plan.now) }
     requires nodes { AreNodesOf (plan_contents plan.now) shared.now }
-    ensures { IfSome result (λ k. ShowsParticipant (plan_contents plan.now) shared.now.nodes.items x k) }
+    ensures { IfSome result (λ root. ShowsParticipant (plan_contents plan.now) shared.now.nodes.items x root.1) }
 {
     match plan.participant(x) {
         Participant::Sending { message, .. } => {
             let m = message as usize;
             if m < shared.roots.len() {
-                Some(shared.roots[m])
+                Some((message, shared.roots[m]))
             } else {
                 None
             }

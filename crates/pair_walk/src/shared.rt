@@ -1,12 +1,13 @@
 // The messages of a plan as one list of nodes. What follows a node is named by its number, so that trees share what they
 // have in common: two numbers that are equal show one tree.
 
-ghost use Rattle.std.specs.Prelude.{◌≡◌, ◌<◌, ℕ, length, slice_get, Some, IfOk, OnOk};
+ghost use Rattle.std.specs.Prelude.{◌≡◌, ◌<◌, ℕ, [], length, slice_get, Some, IfOk, OnOk};
 ghost use Rattle.std.specs.Bool.{OnTrue};
 ghost use Rattle.plan_core.specs.PlanContents.{plan_contents};
 ghost use Rattle.pair_walk.specs.Shared.{AreNodesOf};
 ghost use Rattle.message_tree.specs.Trees.{frame_tree, payload_tree, tail_tree};
 
+use crate::marks::{Marks, marks_of};
 use message_tree::{Address, Bit, Count, Frame, Pattern, Payload, Tail};
 use plan_core::Plan;
 use std::alloc::{AllocError, Global};
@@ -36,16 +37,18 @@ pub(crate) enum Node {
 }
 
 /// The messages of a plan as one list of nodes, at most as many as the plan has, and the number of each message's first.
+/// Its marks say how far two messages are alike from their beginning on.
 #[derive(Drop)]
 pub struct SharedNodes {
     pub(crate) nodes: Vec<Node>,
     pub(crate) roots: Vec<u32>,
+    pub(crate) marks: Marks,
 }
 
 // A list of nodes that grows, and the last node of each likeness.
 #[derive(Drop)]
-struct Gathering {
-    nodes: Vec<Node>,
+pub(crate) struct Gathering {
+    pub(crate) nodes: Vec<Node>,
     seen: HashMap<(u32, u32, u32), u32>,
 }
 
@@ -53,17 +56,30 @@ struct Gathering {
 pub fn shared_nodes(alloc: Global, plan: &Plan) -> Result<SharedNodes, AllocError>
     ensures { IfOk result (AreNodesOf (plan_contents plan.now)) }
 {
-    let mut gathering = Gathering {
-        nodes: Vec::new(alloc),
-        seen: HashMap::new(alloc),
-    };
+    let mut gathering = Gathering::new(alloc);
     let mut roots = Vec::new(alloc);
     for k in 0..plan.messages() {
         let root = gathering.frame(plan.message(k))?;
         roots.push(root)?;
     }
     let Gathering { nodes, seen: _ } = gathering;
-    Ok(SharedNodes { nodes, roots })
+    let marks = marks_of(alloc, &nodes, &roots)?;
+    Ok(SharedNodes {
+        nodes,
+        roots,
+        marks,
+    })
+}
+
+impl Gathering {
+    pub(crate) fn new(alloc: Global) -> Self
+        ensures { result.nodes.items ≡ [] }
+    {
+        Gathering {
+            nodes: Vec::new(alloc),
+            seen: HashMap::new(alloc),
+        }
+    }
 }
 
 impl Gathering {
@@ -148,7 +164,7 @@ impl Gathering {
     }
 
     // The number of an equal node, where one is found, or of a new one.
-    fn put(&mut self, node: Node) -> Result<u32, AllocError>
+    pub(crate) fn put(&mut self, node: Node) -> Result<u32, AllocError>
         ensures keeps { OnOk result (Keeps self.old.nodes.items self.new.nodes.items) }
         ensures stands { IfOk result (λ k. slice_get self.new.nodes.items k ≡ Some node) }
     {

@@ -1,4 +1,4 @@
-use Rattle.std.proofs.Common.{◌≡◌, ap, sym, ◌∙◌, Some, arith, true}
+use Rattle.std.proofs.Common.{ap, ◌∙◌, Some}
 use Rattle.pair_walk.specs.declared.shared.Node.{Node}
 use Rattle.pair_walk.specs.Shared.{NeverMeet}
 use Rattle.pair_walk.proofs.SharedLemmas.{on_true, never_same, agains_follow, bytes_part, bytes_follow, writes_part, writes_follow, reads_part, reads_follow}

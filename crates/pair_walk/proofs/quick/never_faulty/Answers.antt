@@ -1,4 +1,4 @@
-use Rattle.std.proofs.Common.{◌≡◌, arith, subst, List}
+use Rattle.std.proofs.Common.{arith, subst, List}
 use Rattle.plan_core.specs.PlanContents.{plan_contents}
 use Rattle.message_tree.specs.Texts.{message}
 use Rattle.pair_walk.specs.declared.shared.Node.{Node}
@@ -27,4 +27,6 @@ returns-in-Some-root_of c =
     let so : NeverMeet nodes a b → NeverFault plan c.args.i = λ n.
     let p = n.frames s.0 t.0 s.2 t.2 in
     λ x y e. (p.0, proof_at plan c.args.i c.pair-x.result (message s.0) (message t.0) p.0 c.pair-x.ensures s.1 t.1 p.1 x y e) in
-    on_true c.never_clash.result (NeverMeet c.deref.result.now a b) (NeverFault plan c.args.i) (λ n. so (subst (λ (xs : List Node). NeverMeet xs a b) c.deref.ensures.value n)) c.never_clash.ensures
+    let places = c.last_alike-c.result in
+    let later : NeverMeet nodes places.0 places.1 → NeverMeet nodes a b = c.last_alike-c.ensures nodes c.requires.nodes.marked in
+    on_true c.never_clash.result (NeverMeet c.deref.result.now places.0 places.1) (NeverFault plan c.args.i) (λ n. so (later (subst (λ (xs : List Node). NeverMeet xs places.0 places.1) c.deref.ensures.value n))) c.never_clash.ensures

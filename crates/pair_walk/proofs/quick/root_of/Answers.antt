@@ -1,4 +1,4 @@
-use Rattle.std.proofs.Common.{refl, length, arith, slice_get, ◌≡◌, Some, ◌<◌}
+use Rattle.std.proofs.Common.{refl, length, arith, ◌<◌}
 use Rattle.std.proofs.lemmas.Option.{slice_get_read}
 use Rattle.plan_core.specs.PlanContents.{plan_contents}
 use Rattle.plan_core.proofs.SenderLemmas.{sends_message}
@@ -13,4 +13,4 @@ returns-then-m-len c =
     let there = message_there plan.messages m c.in-Sending.ensures.known.1 in
     let within : m < length roots = omega (arith, c.len.ensures, c.args.shared.now.roots.ok.0) in
     let got = slice_get_read roots (length roots) m c.index.result.now refl within c.index.ensures in
-    (there.0, sends_message plan c.args.x c.in-Sending.controller m there.0 c.in-Sending.ensures.value there.1, c.requires.nodes m c.index.result.now there.0 there.1 got)
+    (there.0, sends_message plan c.args.x c.in-Sending.controller m there.0 c.in-Sending.ensures.value there.1, c.requires.nodes.shown m c.index.result.now there.0 there.1 got)

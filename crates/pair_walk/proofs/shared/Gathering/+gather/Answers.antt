@@ -1,7 +1,7 @@
 use Rattle.std.proofs.Common.{ap, sym, ◌∙◌}
 use Rattle.message_tree.specs.declared.tree.Frame.{Frame}
 use Rattle.message_tree.specs.declared.tree.Payload.{Payload}
-use Rattle.message_tree.specs.Trees.{frame_tree, payload_tree, tail_tree, write, read, byte, again}
+use Rattle.message_tree.specs.Trees.{frame_tree, payload_tree, tail_tree, write, byte, again}
 use Rattle.pair_walk.proofs.SharedLemmas.{gathered_write, gathered_read, gathered_byte, gathered_again}
 use Rattle.pair_walk.proofs.shared.Gathering.+gather.Goals as goal
 
