@@ -27,7 +27,7 @@ want() {
 "$tests/../tools/manual" "$twire" "$work"
 want "the status of tools/manual" 0 $?
 mapfile -t commands < <("$twire" help | sed -n '/^Commands:/,/^$/s/^  \([a-z]*\) .*/\1/p' | grep -v '^help$')
-want "that there are commands" "check certify verify capture bench" "${commands[*]:0:5}"
+want "that there are commands" "check certify verify capture" "${commands[*]:0:4}"
 
 # ---- the page
 
