@@ -1,0 +1,7 @@
+pub mod BitPlaces
+pub mod Meetings
+pub mod Nodes
+pub mod ReadMeetings
+pub mod SpanLemmas
+pub mod SenderLemmas
+pub mod Runs

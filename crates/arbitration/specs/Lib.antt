@@ -1,0 +1,4 @@
+pub mod Arbitration
+pub mod Spans
+pub mod Ways
+pub mod Laws

@@ -1,0 +1,28 @@
+// The outcomes of two participants of a plan.
+
+ghost use Rattle.std.specs.Prelude.{◌<◌, ◌≢◌};
+ghost use Rattle.plan_core.specs.PlanContents.{plan_contents};
+ghost use Rattle.plan_core.specs.Lawful.{pair};
+ghost use Rattle.plan_core.specs.Participants.{participant_count, Text};
+ghost use Rattle.arbitration.specs.Arbitration.{EndTogether, Wins};
+ghost use Rattle.arbitration.specs.Laws.{EndsAt, BeatsAt};
+ghost use Rattle.arbitration.specs.Spans.{IsSpan};
+
+use crate::senders::outcomes;
+use crate::spans::Outcomes;
+use plan_core::Plan;
+
+/// What two participants of a plan may come to when they start together and alone, `x` the first of them: by their
+/// texts, and for two different participants by their runs.
+pub fn of_pair(plan: &Plan, x: u32, y: u32) -> Outcomes
+    requires x_within { x < participant_count (plan_contents plan.now) }
+    requires y_within { y < participant_count (plan_contents plan.now) }
+    ensures both { IsSpan (EndTogether (Text (plan_contents plan.now) x) (Text (plan_contents plan.now) y)) result.both }
+    ensures first { IsSpan (Wins (Text (plan_contents plan.now) x) (Text (plan_contents plan.now) y)) result.first }
+    ensures second { IsSpan (Wins (Text (plan_contents plan.now) y) (Text (plan_contents plan.now) x)) result.second }
+    ensures both_in_runs { x ≢ y → IsSpan (EndsAt (plan_contents plan.now) x y) result.both }
+    ensures first_in_runs { x ≢ y → IsSpan (BeatsAt (plan_contents plan.now) (pair x y) x y) result.first }
+    ensures second_in_runs { x ≢ y → IsSpan (BeatsAt (plan_contents plan.now) (pair x y) y x) result.second }
+{
+    outcomes(&plan.sends(x), &plan.sends(y))
+}
