@@ -272,6 +272,18 @@ refused P5 3 "brief 1" "$full" "write 0x05 ;"
 refused P5 4 "brief 1" "message m write 0x01 0x03*196" "else" "$twenty ;"
 refused P5 4 "brief 1" "message m write 0x01 any any" "*" "255 ;"
 
+# A header that follows each refusal of the one before it, as deep as the longest path, and one more; and one of each
+# 100,000 times.
+deep="message m$(printf ' write 0x01 else (%.0s' {1..255})"
+closed="$(printf ' )%.0s' {1..255}) ;"
+want_plan "256 headers, each after the refusal of the one before it" "plan 1
+message m$(printf ' write 0000001 stop else again%.0s' {1..255}) write 0000001 stop else stop ;" "$deep write 0x01$closed"
+cp out deep.plan
+refused P5 4 "brief 1" "$deep" "write 0x01 else ( read" "0x01 4 )$closed"
+refused P5 2 "brief 1" "message m$(printf ' write 0x01 else (%.0s' {1..100000})"
+refused P3 3 "brief 1" "message m write 0x01 else (" "$(printf '(%.0s' {1..100000})"
+refused P3 3 "brief 1" "message m write 0x01" "$(printf ')%.0s' {1..100000})"
+
 # ---- Texts in the wrong place.
 
 want 2 "" "refused P2 line 1"
@@ -330,7 +342,7 @@ done
 
 # ---- Examples: a brief of a plan, expanded, is the plan in its canonical spelling.
 
-for plan in "$tests"/../examples/*.plan full.plan; do
+for plan in "$tests"/../examples/*.plan full.plan deep.plan; do
     want 0 "$("$twire" print "$plan")" ""
     "$twire" brief "$plan" >this.brief
     run "a brief of $(basename "$plan"), expanded" expand this.brief
@@ -395,6 +407,10 @@ lines named.plan "plan 1" "controller byte ;"
 want 2 "" "refused brief name
 hint: the plan has the name 'byte', which is a word of briefs"
 run "hints on a plan that has no brief" brief named.plan --hints always
+want 2 "" "refused brief name
+hint: no name in a brief is 'brief', 'device', 'byte' or 'any': these are its
+hint: words"
+run "hints on a plan from standard input that has no brief" brief - --hints always <named.plan
 want 2 "" "refused read
 hint: BRIEF, the brief \"missing.brief\", cannot be opened:
 hint: No such file or directory (os error 2)"

@@ -104,12 +104,15 @@ silent=$'0 transactions, 0 unexplained'
 dump quiet '#0 1! 1" #5 0! #9 1!'
 
 expect "hints on a missing signal" 2 "" "refused V1 scl
-$(hint "no signal of one bit has the name 'scl'" "these signals have one bit, the nearest names first:" \
-    "  D0" "  D1" "give the name that the line has in the file with --scl NAME")" \
+$(hint "no signal of one bit has the name 'scl', and none has the name 'sda'" \
+    "these signals have one bit, the nearest names first:" "  D0" "  D1" \
+    "give the names that the lines have in the file with --scl NAME --sda NAME" "two signals look like a bus; try" \
+    "  twire capture $example $tests/../examples/probe_sigrok.vcd --scl D0 --sda D1")" \
     "$example" "$tests/../examples/probe_sigrok.vcd" --hints always
 expect "hints on the other missing signal" 2 "" "refused V1 sda
 $(hint "no signal of one bit has the name 'sda'" "these signals have one bit, the nearest names first:" \
-    "  clk" "  data_line" "  clock_line" "give the name that the line has in the file with --sda NAME")" \
+    "  clk" "  data_line" "  clock_line" "give the name that the line has in the file with --sda NAME" \
+    "two signals look like a bus; try" "  twire capture plan named --scl clock_line --sda data_line")" \
     plan named --scl clock_line --hints always
 expect "hints on a token" 2 "" "refused V2 line 26
 $(hint "line 26 of the capture:" "  U!" "  ^^" \
@@ -158,6 +161,16 @@ cat nine_states >nine_states.fifo &
 expect "hints on a FIFO" 2 "" "refused V2 line 26
 $(hint "on line 26 of the capture something stands that cannot stand in its place")" \
     "$example" nine_states.fifo --hints always
+
+expect "hints on a missing signal of a pipe" 2 "" "refused V1 sda
+$(hint "no signal of one bit has the name 'sda'" "give the name that the line has in the file with --sda NAME")" \
+    plan /dev/stdin --scl clock_line --hints always < <(cat named)
+expect "hints on a pipe without a transaction" 0 "$silent" \
+    "$(hint "no START on a free bus was seen in the capture. The usual causes:" \
+        "  the names are those of other signals: of several with one name the first" "  counts" \
+        "  the two names are exchanged" \
+        "  the two lines are never HIGH together, so the bus is never known to be" "  free" \
+        "  a level is 'x' all the time")" plan /dev/stdin --hints always < <(cat quiet)
 
 # On a terminal hints are given where nothing is said, and standard output has the report alone.
 if command -v script >/dev/null; then

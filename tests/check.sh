@@ -286,10 +286,16 @@ want 0 "$(cat "$tests/expected/certify_help.txt")" ""
 run "help on certify" certify --help
 want 0 "$(cat "$tests/expected/verify_help.txt")" ""
 run "help on verify" verify --help
+want 0 "$(cat "$tests/expected/order_help.txt")" ""
+run "help on order" order --help
 want 0 "$(cat "$tests/expected/print_help.txt")" ""
 run "help on print" print --help
 want 0 "$(cat "$tests/expected/capture_help.txt")" ""
 run "help on capture" capture --help
+want 0 "$(cat "$tests/expected/signals_help.txt")" ""
+run "help on signals" signals --help
+want 0 "$(cat "$tests/expected/learn_help.txt")" ""
+run "help on learn" learn --help
 want 2 "" "$(cat help.txt)"
 run "no argument"
 
@@ -375,6 +381,9 @@ sed 's/$/\r/' safe.cert >returns.cert
 run "hints on a certificate with CR LF" verify safe.plan returns.cert --hints always
 want 2 "wrong C1 line 1" "hint: line 1 of the certificate is no line of a certificate in this place"
 run "hints on a certificate from standard input" verify safe.plan - --hints always <returns.cert
+want 2 "wrong C3 line 3" "hint: line 3 of the certificate has a proof that is more than 512 nodes deep"
+printf '%s\n' "cert 1" "pairs 1" "$(printf 'S %.0s' {1..513})." >deep.cert
+run "hints on a proof from standard input that is too deep" verify safe.plan - --hints always <deep.cert
 want 2 "" "refused P2 line 1
 hint: line 1 of the plan:
 hint:   cert 1
@@ -403,6 +412,7 @@ want 0 "accepted safe" "$left_out"
 run "hints on a certificate of such a plan" verify spare.plan spare.cert --hints always
 want 0 "safe: 0 pairs" ""
 run "no word on hints on a safe plan" check spare.plan
+run "hints on a safe plan from standard input" check - --hints always <spare.plan
 
 none="No such file or directory (os error 2)"
 want 2 "" "refused read
@@ -422,6 +432,10 @@ want 2 "" "refused read
 hint: CERT, the certificate \"directory\", cannot be read to its end:
 hint: Is a directory (os error 21)"
 run "hints on a directory in the place of a certificate" verify safe.plan directory --hints always
+want 2 "" "refused read
+hint: CERT, the certificate from standard input, cannot be read to its end:
+hint: Is a directory (os error 21)"
+run "hints on a directory in the place of standard input" verify safe.plan - --hints always <directory
 want 2 "" "refused read
 hint: PLAN, the plan, is to come from standard input, which is closed"
 run "hints on closed standard input" check - --hints always <&-

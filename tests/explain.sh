@@ -151,13 +151,13 @@ want 1 "pair 0 a/w b/p: data against stop after 10010000l
     b/p  S 48 Wr A P   next: a STOP
     slot 9, UM10204 3.1.8: a data bit meets a STOP. Both send alike until here.
 pair 1 a/w c/p: data against stop after 10010000l
-    (further pairs are not explained: --most N)
+    (not explained from here on: 1; --most N explains N pairs)
 unsafe: 2 of 3 pairs
     to mend each: a bit before its slot, known in both and different; or the
     same shape from there on; or never a b ; never a c ;" ""
 run "one pair is explained where --most is 1" check --explain --most 1 p.plan
 want 1 "pair 0 a/w b/p: data against stop after 10010000l
-    (further pairs are not explained: --most N)
+    (not explained from here on: 2; --most N explains N pairs)
 pair 1 a/w c/p: data against stop after 10010000l
 unsafe: 2 of 3 pairs
     to mend each: a bit before its slot, known in both and different; or the
@@ -169,6 +169,42 @@ want 0 "safe: 1 pairs
     end alike
     2 pairs were not checked: 'never' keeps their controllers apart" ""
 run "the never items that are named make the plan safe" check --explain p.plan
+
+plan 'plan 2' 'message w write 1001000 00000001 stop else stop else stop ;' \
+    'message v write 1001000 00000010 stop else stop else stop ;' 'message p write 1001000 stop else stop ;' \
+    'message q read 0010000 1 stop else stop ;' 'controller a w v ;' 'controller b p q ;' 'controller c p w ;' \
+    'interrupt al 0010000 ;'
+want 1 "pair 0 a/w b/p: data against stop after 10010000l
+    (not explained from here on: 6; --most N explains N pairs)
+pair 2 a/w c/p: data against stop after 10010000l
+pair 5 a/v b/p: data against stop after 10010000l
+pair 7 a/v c/p: data against stop after 10010000l
+pair 11 b/p c/w: stop against data after 10010000l
+pair 15 b/q !al: answer against claim after 00100001
+unsafe: 6 of 18 pairs
+    to mend each: a bit before its slot, known in both and different; or the
+    same shape from there on; or never a b ; never a c ; never b c ;
+    no 'never' keeps an interrupt away: pair 15" ""
+run "several pairs of two controllers, beside one with an interrupt" check --explain --most 0 p.plan
+printf 'never b a ;\n' >>p.plan
+want 1 "pair 0 a/w c/p: data against stop after 10010000l
+    (not explained from here on: 4; --most N explains N pairs)
+pair 3 a/v c/p: data against stop after 10010000l
+pair 7 b/p c/w: stop against data after 10010000l
+pair 11 b/q !al: answer against claim after 00100001
+unsafe: 4 of 14 pairs
+    to mend each: a bit before its slot, known in both and different; or the
+    same shape from there on; or never a c ; never b c ;
+    no 'never' keeps an interrupt away: pair 11" ""
+run "a never that the plan has is not named" check --explain --most 0 p.plan
+printf 'never a c ; never b c ;\n' >>p.plan
+want 1 "pair 3 b/q !al: answer against claim after 00100001
+    (not explained from here on: 1; --most N explains N pairs)
+unsafe: 1 of 6 pairs
+    to mend it: a bit before that slot, known in both and different; or the same
+    shape from there on
+    no 'never' keeps an interrupt away: pair 3" ""
+run "with these items the pair with the interrupt is left" check --explain --most 0 p.plan
 
 # ---- Safe plans.
 
@@ -214,6 +250,38 @@ want 2 "wrong C1 line 1
     a plan that was changed wants a new certificate: twire certify PLAN" ""
 run "a certificate of another form" verify --explain "$examples/two_writers.plan" wrong.cert
 
+# breaks PROOF WORD SLOT REASON: below a certificate with this proof of one pair stands where it breaks off.
+breaks() {
+    printf 'cert 1\npairs 1\n%s\n' "$1" >c.cert
+    want 2 "wrong C5 pair 0
+    pair 0 is a/one and b/two: what the certificate says of them is not so
+$(echo "it breaks off at word $2, in slot $3: $4" | fold -s -w 77 | sed 's/^/    /; s/ $//')
+    a plan that was changed wants a new certificate: twire certify PLAN" ""
+    run "the proof $1" verify --explain p.plan c.cert
+}
+tails='stop else stop else stop else stop'
+plan 'plan 1' "message one write 1001000 0000000x again read 1001000 1 $tails ;" \
+    "message two write 1001000 0000000x again read 1001000 2 $tails ;" 'controller a one ;' 'controller b two ;'
+printf 'cert 1\npairs 1\nB B S D R . . .\n' >c.cert
+want 0 "accepted safe" ""
+run "the proof that there is" verify --explain p.plan c.cert
+again="the two do not both send a repeated START there"
+breaks "D B S D R . . ." 1 0 "the two do not both read there"
+breaks "B B B . . . ." 3 18 "the two do not both write a byte there"
+breaks "B S . ." 2 9 "$again"
+breaks "B . ." 2 9 "the two do not both send a STOP there"
+breaks "B B S B R . . ." 4 19 "the two do not both write a byte there"
+breaks "B B S P7 . ." 4 19 "no bit of this number is known in both and different there"
+breaks "B B S D . . . ." 5 28 "the two never read the same number of bytes"
+breaks "B B S D R S . . ." 6 28 "$again"
+breaks "B B S D R . S . ." 7 18 "$again"
+breaks "B B S D R . . S ." 8 9 "$again"
+breaks "R" 1 0 "a proof has no such word there"
+plan 'plan 1' "message one write 1001000 0000000x again read 1001000 2 $tails ;" \
+    "message two write 1001000 0000000x again read 1001000 2 $tails ;" 'controller a one ;' 'controller b two ;'
+breaks "B B S D R . . ." 5 28 "both may read the same number of bytes"
+breaks "B B S D S . . . ." 5 46 "$again"
+
 # ---- A rehearsal.
 
 want 0 "wire 10010000l00000001l00100000ls
@@ -225,6 +293,23 @@ want 0 "wire 10010000l00000001l00100000ls
 won guard/write_alarm" ""
 run "who loses where" bench --explain "$examples/two_writers.plan" --certify main/write_limit,guard/write_alarm \
     --rest 0
+
+# Seven bytes, of which five fit beside these labels. The repeated START has a column of its own.
+plan 'plan 1' 'message fetch_some write 1001000 00000001 again read 1001000 4 stop else stop else stop else stop ;' \
+    'message warn write 1001000 00000011 stop else stop else stop ;' 'controller main fetch_some ;' \
+    'controller guard warn ;'
+want 0 "wire 10010000l00000001lr10010001lllllllll0llllllll0llllllll0llllllll1s
+    slot             0          9            19         28         37
+    byte             48 Wr    A 01       A S 48 Rd    A 00       A 00       A
+    wire             10010000 l 00000001 l r 10010001 l llllllll 0 llllllll 0
+    main/fetch_some  10010000 . 00000001 . r 10010001 . ........ 0 ........ 0
+    guard/warn       10010000 . 0000001  lost in slot 15
+    slot             46         55
+    byte             00       A 00       N P
+    wire             llllllll 0 llllllll 1 s
+    main/fetch_some  ........ 0 ........ 1 s  won
+won main/fetch_some" ""
+run "a wire in two blocks, with a repeated START" bench --explain p.plan --certify main/fetch_some,guard/warn --rest 0
 
 # ---- Captures.
 
@@ -313,6 +398,93 @@ sed -i '/interrupt/d; s/^plan 1/plan 2/' p.plan
 echo "never $long b ;" >>p.plan
 "$twire" certify p.plan >c.cert
 alike "a rehearsal of 250 bytes" bench p.plan c.cert "$long/$long"
+
+# ---- Many pairs.
+
+# names PREFIX COUNT: so many names of 32 characters.
+names() {
+    seq -f "$1%031.0f" "$2" | tr '\n' ' '
+}
+{
+    echo 'plan 1'
+    text='write 1001000'
+    tails='stop'
+    for name in $(names m 16); do
+        echo "message $name $text $tails else stop ;"
+        text+=' 01010101'
+        tails+=' else stop'
+    done
+    for name in $(names c 3); do
+        echo "controller $name $(names m 16);"
+    done
+} >p.plan
+alike "720 unsafe pairs, all explained" check p.plan --most 1000000
+want 0 720 ""
+grep -c '^    slot [0-9]*, UM10204 3\.1\.8: a' explained >out
+: >err
+echo 0 >status
+compare "each of 720 pairs has its reason"
+want 2 "" "refused write"
+"$twire" check p.plan --explain --most 1000000 >/dev/full 2>err
+echo "$?" >status
+: >out
+compare "an explained report that a full device takes no part of"
+"$twire" check p.plan --explain --most 1000000 2>err | head -c 70000 >out
+echo "${PIPESTATUS[0]}" >status
+head -c 70000 explained >want_out
+compare "an explained report of which the first part is taken"
+
+# 64 starters, of which one has a message of 4,096 nodes and the others part from it in their second byte, or in their second
+# bit.
+bits() {
+    local k text=
+    for ((k = $2 - 1; k >= 0; k--)); do
+        text+=$((($1 >> k) & 1))
+    done
+    echo "$text"
+}
+"$tests/../tools/fullest_plan" | grep '^message m0 ' >largest
+{
+    echo 'plan 1'
+    cat largest
+    for k in {1..31}; do
+        echo "message m$k write 1001000 $(bits "$k" 8) stop else stop else stop ;"
+    done
+    for k in {0..31}; do
+        echo "controller c$k m$k ;"
+    done
+    for k in {0..31}; do
+        echo "interrupt t$k 11$(bits "$k" 5) ;"
+    done
+} >p.plan
+"$twire" certify p.plan -o c.cert
+starters=$(for k in {0..31}; do printf 'c%d/m%d,' "$k" "$k"; done)$(seq -f '!t%.0f' -s , 0 31)
+alike "64 starters" bench p.plan c.cert "$starters" --rest 0
+want 0 "63
+32" ""
+{
+    grep -c ' lost in slot ' explained
+    grep -c '^    !t[0-9]* *11  lost in slot 1$' explained
+} >out
+: >err
+echo 0 >status
+compare "each of 64 starters but one loses, the interrupts in slot 1"
+
+# Two messages of 4,096 nodes and one less, which part where the shorter ends its second frame: after 18 bytes, a repeated
+# START and 218 bytes.
+{
+    echo 'plan 1'
+    cat largest
+    sed 's/^message m0/message shorter/; s/ 01010101 stop else stop/ stop/' largest
+    printf 'controller a m0 ;\ncontroller b shorter ;\n'
+} >p.plan
+alike "a clash after 2,125 slots" check p.plan
+want 0 "    slot 2125, UM10204 3.1.8: a data bit meets a STOP. Both send alike until
+    here." ""
+grep -A 1 '^    slot ' explained >out
+: >err
+echo 0 >status
+compare "the slot of that clash"
 
 # ---- Refusals are the same.
 

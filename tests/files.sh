@@ -208,6 +208,48 @@ cp vcd changing
 held remove_dump
 judge "a dump that is removed before it is read" 0 "$explained" ""
 
+# ---- a file that changes between its refusal and its hints
+
+# Whether the run waits and has read so many bytes of the file `changing`, as its descriptor with this number.
+has_read() {
+    local name position
+    [[ /proc/$pid/fd/$1 -ef changing && $(<"/proc/$pid/stat") == *") S "* ]] &&
+        read -r name position <"/proc/$pid/fdinfo/$1" && ((position == $2))
+} 2>/dev/null
+
+# refused_then CHANGE FD ARG..: a run on the file `changing`, which CHANGE changes once it was read: standard error is a full
+# pipe, where the run waits to write the line of its refusal.
+refused_then() {
+    local size cat
+    size=$(stat -c %s changing)
+    rm -f full && mkfifo full
+    exec 3<>full
+    dd if=/dev/zero of=full bs=4096 oflag=nonblock 2>/dev/null
+    "$twire" "${@:3}" >out 2>full 3>&- &
+    pid=$!
+    until has_read "$2" "$size" || [[ ! -e /proc/$pid/exe ]]; do :; done
+    "$1"
+    tr -d '\0' <full >err 3>&- &
+    cat=$!
+    exec 3>&-
+    await
+    wait "$cat"
+}
+
+make_a_plan() { printf 'plan 1\n' >changing; }
+end_nothing() { printf '$end' >changing; }
+
+printf 'brief 1\n' >changing
+refused_then make_a_plan 3 check changing --hints always
+judge "hints on a plan that was changed" 2 "" "refused P2 line 1
+hint: a plan begins with 'plan 1', or with 'plan 2' where it has ranges of
+hint: counts or 'never'"
+{ cat vcd && echo '?'; } >changing
+line=$(wc -l <changing)
+refused_then end_nothing 4 capture plan changing --hints always
+judge "hints on a dump that was changed" 2 "" "refused V2 line $line
+hint: on line $line of the capture something stands that cannot stand in its place"
+
 # ---- a file that changes in the midst of being read
 
 # stopped FD FILE ARG..: starts a run, and stops it where it has read a part of the file, as its descriptor with this number.

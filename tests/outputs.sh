@@ -242,6 +242,86 @@ else
     echo "left out: colours on a terminal (no command 'script')"
 fi
 
+# How far a long run is: a line on standard error that goes away. What is read is a FIFO, on which the plan comes more than a
+# second after the run has opened it, so that there is a line.
+# slowly TEXT COMMAND: what a terminal is given by a command that reads this text from the file slow, in the file terminal; and
+# in the file seen what is left to be seen.
+slowly() {
+    rm -f slow
+    mkfifo slow
+    timeout 60 bash -c 'exec >slow && sleep 1.2 && cat "$1"' bash "$1" &
+    script -qec "$2" /dev/null </dev/null >terminal
+    wait
+    sed $'s/\r$//; s/.*\r\e\\[K//' terminal >seen
+}
+# told TEXT: the line had this text at some time.
+told() {
+    grep -qF $'\r\e[K'"twire: $1"$'\r' terminal || { echo "not told: $1" && cat -v terminal; } >>wrong
+}
+# quiet FILE: it has no such line, and nothing that takes one away.
+quiet() {
+    ! grep -qE $'twire: |\e\\[K' "$1" || cat -v "$1" >>wrong
+}
+if type -P script >/dev/null; then
+    bytes=$(wc -c <plan)
+    slowly plan "'$twire' check slow"
+    told "plan: $bytes bytes"
+    told "messages compared with messages: 0"
+    has seen "${green}safe${plain}: 1 pairs"
+    judge "how far a check is"
+    slowly plan "'$twire' check slow --explain"
+    told "plan: $bytes bytes"
+    has seen "${green}safe${plain}: 1 pairs
+    where targets acknowledge: 1 part in a header, 0 later, 0 at a read's end, 0
+    end alike"
+    judge "how far an explained check is"
+    slowly plan "'$twire' certify slow -o slow.cert"
+    told "certificate written: $(wc -c <right.cert) bytes"
+    has seen ""
+    has slow.cert "$cert"
+    judge "how far a certificate is"
+    slowly plan "'$twire' certify slow | cat >piped"
+    told "certificate written: $(wc -c <right.cert) bytes"
+    has seen ""
+    has piped "$cert"
+    judge "how far a certificate is that goes into a pipe"
+    slowly plan "'$twire' certify slow"
+    has seen "$cert"
+    ! grep -qF "certificate written" terminal || cat -v terminal >>wrong
+    judge "a certificate on the terminal is not told of"
+    slowly plan "'$twire' verify slow right.cert"
+    told "certificate: $(wc -c <right.cert) of $(wc -c <right.cert) bytes"
+    has seen "accepted ${green}safe${plain}"
+    judge "how far a certificate is read"
+    slowly plan "'$twire' capture slow other.vcd"
+    told "capture: $(wc -c <other.vcd) of $(wc -c <other.vcd) bytes"
+    has seen "5-160 ${red}unexplained${plain}
+1 transactions, 1 unexplained"
+    judge "how far a capture is read"
+    slowly plan "'$twire' check slow 2>err"
+    quiet terminal
+    has err ""
+    judge "standard error is no terminal"
+    slowly plan "'$twire' print slow"
+    quiet terminal
+    has seen "$plan"
+    judge "a command that is never long"
+    { sleep 5 && printf '%s\n\004' "$plan"; } | script -qec "'$twire' check -" /dev/null >terminal
+    quiet terminal
+    grep -q "safe.*: 1 pairs" terminal || cat -v terminal >>wrong
+    judge "no line beside a plan that is typed"
+    script -qec "'$twire' certify plan -o fast.cert" /dev/null </dev/null >terminal
+    has terminal ""
+    judge "nothing is told of a run below a second"
+    sed 's/stop ;/stops ;/' plan >plan.wrong
+    slowly plan.wrong "'$twire' check slow --hints never"
+    told "plan: $(wc -c <plan.wrong) bytes"
+    has seen "refused P3 line 2"
+    judge "the line of a refusal stands alone"
+else
+    echo "left out: how far a long run is (no command 'script')"
+fi
+
 # fault NAME ARG..: a command line that is refused, with a message that is not compared.
 fault() {
     local name=$1

@@ -1,6 +1,7 @@
 // What a command line asks for.
 
 use crate::building::program;
+use crate::capturing::{Lines, Options, View};
 use clap::error::ErrorKind;
 use clap::{ArgMatches, Error};
 use std::alloc::{AllocError, Global};
@@ -29,6 +30,9 @@ pub enum Request<'a> {
         workers: u32,
         /// How many unsafe pairs are to be explained.
         explain: Option<u32>,
+        /// The file for the waves of an unsafe pair: of the first one, or of the one with this number.
+        wave: Option<&'a str>,
+        pair: Option<u32>,
     },
     /// The certificate of a plan.
     Certify {
@@ -41,13 +45,28 @@ pub enum Request<'a> {
         cert: &'a str,
         explain: bool,
     },
-    /// Who of a plan explains a recorded bus, on which the two lines have these names.
+    /// Who wins arbitration.
+    Order {
+        plan: &'a str,
+    },
+    /// Who of a plan explains a recorded bus, on which these are the two lines.
     Capture {
         plan: &'a str,
         vcd: &'a str,
-        scl: &'a str,
-        sda: &'a str,
+        lines: Lines<'a>,
+        view: View,
         explain: bool,
+    },
+    /// The signals of a dump.
+    Signals {
+        vcd: &'a str,
+    },
+    /// A brief of what was recorded, where bytes of messages of one shape are put together if `merge` says so.
+    Learn {
+        vcd: &'a str,
+        lines: Lines<'a>,
+        merge: bool,
+        output: Option<&'a str>,
     },
     /// What these starters of an accepted plan do on a bus. Without a certificate one is to be made. The answers are bits, 0
     /// and 1, and past their end each is `rest`.
@@ -59,6 +78,8 @@ pub enum Request<'a> {
         answers: &'a str,
         rest: bool,
         explain: bool,
+        /// The file for the waves of the run.
+        wave: Option<&'a str>,
     },
     /// The plan that a brief means, in its canonical spelling.
     Expand {
@@ -167,14 +188,16 @@ struct Found<'a> {
     vcd: Option<&'a str>,
     starters: Option<&'a str>,
     workers: Option<u32>,
-    scl: Option<&'a str>,
-    sda: Option<&'a str>,
+    capture: Options<'a>,
     fill: Option<&'a str>,
     answers: Option<&'a str>,
     rest: Option<&'a str>,
     is_certified: bool,
     explain: bool,
+    merge: bool,
     most: Option<u32>,
+    wave: Option<&'a str>,
+    pair: Option<u32>,
     output: Option<&'a str>,
     hints: Option<&'a str>,
     color: Option<&'a str>,
@@ -186,10 +209,14 @@ fn parse<'a>(
     words: &'a [String],
 ) -> Result<Option<(Request<'a>, When, When)>, Error> {
     let matches = program(alloc)?.try_get_matches_from(words)?;
-    Ok(match matches.subcommand() {
-        Some((name, matches)) => asked_of(name, found_in(matches)),
-        None => None,
-    })
+    let Some((name, matches)) = matches.subcommand() else {
+        return Ok(None);
+    };
+    let found = found_in(matches);
+    if let Some(fault) = found.capture.fault() {
+        return Err(error_of(alloc, fault)?);
+    }
+    Ok(asked_of(name, found))
 }
 
 fn found_in<'a>(matches: &ArgMatches<'a>) -> Found<'a> {
@@ -200,14 +227,16 @@ fn found_in<'a>(matches: &ArgMatches<'a>) -> Found<'a> {
         vcd: matches.get_str("VCD"),
         starters: matches.get_str("STARTERS"),
         workers: matches.get_one::<u32>("workers"),
-        scl: matches.get_str("scl"),
-        sda: matches.get_str("sda"),
+        capture: Options::found_in(matches),
         fill: matches.get_str("fill"),
         answers: matches.get_str("answers"),
         rest: matches.get_str("rest"),
         is_certified: matches.get_flag("certify"),
         explain: matches.get_flag("explain"),
+        merge: matches.get_flag("merge"),
         most: matches.get_one::<u32>("most"),
+        wave: matches.get_str("wave"),
+        pair: matches.get_one::<u32>("pair"),
         output: output_of(matches.get_str("output")),
         hints: matches.get_str("hints"),
         color: matches.get_str("color"),
@@ -230,6 +259,8 @@ fn request_of<'a>(name: &str, found: Found<'a>) -> Option<Request<'a>> {
             plan: found.plan?,
             workers: found.workers?,
             explain: found.most.filter(|_| found.explain),
+            wave: found.wave,
+            pair: found.pair,
         },
         "certify" => Request::Certify {
             plan: found.plan?,
@@ -240,12 +271,20 @@ fn request_of<'a>(name: &str, found: Found<'a>) -> Option<Request<'a>> {
             cert: found.cert?,
             explain: found.explain,
         },
+        "order" => Request::Order { plan: found.plan? },
         "capture" => Request::Capture {
             plan: found.plan?,
             vcd: found.vcd?,
-            scl: found.scl?,
-            sda: found.sda?,
+            lines: found.capture.lines(),
+            view: found.capture.view(),
             explain: found.explain,
+        },
+        "signals" => Request::Signals { vcd: found.vcd? },
+        "learn" => Request::Learn {
+            vcd: found.vcd?,
+            lines: found.capture.lines(),
+            merge: found.merge,
+            output: found.output,
         },
         "bench" => return bench_of(found),
         "expand" => Request::Expand {
@@ -282,6 +321,7 @@ fn bench_of<'a>(found: Found<'a>) -> Option<Request<'a>> {
         answers: found.answers?,
         rest: found.rest? == "1",
         explain: found.explain,
+        wave: found.wave,
     })
 }
 

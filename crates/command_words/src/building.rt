@@ -42,10 +42,17 @@ fn commands<'a>(alloc: Global) -> Result<Vec<Command<'a>>, AllocError> {
 
 fn command<'a>(alloc: Global, entry: Entry) -> Result<Command<'a>, AllocError> {
     let arguments = arguments(alloc, entry.arguments)?;
-    Command::new(alloc, entry.name)
+    with_usage(Command::new(alloc, entry.name), entry.usage)
         .about(entry.about)
         .after_help(entry.after_help)
         .args(arguments)
+}
+
+fn with_usage<'a>(command: Command<'a>, usage: Option<&'static str>) -> Command<'a> {
+    match usage {
+        Some(usage) => command.override_usage(usage),
+        None => command,
+    }
 }
 
 fn arguments<'a>(alloc: Global, list: &[Argument]) -> Result<Vec<Arg<'a>>, AllocError> {
@@ -69,6 +76,16 @@ fn argument<'a>(alloc: Global, argument: Argument) -> Result<Arg<'a>, AllocError
             default,
             help,
         } => text(alloc, id, value_name, default, help),
+        Argument::Option {
+            id,
+            value_name,
+            help,
+        } => option(alloc, id, value_name, help),
+        Argument::Count {
+            id,
+            value_name,
+            help,
+        } => option(alloc, id, value_name, help).value_parser(value_parser!(u32)),
         Argument::Number {
             id,
             value_name,
@@ -109,6 +126,13 @@ fn text<'a>(
         .value_name(value_name)
         .default_value(default)
         .hide_default_value(default.is_empty())
+        .help(help)
+}
+
+fn option<'a>(alloc: Global, id: &'a str, value_name: &'a str, help: &'a str) -> Arg<'a> {
+    Arg::new(alloc, id)
+        .long(id)
+        .value_name(value_name)
         .help(help)
 }
 

@@ -58,6 +58,9 @@ shown):
   P3  something that is not expected   P7  a name twice
   P4  a count that is not 1 to 255     P8  an unknown name
 
+'--wave FILE' draws the fault of the first unsafe pair, or of that of '--pair':
+SCL, SDA and what each of the two pulls, for GTKWave or PulseView.
+
 Exit status: 0 safe, 1 not safe, 2 refused.";
 
 pub const AFTER_CERTIFY_HELP: &str = "\
@@ -88,6 +91,27 @@ says nothing of devices that do not keep to the plan.
 
 Exit status: 0 accepted safe, 1 accepted unsafe, 2 wrong or refused.";
 
+pub const AFTER_ORDER_HELP: &str = "\
+For each pair of participants, over all runs of the two alone, the report says
+in which slots what may happen, the earliest and the latest of each:
+
+  pair 0 main/write_settings guard/write_alarm: both 9..27, main/write_settings
+    21..25, guard/write_alarm 19..25                        (one line)
+
+  both 9..27              both end there, and neither has lost
+  guard/write_alarm 15    it goes on there, and the other has lost arbitration
+  unsafe                  the pair has a fault, which 'twire check' shows
+
+What can't happen is left out. Slots count from 0, the first bit after START.
+Then each participant that can win or lose has a line
+
+  total guard/write_alarm: wins 1, may win 1, loses 0
+
+with the number of pairs in which it alone can win, in which either can, and in
+which only the other can. Who always loses may wait long on a busy bus.
+
+Exit status: 0 the plan is safe, 1 it is not, 2 refused.";
+
 pub const AFTER_CAPTURE_HELP: &str = "\
 The capture is a value change dump (IEEE 1364-2005) with a signal of one bit for
 each of the two lines. The report has a line for each transaction, from its
@@ -100,15 +124,25 @@ START on, with the times of the capture:
 
 and then 'N transactions, U unexplained', of those that ended with a STOP. A
 report of '0 transactions' with a capture that has some usually means that the
-names are those of other signals, or that the levels are 'x' all the time.
+names are those of other signals, or that the levels are 'x' all the time:
+'twire signals VCD' lists them, and shows which look like a bus. A name that has
+blanks in the capture has them here too, as --scl 'I2C SCL'.
+
+With '--from' and '--to' the others are left out, and not counted. '--at-least'
+adds a line 'too few: C of N'. With '--summary' each participant has a line
+
+  main/set 3 alone, 2 with others
+
+and 'unexplained N', 'cut N' and 'unfinished N' stand below.
 
 A refused capture is named on standard error with a code, as 'refused V1 scl' or
 'refused V2 line 9':
 
-  V1  no signal of one bit has the name of SCL, or of SDA
+  V1  no signal of one bit has the name, or the code, of SCL or of SDA
   V2  something that cannot stand there
   V3  a time below the last one
   V4  the capture ends inside of something
+  timescale  a time has a unit, and the capture does not say what it counts
 
 What makes such dumps:
 
@@ -124,6 +158,43 @@ With '--hints always', and on a terminal, further lines on standard error say
 what is wrong with a refused capture, or why a report may have no transaction.
 
 Exit status: 0 all is explained, 1 something is not, 2 refused.";
+
+pub const AFTER_SIGNALS_HELP: &str = "\
+Each signal of one bit has a line, with its identifier code, how often it
+changes, its scope ('-' for none) and its name as it stands in the capture:
+
+  signal ! 40 top.i2c1 scl
+  signal \" 14 top.i2c1 sda
+  bus 2 transactions --scl-code '!' --sda-code '\"'
+  2 signals, 1 buses
+
+A line 'bus' has two signals that look like the two lines of a bus: a STOP ended
+so many transactions, and most have whole bytes. Its options choose the two for
+'twire capture'; so do '--scope top.i2c1', and '--scl' and '--sda' with names.
+Pairs are looked for among the first 256 codes.
+
+Refusals are those of 'twire capture'; V1 says that no signal has one bit.
+Exit status: 0 listed, 2 refused.";
+
+pub const AFTER_LEARN_HELP: &str = "\
+The brief has a message for each different sequence of bytes that was seen, and
+one controller, 'seen', that lists them all. Above each message stand comments:
+how often and when first each was seen, and which answers of targets never were.
+
+  # 3 times, first at 5: S 48 Wr A 01 A P
+  # 1 times, first at 400: S 48 Wr NA P
+  # never seen: 0x01 NA,
+  message write_48 write 0x48 0x01 ;
+
+What was done after a refusal stands in the message, as 'else ( .. )'; where
+nothing was seen it is a STOP. With '--merge' messages that differ in data bytes
+alone are one, and the bits that differ are open, as 0x0X. A brief is a draft:
+give names to devices and bytes, and share the messages out among controllers.
+
+Expanded by 'twire expand', it explains the capture that it was learned from,
+except for transactions that no message can have, which comments count.
+
+Exit status: 0 written, 1 written, and not all is in messages, 2 refused.";
 
 pub const AFTER_BENCH_HELP: &str = "\
 The certificate is checked first; with '--certify' it is made from the plan, and
@@ -141,7 +212,8 @@ it lists, or '!' and the name of an interrupt. Open bits are sent as '--fill'
 says, and so is the acknowledge after which a read of a range may end: 1 ends
 it. '--answers' has the targets' bit for each slot from the first on, 0 for an
 acknowledge, and '--rest' that of all later slots; they count where targets
-drive the slot, and nowhere else.
+drive the slot, and nowhere else. '--wave FILE' draws the run, for GTKWave or
+PulseView: SCL, SDA, and what each starter pulls.
 
 Starters that cannot start together are refused on standard error with a code:
 

@@ -2,7 +2,8 @@
 
 use crate::help::{
     AFTER_BENCH_HELP, AFTER_BRIEF_HELP, AFTER_CAPTURE_HELP, AFTER_CERTIFY_HELP, AFTER_CHECK_HELP,
-    AFTER_EXPAND_HELP, AFTER_PRINT_HELP, AFTER_VERIFY_HELP,
+    AFTER_EXPAND_HELP, AFTER_LEARN_HELP, AFTER_ORDER_HELP, AFTER_PRINT_HELP, AFTER_SIGNALS_HELP,
+    AFTER_VERIFY_HELP,
 };
 
 /// A command of the program.
@@ -10,6 +11,8 @@ use crate::help::{
 pub struct Entry {
     pub name: &'static str,
     pub about: &'static str,
+    /// The usage, where it is not the one that clap finds by the arguments.
+    pub usage: Option<&'static str>,
     pub after_help: &'static str,
     pub arguments: &'static [Argument],
 }
@@ -38,6 +41,18 @@ pub enum Argument {
         id: &'static str,
         value_name: &'static str,
         default: &'static str,
+        help: &'static str,
+    },
+    /// An option that takes any text, and need not be given.
+    Option {
+        id: &'static str,
+        value_name: &'static str,
+        help: &'static str,
+    },
+    /// An option that takes a number of 32 bits, and need not be given.
+    Count {
+        id: &'static str,
+        value_name: &'static str,
         help: &'static str,
     },
     /// An option that takes a number of 32 bits.
@@ -82,18 +97,22 @@ pub const COLOR: Argument = Argument::Choice {
 };
 
 /// The commands, in the order of the help.
-pub const COMMANDS: [Entry; 8] = [CHECK, CERTIFY, VERIFY, CAPTURE, BENCH, EXPAND, PRINT, BRIEF];
+pub const COMMANDS: [Entry; 11] = [
+    CHECK, CERTIFY, VERIFY, ORDER, CAPTURE, SIGNALS, LEARN, BENCH, EXPAND, PRINT, BRIEF,
+];
 
 const CHECK: Entry = Entry {
     name: "check",
     about: "Is a plan safe, whoever starts together and whatever targets answer?",
+    usage: None,
     after_help: AFTER_CHECK_HELP,
-    arguments: &[PLAN, WORKERS, EXPLAIN, MOST],
+    arguments: &[PLAN, WORKERS, EXPLAIN, MOST, WAVE, PAIR],
 };
 
 const CERTIFY: Entry = Entry {
     name: "certify",
     about: "Write the certificate of a plan: a proof for each pair, or a fault",
+    usage: None,
     after_help: AFTER_CERTIFY_HELP,
     arguments: &[PLAN, OUTPUT],
 };
@@ -101,29 +120,64 @@ const CERTIFY: Entry = Entry {
 const VERIFY: Entry = Entry {
     name: "verify",
     about: "Check a certificate against a plan, by a small checker of its own",
+    usage: None,
     after_help: AFTER_VERIFY_HELP,
     arguments: &[PLAN, CERT, EXPLAIN],
+};
+
+const ORDER: Entry = Entry {
+    name: "order",
+    about: "Say who wins arbitration, and in which slots, for each pair",
+    usage: None,
+    after_help: AFTER_ORDER_HELP,
+    arguments: &[PLAN],
 };
 
 const CAPTURE: Entry = Entry {
     name: "capture",
     about: "Explain a recorded bus: who may have sent each transaction?",
+    usage: None,
     after_help: AFTER_CAPTURE_HELP,
-    arguments: &[PLAN, VCD, SCL, SDA, EXPLAIN],
+    arguments: &[
+        PLAN, VCD, SCL, SDA, SCOPE, SCL_CODE, SDA_CODE, FROM, TO, AT_LEAST, TIMES, SUMMARY, EXPLAIN,
+    ],
+};
+
+const SIGNALS: Entry = Entry {
+    name: "signals",
+    about: "List the signals of a capture, and those that look like a bus",
+    usage: None,
+    after_help: AFTER_SIGNALS_HELP,
+    arguments: &[VCD],
+};
+
+const LEARN: Entry = Entry {
+    name: "learn",
+    about: "Write a brief of what was recorded: a message for each thing sent",
+    usage: None,
+    after_help: AFTER_LEARN_HELP,
+    arguments: &[VCD, SCL, SDA, SCOPE, SCL_CODE, SDA_CODE, MERGE, OUTPUT],
 };
 
 const BENCH: Entry = Entry {
     name: "bench",
     about: "Rehearse a plan: its starters play, each in a thread of its own",
+    usage: Some(BENCH_USAGE),
     after_help: AFTER_BENCH_HELP,
     arguments: &[
-        PLAN, BENCH_CERT, STARTERS, CERTIFIED, FILL, ANSWERS, REST, EXPLAIN,
+        PLAN, BENCH_CERT, STARTERS, CERTIFIED, FILL, ANSWERS, REST, EXPLAIN, WAVE,
     ],
 };
+
+// With `--certify` there is no certificate, which clap cannot say.
+const BENCH_USAGE: &str = "\
+twire bench [OPTIONS] <PLAN> <CERT> <STARTERS>
+       twire bench [OPTIONS] --certify <PLAN> <STARTERS>";
 
 const EXPAND: Entry = Entry {
     name: "expand",
     about: "Write the plan that a brief means: a brief is its short form",
+    usage: None,
     after_help: AFTER_EXPAND_HELP,
     arguments: &[BRIEF_FILE, OUTPUT],
 };
@@ -131,6 +185,7 @@ const EXPAND: Entry = Entry {
 const PRINT: Entry = Entry {
     name: "print",
     about: "Write the canonical spelling of a plan",
+    usage: None,
     after_help: AFTER_PRINT_HELP,
     arguments: &[PLAN, OUTPUT],
 };
@@ -138,6 +193,7 @@ const PRINT: Entry = Entry {
 const BRIEF: Entry = Entry {
     name: "brief",
     about: "Write a brief of a plan: expanded, it means the same plan",
+    usage: None,
     after_help: AFTER_BRIEF_HELP,
     arguments: &[PLAN, OUTPUT],
 };
@@ -182,7 +238,7 @@ const CERTIFIED: Argument = Argument::Flag {
 const OUTPUT: Argument = Argument::File {
     id: "output",
     short: 'o',
-    help: "Write FILE, whole or not at all, and not standard output",
+    help: "Write FILE, whole or not at all, not standard output",
 };
 
 const WORKERS: Argument = Argument::Number {
@@ -204,18 +260,82 @@ const MOST: Argument = Argument::Number {
     help: "How many unsafe pairs --explain explains",
 };
 
-const SCL: Argument = Argument::Text {
-    id: "scl",
-    value_name: "NAME",
-    default: "scl",
-    help: "The name of SCL in the capture",
+const WAVE: Argument = Argument::Option {
+    id: "wave",
+    value_name: "FILE",
+    help: "Write FILE, a value change dump of the waves",
 };
 
-const SDA: Argument = Argument::Text {
+const PAIR: Argument = Argument::Count {
+    id: "pair",
+    value_name: "I",
+    help: "The unsafe pair for --wave, not the first one",
+};
+
+const SCL: Argument = Argument::Option {
+    id: "scl",
+    value_name: "NAME",
+    help: "The name of SCL in the capture [default: scl]",
+};
+
+const SDA: Argument = Argument::Option {
     id: "sda",
     value_name: "NAME",
-    default: "sda",
-    help: "The name of SDA in the capture",
+    help: "The name of SDA in the capture [default: sda]",
+};
+
+const SCOPE: Argument = Argument::Option {
+    id: "scope",
+    value_name: "PATH",
+    help: "The scope that has the two names, as top.board.i2c1",
+};
+
+const SCL_CODE: Argument = Argument::Option {
+    id: "scl-code",
+    value_name: "CODE",
+    help: "The identifier code of SCL, in place of a name",
+};
+
+const SDA_CODE: Argument = Argument::Option {
+    id: "sda-code",
+    value_name: "CODE",
+    help: "The identifier code of SDA, in place of a name",
+};
+
+const MERGE: Argument = Argument::Flag {
+    id: "merge",
+    help: "Put messages of one shape together, with open bits",
+};
+
+const FROM: Argument = Argument::Option {
+    id: "from",
+    value_name: "TIME",
+    help: "Transactions that begin at TIME or later, as 15us",
+};
+
+const TO: Argument = Argument::Option {
+    id: "to",
+    value_name: "TIME",
+    help: "Transactions that begin at TIME or before",
+};
+
+const AT_LEAST: Argument = Argument::Count {
+    id: "at-least",
+    value_name: "N",
+    help: "Status 1 where fewer than N ended with a STOP",
+};
+
+const TIMES: Argument = Argument::Choice {
+    id: "times",
+    value_name: "HOW",
+    default: "plain",
+    values: &["plain", "si"],
+    help: "Times: plain, or si, as 15 us [default: plain]",
+};
+
+const SUMMARY: Argument = Argument::Flag {
+    id: "summary",
+    help: "Count for each participant, and list no transactions",
 };
 
 const FILL: Argument = Argument::Choice {

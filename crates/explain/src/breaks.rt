@@ -45,8 +45,9 @@ pub(crate) fn where_it_breaks(
         let Some(both) = left.pop() else {
             break;
         };
-        if let Err(reason) = proves(&mut left, both, word)? {
-            let slot = both.slot;
+        let ends = ended(both);
+        if let Err(reason) = proves(&mut left, both, ends, word)? {
+            let slot = slot_of(both, ends, word);
             return format!(in alloc; "it breaks off at word {number}, in slot {slot}: {reason}");
         }
     }
@@ -56,17 +57,30 @@ pub(crate) fn where_it_breaks(
 // What a word of a proof comes to.
 type Reason = &'static str;
 
+// The two where a word other than `R` is to prove something: two reads are gone through to their end, where there is one.
+fn ended<'a>(both: Both<'a>) -> Option<Both<'a>> {
+    if both.are_reads {
+        after_reads(both)
+    } else {
+        Some(both)
+    }
+}
+
+// In which slot the two are of which a word speaks.
+fn slot_of(both: Both<'_>, ends: Option<Both<'_>>, word: &[u8]) -> u32 {
+    match (word, ends) {
+        (b"R", _) | (_, None) => both.slot,
+        (_, Some(ends)) => ends.slot,
+    }
+}
+
 // Whether a word proves what it stands for, or why not. What further words are to prove is left to them.
 fn proves<'a>(
     left: &mut Vec<Both<'a>>,
     both: Both<'a>,
+    ends: Option<Both<'a>>,
     word: &[u8],
 ) -> Result<Result<(), Reason>, AllocError> {
-    let ends = if both.are_reads {
-        after_reads(both)
-    } else {
-        Some(both)
-    };
     match (word, ends) {
         (b"R", None) => Ok(Ok(())),
         (b"R", Some(_)) if both.are_reads => Ok(Err("both may read the same number of bytes")),

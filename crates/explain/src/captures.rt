@@ -1,10 +1,11 @@
 // Below the lines of transactions.
 
 use crate::below::Below;
+use crate::hearing::Heard;
 use crate::meeting::label_of;
 use crate::sending::after;
 use crate::words::Words;
-use capture_check::{Mark, Transaction, Until};
+use capture_check::{Mark, Until};
 use message_tree::{Bit, Item};
 use places::{Offered, Place};
 use plan_core::Plan;
@@ -13,24 +14,21 @@ use std::alloc::{AllocError, Global};
 // How many participants are named below a transaction that nobody explains.
 const NEAREST: usize = 3;
 
-/// What came after a transaction: how many bits there were on the bus before the next START, where it was free.
-pub type Following = u64;
-
 /// What is said below the line of a transaction in the report on a capture: its bytes, and where a STOP ended it and nobody
 /// explains it, which participants go along with it furthest, where each leaves it, and whether a byte was cut short.
 pub fn below_transaction(
     alloc: Global,
     plan: &Plan,
-    transaction: &Transaction,
+    heard: &Heard,
     is_unexplained: bool,
-    following: Following,
 ) -> Result<String, AllocError> {
     let mut below = Below::new(alloc);
+    let transaction = &heard.transaction;
     let marks = transaction.marks.as_slice();
     let words = words_of(alloc, marks)?;
     below.hang("", 0, words.as_str())?;
     if let Until::Stopped(_) = transaction.until {
-        push_glitch(alloc, &mut below, marks, following)?;
+        push_glitch(alloc, &mut below, marks, heard.following)?;
         if is_unexplained {
             push_nearest(alloc, &mut below, plan, marks)?;
         }
@@ -46,12 +44,12 @@ fn words_of(alloc: Global, marks: &[Mark]) -> Result<String, AllocError> {
     words.finish()
 }
 
-// A STOP in the middle of a byte, and one after which bits go on as if there had been none.
+// A STOP in the middle of a byte, and one after which so many bits go on as if there had been none.
 fn push_glitch(
     alloc: Global,
     below: &mut Below,
     marks: &[Mark],
-    following: Following,
+    following: u64,
 ) -> Result<(), AllocError> {
     let bits = last_bits(marks);
     if bits != 0 {

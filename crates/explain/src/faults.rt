@@ -36,8 +36,8 @@ fn push_meeting(
     meeting: &Meeting,
 ) -> Result<(), AllocError> {
     let wire = meeting.wire.as_slice();
-    let first = label_of(alloc, plan, meeting.first)?;
-    let second = label_of(alloc, plan, meeting.second)?;
+    let first = label_of(alloc, plan, meeting.pair.first)?;
+    let second = label_of(alloc, plan, meeting.pair.second)?;
     let columns = first
         .len()
         .max(second.len())
@@ -45,8 +45,8 @@ fn push_meeting(
         .clamp(5, LABELS);
     let bus = bus_words(alloc, wire)?;
     below.row("bus", columns, bus.as_str())?;
-    let one = follow_wire(alloc, plan, meeting.first, wire)?;
-    let other = follow_wire(alloc, plan, meeting.second, wire)?;
+    let one = follow_wire(alloc, plan, meeting.pair.first, wire)?;
+    let other = follow_wire(alloc, plan, meeting.pair.second, wire)?;
     let width = one.words.len().max(other.words.len());
     push_row(alloc, below, first.as_str(), columns, &one, width)?;
     push_row(alloc, below, second.as_str(), columns, &other, width)?;
@@ -135,60 +135,26 @@ fn push_range(words: &mut String, from: usize, to: usize) -> Result<(), AllocErr
     }
 }
 
-/// What is said below `unsafe: F of N pairs`: what mends one of these pairs, and the `never` items that keep all of them apart
-/// that can be kept apart so. An interrupt starts when it likes, so a pair with one cannot be.
-pub fn below_unsafe(alloc: Global, plan: &Plan, pairs: &[u32]) -> Result<String, AllocError> {
+/// What is said below `unsafe: F of N pairs`, of which `pairs` has the numbers: what mends one of these pairs, and the `never`
+/// items that keep the controllers apart, each as the numbers of two. An interrupt starts when it likes, so a pair with one
+/// cannot be mended so.
+pub fn below_unsafe(
+    alloc: Global,
+    plan: &Plan,
+    pairs: &[u32],
+    nevers: &[(u32, u32)],
+) -> Result<String, AllocError> {
     let mut below = Below::new(alloc);
     let mut words = String::from_str(alloc, mends(pairs.len()))?;
-    push_nevers(alloc, &mut words, plan, pairs)?;
+    if !nevers.is_empty() {
+        words.push_str("; or")?;
+    }
+    for (c, d) in nevers {
+        push_never(&mut words, plan, *c, *d)?;
+    }
     below.say(words.as_str())?;
     push_with_interrupts(alloc, &mut below, plan, pairs)?;
     Ok(below.finish())
-}
-
-// The `never` items that keep the controllers of these pairs apart, each once.
-fn push_nevers(
-    alloc: Global,
-    words: &mut String,
-    plan: &Plan,
-    pairs: &[u32],
-) -> Result<(), AllocError> {
-    let mut apart = Vec::new(alloc);
-    for pair in pairs {
-        if let Some(both) = controllers_of(plan, *pair) {
-            if !apart.contains(&both) {
-                apart.push(both)?;
-            }
-        }
-    }
-    if !apart.is_empty() {
-        words.push_str("; or")?;
-    }
-    for (c, d) in apart {
-        push_never(words, plan, c, d)?;
-    }
-    Ok(())
-}
-
-// The controllers of a pair without an interrupt, the smaller number first.
-fn controllers_of(plan: &Plan, pair: u32) -> Option<(u32, u32)> {
-    if plan.pair_count() <= pair {
-        return None;
-    }
-    let (x, y) = plan.pair(pair);
-    let c = controller_of(plan, x)?;
-    let d = controller_of(plan, y)?;
-    Some((c.min(d), c.max(d)))
-}
-
-fn controller_of(plan: &Plan, p: u32) -> Option<u32> {
-    if plan.participants() <= p {
-        return None;
-    }
-    match plan.participant(p) {
-        Participant::Sending { controller, .. } => Some(controller),
-        Participant::Interrupt(_) => None,
-    }
 }
 
 fn mends(pairs: usize) -> &'static str {
@@ -234,6 +200,11 @@ fn push_with_interrupts(
     below.say(words.as_str())
 }
 
+// Interrupts come after all sendings, so where a pair has one its second participant is one.
 fn has_interrupt(plan: &Plan, pair: u32) -> bool {
-    controllers_of(plan, pair).is_none()
+    if plan.pair_count() <= pair {
+        return false;
+    }
+    let (_, second) = plan.pair(pair);
+    second < plan.participants() && matches!(plan.participant(second), Participant::Interrupt(_))
 }

@@ -5,11 +5,18 @@ use message_tree::Item;
 use plan_core::Plan;
 use std::alloc::{AllocError, Global};
 
+/// A pair of the plan, by its number, and its participants.
+#[derive(Clone, Copy)]
+pub(crate) struct Pair {
+    pub(crate) number: u32,
+    pub(crate) first: u32,
+    pub(crate) second: u32,
+}
+
 /// Two participants and the wire after which they clash.
 #[derive(Drop)]
 pub(crate) struct Meeting {
-    pub(crate) first: u32,
-    pub(crate) second: u32,
+    pub(crate) pair: Pair,
     pub(crate) wire: Vec<Item>,
 }
 
@@ -19,30 +26,30 @@ pub(crate) fn meeting_of(
     plan: &Plan,
     line: &str,
 ) -> Result<Option<Meeting>, AllocError> {
-    let Some((_, first, second)) = pair_of(plan, line) else {
+    let Some(pair) = pair_of(plan, line) else {
         return Ok(None);
     };
     let symbols = line.rsplit(' ').next().unwrap_or("");
     let wire = items_of(alloc, symbols)?;
-    Ok(Some(Meeting {
-        first,
-        second,
-        wire,
-    }))
+    Ok(Some(Meeting { pair, wire }))
 }
 
 /// The pair that a line of a report tells of by the word after `pair`, and its participants.
-pub(crate) fn pair_of(plan: &Plan, line: &str) -> Option<(u32, u32, u32)> {
+pub(crate) fn pair_of(plan: &Plan, line: &str) -> Option<Pair> {
     let mut words = line.split(' ');
     words.find(|word| *word == "pair")?;
-    let Ok(pair) = words.next()?.parse::<u32>() else {
+    let Ok(number) = words.next()?.parse::<u32>() else {
         return None;
     };
-    if plan.pair_count() <= pair {
+    if plan.pair_count() <= number {
         return None;
     }
-    let (first, second) = plan.pair(pair);
-    Some((pair, first, second))
+    let (first, second) = plan.pair(number);
+    Some(Pair {
+        number,
+        first,
+        second,
+    })
 }
 
 /// The label of a participant, and nothing for a number that is none.

@@ -1,7 +1,6 @@
 // Below the report on a safe plan.
 
 use crate::below::Below;
-use crate::certificates::Endings;
 use plan_core::Plan;
 use std::alloc::{AllocError, Global};
 
@@ -82,4 +81,81 @@ fn is_never(plan: &Plan, c: u32, d: u32) -> bool {
         }
     }
     false
+}
+
+/// How the pairs of a safe plan are kept apart while targets acknowledge: counted over the text of its certificate, which comes
+/// in pieces.
+#[derive(Clone, Copy)]
+pub struct Endings {
+    pub header: u64,
+    pub later: u64,
+    pub read: u64,
+    pub alike: u64,
+    lines: u32,
+    // how many tokens of the line were met, and whether it is decided
+    tokens: u32,
+    is_decided: bool,
+}
+
+impl Endings {
+    /// Nothing of the text was met.
+    pub fn new() -> Endings {
+        Endings {
+            header: 0,
+            later: 0,
+            read: 0,
+            alike: 0,
+            lines: 0,
+            tokens: 0,
+            is_decided: false,
+        }
+    }
+
+    /// The next piece of the text.
+    pub fn feed(&mut self, piece: &[u8]) {
+        for byte in piece {
+            self.byte(*byte);
+        }
+    }
+
+    // A proof is written from its root along what follows each acknowledge, so its first token that ends a path decides.
+    fn byte(&mut self, byte: u8) {
+        if byte == b'\n' {
+            self.lines = self.lines.saturating_add(1);
+            self.tokens = 0;
+            self.is_decided = false;
+            return;
+        }
+        if self.lines < 2 || self.is_decided {
+            return;
+        }
+        match byte {
+            b'P' if self.tokens == 0 => self.decide_header(),
+            b'P' => self.decide_later(),
+            b'R' => self.decide_read(),
+            b'.' => self.decide_alike(),
+            b' ' => {}
+            _ => self.tokens = self.tokens.saturating_add(1),
+        }
+    }
+
+    fn decide_header(&mut self) {
+        self.header = self.header.saturating_add(1);
+        self.is_decided = true;
+    }
+
+    fn decide_later(&mut self) {
+        self.later = self.later.saturating_add(1);
+        self.is_decided = true;
+    }
+
+    fn decide_read(&mut self) {
+        self.read = self.read.saturating_add(1);
+        self.is_decided = true;
+    }
+
+    fn decide_alike(&mut self) {
+        self.alike = self.alike.saturating_add(1);
+        self.is_decided = true;
+    }
 }

@@ -1,12 +1,12 @@
 // After a certificate that is wrong.
 
 use crate::finding::LineFinder;
-use crate::kinds::{Kind, kind_of, push_kind};
-use crate::lines::Lines;
-use crate::marking::push_marked;
 use crate::pieces::Piece;
 use crate::proof_lines::{Flaw, flaw_in};
-use crate::reading::read_again;
+use dump_tokens::reading::read_again;
+use hint_lines::kinds::{Kind, kind_of, push_kind};
+use hint_lines::lines::Lines;
+use hint_lines::marking::push_marked;
 use std::alloc::{AllocError, Global};
 use std::io::{Read, Seek};
 
@@ -14,7 +14,7 @@ const ONE_PLAN: &str =
     "a certificate speaks of one plan alone: where the plan was changed, have it written again by 'twire certify PLAN -o CERT'";
 
 /// What is wrong with a certificate, as the report of `twire verify` says it.
-#[derive(Clone, Copy, Debug, PartialEq, Eq)]
+#[derive(Clone, Copy)]
 pub enum Wrong {
     /// This line breaks the form, C1.
     Form(u64),
@@ -114,8 +114,7 @@ fn push_flaw(
     line: u64,
     flaw: Flaw,
 ) -> Result<(), AllocError> {
-    let head = format!(in alloc; "line {line} of the certificate:")?;
-    lines.say(head.as_str())?;
+    lines.say_made(format!(in alloc; "line {line} of the certificate:")?)?;
     let Piece { start, end } = flaw.place;
     let before = content.get(..start).unwrap_or(&[]);
     let at = content.get(start..end).unwrap_or(&[]);

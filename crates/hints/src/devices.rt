@@ -1,11 +1,11 @@
 // After a file that cannot be read or written, and after other refusals that have no place in a text.
 
-use crate::lines::Lines;
+use hint_lines::lines::Lines;
 use std::alloc::{AllocError, Global};
 use std::io::Error;
 
 /// A file that the command line names: by which argument, what it is to be, and its path.
-#[derive(Clone, Copy, Debug)]
+#[derive(Clone, Copy)]
 pub struct Named<'a> {
     pub argument: &'static str,
     pub what: &'static str,

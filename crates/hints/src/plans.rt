@@ -1,15 +1,15 @@
 // After the refusal of a plan or of a brief, and after a plan that has no brief.
 
 use crate::expecting::expected;
-use crate::kinds::{Kind, kind_of_file, push_kind};
 use crate::languages::Language;
-use crate::lines::Lines;
-use crate::marking::{first_line, last_line, push_marked};
 use crate::pieces::{Piece, last_line_number, line_start, pieces};
-use crate::reading::part;
 use crate::wording::of_text;
 use crate::words::push_word;
 use brief_text::brief_word;
+use dump_tokens::reading::part;
+use hint_lines::kinds::{Kind, kind_of_file, push_kind};
+use hint_lines::lines::Lines;
+use hint_lines::marking::{first_line, last_line, push_marked};
 use plan_core::Plan;
 use plan_text::{PlanError, read_plan};
 use std::alloc::{AllocError, Global};
@@ -41,19 +41,30 @@ pub fn on_no_brief<F: Read + Seek + Drop>(
     alloc: Global,
     file: Option<F>,
 ) -> Result<String, AllocError> {
+    let plan = plan_of(alloc, file);
+    say_no_brief(alloc, plan.as_ref())
+}
+
+fn say_no_brief(alloc: Global, plan: Option<&Plan>) -> Result<String, AllocError> {
     let mut lines = Lines::new(alloc);
-    if let Some(plan) = plan_of(alloc, file) {
-        if let Some(name) = brief_word(&plan) {
+    push_brief_word(alloc, &mut lines, plan)?;
+    Ok(lines.finish())
+}
+
+fn push_brief_word(
+    alloc: Global,
+    lines: &mut Lines,
+    plan: Option<&Plan>,
+) -> Result<(), AllocError> {
+    if let Some(plan) = plan {
+        if let Some(name) = brief_word(plan) {
             let name = name.as_str();
-            let line = format!(in alloc;
+            return lines.say_made(format!(in alloc;
                 "the plan has the name '{name}', which is a word of briefs"
-            )?;
-            lines.say(line.as_str())?;
-            return Ok(lines.finish());
+            )?);
         }
     }
-    lines.say("no name in a brief is 'brief', 'device', 'byte' or 'any': these are its words")?;
-    Ok(lines.finish())
+    lines.say("no name in a brief is 'brief', 'device', 'byte' or 'any': these are its words")
 }
 
 /// The plan of a file, where it can be read once more, is not too long and is one.
@@ -137,8 +148,7 @@ fn push_place(
         return Ok(());
     };
     let what = language.name();
-    let head = format!(in alloc; "line {line} of the {what}:")?;
-    lines.say(head.as_str())?;
+    lines.say_made(format!(in alloc; "line {line} of the {what}:")?)?;
     let before = text.get(..place.start).unwrap_or(b"".as_slice());
     let at = text.get(place.start..place.end).unwrap_or(b"".as_slice());
     let after = text.get(place.end..).unwrap_or(b"".as_slice());

@@ -1,7 +1,7 @@
 // After a plan that is safe: what was not looked at.
 
-use crate::lines::Lines;
 use crate::plans::plan_of;
+use hint_lines::lines::Lines;
 use plan_core::Plan;
 use std::alloc::{AllocError, Global};
 use std::io::{Read, Seek};
@@ -15,15 +15,20 @@ pub fn on_safe<F: Read + Seek + Drop>(
     alloc: Global,
     file: Option<F>,
 ) -> Result<String, AllocError> {
+    match plan_of(alloc, file) {
+        Some(plan) => say_safe(alloc, &plan),
+        None => Ok(String::new(alloc)),
+    }
+}
+
+fn say_safe(alloc: Global, plan: &Plan) -> Result<String, AllocError> {
     let mut lines = Lines::new(alloc);
-    if let Some(plan) = plan_of(alloc, file) {
-        push_unsent(alloc, &mut lines, &plan)?;
-        push_nevers(alloc, &mut lines, &plan)?;
-        if plan.pair_count() == 0 {
-            lines.say(
-                "the plan has no two participants that may start together: no pair was looked at",
-            )?;
-        }
+    push_unsent(alloc, &mut lines, plan)?;
+    push_nevers(alloc, &mut lines, plan)?;
+    if plan.pair_count() == 0 {
+        lines.say(
+            "the plan has no two participants that may start together: no pair was looked at",
+        )?;
     }
     Ok(lines.finish())
 }
@@ -71,8 +76,7 @@ fn push_nevers(alloc: Global, lines: &mut Lines, plan: &Plan) -> Result<(), Allo
         }
         let one = plan.controller_name(one).as_str();
         let other = plan.controller_name(other).as_str();
-        let line = format!(in alloc; "'never {one} {other} ;' leaves out pairs: {count}")?;
-        lines.say(line.as_str())?;
+        lines.say_made(format!(in alloc; "'never {one} {other} ;' leaves out pairs: {count}")?)?;
     }
     Ok(())
 }

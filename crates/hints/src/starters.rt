@@ -1,9 +1,9 @@
 // After starters of a bench that are refused.
 
-use crate::likeness::Nearest;
-use crate::lines::Lines;
-use crate::marking::quoted;
 use crate::plans::plan_of;
+use hint_lines::likeness::Nearest;
+use hint_lines::lines::Lines;
+use hint_lines::marking::quoted;
 use plan_core::{Participant, Plan};
 use plays::OpenError;
 use std::alloc::{AllocError, Global};
@@ -17,19 +17,33 @@ pub fn on_starters<F: Read + Seek + Drop>(
     starters: &str,
     refusal: OpenError,
 ) -> Result<String, AllocError> {
-    let mut lines = Lines::new(alloc);
     let plan = plan_of(alloc, file);
+    say_refused(alloc, plan.as_ref(), starters, refusal)
+}
+
+fn say_refused(
+    alloc: Global,
+    plan: Option<&Plan>,
+    starters: &str,
+    refusal: OpenError,
+) -> Result<String, AllocError> {
+    let mut lines = Lines::new(alloc);
     match refusal {
-        OpenError::NoStarter => lines.say("no starter is named: give labels, joined by commas")?,
-        OpenError::Unknown => push_unknown(alloc, &mut lines, plan.as_ref(), starters)?,
-        OpenError::SameController => push_same(alloc, &mut lines, plan.as_ref(), starters)?,
-        OpenError::Never => push_never(alloc, &mut lines, plan.as_ref(), starters)?,
-        OpenError::NoMemory => return Ok(lines.finish()),
-    }
-    if let (OpenError::NoStarter, Some(plan)) = (refusal, &plan) {
-        push_nearest(alloc, &mut lines, plan, "")?;
+        OpenError::NoStarter => push_none(alloc, &mut lines, plan)?,
+        OpenError::Unknown => push_unknown(alloc, &mut lines, plan, starters)?,
+        OpenError::SameController => push_same(alloc, &mut lines, plan, starters)?,
+        OpenError::Never => push_never(alloc, &mut lines, plan, starters)?,
+        OpenError::NoMemory => {}
     }
     Ok(lines.finish())
+}
+
+fn push_none(alloc: Global, lines: &mut Lines, plan: Option<&Plan>) -> Result<(), AllocError> {
+    lines.say("no starter is named: give labels, joined by commas")?;
+    match plan {
+        Some(plan) => push_nearest(alloc, lines, plan, ""),
+        None => Ok(()),
+    }
 }
 
 // The first label that the plan does not have, and those that are like it.
@@ -40,16 +54,17 @@ fn push_unknown(
     starters: &str,
 ) -> Result<(), AllocError> {
     if let Some(plan) = plan {
-        for label in starters.split(',') {
-            if plan.find(label).is_none() {
-                let name = quoted(alloc, label.as_bytes())?;
-                let line = format!(in alloc; "no participant of the plan has the label '{name}'")?;
-                lines.say(line.as_str())?;
-                return push_nearest(alloc, lines, plan, label);
-            }
+        if let Some(label) = starters.split(',').find(|label| plan.find(label).is_none()) {
+            push_absent(alloc, lines, label)?;
+            return push_nearest(alloc, lines, plan, label);
         }
     }
     lines.say("a label is 'controller/message' or '!interrupt', with names of the plan")
+}
+
+fn push_absent(alloc: Global, lines: &mut Lines, label: &str) -> Result<(), AllocError> {
+    let name = quoted(alloc, label.as_bytes())?;
+    lines.say_made(format!(in alloc; "no participant of the plan has the label '{name}'")?)
 }
 
 fn push_nearest(
@@ -58,12 +73,7 @@ fn push_nearest(
     plan: &Plan,
     wanted: &str,
 ) -> Result<(), AllocError> {
-    let mut nearest = Nearest::new(alloc, wanted.as_bytes())?;
-    for i in 0..plan.participants() {
-        let label = plan.label(alloc, i)?;
-        nearest.add(alloc, label.as_bytes())?;
-    }
-    if nearest.found().is_empty() {
+    if plan.participants() == 0 {
         return lines.say("the plan has no participants");
     }
     if wanted.is_empty() {
@@ -71,14 +81,21 @@ fn push_nearest(
     } else {
         lines.say("labels of the plan, the nearest first:")?;
     }
-    for (_, label) in nearest.found() {
-        let label = quoted(alloc, label.as_slice())?;
-        lines.detail(label.as_str())?;
+    let nearest = nearest_labels(alloc, plan, wanted)?;
+    nearest.tell(alloc, lines)
+}
+
+fn nearest_labels(alloc: Global, plan: &Plan, wanted: &str) -> Result<Nearest, AllocError> {
+    let mut nearest = Nearest::new(alloc, wanted.as_bytes())?;
+    for i in 0..plan.participants() {
+        add_label(alloc, &mut nearest, plan, i)?;
     }
-    if nearest.has_more() {
-        lines.detail("..")?;
-    }
-    Ok(())
+    Ok(nearest)
+}
+
+fn add_label(alloc: Global, nearest: &mut Nearest, plan: &Plan, i: u32) -> Result<(), AllocError> {
+    let label = label_of(alloc, plan, i)?;
+    nearest.add(alloc, label.as_bytes())
 }
 
 fn push_same(
@@ -88,19 +105,27 @@ fn push_same(
     starters: &str,
 ) -> Result<(), AllocError> {
     if let Some(plan) = plan {
-        if let Some((first, second)) = first_two(alloc, plan, starters, Clash::OneController)? {
-            let line = if first == second {
-                let label = label_of(alloc, plan, first)?;
-                format!(in alloc; "'{label}' stands there twice")?
-            } else {
-                let first = label_of(alloc, plan, first)?;
-                let second = label_of(alloc, plan, second)?;
-                format!(in alloc; "'{first}' and '{second}' are of one controller")?
-            };
-            lines.say(line.as_str())?;
+        if let Some((first, second)) = first_two(plan, starters, Clash::OneController) {
+            push_two(alloc, lines, plan, first, second)?;
         }
     }
     lines.say("a controller starts one message at a time")
+}
+
+// Two starters of one controller, or one that stands there twice.
+fn push_two(
+    alloc: Global,
+    lines: &mut Lines,
+    plan: &Plan,
+    first: u32,
+    second: u32,
+) -> Result<(), AllocError> {
+    let label = label_of(alloc, plan, first)?;
+    if first == second {
+        return lines.say_made(format!(in alloc; "'{label}' stands there twice")?);
+    }
+    let other = label_of(alloc, plan, second)?;
+    lines.say_made(format!(in alloc; "'{label}' and '{other}' are of one controller")?)
 }
 
 // The label of a participant, and nothing for a number that is none.
@@ -119,7 +144,7 @@ fn push_never(
     starters: &str,
 ) -> Result<(), AllocError> {
     if let Some(plan) = plan {
-        if let Some((first, second)) = first_two(alloc, plan, starters, Clash::Never)? {
+        if let Some((first, second)) = first_two(plan, starters, Clash::Never) {
             return push_item(alloc, lines, plan, first, second);
         }
     }
@@ -141,10 +166,9 @@ fn push_item(
         {
             let one = plan.controller_name(one).as_str();
             let other = plan.controller_name(other).as_str();
-            let line = format!(in alloc;
+            return lines.say_made(format!(in alloc;
                 "the plan has 'never {one} {other} ;': these two never start together"
-            )?;
-            return lines.say(line.as_str());
+            )?);
         }
     }
     Ok(())
@@ -180,22 +204,25 @@ fn has_clash(plan: &Plan, clash: Clash, first: u32, second: u32) -> bool {
 }
 
 // The first starter that cannot start with one before it, after that one.
-fn first_two(
-    alloc: Global,
-    plan: &Plan,
-    starters: &str,
-    clash: Clash,
-) -> Result<Option<(u32, u32)>, AllocError> {
-    let mut before: Vec<u32> = Vec::new(alloc);
-    for label in starters.split(',') {
+fn first_two(plan: &Plan, starters: &str, clash: Clash) -> Option<(u32, u32)> {
+    for (k, label) in starters.split(',').enumerate() {
         if let Some(starter) = plan.find(label) {
-            for other in before.as_slice() {
-                if has_clash(plan, clash, *other, starter) {
-                    return Ok(Some((*other, starter)));
-                }
+            if let Some(other) = before(plan, starters, k, clash, starter) {
+                return Some((other, starter));
             }
-            before.push(starter)?;
         }
     }
-    Ok(None)
+    None
+}
+
+// The first of so many starters that cannot start with this one.
+fn before(plan: &Plan, starters: &str, count: usize, clash: Clash, starter: u32) -> Option<u32> {
+    for label in starters.split(',').take(count) {
+        if let Some(other) = plan.find(label) {
+            if has_clash(plan, clash, other, starter) {
+                return Some(other);
+            }
+        }
+    }
+    None
 }

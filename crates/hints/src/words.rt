@@ -2,7 +2,7 @@
 
 use crate::expecting::allows;
 use crate::languages::Language;
-use crate::lines::Lines;
+use hint_lines::lines::Lines;
 use std::alloc::{AllocError, Global};
 
 /// Says why this word cannot stand after this beginning of a text, where it is a word of the language in the place of a
@@ -35,5 +35,13 @@ pub(crate) fn push_word(
 
 // Two numbers with two dots between them.
 fn is_range(word: &[u8]) -> bool {
-    word.windows(2).any(|two| two == b"..".as_slice())
+    let mut was_dot = false;
+    for byte in word {
+        let is_dot = *byte == b'.';
+        if was_dot && is_dot {
+            return true;
+        }
+        was_dot = is_dot;
+    }
+    false
 }

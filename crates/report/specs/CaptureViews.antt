@@ -2,6 +2,7 @@
 use Rattle.std.specs.Prelude.{◌≡◌, ℕ, List, ◌++◌, string_bytes}
 use Rattle.plan_core.specs.Contents.{Contents}
 use Rattle.vcd_read.specs.declared.samples.Sample.{Sample}
+use Rattle.vcd_read.specs.Probes.{Finder}
 use Rattle.vcd_read.specs.Readers.{Fed, reading_of}
 use Rattle.capture_check.specs.Following.{transactions_behind, transactions_in}
 use Rattle.capture_check.specs.Transactions.{Recorded}
@@ -18,7 +19,7 @@ tally_of telling = record {
 }
 
 -- this text of a dump was read, and what its samples say is told, but for what goes on
-pub record Follows (scl sda : List ℕ) (plan : Contents) (text : List ℕ) (c : Capture) : Type 0 where
+pub record Follows (scl sda : Finder) (plan : Contents) (text : List ℕ) (c : Capture) : Type 0 where
   pub cleared : List Sample
   pub fed : Fed scl sda text cleared (reading_of c.reader)
   pub done : List Recorded

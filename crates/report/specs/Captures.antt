@@ -5,6 +5,7 @@ use Rattle.plan_text.specs.Grammar.{Spells}
 use Rattle.vcd_read.specs.declared.errors.Refusal.{Refusal}
 use Rattle.vcd_read.specs.declared.samples.Sample.{Sample}
 use Rattle.vcd_read.specs.Dumps.{samples_of, said_so_far}
+use Rattle.vcd_read.specs.Probes.{Finder}
 use Rattle.vcd_read.specs.Refusals.{error_of}
 use Rattle.capture_check.specs.Following.{transactions_in}
 use Rattle.report.specs.CaptureLines.{Tally, Tells, capture_report}
@@ -23,7 +24,7 @@ Explained Bad tally = tally.unexplained ≢ 0
 Explained Refused tally = ⊥
 
 -- the dump has samples, the report tells of the transactions in them, and the status of what is unexplained
-pub record CaptureOf (scl sda : List ℕ) (plan : Contents) (dump report : List ℕ) (status : Status) : Type 0 where
+pub record CaptureOf (scl sda : Finder) (plan : Contents) (dump report : List ℕ) (status : Status) : Type 0 where
   pub samples : List Sample
   pub read : samples_of scl sda dump ≡ Ok samples
   pub tally : Tally
@@ -32,36 +33,36 @@ pub record CaptureOf (scl sda : List ℕ) (plan : Contents) (dump report : List 
   pub judged : Explained status tally
 
 -- the first text spells a plan, and the report is that of the dump under it
-pub record Captured (scl sda : List ℕ) (texts : List ℕ × List ℕ) (report : List ℕ) (status : Status) : Type 0 where
+pub record Captured (scl sda : Finder) (texts : List ℕ × List ℕ) (report : List ℕ) (status : Status) : Type 0 where
   pub plan : Contents
   pub spelled : Spells texts.0 plan
   pub capture : CaptureOf scl sda plan texts.1 report status
 
 -- nothing is refused in what was read of a dump
-abbrev pub PassesSoFar : List ℕ → List ℕ → List ℕ → Type 0
+abbrev pub PassesSoFar : Finder → Finder → List ℕ → Type 0
 PassesSoFar scl sda text = MatchResult (said_so_far scl sda text) (λ _. Unit {0}) (λ _. ⊥)
 
 -- A dump that begins so is refused whatever follows, by the first refusal in what was read; or memory was refused.
-abbrev pub RefusesBeginning : List ℕ → List ℕ → List ℕ → RunError → Type 0
+abbrev pub RefusesBeginning : Finder → Finder → List ℕ → RunError → Type 0
 RefusesBeginning scl sda text (error.Vcd e) = (r : Refusal) × (said_so_far scl sda text ≡ Err r) × (e ≡ error_of r)
 RefusesBeginning scl sda text error.NoMemory = Unit {0}
 RefusesBeginning scl sda text _ = ⊥
 
 -- the whole dump is refused; or memory was refused
-abbrev pub RefusesDump : List ℕ → List ℕ → List ℕ → RunError → Type 0
+abbrev pub RefusesDump : Finder → Finder → List ℕ → RunError → Type 0
 RefusesDump scl sda text (error.Vcd e) = (r : Refusal) × (samples_of scl sda text ≡ Err r) × (e ≡ error_of r)
 RefusesDump scl sda text error.NoMemory = Unit {0}
 RefusesDump scl sda text _ = ⊥
 
 module _ {E : Type 0} (second : Reader E) where
   -- so many reads have given this text, and nothing in it is refused
-  pub record HasBegun (scl sda : List ℕ) (before : E) (reads : ℕ) (text : List ℕ) (now : E) : Type 0 where
+  pub record HasBegun (scl sda : Finder) (before : E) (reads : ℕ) (text : List ℕ) (now : E) : Type 0 where
     pub given : HasGiven second before reads text now
     pub passes : PassesSoFar scl sda text
 
   -- Why the reading of a dump goes no further: a read answered an error, the reads met no end, memory was refused, a read
   -- gave the first bytes that are refused with what was there, or the whole dump is refused.
-  pub data HaltsAtDump (scl sda : List ℕ) (before : E) : RunError → E → Type 0 where
+  pub data HaltsAtDump (scl sda : Finder) (before : E) : RunError → E → Type 0 where
     read_fails : {reads room : ℕ} {text : List ℕ} {last now : E} →
         reads < most_reads →
         HasBegun scl sda before reads text last →
@@ -91,7 +92,7 @@ module _ {E : Type 0} (second : Reader E) where
 
 module _ {D E : Type 0} (first : Reader D) (second : Reader E) where
   -- the run halted at the plan, and the second reader is as it was; or the plan passed, and it halted at the dump
-  pub data HaltsAtCapture (scl sda : List ℕ) (before : D × E) : RunError → D × E → Type 0 where
+  pub data HaltsAtCapture (scl sda : Finder) (before : D × E) : RunError → D × E → Type 0 where
     at_plan : {error : RunError} {now : D} →
         HaltsAtText first RefusesPlan before.0 error now →
         HaltsAtCapture scl sda before error (now, before.1)

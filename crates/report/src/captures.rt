@@ -4,6 +4,8 @@ ghost use Rattle.std.specs.Prelude.{◌≡◌, ◌<◌, ℕ, List, [], length, s
 ghost use Rattle.plan_core.specs.PlanContents.{plan_contents};
 ghost use Rattle.report.specs.Captures.{CaptureOf, Captured, HaltsAtCapture, HaltsAtDump};
 ghost use Rattle.report.specs.CaptureViews.{Follows};
+ghost use Rattle.vcd_read.specs.Probes.{Finder, by_name};
+ghost use Rattle.vcd_read.specs.Views.{asked};
 ghost use Rattle.run_parts.specs.Runs.{ReadsText, ReadsBoth, Reports, Stops};
 
 use crate::following::Capture;
@@ -13,6 +15,7 @@ use run_parts::devices::reading::{BLOCK, READS};
 use run_parts::{Input, Output, RunError, Status, read_within, write_lines};
 use std::alloc::Global;
 use std::thread::Threads;
+use vcd_read::Probe;
 
 /// Explains the capture that the second reader gives, a value change dump, by the plan that the first reader gives: a line
 /// for each transaction, and one that counts those that a STOP ended and those of them that nobody explains. `scl` and
@@ -36,11 +39,44 @@ pub fn run_capture<I: Input, J: Input, O: Output>(
     sda: &str,
 ) -> Result<Status, RunError>
     ensures report { IfOk result (λ status.
-        Reports (ReadsBoth I.reader J.reader) (Captured scl.now sda.now) O.writer
+        Reports (ReadsBoth I.reader J.reader) (Captured (by_name scl.now) (by_name sda.now)) O.writer
         (plan.old, vcd.old) out.old status (plan.new, vcd.new) out.new) }
     ensures stops { IfErr result (λ error.
-        Stops (ReadsBoth I.reader J.reader) (Captured scl.now sda.now) O.writer
-        (HaltsAtCapture I.reader J.reader scl.now sda.now)
+        Stops (ReadsBoth I.reader J.reader) (Captured (by_name scl.now) (by_name sda.now)) O.writer
+        (HaltsAtCapture I.reader J.reader (by_name scl.now) (by_name sda.now))
+        (plan.old, vcd.old) out.old error (plan.new, vcd.new) out.new) }
+{
+    run_capture_of(
+        rt,
+        alloc,
+        plan,
+        vcd,
+        out,
+        Probe::Named(scl),
+        Probe::Named(sda),
+    )
+}
+
+/// The same, where each of the two lines is found in the definitions of the dump by its name or by its code.
+///
+/// # Errors
+///
+/// Those of `run_capture`, in the same order.
+pub fn run_capture_of<I: Input, J: Input, O: Output>(
+    rt: &(impl Threads + Sync),
+    alloc: Global,
+    plan: &mut I,
+    vcd: &mut J,
+    out: &mut O,
+    scl: Probe<'_>,
+    sda: Probe<'_>,
+) -> Result<Status, RunError>
+    ensures report { IfOk result (λ status.
+        Reports (ReadsBoth I.reader J.reader) (Captured (asked scl.entry) (asked sda.entry)) O.writer
+        (plan.old, vcd.old) out.old status (plan.new, vcd.new) out.new) }
+    ensures stops { IfErr result (λ error.
+        Stops (ReadsBoth I.reader J.reader) (Captured (asked scl.entry) (asked sda.entry)) O.writer
+        (HaltsAtCapture I.reader J.reader (asked scl.entry) (asked sda.entry))
         (plan.old, vcd.old) out.old error (plan.new, vcd.new) out.new) }
 {
     let text = read_within(alloc, plan, READS)?;
@@ -55,12 +91,12 @@ fn read_capture<J: Input>(
     alloc: Global,
     plan: &Plan,
     vcd: &mut J,
-    scl: &str,
-    sda: &str,
+    scl: Probe<'_>,
+    sda: Probe<'_>,
 ) -> Result<(String, Status), RunError>
     ensures all { IfOk result (λ it. (dump : List ℕ) × ReadsText J.reader vcd.old dump vcd.new
-        × CaptureOf scl.now sda.now (plan_contents plan.now) dump (string_bytes it.0) it.1) }
-    ensures stops { IfErr result (λ error. HaltsAtDump J.reader scl.now sda.now vcd.old error vcd.new) }
+        × CaptureOf (asked scl.entry) (asked sda.entry) (plan_contents plan.now) dump (string_bytes it.0) it.1) }
+    ensures stops { IfErr result (λ error. HaltsAtDump J.reader (asked scl.entry) (asked sda.entry) vcd.old error vcd.new) }
 {
     let mut block = vec![in alloc; 0u8; BLOCK]?;
     let capture = Capture::new(alloc, scl, sda)?;
@@ -77,10 +113,10 @@ fn read_blocks<J: Input>(
     mut capture: Capture,
 ) -> Result<(String, Status), RunError>
     requires { 0 < length block.old }
-    ensures all { (scl sda : List ℕ) → Follows scl sda (plan_contents plan.now) [] capture →
+    ensures all { (scl sda : Finder) → Follows scl sda (plan_contents plan.now) [] capture →
         IfOk result (λ it. (dump : List ℕ) × ReadsText J.reader vcd.old dump vcd.new
         × CaptureOf scl sda (plan_contents plan.now) dump (string_bytes it.0) it.1) }
-    ensures stops { (scl sda : List ℕ) → Follows scl sda (plan_contents plan.now) [] capture →
+    ensures stops { (scl sda : Finder) → Follows scl sda (plan_contents plan.now) [] capture →
         IfErr result (λ error. HaltsAtDump J.reader scl sda vcd.old error vcd.new) }
 {
     for _ in 0..READS {

@@ -6,7 +6,7 @@ use plan_core::Plan;
 use run_parts::{RunError, Status};
 use std::alloc::{AllocError, Global};
 use std::thread::Threads;
-use vcd_read::Reader;
+use vcd_read::{Probe, Reader};
 
 /// What is read of a dump, what is known of the bus, and the lines so far.
 #[derive(Drop)]
@@ -21,16 +21,18 @@ impl Capture {
     ghost use Rattle.plan_core.specs.Contents.{Contents};
     ghost use Rattle.plan_core.specs.PlanContents.{plan_contents};
     ghost use Rattle.vcd_read.specs.declared.samples.Sample.{Sample};
+    ghost use Rattle.vcd_read.specs.Probes.{Finder};
+    ghost use Rattle.vcd_read.specs.Views.{asked};
     ghost use Rattle.capture_check.specs.Views.{recorded};
     ghost use Rattle.report.specs.Captures.{CaptureOf, PassesSoFar, RefusesBeginning, RefusesDump};
     ghost use Rattle.report.specs.CaptureViews.{Follows};
 
     /// Nothing of the dump has been read.
-    pub(crate) fn new(alloc: Global, scl: &str, sda: &str) -> Result<Capture, AllocError>
-        ensures { IfOk result (λ capture. (plan : Contents) → Follows scl.now sda.now plan [] capture) }
+    pub(crate) fn new(alloc: Global, scl: Probe<'_>, sda: Probe<'_>) -> Result<Capture, AllocError>
+        ensures { IfOk result (λ capture. (plan : Contents) → Follows (asked scl.entry) (asked sda.entry) plan [] capture) }
     {
         Ok(Capture {
-            reader: Reader::new(alloc, scl, sda)?,
+            reader: Reader::of(alloc, scl, sda)?,
             follower: Follower::new(),
             telling: Telling::new(alloc),
         })
@@ -44,12 +46,12 @@ impl Capture {
         plan: &Plan,
         piece: &[u8],
     ) -> Result<(), RunError>
-        ensures fed { OnOk result ((scl sda text : List ℕ) →
+        ensures fed { OnOk result ((scl sda : Finder) (text : List ℕ) →
             Follows scl sda (plan_contents plan.now) text self.old →
             Follows scl sda (plan_contents plan.now) (text ++ piece.now) self.new) }
-        ensures passed { OnOk result ((scl sda text : List ℕ) →
+        ensures passed { OnOk result ((scl sda : Finder) (text : List ℕ) →
             Follows scl sda (plan_contents plan.now) text self.old → PassesSoFar scl sda (text ++ piece.now)) }
-        ensures refused { IfErr result (λ error. (scl sda text : List ℕ) →
+        ensures refused { IfErr result (λ error. (scl sda : Finder) (text : List ℕ) →
             Follows scl sda (plan_contents plan.now) text self.old →
             RefusesBeginning scl sda (text ++ piece.now) error) }
     {
@@ -67,10 +69,10 @@ impl Capture {
         alloc: Global,
         plan: &Plan,
     ) -> Result<(String, Status), RunError>
-        ensures read { IfOk result (λ it. (scl sda text : List ℕ) →
+        ensures read { IfOk result (λ it. (scl sda : Finder) (text : List ℕ) →
             Follows scl sda (plan_contents plan.now) text self →
             CaptureOf scl sda (plan_contents plan.now) text (string_bytes it.0) it.1) }
-        ensures refused { IfErr result (λ error. (scl sda text : List ℕ) →
+        ensures refused { IfErr result (λ error. (scl sda : Finder) (text : List ℕ) →
             Follows scl sda (plan_contents plan.now) text self →
             RefusesDump scl sda text error) }
     {

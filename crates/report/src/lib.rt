@@ -11,9 +11,10 @@ pub mod lines;
 pub mod spellings;
 pub mod telling;
 
-pub use captures::run_capture;
+pub use captures::{run_capture, run_capture_of};
 pub use certificates::{run_certify, run_verify};
 pub use checks::run_check;
 pub use run_parts::{Input, Opened, Output, RunError, Status, Watched, read_within, write_report};
 pub use spellings::{run_brief, run_expand, run_print};
+pub use vcd_read::Probe;
 pub use verdicts::{Gate, NoGate};

@@ -1,5 +1,5 @@
 //! Tests that cross crates, of what no command shows: single calls and their values, threads, trees of any depth. What is a
-//! command with its files is a case of the crate `trials`.
+//! command with its files is a case of the trials (`tests/cases`).
 #![tactic(auto)]
 
 #[cfg(test)]
@@ -11,10 +11,12 @@ mod certificates;
 #[cfg(test)]
 mod devices;
 #[cfg(test)]
-mod interruptions;
-#[cfg(test)]
 mod limits;
+#[cfg(test)]
+mod rehearsals;
 #[cfg(test)]
 mod tables;
 #[cfg(test)]
 mod workers;
+#[cfg(test)]
+mod yields;

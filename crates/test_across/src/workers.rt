@@ -1,6 +1,6 @@
 // What several workers find, and that they really work in threads of their own.
 
-use fixtures::Yields;
+use crate::yields::Yields;
 use plan_core::Plan;
 use plan_text::read_plan;
 use report::{Watched, run_check};

@@ -1,5 +1,5 @@
 // Places in what a participant sends: what is offered at each place along a wire, and that nothing is offered after its end.
-// What writes put, and what comes after each answer of a target, is told by cases of the crate `trials`.
+// What writes put, and what comes after each answer of a target, is told by cases of the trials.
 
 use message_tree::{Address, Bit, Count, Frame, Item, Tail};
 use places::{Offered, Place};

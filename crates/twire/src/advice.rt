@@ -1,10 +1,10 @@
 // Further lines for people on standard error, after a refusal or a report.
 
 use crate::colors::colored_hints;
+use dump_hints::{Names, on_choice, on_dump, on_silence, on_unexplained};
 use hints::{
-    Named, Names, on_brief, on_certificate, on_closed_input, on_dump, on_memory, on_no_brief,
-    on_opening, on_plan, on_reading, on_safe, on_silence, on_starters, on_workers, on_writing,
-    wrong_of,
+    Named, on_brief, on_certificate, on_closed_input, on_memory, on_no_brief, on_opening, on_plan,
+    on_reading, on_safe, on_starters, on_workers, on_writing, wrong_of,
 };
 use report::{RunError, Status};
 use std::alloc::AllocError;
@@ -109,11 +109,28 @@ pub fn advise_on_capture<R: Eprint + AllocGlobal, F: Read + Seek + Drop>(
             on_dump(rt.alloc(), vcd, names, refusal),
             outcome.is_colored,
         ),
-        Ok(_) if outcome.report.as_str() == "0 transactions, 0 unexplained\n" => {
-            say(rt, on_silence(rt.alloc(), vcd, names), outcome.is_colored);
+        Ok(status) => {
+            let alloc = rt.alloc();
+            let hints = if outcome
+                .report
+                .starts_with("0 transactions, 0 unexplained\n")
+            {
+                on_silence(alloc, vcd, names)
+            } else if status == Status::Bad && explains_nothing(outcome.report.as_str()) {
+                on_unexplained(alloc, vcd, names)
+            } else {
+                on_choice(alloc, vcd, names)
+            };
+            say(rt, hints, outcome.is_colored);
         }
         _ => advise_on_plan(rt, plan, outcome),
     }
+}
+
+// Whether the beginning of a report has a transaction that nobody explains, and none that somebody does.
+fn explains_nothing(report: &str) -> bool {
+    let mut lines = report.lines().filter(|line| !line.starts_with("    "));
+    report.contains(" unexplained\n") && !lines.any(|line| line.contains('/') || line.contains('!'))
 }
 
 fn advise_on_devices<R: Eprint + AllocGlobal>(rt: &R, outcome: Outcome<'_>) {

@@ -8,11 +8,21 @@ const GREEN: &[u8] = b"\x1b[32m";
 
 const PLAIN: &[u8] = b"\x1b[0m";
 
-/// The report with its words in colours.
-pub fn colored_report(alloc: Global, report: &[u8]) -> Result<Vec<u8>, AllocError> {
+/// A part of a report with its words in colours. What goes on with a line of the part before is as it is.
+pub fn colored_report(
+    alloc: Global,
+    report: &[u8],
+    is_at_line: bool,
+) -> Result<Vec<u8>, AllocError> {
     let mut text = Vec::new(alloc);
+    let mut begins_line = is_at_line;
     for line in report.split_inclusive(|byte| *byte == b'\n') {
-        push_line(&mut text, line)?;
+        if begins_line {
+            push_line(&mut text, line)?;
+        } else {
+            text.extend_from_slice(line)?;
+        }
+        begins_line = true;
     }
     Ok(text)
 }

@@ -1,45 +1,55 @@
 // What is read: files that the command line names, or standard input.
 
 use crate::advice::{advise_on_closed_input, advise_on_opening};
-use crate::runs::refused;
+use crate::progress::{Count, Told, Watcher};
+use crate::runs::{Extras, refused};
 use hints::Named;
 use report::{Input as _, Opened, RunError, Watched};
 use std::fs::{self, Metadata, OpenFile};
 use std::io;
 use std::rt::Files;
+use std::time::Clock;
 
 const STANDARD_INPUT: &str = "/dev/stdin";
 
+/// How many calls to one reader there are at most, without an end of its input.
+pub const READS: u32 = u32::MAX;
+
 /// What a path of the command line names: a file, or standard input.
-pub type Source<F, S> = Opened<Watched<F>, Watched<S>>;
+pub type Source<'a, R, F, S> = Opened<Watched<Told<'a, R, F>>, Watched<Told<'a, R, S>>>;
 
 /// Opens two files for reading, in this order. A path as `/dev/fd/3`, or standard input that is closed, may come to name the
 /// first file once that is open, so what the second path names is looked for before.
-pub fn open_both<R: Files + Input + Eprint + AllocGlobal>(
-    rt: &R,
+pub fn open_both<'a, R: Files + Input + Eprint + Clock + AllocGlobal>(
+    rt: &'a R,
     first: Named<'_>,
     second: Named<'_>,
-    hints: bool,
-) -> Option<(Source<R::File, R::Reader>, Source<R::File, R::Reader>)> {
+    extras: Extras,
+) -> Option<
+    (
+        Source<'a, R, R::File, R::Reader>,
+        Source<'a, R, R::File, R::Reader>,
+    ),
+> {
     if let Some(error) = missing(rt, second.path) {
-        unopened(rt, second, &error, hints);
+        unopened(rt, second, &error, extras.hints);
         return None;
     }
-    let first = open(rt, first, hints)?;
-    let second = open(rt, second, hints)?;
+    let first = open(rt, first, extras)?;
+    let second = open(rt, second, extras)?;
     Some((first, second))
 }
 
 /// Opens a file for reading. Where it cannot be opened, that is told.
-pub fn open<R: Files + Input + Eprint + AllocGlobal>(
-    rt: &R,
+pub fn open<'a, R: Files + Input + Eprint + Clock + AllocGlobal>(
+    rt: &'a R,
     file: Named<'_>,
-    hints: bool,
-) -> Option<Source<R::File, R::Reader>> {
-    match opened(rt, file.path) {
+    extras: Extras,
+) -> Option<Source<'a, R, R::File, R::Reader>> {
+    match opened(rt, file, extras.watcher) {
         Ok(source) => Some(source),
         Err(error) => {
-            unopened(rt, file, &error, hints);
+            unopened(rt, file, &error, extras.hints);
             None
         }
     }
@@ -63,18 +73,36 @@ fn unopened<R: Eprint + AllocGlobal>(rt: &R, file: Named<'_>, error: &io::Error,
 }
 
 // Standard input itself needs no leave to open the file that its path names.
-fn opened<R: Files + Input>(rt: &R, path: &str) -> io::Result<Source<R::File, R::Reader>> {
-    if !is_standard_input(path) {
-        let file = fs::open(rt, path)?;
-        return Ok(Opened::File(Watched::new(file)));
+fn opened<'a, R: Files + Input>(
+    rt: &'a R,
+    named: Named<'_>,
+    watcher: Watcher,
+) -> io::Result<Source<'a, R, R::File, R::Reader>> {
+    if !is_standard_input(named.path) {
+        let file = fs::open(rt, named.path)?;
+        let count = Count::new(watcher, named.what, size_of(&file, watcher));
+        return Ok(Opened::File(Watched::new(Told::new(rt, file, count))));
     }
-    match missing(rt, path) {
+    match missing(rt, named.path) {
         Some(error) => Err(error),
-        None => Ok(Opened::Standard(Watched::new(rt.reader()))),
+        None => {
+            let count = Count::new(watcher, named.what, None);
+            Ok(Opened::Standard(Watched::new(Told::new(rt, rt.reader(), count))))
+        }
     }
 }
 
-fn is_standard_input(path: &str) -> bool {
+// How many bytes a file has, where somebody is told how much of it was read.
+fn size_of<F: OpenFile>(file: &F, watcher: Watcher) -> Option<u64> {
+    if !watcher.is_there() {
+        return None;
+    }
+    let metadata = file.metadata().ok()?;
+    metadata.is_file().then_some(metadata.len())
+}
+
+/// Whether standard input is meant.
+pub fn is_standard_input(path: &str) -> bool {
     path == "-" || path == STANDARD_INPUT
 }
 
@@ -92,9 +120,9 @@ fn missing(rt: &impl Files, path: &str) -> Option<io::Error> {
 }
 
 /// The file, which can be read once more. Standard input may be a pipe, and is not.
-pub fn file_of<F: Drop, S: Drop>(source: Source<F, S>) -> Option<F> {
+pub fn file_of<R, F: Drop, S: Drop>(source: Source<'_, R, F, S>) -> Option<F> {
     match source {
-        Opened::File(file) => Some(file.into_inner()),
+        Opened::File(file) => Some(file.into_inner().into_inner()),
         Opened::Standard(_) => None,
     }
 }
@@ -109,7 +137,9 @@ pub fn metadata_of<R: Files>(rt: &R, file: &Option<R::File>) -> Option<Metadata>
 }
 
 /// The words of the system for why this cannot be read, if it failed and fails again.
-pub fn reading_error<F: io::Read, S: io::Read>(source: &mut Source<F, S>) -> Option<io::Error> {
+pub fn reading_error<R: Clock + Eprint, F: io::Read, S: io::Read>(
+    source: &mut Source<'_, R, F, S>,
+) -> Option<io::Error> {
     if !source.failed() {
         return None;
     }

@@ -3,10 +3,15 @@
 
 mod advice;
 mod colors;
+mod drawings;
+mod explaining;
 mod inputs;
 mod outputs;
+mod progress;
+mod recordings;
 mod rehearsals;
 mod runs;
+mod viewing;
 
 use runs::Terminals;
 use std::io::IsTerminal;
@@ -14,6 +19,7 @@ use std::process::ExitCode;
 
 fn main(rt: HostRuntime) -> ExitCode {
     let terminals = Terminals {
+        input: rt.stdin().is_terminal(),
         out: rt.stdout().is_terminal(),
         err: rt.stderr().is_terminal(),
     };

@@ -3,12 +3,15 @@
 ghost use Rattle.std.specs.Io.{WritesAtMost};
 
 use crate::colors::colored_report;
+use crate::progress::{Count, Watcher};
 use report::{RunError, Status};
 use std::alloc::Global;
 use std::fs::{self, Metadata, OpenFile, OpenOptions, Permissions};
 use std::io::{self, ErrorKind, Write};
+use std::mem;
 use std::os::unix::fs::MetadataExt;
 use std::rt::Files;
+use std::time::Clock;
 
 // How much of a report is kept to look at.
 const KEPT: usize = 64;
@@ -16,56 +19,88 @@ const KEPT: usize = 64;
 // How many names are tried for the file that is written first.
 const NAMES: u32 = 1_000;
 
-/// Where a report goes: to standard output, there with its words in colours, or into memory.
+/// Where a report goes: to standard output, there perhaps with its words in colours, or into the file of a path.
 #[derive(Clone, Copy)]
-pub enum Form {
+pub enum Form<'a> {
     Plain,
     Colored,
-    Held,
+    File(&'a str),
 }
 
-/// What takes a report: standard output, or memory, from which a file is written once the report is whole. It keeps the
-/// beginning of the report, and the last error.
+/// What takes a report. It keeps the beginning of the report, and the last error.
 #[derive(Drop)]
-pub struct Sheet<W> {
-    alloc: Global,
-    standard: W,
-    is_colored: bool,
-    held: Option<Vec<u8>>,
+pub struct Sheet<'a, R: Files> {
+    rt: &'a R,
+    form: Form<'a>,
+    target: Target<R::File>,
     beginning: String,
+    // whether the next byte begins a line
+    is_at_line: bool,
     error: Option<io::Error>,
+    watcher: Watcher,
+    // how much of a long text was written, where it is seen neither here nor there
+    count: Option<Count>,
 }
 
-impl<W> Sheet<W> {
-    /// The writer, or memory in its place.
-    pub fn new(alloc: Global, writer: W, form: Form) -> Sheet<W> {
-        let held = match form {
-            Form::Held => Some(Vec::new(alloc)),
-            Form::Plain | Form::Colored => None,
-        };
+// The file that is written. It is not looked for before the first byte.
+#[derive(Drop)]
+enum Target<F> {
+    None,
+    // a device or a pipe, which takes the report as it comes
+    Direct(F),
+    Part(Part<F>),
+}
+
+// A new file beside the one whose name it is to get.
+#[derive(Drop)]
+struct Part<F> {
+    file: F,
+    name: String,
+    path: String,
+}
+
+impl<'a, R: Files + Print + Eprint + Clock + AllocGlobal> Sheet<'a, R> {
+    /// Nothing has been written yet.
+    pub fn new(rt: &'a R, form: Form<'a>, watcher: Watcher) -> Sheet<'a, R> {
         Sheet {
-            alloc,
-            standard: writer,
-            is_colored: matches!(form, Form::Colored),
-            held,
-            beginning: String::new(alloc),
+            rt,
+            form,
+            target: Target::None,
+            beginning: String::new(rt.alloc()),
+            is_at_line: true,
             error: None,
+            watcher,
+            count: None,
         }
     }
 
-    /// Writes the file of this path once the run has ended with its report, and answers how the run ends by that.
-    pub fn settle<R: Files + AllocGlobal>(
+    /// Of this long text it is told how much was written, unless it is seen itself.
+    pub fn telling(self, what: &'static str) -> Sheet<'a, R> {
+        let is_seen = self.watcher.sees_report && matches!(self.form, Form::Plain);
+        let count = (!is_seen).then_some(Count::new(self.watcher, what, None));
+        Sheet { count, ..self }
+    }
+
+    /// Gives the file its name once the run has ended with its report, and answers how the run ends by that. After a run that
+    /// has not, nothing is left of it. The file that was read is not replaced.
+    pub fn settle(
         &mut self,
-        rt: &R,
-        path: Option<&str>,
         read: Option<Metadata>,
         ended: Result<Status, RunError>,
     ) -> Result<Status, RunError> {
-        let (Ok(_), Some(path), Some(text)) = (ended, path, &self.held) else {
+        let Target::Part(part) = mem::replace(&mut self.target, Target::None) else {
             return self.named(ended);
         };
-        match keep(rt, path, text.as_slice(), read) {
-            Ok(()) => ended,
+        let Part { file, name, path } = part;
+        let put = match ended {
+            Ok(_) => put(self.rt, file, name.as_str(), path.as_str(), read),
+            Err(_) => Ok(false),
+        };
+        if !matches!(put, Ok(true)) {
+            let _ = fs::remove_file(self.rt, name.as_str());
+        }
+        match put {
+            Ok(_) => self.named(ended),
             Err(error) => {
                 self.error = Some(error);
                 self.named(Err(RunError::Write))
@@ -73,22 +108,17 @@ impl<W> Sheet<W> {
         }
     }
 
-    // Where memory was refused to the writer, that is why the run ended.
+    // Where memory was refused for a file, that is why the run ended.
     fn named(&self, ended: Result<Status, RunError>) -> Result<Status, RunError> {
-        match (&self.error, ended) {
-            (Some(error), Err(RunError::Write))
-                if self.held.is_some() && error.kind() == ErrorKind::OutOfMemory => {
-                Err(RunError::NoMemory)
-            }
+        match (self.form, &self.error, ended) {
+            (Form::File(_), Some(error), Err(RunError::Write))
+                if error.kind() == ErrorKind::OutOfMemory => { Err(RunError::NoMemory) }
             _ => ended,
         }
     }
 
     /// The beginning of the report, and the last error, if there was one.
-    pub fn into_parts(self) -> (String, Option<io::Error>)
-    where
-        W: Drop,
-    {
+    pub fn into_parts(self) -> (String, Option<io::Error>) {
         let Sheet {
             beginning,
             error,
@@ -103,19 +133,55 @@ impl<W> Sheet<W> {
         for byte in taken.iter().take(left) {
             let _ = self.beginning.push(char::from(*byte));
         }
+        if let Some(last) = taken.last() {
+            self.is_at_line = *last == b'\n';
+        }
+    }
+
+    // What is written on the terminal stands where the line that tells how far the run is stood.
+    fn make_room(&self) {
+        if self.watcher.sees_report {
+            self.watcher.clear(self.rt);
+        }
+    }
+
+    fn tell(&mut self, count: usize) {
+        if let Some(written) = &mut self.count {
+            written.add(self.rt, count);
+        }
+    }
+
+    fn put(&mut self, buf: &[u8]) -> io::Result<usize>
+        ensures bound { WritesAtMost result buf.now }
+    {
+        match self.form {
+            Form::Plain => io::writer(self.rt).write(buf),
+            Form::Colored => write_colored(self.rt, self.is_at_line, buf),
+            Form::File(path) => self.put_in_file(path, buf),
+        }
+    }
+
+    fn put_in_file(&mut self, path: &str, buf: &[u8]) -> io::Result<usize>
+        ensures bound { WritesAtMost result buf.now }
+    {
+        if let Target::None = self.target {
+            self.target = begin(self.rt, path)?;
+        }
+        match &mut self.target {
+            Target::None => Ok(0),
+            Target::Direct(file) => file.write(buf),
+            Target::Part(part) => part.file.write(buf),
+        }
     }
 }
 
-impl<W: Write> Write for Sheet<W> {
+impl<R: Files + Print + Eprint + Clock + AllocGlobal> Write for Sheet<'_, R> {
     fn write(&mut self, buf: &[u8]) -> io::Result<usize> {
-        let written = match &mut self.held {
-            Some(text) => text.write(buf),
-            None if self.is_colored => write_colored(self.alloc, &mut self.standard, buf),
-            None => self.standard.write(buf),
-        };
-        match written {
+        self.make_room();
+        match self.put(buf) {
             Ok(count) => {
                 self.look_at(buf.get(..count).unwrap_or(buf));
+                self.tell(count);
                 Ok(count)
             }
             Err(error) => {
@@ -127,75 +193,77 @@ impl<W: Write> Write for Sheet<W> {
     }
 
     fn flush(&mut self) -> io::Result<()> {
-        self.standard.flush()
+        Ok(())
     }
 }
 
-// Writes all of a report, with its words in colours. A report comes whole in its first call.
-fn write_colored<W: Write>(alloc: Global, standard: &mut W, report: &[u8]) -> io::Result<usize>
+// Writes all of a part of a report, with its words in colours.
+fn write_colored<R: Print + AllocGlobal>(
+    rt: &R,
+    is_at_line: bool,
+    report: &[u8],
+) -> io::Result<usize>
     ensures bound { WritesAtMost result report.now }
 {
-    let text = colored_report(alloc, report)?;
-    standard.write_all(text.as_slice())?;
+    let text = colored_report(rt.alloc(), report, is_at_line)?;
+    io::writer(rt).write_all(text.as_slice())?;
     Ok(report.len())
 }
 
-// Makes these bytes the file of this path, whole, or leaves what was there. They are written into a new file of the same
-// folder, which is then renamed. A device or a pipe takes them as they are. The file that was read is not written over.
-fn keep<R: Files + AllocGlobal>(
-    rt: &R,
-    path: &str,
-    text: &[u8],
-    read: Option<Metadata>,
-) -> io::Result<()> {
+// Opens what takes the report of this path: a device or a pipe itself, and else a new file in the folder of the path.
+fn begin<R: Files + AllocGlobal>(rt: &R, path: &str) -> io::Result<Target<R::File>> {
     match OpenOptions::new().write(true).open(rt, path) {
-        Ok(old) => keep_over(rt, old, path, text, read),
-        Err(error) if error.kind() == ErrorKind::NotFound => replace(rt, path, text, None),
+        Ok(old) => begin_over(rt, old, path),
+        Err(error) if error.kind() == ErrorKind::NotFound => begin_beside(rt, path, None),
         Err(error) => Err(error),
     }
 }
 
-fn keep_over<R: Files + AllocGlobal>(
+fn begin_over<R: Files + AllocGlobal>(
     rt: &R,
-    mut old: R::File,
+    old: R::File,
     path: &str,
-    text: &[u8],
-    read: Option<Metadata>,
-) -> io::Result<()> {
+) -> io::Result<Target<R::File>> {
     let metadata = old.metadata()?;
     if !metadata.is_file() {
-        return old.write_all(text);
-    }
-    if is_one_file(&metadata, read) {
-        return Err(io::Error::new(ErrorKind::InvalidInput, "it is the file that was read"));
+        return Ok(Target::Direct(old));
     }
     let path = fs::canonicalize(rt, path)?;
-    replace(rt, path.as_str(), text, Some(metadata.permissions()))
+    begin_beside(rt, path.as_str(), Some(metadata.permissions()))
 }
 
-fn is_one_file(metadata: &Metadata, read: Option<Metadata>) -> bool {
-    match read {
-        Some(read) => read.dev() == metadata.dev() && read.ino() == metadata.ino(),
-        None => false,
-    }
-}
-
-// Writes a new file beside this path, and then gives it that name. Where that fails nothing is left of it.
-fn replace<R: Files + AllocGlobal>(
+fn begin_beside<R: Files + AllocGlobal>(
     rt: &R,
     path: &str,
-    text: &[u8],
     mode: Option<Permissions>,
-) -> io::Result<()> {
-    let (file, name) = create_beside(rt, path)?;
-    let ended = match fill(file, text, mode) {
-        Ok(()) => fs::rename(rt, name.as_str(), path),
-        Err(error) => Err(error),
-    };
-    if ended.is_err() {
-        let _ = fs::remove_file(rt, name.as_str());
+) -> io::Result<Target<R::File>> {
+    let path = String::from_str(rt.alloc(), path)?;
+    let (file, name) = create_beside(rt, path.as_str())?;
+    if let Some(mode) = mode {
+        if let Err(error) = file.set_permissions(mode) {
+            let _ = fs::remove_file(rt, name.as_str());
+            return Err(error);
+        }
     }
-    ended
+    Ok(Target::Part(Part { file, name, path }))
+}
+
+// Brings the new file to the disk and gives it its name. Says that it did.
+fn put<R: Files>(
+    rt: &R,
+    file: R::File,
+    name: &str,
+    path: &str,
+    read: Option<Metadata>,
+) -> io::Result<bool> {
+    if let (Ok(old), Some(read)) = (fs::metadata(rt, path), read) {
+        if read.dev() == old.dev() && read.ino() == old.ino() {
+            return Err(io::Error::new(ErrorKind::InvalidInput, "it is the file that was read"));
+        }
+    }
+    file.sync_all()?;
+    fs::rename(rt, name, path)?;
+    Ok(true)
 }
 
 fn create_beside<R: Files + AllocGlobal>(rt: &R, path: &str) -> io::Result<(R::File, String)> {
@@ -220,16 +288,4 @@ fn name_beside(alloc: Global, path: &str, number: u32) -> io::Result<String> {
         Some((folder, _)) => format!(in alloc; "{folder}/.twire-{number}.part")?,
         None => format!(in alloc; ".twire-{number}.part")?,
     })
-}
-
-fn fill<F: Write + OpenFile + Drop>(
-    mut file: F,
-    text: &[u8],
-    mode: Option<Permissions>,
-) -> io::Result<()> {
-    if let Some(mode) = mode {
-        file.set_permissions(mode)?;
-    }
-    file.write_all(text)?;
-    file.sync_all()
 }

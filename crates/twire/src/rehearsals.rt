@@ -1,11 +1,12 @@
 // The runs of a bench.
 
 use crate::advice::advise_on_certified;
-use crate::inputs::{file_of, open, open_both, reading_error};
+use crate::drawings::bench_drawn;
+use crate::explaining::{Starting, explain_bench};
+use crate::inputs::{READS, file_of, open, open_both, reading_error};
 use crate::outputs::Sheet;
 use crate::runs::{Extras, last_read, outcome, status_of};
 use bench_run::{NoGate, run_bench};
-use explain_run::explain_bench;
 use hints::Named;
 use report::{Input, Output, RunError, Status, Watched, read_within, run_certify};
 use std::alloc::{AllocError, Global};
@@ -27,6 +28,8 @@ pub struct Play<'a> {
     pub answers: &'a str,
     pub rest: bool,
     pub explain: bool,
+    /// The file for the waves.
+    pub wave: Option<&'a str>,
 }
 
 /// Rehearses a plan with its certificate.
@@ -37,14 +40,28 @@ pub fn bench<R: Files + HasInput + Print + Eprint + AllocGlobal + Threads + Wait
     play: Play<'_>,
     extras: Extras,
 ) -> u8 {
-    let Some((mut reader, mut second)) = open_both(rt, plan, cert, extras.hints) else {
+    let Some((mut reader, mut second)) = open_both(rt, plan, cert, extras) else {
         return 2;
     };
-    let mut out = Watched::new(Sheet::new(rt.alloc(), io::writer(rt), extras.form()));
-    let ended = rehearse(rt, &mut reader, &mut second, &mut out, play);
-    let status = status_of(rt, ended);
+    let mut out = Watched::new(Sheet::new(rt, extras.form(), extras.watcher));
+    let ended = match play.wave {
+        Some(file) => {
+            bench_drawn(
+                rt,
+                plan.path,
+                &mut reader,
+                &mut second,
+                &mut out,
+                play,
+                file,
+                extras,
+            )
+        }
+        None => rehearse(rt, &mut reader, &mut second, &mut out, play),
+    };
+    let (read, error) = last_read(plan, &mut reader, cert, &mut second);
+    let status = status_of(rt, ended, extras.watcher);
     if extras.hints {
-        let (read, error) = last_read(plan, &mut reader, cert, &mut second);
         let outcome = outcome(read, error, out.into_inner(), None, ended, extras);
         advise_on_certified(rt, file_of(reader), file_of(second), play.starters, outcome);
     }
@@ -55,55 +72,86 @@ pub fn bench<R: Files + HasInput + Print + Eprint + AllocGlobal + Threads + Wait
 pub fn bench_alone<
     R: Files + HasInput + Print + Eprint + AllocGlobal + Threads + Wait + Clock + Sync,
 >(rt: &R, plan: Named<'_>, play: Play<'_>, extras: Extras) -> u8 {
-    let Some(mut reader) = open(rt, plan, extras.hints) else {
+    let Some(mut reader) = open(rt, plan, extras) else {
         return 2;
     };
-    let mut out = Watched::new(Sheet::new(rt.alloc(), io::writer(rt), extras.form()));
-    let ended = rehearse_alone(rt, &mut reader, &mut out, play);
-    let status = status_of(rt, ended);
+    let mut out = Watched::new(Sheet::new(rt, extras.form(), extras.watcher));
+    let ended = rehearse_alone(rt, plan.path, &mut reader, &mut out, play, extras);
+    let error = reading_error(&mut reader);
+    let status = status_of(rt, ended, extras.watcher);
     if extras.hints {
-        let error = reading_error(&mut reader);
         let outcome = outcome(plan, error, out.into_inner(), None, ended, extras);
         advise_on_certified(rt, file_of(reader), None, play.starters, outcome);
     }
     status
 }
 
-fn rehearse<R: AllocGlobal + Threads + Wait + Clock + Sync, I: Input, J: Input, O: Output>(
+/// Rehearses the plan of the first reader, with the certificate of the second.
+pub fn rehearse<R: AllocGlobal + Threads + Wait + Clock + Sync, I: Input, J: Input, O: Output>(
     rt: &R,
     plan: &mut I,
     cert: &mut J,
     out: &mut O,
     play: Play<'_>,
 ) -> Result<Status, RunError> {
-    let Play {
+    let answers = whole_answers(rt.alloc(), play.answers, play.rest)?;
+    let starting = Starting {
+        starters: play.starters,
+        fill: play.fill,
+        answers: answers.as_str(),
+    };
+    rehearse_starting(rt, plan, cert, out, starting, play.explain)
+}
+
+fn rehearse_starting<R: AllocGlobal + Threads + Wait + Clock + Sync, I: Input, J: Input, O: Output>(
+    rt: &R,
+    plan: &mut I,
+    cert: &mut J,
+    out: &mut O,
+    starting: Starting<'_>,
+    explain: bool,
+) -> Result<Status, RunError> {
+    if explain {
+        return explain_bench(rt, rt.alloc(), plan, cert, out, starting);
+    }
+    let Starting {
         starters,
         fill,
         answers,
-        rest,
-        explain,
-    } = play;
-    let alloc = rt.alloc();
-    let answers = whole_answers(alloc, answers, rest)?;
-    let answers = answers.as_str();
-    if explain {
-        explain_bench(rt, alloc, plan, cert, out, starters, fill, answers)
-    } else {
-        run_bench(rt, alloc, plan, cert, out, starters, fill, answers, &NoGate)
-    }
+    } = starting;
+    run_bench(
+        rt,
+        rt.alloc(),
+        plan,
+        cert,
+        out,
+        starters,
+        fill,
+        answers,
+        &NoGate,
+    )
 }
 
-fn rehearse_alone<R: AllocGlobal + Threads + Wait + Clock + Sync, I: Input, O: Output>(
+fn rehearse_alone<
+    R: Files + Print + Eprint + AllocGlobal + Threads + Wait + Clock + Sync,
+    I: Input,
+    O: Output,
+>(
     rt: &R,
+    path: &str,
     plan: &mut I,
     out: &mut O,
     play: Play<'_>,
+    extras: Extras,
 ) -> Result<Status, RunError> {
-    let text = read_within(rt.alloc(), plan, u32::MAX)?;
+    let text = read_within(rt.alloc(), plan, READS)?;
     let cert = certificate_of(rt.alloc(), text.as_slice())?;
     let mut plan = Watched::new(Cursor::new(text.as_slice()));
     let mut cert = Watched::new(Cursor::new(cert.as_slice()));
-    rehearse(rt, &mut plan, &mut cert, out, play)
+    match play.wave {
+        Some(file) => bench_drawn(rt, path, &mut plan, &mut cert, out, play, file, extras),
+        None => rehearse(rt, &mut plan, &mut cert, out, play),
+    }
 }
 
 // The certificate of a plan text.

@@ -1,34 +1,41 @@
 // What the program does, and the status that it ends with.
 
-use crate::advice::{Outcome, advise_on_capture, advise_on_certified, advise_on_text};
-use crate::inputs::{Source, file_of, metadata_of, open, open_both, reading_error};
+use crate::advice::{Outcome, advise_on_certified, advise_on_text};
+use crate::drawings::check_drawn;
+use crate::explaining::{explain_check, explain_verify};
+use crate::inputs::{
+    Source, file_of, is_standard_input, metadata_of, open, open_both, reading_error,
+};
 use crate::outputs::{Form, Sheet};
+use crate::progress::{Comparing, Watcher};
+use crate::recordings::{asked_of, capture, learn, lesson_of, list_signals};
 use crate::rehearsals::{Play, bench, bench_alone};
 use command_words::{Asked, Request, When, read_words};
-use explain_run::{explain_capture, explain_check, explain_verify};
-use hints::{Named, Names};
+use hints::Named;
+use order::run_order;
 use report::{
-    Input as _, RunError, Status, Watched, run_brief, run_capture, run_certify, run_check,
-    run_expand, run_print, run_verify,
+    Input as _, Output, RunError, Status, Watched, run_brief, run_certify, run_check, run_expand,
+    run_print, run_verify,
 };
 use std::env;
-use std::io::{self, Read, Write};
+use std::io::{self, Read};
 use std::rt::{Env, Files};
 use std::sync::Wait;
 use std::thread::Threads;
 use std::time::Clock;
 
-/// What people get beside the exact report: hints, and colours in the report and in hints.
+/// What people get beside the exact report: hints, colours in the report and in hints, and how far a long run is.
 #[derive(Clone, Copy)]
 pub struct Extras {
     pub hints: bool,
     pub colors_out: bool,
     pub colors_err: bool,
+    pub watcher: Watcher,
 }
 
 impl Extras {
     /// How a report is written that has words for people.
-    pub fn form(self) -> Form {
+    pub fn form(self) -> Form<'static> {
         if self.colors_out {
             Form::Colored
         } else {
@@ -37,9 +44,10 @@ impl Extras {
     }
 }
 
-/// Which of the two standard streams somebody sees on a terminal.
+/// Which of the standard streams are those of a terminal, where somebody types and sees.
 #[derive(Clone, Copy)]
 pub struct Terminals {
+    pub input: bool,
     pub out: bool,
     pub err: bool,
 }
@@ -79,7 +87,8 @@ fn run_words<R: Files + Env + Input + Print + Eprint + AllocGlobal + Threads + W
                 colors,
             },
         ) => {
-            let extras = extras_of(rt, hints, colors, terminals);
+            let watcher = watcher_of(rt, request, terminals);
+            let extras = extras_of(rt, hints, colors, terminals, watcher);
             Ok(do_request(rt, request, extras))
         }
         Ok(Asked::Show(text)) => show(rt, text.as_str()),
@@ -93,12 +102,39 @@ fn extras_of<R: Env + AllocGlobal>(
     hints: When,
     colors: When,
     terminals: Terminals,
+    watcher: Watcher,
 ) -> Extras {
     let take_colors = takes_colors(rt);
     Extras {
         hints: are_wanted(hints, terminals.err),
         colors_out: are_wanted(colors, terminals.out && take_colors),
         colors_err: are_wanted(colors, terminals.err && take_colors),
+        watcher,
+    }
+}
+
+// Who sees how far a run is that may be long. While somebody types what is read, a line beside it would be in the way.
+fn watcher_of<R: Clock>(rt: &R, request: Request<'_>, terminals: Terminals) -> Watcher {
+    match files_of(request) {
+        Some((one, other)) if terminals.err && !(terminals.input && names_input(one, other)) => {
+            Watcher::now(rt, terminals.out)
+        }
+        _ => Watcher::nobody(terminals.out),
+    }
+}
+
+fn names_input(one: &str, other: &str) -> bool {
+    is_standard_input(one) || is_standard_input(other)
+}
+
+// The files of a run that may be long.
+fn files_of(request: Request<'_>) -> Option<(&str, &str)> {
+    match request {
+        Request::Check { plan, .. } | Request::Certify { plan, .. } => Some((plan, plan)),
+        Request::Verify { plan, cert, .. } => Some((plan, cert)),
+        Request::Capture { plan, vcd, .. } => Some((plan, vcd)),
+        Request::Signals { vcd } | Request::Learn { vcd, .. } => Some((vcd, vcd)),
+        _ => None,
     }
 }
 
@@ -128,7 +164,17 @@ fn do_request<R: Files + Input + Print + Eprint + AllocGlobal + Threads + Wait +
             plan,
             workers,
             explain,
-        } => check(rt, the_plan(plan), workers, explain, extras),
+            wave,
+            pair,
+        } => {
+            let look = Look {
+                workers,
+                explain,
+                wave,
+                pair,
+            };
+            check(rt, the_plan(plan), look, extras)
+        }
         Request::Certify { plan, output } => certify(rt, the_plan(plan), output, extras),
         Request::Verify {
             plan,
@@ -138,15 +184,25 @@ fn do_request<R: Files + Input + Print + Eprint + AllocGlobal + Threads + Wait +
         Request::Capture {
             plan,
             vcd,
-            scl,
-            sda,
+            lines,
+            view,
             explain,
-        } => capture(
+        } => {
+            let asked = asked_of(lines, view, explain);
+            capture(rt, the_plan(plan), the_capture(vcd), asked, extras)
+        }
+        Request::Order { plan } => tell_order(rt, the_plan(plan), extras),
+        Request::Signals { vcd } => list_signals(rt, the_capture(vcd), extras),
+        Request::Learn {
+            vcd,
+            lines,
+            merge,
+            output,
+        } => learn(
             rt,
-            the_plan(plan),
             the_capture(vcd),
-            Names { scl, sda },
-            explain,
+            lesson_of(lines, merge),
+            output,
             extras,
         ),
         Request::Bench {
@@ -157,6 +213,7 @@ fn do_request<R: Files + Input + Print + Eprint + AllocGlobal + Threads + Wait +
             answers,
             rest,
             explain,
+            wave,
         } => {
             let play = Play {
                 starters,
@@ -164,6 +221,7 @@ fn do_request<R: Files + Input + Print + Eprint + AllocGlobal + Threads + Wait +
                 answers,
                 rest,
                 explain,
+                wave,
             };
             match cert {
                 Some(cert) => bench(rt, the_plan(plan), the_certificate(cert), play, extras),
@@ -192,10 +250,10 @@ fn the_capture(path: &str) -> Named<'_> {
     named("VCD", "capture", path)
 }
 
-// A text that a command writes has no words for people.
-fn form_of(output: Option<&str>) -> Form {
+/// How a text is written that has no words for people.
+pub fn form_of(output: Option<&str>) -> Form<'_> {
     match output {
-        Some(_) => Form::Held,
+        Some(path) => Form::File(path),
         None => Form::Plain,
     }
 }
@@ -208,149 +266,160 @@ fn named<'a>(argument: &'static str, what: &'static str, path: &'a str) -> Named
     }
 }
 
-fn check<R: Files + Input + Print + Eprint + AllocGlobal + Threads + Sync>(
+/// How a plan is looked at: by so many workers, with so many unsafe pairs explained, and with the waves of one of them in a
+/// file: of the first one, or of the one with this number.
+#[derive(Clone, Copy)]
+pub struct Look<'a> {
+    pub workers: u32,
+    pub explain: Option<u32>,
+    pub wave: Option<&'a str>,
+    pub pair: Option<u32>,
+}
+
+fn check<R: Files + Input + Print + Eprint + Clock + AllocGlobal + Threads + Sync>(
     rt: &R,
     plan: Named<'_>,
-    workers: u32,
-    explain: Option<u32>,
+    look: Look<'_>,
     extras: Extras,
 ) -> u8 {
-    let Some(mut reader) = open(rt, plan, extras.hints) else {
+    let Some(mut reader) = open(rt, plan, extras) else {
         return 2;
     };
-    let mut out = Watched::new(Sheet::new(rt.alloc(), io::writer(rt), extras.form()));
-    let alloc = rt.alloc();
-    let ended = match explain {
-        Some(most) => explain_check(rt, alloc, &mut reader, &mut out, workers, most),
-        None => run_check(rt, alloc, &mut reader, &mut out, workers, &report::NoGate),
+    let mut out = Watched::new(Sheet::new(rt, extras.form(), extras.watcher));
+    let ended = match look.wave {
+        Some(file) => check_drawn(rt, plan.path, &mut reader, &mut out, look, file, extras),
+        None => look_over(rt, &mut reader, &mut out, look, extras),
     };
     finish(rt, plan, reader, out.into_inner(), None, ended, extras)
 }
 
-fn certify<R: Files + Input + Print + Eprint + AllocGlobal>(
+/// Checks the plan that the reader gives.
+pub fn look_over<R: Eprint + Clock + AllocGlobal + Threads + Sync, I: report::Input, O: Output>(
+    rt: &R,
+    plan: &mut I,
+    out: &mut O,
+    look: Look<'_>,
+    extras: Extras,
+) -> Result<Status, RunError> {
+    match look.explain {
+        Some(most) => explain_check(rt, rt.alloc(), plan, out, look.workers, most),
+        None => {
+            let gate = Comparing::new(rt, extras.watcher);
+            run_check(rt, rt.alloc(), plan, out, look.workers, &gate)
+        }
+    }
+}
+
+fn certify<R: Files + Input + Print + Eprint + Clock + AllocGlobal>(
     rt: &R,
     plan: Named<'_>,
     output: Option<&str>,
     extras: Extras,
 ) -> u8 {
-    let Some(mut reader) = open(rt, plan, extras.hints) else {
+    let Some(mut reader) = open(rt, plan, extras) else {
         return 2;
     };
-    let mut out = Watched::new(Sheet::new(rt.alloc(), io::writer(rt), form_of(output)));
+    let sheet = Sheet::new(rt, form_of(output), extras.watcher).telling("certificate written");
+    let mut out = Watched::new(sheet);
     let ended = run_certify(rt.alloc(), &mut reader, &mut out);
     finish(rt, plan, reader, out.into_inner(), output, ended, extras)
 }
 
-fn verify<R: Files + Input + Print + Eprint + AllocGlobal>(
+fn verify<R: Files + Input + Print + Eprint + Clock + AllocGlobal>(
     rt: &R,
     plan: Named<'_>,
     cert: Named<'_>,
     explain: bool,
     extras: Extras,
 ) -> u8 {
-    let Some((mut reader, mut second)) = open_both(rt, plan, cert, extras.hints) else {
+    let Some((mut reader, mut second)) = open_both(rt, plan, cert, extras) else {
         return 2;
     };
-    let mut out = Watched::new(Sheet::new(rt.alloc(), io::writer(rt), extras.form()));
+    let mut out = Watched::new(Sheet::new(rt, extras.form(), extras.watcher));
     let ended = if explain {
         explain_verify(rt.alloc(), &mut reader, &mut second, &mut out)
     } else {
         run_verify(rt.alloc(), &mut reader, &mut second, &mut out)
     };
-    let status = status_of(rt, ended);
+    let (read, error) = last_read(plan, &mut reader, cert, &mut second);
+    let status = status_of(rt, ended, extras.watcher);
     if extras.hints {
-        let (read, error) = last_read(plan, &mut reader, cert, &mut second);
         let outcome = outcome(read, error, out.into_inner(), None, ended, extras);
         advise_on_certified(rt, file_of(reader), file_of(second), "", outcome);
     }
     status
 }
 
-fn capture<R: Files + Input + Print + Eprint + AllocGlobal + Threads + Sync>(
+fn tell_order<R: Files + Input + Print + Eprint + Clock + AllocGlobal>(
     rt: &R,
     plan: Named<'_>,
-    vcd: Named<'_>,
-    names: Names<'_>,
-    explain: bool,
     extras: Extras,
 ) -> u8 {
-    let Some((mut reader, mut second)) = open_both(rt, plan, vcd, extras.hints) else {
+    let Some(mut reader) = open(rt, plan, extras) else {
         return 2;
     };
-    let mut out = Watched::new(Sheet::new(rt.alloc(), io::writer(rt), extras.form()));
-    let Names { scl, sda } = names;
-    let alloc = rt.alloc();
-    let ended = if explain {
-        explain_capture(rt, alloc, &mut reader, &mut second, &mut out, scl, sda)
-    } else {
-        run_capture(rt, alloc, &mut reader, &mut second, &mut out, scl, sda)
-    };
-    let status = status_of(rt, ended);
-    if extras.hints {
-        let (read, error) = last_read(plan, &mut reader, vcd, &mut second);
-        let outcome = outcome(read, error, out.into_inner(), None, ended, extras);
-        advise_on_capture(rt, file_of(reader), file_of(second), names, outcome);
-    }
-    status
+    let mut out = Watched::new(Sheet::new(rt, extras.form(), extras.watcher));
+    let ended = run_order(rt.alloc(), &mut reader, &mut out);
+    finish(rt, plan, reader, out.into_inner(), None, ended, extras)
 }
 
-fn spell<R: Files + Input + Print + Eprint + AllocGlobal>(
+fn spell<R: Files + Input + Print + Eprint + Clock + AllocGlobal>(
     rt: &R,
     plan: Named<'_>,
     output: Option<&str>,
     extras: Extras,
 ) -> u8 {
-    let Some(mut reader) = open(rt, plan, extras.hints) else {
+    let Some(mut reader) = open(rt, plan, extras) else {
         return 2;
     };
-    let mut out = Watched::new(Sheet::new(rt.alloc(), io::writer(rt), form_of(output)));
+    let mut out = Watched::new(Sheet::new(rt, form_of(output), extras.watcher));
     let ended = run_print(rt.alloc(), &mut reader, &mut out);
     finish(rt, plan, reader, out.into_inner(), output, ended, extras)
 }
 
-fn abbreviate<R: Files + Input + Print + Eprint + AllocGlobal>(
+fn abbreviate<R: Files + Input + Print + Eprint + Clock + AllocGlobal>(
     rt: &R,
     plan: Named<'_>,
     output: Option<&str>,
     extras: Extras,
 ) -> u8 {
-    let Some(mut reader) = open(rt, plan, extras.hints) else {
+    let Some(mut reader) = open(rt, plan, extras) else {
         return 2;
     };
-    let mut out = Watched::new(Sheet::new(rt.alloc(), io::writer(rt), form_of(output)));
+    let mut out = Watched::new(Sheet::new(rt, form_of(output), extras.watcher));
     let ended = run_brief(rt.alloc(), &mut reader, &mut out);
     finish(rt, plan, reader, out.into_inner(), output, ended, extras)
 }
 
-fn expand<R: Files + Input + Print + Eprint + AllocGlobal>(
+fn expand<R: Files + Input + Print + Eprint + Clock + AllocGlobal>(
     rt: &R,
     brief: Named<'_>,
     output: Option<&str>,
     extras: Extras,
 ) -> u8 {
-    let Some(mut reader) = open(rt, brief, extras.hints) else {
+    let Some(mut reader) = open(rt, brief, extras) else {
         return 2;
     };
-    let mut out = Watched::new(Sheet::new(rt.alloc(), io::writer(rt), form_of(output)));
+    let mut out = Watched::new(Sheet::new(rt, form_of(output), extras.watcher));
     let ended = run_expand(rt.alloc(), &mut reader, &mut out);
     finish(rt, brief, reader, out.into_inner(), output, ended, extras)
 }
 
 // Writes the file of a run that is to write one, and answers the status of a run over one text, with the line of a
 // refusal, and hints where they are wanted.
-fn finish<R: Files + Input + Eprint + AllocGlobal, W: Write + Drop>(
+fn finish<R: Files + Input + Print + Eprint + Clock + AllocGlobal>(
     rt: &R,
     read: Named<'_>,
-    mut source: Source<R::File, R::Reader>,
-    mut out: Sheet<W>,
+    mut source: Source<'_, R, R::File, R::Reader>,
+    mut out: Sheet<'_, R>,
     output: Option<&str>,
     ended: Result<Status, RunError>,
     extras: Extras,
 ) -> u8 {
     let error = reading_error(&mut source);
     let file = file_of(source);
-    let ended = out.settle(rt, output, metadata_of(rt, &file), ended);
-    let status = status_of(rt, ended);
+    let ended = out.settle(metadata_of(rt, &file), ended);
+    let status = status_of(rt, ended, extras.watcher);
     if extras.hints {
         let outcome = outcome(read, error, out, output, ended, extras);
         advise_on_text(rt, file, outcome);
@@ -359,10 +428,10 @@ fn finish<R: Files + Input + Eprint + AllocGlobal, W: Write + Drop>(
 }
 
 /// How a run ended, for hints.
-pub fn outcome<'a, W: Drop>(
+pub fn outcome<'a, R: Files + Print + Eprint + Clock + AllocGlobal>(
     read: Named<'a>,
     error: Option<io::Error>,
-    out: Sheet<W>,
+    out: Sheet<'_, R>,
     output: Option<&'a str>,
     ended: Result<Status, RunError>,
     extras: Extras,
@@ -379,11 +448,11 @@ pub fn outcome<'a, W: Drop>(
 }
 
 /// The file that was read last of two, and the words of the system if it failed.
-pub fn last_read<'a, F: Read, S: Read>(
+pub fn last_read<'a, R: Clock + Eprint, F: Read, S: Read>(
     first: Named<'a>,
-    one: &mut Source<F, S>,
+    one: &mut Source<'_, R, F, S>,
     second: Named<'a>,
-    other: &mut Source<F, S>,
+    other: &mut Source<'_, R, F, S>,
 ) -> (Named<'a>, Option<io::Error>) {
     if other.failed() {
         (second, reading_error(other))
@@ -392,8 +461,13 @@ pub fn last_read<'a, F: Read, S: Read>(
     }
 }
 
-/// The status of a run that has ended, with the line of a refusal.
-pub fn status_of<R: Eprint>(rt: &R, ended: Result<Status, RunError>) -> u8 {
+/// The status of a run that has ended, with the line of a refusal. The line that told how far it was goes away.
+pub fn status_of<R: Clock + Eprint>(
+    rt: &R,
+    ended: Result<Status, RunError>,
+    watcher: Watcher,
+) -> u8 {
+    watcher.clear(rt);
     match ended {
         Ok(Status::Good) => 0,
         Ok(Status::Bad) => 1,

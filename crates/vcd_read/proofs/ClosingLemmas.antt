@@ -8,15 +8,16 @@ use Rattle.vcd_read.specs.declared.dumps.Seen.{Seen}
 use Rattle.vcd_read.specs.declared.dumps.Seen.TheVariants as seen
 use Rattle.vcd_read.specs.declared.samples.Level.{Level}
 use Rattle.vcd_read.specs.declared.samples.Signal.TheVariants.{Scl, Sda}
-use Rattle.vcd_read.specs.Beginnings.{IsReference}
+use Rattle.vcd_read.specs.Beginnings.{IsInVar, CanBe}
 use Rattle.vcd_read.specs.Changes.{changed}
 use Rattle.vcd_read.specs.Definitions.{named_by}
 use Rattle.vcd_read.specs.Dumps.{Run, step, run}
+use Rattle.vcd_read.specs.Probes.{Finder, by_name, by_code, declares}
 use Rattle.vcd_read.specs.States.{Line, State}
 use Rattle.vcd_read.specs.Words.{is_empty, is_end}
 use Rattle.vcd_read.proofs.RunLemmas.{run_token}
 use Rattle.vcd_read.proofs.SpelledChanges.{Accepts}
-use Rattle.vcd_read.proofs.StepLemmas.{IsElsewhere, IsEnding, Lost, named-name, changed-name}
+use Rattle.vcd_read.proofs.StepLemmas.{IsElsewhere, IsEnding, Lost, named-probe, changed-probe}
 use Rattle.vcd_read.proofs.TextLemmas.{IsWord, AreWords, on_line}
 
 -- what was said can go on by these words, on whatever line they stand
@@ -121,10 +122,10 @@ step_one_bit : (scl sda : Line) (began : ℕ) (block : Option ℕ) (latest : Lis
 unfolding step
 step_one_bit scl sda began block latest defined time line = refl
 
-step_code_word : (scl sda : Line) (one_bit : Bool) (began : ℕ) (block : Option ℕ) (latest : List ℕ) (defined : Bool) (time line : ℕ) →
-    step (in_var scl sda (seen.Size one_bit) began block latest defined time) code line ≡ Ok (in_var scl sda (seen.Code one_bit) began block code defined time, None)
+step_code_word : (scl sda : Line) (one_bit : Bool) (began : ℕ) (block : Option ℕ) (latest : List ℕ) (defined : Bool) (time line : ℕ) (token : List ℕ) → is_end token ≡ false →
+    step (in_var scl sda (seen.Size one_bit) began block latest defined time) token line ≡ Ok (in_var scl sda (seen.Code one_bit) began block token defined time, None)
 unfolding step
-step_code_word scl sda one_bit began block latest defined time line = refl
+step_code_word scl sda one_bit began block latest defined time line token inner = rw inner refl
 
 step_reference : (scl sda : Line) (began : ℕ) (block : Option ℕ) (latest : List ℕ) (defined : Bool) (time line : ℕ) (reference : List ℕ) → is_end reference ≡ false →
     step (in_var scl sda (seen.Code true) began block latest defined time) reference line
@@ -142,68 +143,96 @@ step_var_close : (scl sda : Line) (began : ℕ) (block : Option ℕ) (latest : L
 unfolding step
 step_var_close scl sda began block latest defined time line = refl
 
-gets_by : (line : Line) (test : Bool) → is_empty line.code ≡ test → is_empty (named_by line.name code line).code ≡ false
-gets_by line true is =
-    let same : bytes_eq line.name line.name ≡ true = (bytes_eq-Decides line.name line.name).1 refl in
-    rw (is, same) refl
-gets_by line false is = rw is is
+-- the reference and the code of a `$var` of this signal
+abbrev name_in : Finder → List ℕ
+name_in (by_name name) = name
+name_in (by_code own) = blank
 
--- the line of this name has a code after its `$var`
-gets_code : (line : Line) → is_empty (named_by line.name code line).code ≡ false
-gets_code line = gets_by line (is_empty line.code) refl
+abbrev code_in : Finder → List ℕ
+code_in (by_name name) = code
+code_in (by_code own) = own
 
-keeps_code : (reference : List ℕ) (line : Line) → is_empty line.code ≡ false → is_empty (named_by reference code line).code ≡ false
-keeps_code reference line some = rw some some
+name_in_var : (probe : Finder) → CanBe probe → IsInVar (name_in probe)
+name_in_var (by_name name) is = is
+name_in_var (by_code own) is = record { some = refl; one_token = refl; no_end = refl }
 
-is_word : (name : List ℕ) → IsReference name → IsWord name
-is_word name is = record { some = is.some; one_token = is.one_token }
+code_in_var : (probe : Finder) → CanBe probe → IsInVar (code_in probe)
+code_in_var (by_name name) is = record { some = refl; one_token = refl; no_end = refl }
+code_in_var (by_code own) is = is
 
--- `$var x 1 ! NAME $end`
-closes_var : (name : List ℕ) (scl sda : Line) (block : Option ℕ) (latest : List ℕ) (time : ℕ) → IsReference name →
-    Closes (λ line. state (named_by name code scl) (named_by name code sda) inside.Nothing block code false time) → Closes (λ line. state scl sda inside.Nothing block latest false time)
-closes_var name scl sda block latest time is c =
+is_own : (probe : Finder) → declares probe (name_in probe) (code_in probe) ≡ true
+is_own (by_name name) = (bytes_eq-Decides name name).1 refl
+is_own (by_code own) = (bytes_eq-Decides own own).1 refl
+
+abbrev found : Finder → Line → Line
+found probe line = named_by (name_in probe) (code_in probe) line
+
+gets_by : (line : Line) (test : Bool) → CanBe line.probe → is_empty line.code ≡ test → is_empty (found line.probe line).code ≡ false
+gets_by line true can is = rw (is, is_own line.probe) ((code_in_var line.probe can).some)
+gets_by line false can is = rw is is
+
+-- the line has a code after its `$var`
+gets_code : (line : Line) → CanBe line.probe → is_empty (found line.probe line).code ≡ false
+gets_code line can = gets_by line (is_empty line.code) can refl
+
+keeps_code : (probe : Finder) (line : Line) → is_empty line.code ≡ false → is_empty (found probe line).code ≡ false
+keeps_code probe line some = rw some some
+
+is_word : (word : List ℕ) → IsInVar word → IsWord word
+is_word word is = record { some = is.some; one_token = is.one_token }
+
+-- `$var x 1 CODE NAME $end`
+closes_var : (own name : List ℕ) (scl sda : Line) (block : Option ℕ) (latest : List ℕ) (time : ℕ) → IsInVar own → IsInVar name →
+    Closes (λ line. state (named_by name own scl) (named_by name own sda) inside.Nothing block own false time) → Closes (λ line. state scl sda inside.Nothing block latest false time)
+closes_var own name scl sda block latest time is_code is_name c =
     with_word (λ line. state scl sda inside.Nothing block latest false time) (λ line. in_var scl sda seen.Nothing line block latest false time) (codes "$var")
     (record { some = refl; one_token = refl }) (step_var_word scl sda block latest time)
     (with_word (λ line. in_var scl sda seen.Nothing line block latest false time) (λ line. in_var scl sda seen.Type line block latest false time) blank filler
     (λ line. step_type scl sda line block latest false time line)
     (with_word (λ line. in_var scl sda seen.Type line block latest false time) (λ line. in_var scl sda (seen.Size true) line block latest false time) (codes "1")
     (record { some = refl; one_token = refl }) (λ line. step_one_bit scl sda line block latest false time line)
-    (with_word (λ line. in_var scl sda (seen.Size true) line block latest false time) (λ line. in_var scl sda (seen.Code true) line block code false time) code
-    (record { some = refl; one_token = refl }) (λ line. step_code_word scl sda true line block latest false time line)
-    (with_word (λ line. in_var scl sda (seen.Code true) line block code false time) (λ line. in_var (named_by name code scl) (named_by name code sda) seen.Reference line block code false time) name
-    (is_word name is) (λ line. step_reference scl sda line block code false time line name is.no_end)
-    (with_word (λ line. in_var (named_by name code scl) (named_by name code sda) seen.Reference line block code false time)
-    (λ line. state (named_by name code scl) (named_by name code sda) inside.Nothing block code false time) end end_word
-    (λ line. step_var_close (named_by name code scl) (named_by name code sda) line block code false time line) c)))))
+    (with_word (λ line. in_var scl sda (seen.Size true) line block latest false time) (λ line. in_var scl sda (seen.Code true) line block own false time) own
+    (is_word own is_code) (λ line. step_code_word scl sda true line block latest false time line own is_code.no_end)
+    (with_word (λ line. in_var scl sda (seen.Code true) line block own false time) (λ line. in_var (named_by name own scl) (named_by name own sda) seen.Reference line block own false time) name
+    (is_word name is_name) (λ line. step_reference scl sda line block own false time line name is_name.no_end)
+    (with_word (λ line. in_var (named_by name own scl) (named_by name own sda) seen.Reference line block own false time)
+    (λ line. state (named_by name own scl) (named_by name own sda) inside.Nothing block own false time) end end_word
+    (λ line. step_var_close (named_by name own scl) (named_by name own sda) line block own false time line) c)))))
+
+-- a `$var` of this signal
+closes_found : (probe : Finder) (scl sda : Line) (block : Option ℕ) (latest : List ℕ) (time : ℕ) → CanBe probe →
+    Closes (λ line. state (found probe scl) (found probe sda) inside.Nothing block (code_in probe) false time) → Closes (λ line. state scl sda inside.Nothing block latest false time)
+closes_found probe scl sda block latest time can c =
+    closes_var (code_in probe) (name_in probe) scl sda block latest time (code_in_var probe can) (name_in_var probe can) c
 
 -- each signal gets a `$var`
-closes_undefined : (scl sda : Line) (block : Option ℕ) (latest : List ℕ) (time : ℕ) → IsReference scl.name → IsReference sda.name → Closes (λ line. state scl sda inside.Nothing block latest false time)
+closes_undefined : (scl sda : Line) (block : Option ℕ) (latest : List ℕ) (time : ℕ) → CanBe scl.probe → CanBe sda.probe → Closes (λ line. state scl sda inside.Nothing block latest false time)
 closes_undefined scl sda block latest time of_scl of_sda =
-    let scl_first = named_by scl.name code scl in
-    let sda_first = named_by scl.name code sda in
-    let same : sda_first.name ≡ sda.name = named-name scl.name code sda in
-    let of_second : IsReference sda_first.name = (let P : List ℕ → Type 0 = λ name. IsReference name in subst P (sym same) of_sda) in
-    closes_var scl.name scl sda block latest time of_scl
-    (closes_var sda_first.name scl_first sda_first block code time of_second
-    (closes_named (named_by sda_first.name code scl_first) (named_by sda_first.name code sda_first) block code time
-    (keeps_code sda_first.name scl_first (gets_code scl)) (gets_code sda_first)))
+    let scl_first = found scl.probe scl in
+    let sda_first = found scl.probe sda in
+    let same : sda_first.probe ≡ sda.probe = named-probe (name_in scl.probe) (code_in scl.probe) sda in
+    let of_second : CanBe sda_first.probe = (let P : Finder → Type 0 = λ probe. CanBe probe in subst P (sym same) of_sda) in
+    closes_found scl.probe scl sda block latest time of_scl
+    (closes_found sda_first.probe scl_first sda_first block (code_in scl.probe) time of_second
+    (closes_named (found sda_first.probe scl_first) (found sda_first.probe sda_first) block (code_in sda_first.probe) time
+    (keeps_code sda_first.probe scl_first (gets_code scl of_scl)) (gets_code sda_first of_second)))
 
-closes_outside : (scl sda : Line) (block : Option ℕ) (latest : List ℕ) (defined : Bool) (time : ℕ) → IsReference scl.name → IsReference sda.name → Closes (λ line. state scl sda inside.Nothing block latest defined time)
+closes_outside : (scl sda : Line) (block : Option ℕ) (latest : List ℕ) (defined : Bool) (time : ℕ) → CanBe scl.probe → CanBe sda.probe → Closes (λ line. state scl sda inside.Nothing block latest defined time)
 closes_outside scl sda block latest true time of_scl of_sda = closes_defined scl sda block latest time
 closes_outside scl sda block latest false time of_scl of_sda = closes_undefined scl sda block latest time of_scl of_sda
 
 -- ---- what is open
 
-closes_reference : (scl sda : Line) (began : ℕ) (block : Option ℕ) (latest : List ℕ) (defined : Bool) (time : ℕ) → IsReference scl.name → IsReference sda.name →
+closes_reference : (scl sda : Line) (began : ℕ) (block : Option ℕ) (latest : List ℕ) (defined : Bool) (time : ℕ) → CanBe scl.probe → CanBe sda.probe →
     Closes (λ line. in_var scl sda seen.Reference began block latest defined time)
 closes_reference scl sda began block latest defined time of_scl of_sda =
     with_word (λ line. in_var scl sda seen.Reference began block latest defined time) (λ line. state scl sda inside.Nothing block latest defined time) end end_word
     (step_var_close scl sda began block latest defined time) (closes_outside scl sda block latest defined time of_scl of_sda)
 
-still_reference : (reference latest : List ℕ) (line : Line) → IsReference line.name → IsReference (named_by reference latest line).name
-still_reference reference latest line is = let P : List ℕ → Type 0 = λ name. IsReference name in subst P (sym (named-name reference latest line)) is
+still_reference : (reference latest : List ℕ) (line : Line) → CanBe line.probe → CanBe (named_by reference latest line).probe
+still_reference reference latest line is = let P : Finder → Type 0 = λ probe. CanBe probe in subst P (sym (named-probe reference latest line)) is
 
-closes_code : (scl sda : Line) (one_bit : Bool) (began : ℕ) (block : Option ℕ) (latest : List ℕ) (defined : Bool) (time : ℕ) → IsReference scl.name → IsReference sda.name →
+closes_code : (scl sda : Line) (one_bit : Bool) (began : ℕ) (block : Option ℕ) (latest : List ℕ) (defined : Bool) (time : ℕ) → CanBe scl.probe → CanBe sda.probe →
     Closes (λ line. in_var scl sda (seen.Code one_bit) began block latest defined time)
 closes_code scl sda true began block latest defined time of_scl of_sda =
     with_word (λ line. in_var scl sda (seen.Code true) began block latest defined time)
@@ -214,19 +243,19 @@ closes_code scl sda false began block latest defined time of_scl of_sda =
     with_word (λ line. in_var scl sda (seen.Code false) began block latest defined time) (λ line. in_var scl sda seen.Reference began block latest defined time) blank filler
     (step_other_reference scl sda began block latest defined time) (closes_reference scl sda began block latest defined time of_scl of_sda)
 
-closes_size : (scl sda : Line) (one_bit : Bool) (began : ℕ) (block : Option ℕ) (latest : List ℕ) (defined : Bool) (time : ℕ) → IsReference scl.name → IsReference sda.name →
+closes_size : (scl sda : Line) (one_bit : Bool) (began : ℕ) (block : Option ℕ) (latest : List ℕ) (defined : Bool) (time : ℕ) → CanBe scl.probe → CanBe sda.probe →
     Closes (λ line. in_var scl sda (seen.Size one_bit) began block latest defined time)
 closes_size scl sda one_bit began block latest defined time of_scl of_sda =
     with_word (λ line. in_var scl sda (seen.Size one_bit) began block latest defined time) (λ line. in_var scl sda (seen.Code one_bit) began block code defined time) code
-    (record { some = refl; one_token = refl }) (step_code_word scl sda one_bit began block latest defined time) (closes_code scl sda one_bit began block code defined time of_scl of_sda)
+    (record { some = refl; one_token = refl }) (λ line. step_code_word scl sda one_bit began block latest defined time line code refl) (closes_code scl sda one_bit began block code defined time of_scl of_sda)
 
-closes_type : (scl sda : Line) (began : ℕ) (block : Option ℕ) (latest : List ℕ) (defined : Bool) (time : ℕ) → IsReference scl.name → IsReference sda.name →
+closes_type : (scl sda : Line) (began : ℕ) (block : Option ℕ) (latest : List ℕ) (defined : Bool) (time : ℕ) → CanBe scl.probe → CanBe sda.probe →
     Closes (λ line. in_var scl sda seen.Type began block latest defined time)
 closes_type scl sda began block latest defined time of_scl of_sda =
     with_word (λ line. in_var scl sda seen.Type began block latest defined time) (λ line. in_var scl sda (seen.Size false) began block latest defined time) blank filler
     (step_size scl sda began block latest defined time) (closes_size scl sda false began block latest defined time of_scl of_sda)
 
-closes_in_var : (so_far : Seen) (scl sda : Line) (began : ℕ) (block : Option ℕ) (latest : List ℕ) (defined : Bool) (time : ℕ) → IsReference scl.name → IsReference sda.name →
+closes_in_var : (so_far : Seen) (scl sda : Line) (began : ℕ) (block : Option ℕ) (latest : List ℕ) (defined : Bool) (time : ℕ) → CanBe scl.probe → CanBe sda.probe →
     Closes (λ line. in_var scl sda so_far began block latest defined time)
 closes_in_var seen.Nothing scl sda began block latest defined time of_scl of_sda =
     with_word (λ line. in_var scl sda seen.Nothing began block latest defined time) (λ line. in_var scl sda seen.Type began block latest defined time) blank filler
@@ -252,14 +281,14 @@ step_real : (scl sda : Line) (began : ℕ) (block : Option ℕ) (latest : List �
 unfolding step
 step_real scl sda began block latest defined time line = refl
 
-still_named : (level : Level) (line : Line) → IsReference line.name → IsReference (changed code level line).name
-still_named level line is = let P : List ℕ → Type 0 = λ name. IsReference name in subst P (sym (changed-name code level line)) is
+still_named : (level : Level) (line : Line) → CanBe line.probe → CanBe (changed code level line).probe
+still_named level line is = let P : Finder → Type 0 = λ probe. CanBe probe in subst P (sym (changed-probe code level line)) is
 
 -- both signals have their codes
 abbrev AreNamed : Line → Line → Type 0
 AreNamed scl sda = (is_empty scl.code ≡ false) × (is_empty sda.code ≡ false)
 
-closes_in : (context : Context) (scl sda : Line) (block : Option ℕ) (latest : List ℕ) (defined : Bool) (time : ℕ) → IsReference scl.name → IsReference sda.name →
+closes_in : (context : Context) (scl sda : Line) (block : Option ℕ) (latest : List ℕ) (defined : Bool) (time : ℕ) → CanBe scl.probe → CanBe sda.probe →
     IsElsewhere context ⊎ AreNamed scl sda → Closes (λ line. state scl sda context block latest defined time)
 closes_in inside.Nothing scl sda block latest defined time of_scl of_sda safe = closes_outside scl sda block latest defined time of_scl of_sda
 closes_in (inside.Skipped began) scl sda block latest defined time of_scl of_sda safe =
@@ -292,17 +321,17 @@ elsewhere_or_ending (inside.EndDefinitions began) = inr tt
 elsewhere_or_ending (inside.Change began level) = inl tt
 
 -- what a state can do
-closes_by : (s : State) → IsReference s.scl.name → IsReference s.sda.name → IsElsewhere s.context ⊎ AreNamed s.scl s.sda → Closes (λ line. s)
+closes_by : (s : State) → CanBe s.scl.probe → CanBe s.sda.probe → IsElsewhere s.context ⊎ AreNamed s.scl s.sda → Closes (λ line. s)
 closes_by s of_scl of_sda safe = closes_in s.context s.scl s.sda s.block s.code s.defined s.time of_scl of_sda safe
 
-lost_by : (s : State) → IsReference s.scl.name → IsReference s.sda.name → AreNamed s.scl s.sda ⊎ Lost s → Closes (λ line. s) ⊎ Lost s
+lost_by : (s : State) → CanBe s.scl.probe → CanBe s.sda.probe → AreNamed s.scl s.sda ⊎ Lost s → Closes (λ line. s) ⊎ Lost s
 lost_by s of_scl of_sda (inl named) = inl (closes_by s of_scl of_sda (inr named))
 lost_by s of_scl of_sda (inr lost) = inr lost
 
-closes_or_lost_by : (s : State) → IsReference s.scl.name → IsReference s.sda.name → IsElsewhere s.context ⊎ IsEnding s.context → Closes (λ line. s) ⊎ Lost s
+closes_or_lost_by : (s : State) → CanBe s.scl.probe → CanBe s.sda.probe → IsElsewhere s.context ⊎ IsEnding s.context → Closes (λ line. s) ⊎ Lost s
 closes_or_lost_by s of_scl of_sda (inl elsewhere) = inl (closes_by s of_scl of_sda (inl elsewhere))
 closes_or_lost_by s of_scl of_sda (inr ending) =
     lost_by s of_scl of_sda (codes_or_lost s (is_empty s.scl.code) (is_empty s.sda.code) refl refl ending)
 
-pub closes_or_lost : (s : State) → IsReference s.scl.name → IsReference s.sda.name → Closes (λ line. s) ⊎ Lost s
+pub closes_or_lost : (s : State) → CanBe s.scl.probe → CanBe s.sda.probe → Closes (λ line. s) ⊎ Lost s
 closes_or_lost s of_scl of_sda = closes_or_lost_by s of_scl of_sda (elsewhere_or_ending s.context)

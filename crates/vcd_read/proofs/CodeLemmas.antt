@@ -78,7 +78,7 @@ changed_by_number code level old number known some of_code of_old =
 is_binary : (value : ℕ) (level : Level) → binary_level_of value ≡ Some level → ((value ≡ 48) × (level ≡ Low)) ⊎ ((value ≡ 49) × (level ≡ High))
 is_binary value level is = grind (arith, nat_tests)
 
-has_code : (code : List ℕ) → 0 < code_number code → is_code code ≡ true
+pub has_code : (code : List ℕ) → 0 < code_number code → is_code code ≡ true
 has_code code some = (and_both (is_code code) (nat_le (length code) 3) (numbered (is_code code && nat_le (length code) 3) (bytes_number code) some).0).0
 
 pub short_change : (s : State) (value : ℕ) (code : List ℕ) (line : ℕ) (level : Level) → s.context ≡ Nothing → s.defined ≡ true →

@@ -13,17 +13,18 @@ use Rattle.vcd_read.specs.Changes.{stays}
 use Rattle.vcd_read.specs.Definitions.{opened, named_by, declared, var_token}
 use Rattle.vcd_read.specs.Dumps.{step, run, ended, samples_of}
 use Rattle.vcd_read.specs.Grammar.{Skipped, skipped_tokens, without_end, EndsOnce, Declaration, var, other, declaration_tokens, IsDeclaration, code_for, declarations_tokens, AreDeclarations, entries_tokens, stamps_tokens, Dump, IsDump, IsDefinitions, dump_tokens, dump_samples}
+use Rattle.vcd_read.specs.Probes.{Finder, declares}
 use Rattle.vcd_read.specs.States.{Line, State, state_at_first}
 use Rattle.vcd_read.specs.Tokens.{Token, tokens_of}
 use Rattle.vcd_read.specs.Words.{is_empty, is_end, command_of}
 use Rattle.vcd_read.proofs.RunLemmas.{run_token, run_skipped, not_true, and_both}
 use Rattle.vcd_read.proofs.StampLemmas.{state_at, ended_stamps}
 
-abbrev pub unknown : List ℕ → List ℕ → Line
-unknown name code = record { name = name; code = code; before = Unknown; level = Unknown }
+abbrev pub unknown : Finder → List ℕ → Line
+unknown probe code = record { probe = probe; code = code; before = Unknown; level = Unknown }
 
--- among the definitions, with these codes for the two names and this one of the latest `$var`
-abbrev pub defining : (scl sda : List ℕ) → Context → (k m latest : List ℕ) → State
+-- among the definitions, with these codes for the two probes and this one of the latest `$var`
+abbrev pub defining : (scl sda : Finder) → Context → (k m latest : List ℕ) → State
 defining scl sda context k m latest = record {
   scl = unknown scl k;
   sda = unknown sda m;
@@ -36,37 +37,37 @@ defining scl sda context k m latest = record {
 
 -- ---- a `$var`
 
-abbrev pub code_after : Bool → (reference code name k : List ℕ) → List ℕ
-code_after one_bit reference code name k = if one_bit && (is_empty k && bytes_eq reference name) then code else k
+abbrev pub code_after : Bool → (reference code : List ℕ) → Finder → List ℕ → List ℕ
+code_after one_bit reference code probe k = if one_bit && (is_empty k && declares probe reference code) then code else k
 
-named-by : (test : Bool) (name code k : List ℕ) → (if test then record (unknown name k) { code = code } else unknown name k) ≡ unknown name (if test then code else k)
-named-by true name code k = refl
-named-by false name code k = refl
+named-by : (test : Bool) (probe : Finder) (code k : List ℕ) → (if test then record (unknown probe k) { code = code } else unknown probe k) ≡ unknown probe (if test then code else k)
+named-by true probe code k = refl
+named-by false probe code k = refl
 
-pub declared-by : (one_bit : Bool) (scl sda : List ℕ) (context : Context) (k m code reference : List ℕ) →
+pub declared-by : (one_bit : Bool) (scl sda : Finder) (context : Context) (k m code reference : List ℕ) →
     declared one_bit reference (defining scl sda context k m code)
     ≡ defining scl sda context (code_after one_bit reference code scl k) (code_after one_bit reference code sda m) code
 declared-by false scl sda context k m code reference = refl
 declared-by true scl sda context k m code reference =
-    ap (λ line. record (defining scl sda context k m code) { scl = line; sda = named_by reference code (unknown sda m) }) (named-by (is_empty k && bytes_eq reference scl) scl code k)
-    ∙ ap (λ line. record (defining scl sda context (code_after true reference code scl k) m code) { sda = line }) (named-by (is_empty m && bytes_eq reference sda) sda code m)
+    ap (λ line. record (defining scl sda context k m code) { scl = line; sda = named_by reference code (unknown sda m) }) (named-by (is_empty k && declares scl reference code) scl code k)
+    ∙ ap (λ line. record (defining scl sda context (code_after true reference code scl k) m code) { sda = line }) (named-by (is_empty m && declares sda reference code) sda code m)
 
-pub step_definition : (scl sda k m latest token : List ℕ) (line : ℕ) →
+pub step_definition : (scl sda : Finder) (k m latest token : List ℕ) (line : ℕ) →
     step (defining scl sda inside.Nothing k m latest) token line ≡ stays (opened line (defining scl sda inside.Nothing k m latest) (command_of token))
 unfolding step
 step_definition scl sda k m latest token line = refl
 
-pub step_var : (scl sda : List ℕ) (began : ℕ) (so_far : Seen) (k m latest token : List ℕ) (line : ℕ) → is_end token ≡ false →
+pub step_var : (scl sda : Finder) (began : ℕ) (so_far : Seen) (k m latest token : List ℕ) (line : ℕ) → is_end token ≡ false →
     step (defining scl sda (inside.Var began so_far) k m latest) token line ≡ Ok (var_token began so_far (defining scl sda (inside.Var began so_far) k m latest) token, None)
 unfolding step
 step_var scl sda began so_far k m latest token line inner = rw inner refl
 
-pub step_var_end : (scl sda : List ℕ) (began : ℕ) (k m latest token : List ℕ) (line : ℕ) → is_end token ≡ true →
+pub step_var_end : (scl sda : Finder) (began : ℕ) (k m latest token : List ℕ) (line : ℕ) → is_end token ≡ true →
     step (defining scl sda (inside.Var began seen.Reference) k m latest) token line ≡ Ok (defining scl sda inside.Nothing k m latest, None)
 unfolding step
 step_var_end scl sda began k m latest token line is = rw is refl
 
-run_more : (more : List Token) (close : Token) (rest : List Token) (scl sda : List ℕ) (began : ℕ) (k m latest : List ℕ) → without_end more ≡ true → is_end close.bytes ≡ true →
+run_more : (more : List Token) (close : Token) (rest : List Token) (scl sda : Finder) (began : ℕ) (k m latest : List ℕ) → without_end more ≡ true → is_end close.bytes ≡ true →
     run (defining scl sda (inside.Var began seen.Reference) k m latest) ((more ++ (close ∷ [])) ++ rest) ≡ run (defining scl sda inside.Nothing k m latest) rest
 run_more [] close rest scl sda began k m latest none is =
     run_token (defining scl sda (inside.Var began seen.Reference) k m latest) (defining scl sda inside.Nothing k m latest) close rest
@@ -77,7 +78,7 @@ run_more (token ∷ more) close rest scl sda began k m latest none is =
     run_token s s token ((more ++ (close ∷ [])) ++ rest) (step_var scl sda began seen.Reference k m latest token.bytes token.line (not_true (is_end token.bytes) parts.0))
     ∙ run_more more close rest scl sda began k m latest parts.1 is
 
-run_var : (word type size code reference : Token) (more : List Token) (close : Token) (rest : List Token) (scl sda k m latest : List ℕ) →
+run_var : (word type size code reference : Token) (more : List Token) (close : Token) (rest : List Token) (scl sda : Finder) (k m latest : List ℕ) →
     IsDeclaration (var word type size code reference more close) →
     run (defining scl sda inside.Nothing k m latest) (declaration_tokens (var word type size code reference more close) ++ rest)
     ≡ run (defining scl sda inside.Nothing (code_after (bytes_eq size.bytes (codes "1")) reference.bytes code.bytes scl k) (code_after (bytes_eq size.bytes (codes "1")) reference.bytes code.bytes sda m) code.bytes) rest
@@ -105,7 +106,7 @@ run_var word type size code reference more close rest scl sda k m latest is =
 
 -- ---- other commands
 
-run_other : (command : Skipped) (rest : List Token) (scl sda k m latest : List ℕ) → IsDeclaration (other command) →
+run_other : (command : Skipped) (rest : List Token) (scl sda : Finder) (k m latest : List ℕ) → IsDeclaration (other command) →
     run (defining scl sda inside.Nothing k m latest) (declaration_tokens (other command) ++ rest) ≡ run (defining scl sda inside.Nothing k m latest) rest
 run_other command rest scl sda k m latest is =
     let s = defining scl sda inside.Nothing k m latest in
@@ -115,37 +116,37 @@ run_other command rest scl sda k m latest is =
 
 -- ---- all definitions
 
--- the code of a name, where this one stood before
-abbrev pub first_code : List ℕ → List ℕ → List Declaration → List ℕ
-first_code k name declarations = if is_empty k then code_for name declarations else k
+-- the code of a signal, where this one stood before
+abbrev pub first_code : List ℕ → Finder → List Declaration → List ℕ
+first_code k probe declarations = if is_empty k then code_for probe declarations else k
 
-pub nothing_more : (k name : List ℕ) → first_code k name [] ≡ k
-nothing_more [] name = refl
-nothing_more (byte ∷ bytes) name = refl
+pub nothing_more : (k : List ℕ) (probe : Finder) → first_code k probe [] ≡ k
+nothing_more [] probe = refl
+nothing_more (byte ∷ bytes) probe = refl
 
-first_or_later : (test : Bool) (code name : List ℕ) (declarations : List Declaration) → is_empty code ≡ false →
-    first_code (if test then code else []) name declarations ≡ (if test then code else code_for name declarations)
-first_or_later true code name declarations some = rw some refl
-first_or_later false code name declarations some = refl
+first_or_later : (test : Bool) (code : List ℕ) (probe : Finder) (declarations : List Declaration) → is_empty code ≡ false →
+    first_code (if test then code else []) probe declarations ≡ (if test then code else code_for probe declarations)
+first_or_later true code probe declarations some = rw some refl
+first_or_later false code probe declarations some = refl
 
 never_again : (one_bit again : Bool) (code k : List ℕ) → (if one_bit && (false && again) then code else k) ≡ k
 never_again true again code k = refl
 never_again false again code k = refl
 
-pub first_code-var : (word type size code reference : Token) (more : List Token) (close : Token) (declarations : List Declaration) (k name : List ℕ) → is_empty code.bytes ≡ false →
-    first_code (code_after (bytes_eq size.bytes (codes "1")) reference.bytes code.bytes name k) name declarations
-    ≡ first_code k name (var word type size code reference more close ∷ declarations)
-first_code-var word type size code reference more close declarations [] name some =
-    first_or_later (bytes_eq size.bytes (codes "1") && bytes_eq reference.bytes name) code.bytes name declarations some
-first_code-var word type size code reference more close declarations (byte ∷ bytes) name some =
-    ap (λ k. first_code k name declarations) (never_again (bytes_eq size.bytes (codes "1")) (bytes_eq reference.bytes name) code.bytes (byte ∷ bytes))
+pub first_code-var : (word type size code reference : Token) (more : List Token) (close : Token) (declarations : List Declaration) (k : List ℕ) (probe : Finder) → is_empty code.bytes ≡ false →
+    first_code (code_after (bytes_eq size.bytes (codes "1")) reference.bytes code.bytes probe k) probe declarations
+    ≡ first_code k probe (var word type size code reference more close ∷ declarations)
+first_code-var word type size code reference more close declarations [] probe some =
+    first_or_later (bytes_eq size.bytes (codes "1") && declares probe reference.bytes code.bytes) code.bytes probe declarations some
+first_code-var word type size code reference more close declarations (byte ∷ bytes) probe some =
+    ap (λ k. first_code k probe declarations) (never_again (bytes_eq size.bytes (codes "1")) (declares probe reference.bytes code.bytes) code.bytes (byte ∷ bytes))
 
 abbrev pub latest_after : List Declaration → List ℕ → List ℕ
 latest_after [] latest = latest
 latest_after (var word type size code reference more close ∷ declarations) latest = latest_after declarations code.bytes
 latest_after (other command ∷ declarations) latest = latest_after declarations latest
 
-pub run_declarations : (declarations : List Declaration) (rest : List Token) (scl sda k m latest : List ℕ) → AreDeclarations declarations →
+pub run_declarations : (declarations : List Declaration) (rest : List Token) (scl sda : Finder) (k m latest : List ℕ) → AreDeclarations declarations →
     run (defining scl sda inside.Nothing k m latest) (declarations_tokens declarations ++ rest)
     ≡ run (defining scl sda inside.Nothing (first_code k scl declarations) (first_code m sda declarations) (latest_after declarations latest)) rest
 run_declarations [] rest scl sda k m latest are =
@@ -168,18 +169,18 @@ run_declarations (other command ∷ declarations) rest scl sda k m latest are =
 
 -- ---- their end
 
-pub step_end_definitions : (scl sda : List ℕ) (began : ℕ) (k m latest token : List ℕ) (line : ℕ) → is_end token ≡ false →
+pub step_end_definitions : (scl sda : Finder) (began : ℕ) (k m latest token : List ℕ) (line : ℕ) → is_end token ≡ false →
     step (defining scl sda (inside.EndDefinitions began) k m latest) token line ≡ Ok (defining scl sda (inside.EndDefinitions began) k m latest, None)
 unfolding step
 step_end_definitions scl sda began k m latest token line inner = rw inner refl
 
-step_defined : (scl sda : List ℕ) (began : ℕ) (k m latest token : List ℕ) (line : ℕ) → is_end token ≡ true → is_empty k ≡ false → is_empty m ≡ false →
+step_defined : (scl sda : Finder) (began : ℕ) (k m latest token : List ℕ) (line : ℕ) → is_end token ≡ true → is_empty k ≡ false → is_empty m ≡ false →
     step (defining scl sda (inside.EndDefinitions began) k m latest) token line
     ≡ Ok (state_at (record { scl = scl; sda = sda; scl_code = k; sda_code = m; latest = latest }) 0 Unknown Unknown Unknown Unknown None, None)
 unfolding step
 step_defined scl sda began k m latest token line is scl_named sda_named = rw (is, scl_named, sda_named) refl
 
-run_end : (body : List Token) (close : Token) (rest : List Token) (scl sda : List ℕ) (began : ℕ) (k m latest : List ℕ) → without_end body ≡ true → is_end close.bytes ≡ true →
+run_end : (body : List Token) (close : Token) (rest : List Token) (scl sda : Finder) (began : ℕ) (k m latest : List ℕ) → without_end body ≡ true → is_end close.bytes ≡ true →
     is_empty k ≡ false → is_empty m ≡ false →
     run (defining scl sda (inside.EndDefinitions began) k m latest) ((body ++ (close ∷ [])) ++ rest)
     ≡ run (state_at (record { scl = scl; sda = sda; scl_code = k; sda_code = m; latest = latest }) 0 Unknown Unknown Unknown Unknown None) rest
@@ -193,7 +194,7 @@ run_end (token ∷ body) close rest scl sda began k m latest none is scl_named s
     run_token s s token ((body ++ (close ∷ [])) ++ rest) (step_end_definitions scl sda began k m latest token.bytes token.line (not_true (is_end token.bytes) parts.0))
     ∙ run_end body close rest scl sda began k m latest parts.1 is scl_named sda_named
 
-pub run_definitions_end : (command : Skipped) (rest : List Token) (scl sda k m latest : List ℕ) → command_of command.word.bytes ≡ Some EndDefinitions → EndsOnce command →
+pub run_definitions_end : (command : Skipped) (rest : List Token) (scl sda : Finder) (k m latest : List ℕ) → command_of command.word.bytes ≡ Some EndDefinitions → EndsOnce command →
     is_empty k ≡ false → is_empty m ≡ false →
     run (defining scl sda inside.Nothing k m latest) (skipped_tokens command ++ rest)
     ≡ run (state_at (record { scl = scl; sda = sda; scl_code = k; sda_code = m; latest = latest }) 0 Unknown Unknown Unknown Unknown None) rest
@@ -205,7 +206,7 @@ run_definitions_end command rest scl sda k m latest is ends scl_named sda_named 
 
 -- ---- the whole dump
 
-pub samples_of-dump : (scl sda text : List ℕ) (d : Dump) → IsDump scl sda d → tokens_of 1 text ≡ dump_tokens d → samples_of scl sda text ≡ Ok (dump_samples scl sda d)
+pub samples_of-dump : (scl sda : Finder) (text : List ℕ) (d : Dump) → IsDump scl sda d → tokens_of 1 text ≡ dump_tokens d → samples_of scl sda text ≡ Ok (dump_samples scl sda d)
 samples_of-dump scl sda text d is spelled =
     let latest = latest_after d.declarations [] in
     let k = code_for scl d.declarations in
@@ -216,10 +217,10 @@ samples_of-dump scl sda text d is spelled =
     ∙ ap ended (run_definitions_end d.definitions_end changes scl sda k m latest is.definitions_end.0 is.definitions_end.1 is.scl_named is.sda_named)
     ∙ ended_stamps d.stamps d.first (record { scl = scl; sda = sda; scl_code = k; sda_code = m; latest = latest }) 0 Unknown Unknown Unknown Unknown None is.first is.stamps is.blocks_end
 
-alone : (scl sda k m latest : List ℕ) → is_empty k ≡ false → is_empty m ≡ false → ended (run (defining scl sda inside.Nothing k m latest) []) ≡ Ok []
+alone : (scl sda : Finder) (k m latest : List ℕ) → is_empty k ≡ false → is_empty m ≡ false → ended (run (defining scl sda inside.Nothing k m latest) []) ≡ Ok []
 alone scl sda k m latest scl_named sda_named = rw (scl_named, sda_named) refl
 
-pub samples_of-definitions : (scl sda text : List ℕ) (declarations : List Declaration) → IsDefinitions scl sda declarations → tokens_of 1 text ≡ declarations_tokens declarations →
+pub samples_of-definitions : (scl sda : Finder) (text : List ℕ) (declarations : List Declaration) → IsDefinitions scl sda declarations → tokens_of 1 text ≡ declarations_tokens declarations →
     samples_of scl sda text ≡ Ok []
 samples_of-definitions scl sda text declarations are spelled =
     ap (λ tokens. ended (run (state_at_first scl sda) tokens)) (spelled ∙ sym (append-nil (declarations_tokens declarations)))

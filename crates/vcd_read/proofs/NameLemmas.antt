@@ -1,12 +1,13 @@
--- The names of the signals of an accepted dump stand in it as references.
+-- The names of the signals of an accepted dump stand in it as references, and their codes as codes.
 use Rattle.std.proofs.Common.{◌≡◌, ℕ, inl, inr, Bool, true, false, ◌&&◌, List, [], ◌∷◌, ◌++◌, refl, sym, ◌∙◌, subst, append_assoc, codes}
 use Rattle.std.specs.Prelude.{not}
 use Rattle.std.specs.Str.{bytes_eq}
 use Rattle.std.proofs.lemmas.List.{append-nil}
 use Rattle.std.proofs.lemmas.Slice.Eq.{bytes_eq-Decides}
 use Rattle.vcd_read.specs.declared.samples.Sample.{Sample}
-use Rattle.vcd_read.specs.Beginnings.{IsReference}
+use Rattle.vcd_read.specs.Beginnings.{IsInVar, CanBe}
 use Rattle.vcd_read.specs.Grammar.{without_end, Declaration, var, other, declaration_tokens, skipped_tokens, code_for, entries_tokens, stamps_tokens, declarations_tokens, AreDeclarations, Spells}
+use Rattle.vcd_read.specs.Probes.{Finder, by_name, by_code, declares}
 use Rattle.vcd_read.specs.Runs.{AreRuns}
 use Rattle.vcd_read.specs.Tokens.{Token, tokens_of}
 use Rattle.vcd_read.specs.Words.{is_empty, is_end}
@@ -31,41 +32,45 @@ without_first first declarations rest are =
     let P : List Token → Type 0 = λ tokens. AreTokens tokens in
     later_tokens first (declarations_tokens declarations ++ rest) (subst P (append_assoc first (declarations_tokens declarations) rest) are)
 
-is_reference : (reference name : List ℕ) → IsWord reference → is_end reference ≡ false → bytes_eq reference name ≡ true → IsReference name
-is_reference reference name word inner same =
-    let P : List ℕ → Type 0 = λ n. IsReference n in
-    subst P ((bytes_eq-Decides reference name).0 same) (record { some = word.some; one_token = word.one_token; no_end = inner })
+in_var : (token own : List ℕ) → IsWord token → is_end token ≡ false → bytes_eq token own ≡ true → IsInVar own
+in_var token own word inner same =
+    let P : List ℕ → Type 0 = λ n. IsInVar n in
+    subst P ((bytes_eq-Decides token own).0 same) (record { some = word.some; one_token = word.one_token; no_end = inner })
 
-abbrev Named : List ℕ → List Declaration → Type 0
-Named name declarations =
-    (rest : List Token) → AreDeclarations declarations → AreTokens (declarations_tokens declarations ++ rest) → is_empty (code_for name declarations) ≡ false → IsReference name
+can_be : (probe : Finder) (reference code : List ℕ) → IsWord reference → is_end reference ≡ false → IsWord code → is_end code ≡ false → declares probe reference code ≡ true → CanBe probe
+can_be (by_name name) reference code word inner code_word code_inner same = in_var reference name word inner same
+can_be (by_code own) reference code word inner code_word code_inner same = in_var code own code_word code_inner same
 
-named_by : (name : List ℕ) (word type size code reference : Token) (more : List Token) (close : Token) (declarations : List Declaration) (test : Bool) →
-    (bytes_eq size.bytes (codes "1") && bytes_eq reference.bytes name) ≡ test → Named name declarations → Named name (var word type size code reference more close ∷ declarations)
-named_by name word type size code reference more close declarations true is each rest declares are some =
-    let same = and_both (bytes_eq size.bytes (codes "1")) (bytes_eq reference.bytes name) is in
-    let of_type = and_both (not (is_end type.bytes)) _ declares.0.1 in
+abbrev Named : Finder → List Declaration → Type 0
+Named probe declarations =
+    (rest : List Token) → AreDeclarations declarations → AreTokens (declarations_tokens declarations ++ rest) → is_empty (code_for probe declarations) ≡ false → CanBe probe
+
+named_by : (probe : Finder) (word type size code reference : Token) (more : List Token) (close : Token) (declarations : List Declaration) (test : Bool) →
+    (bytes_eq size.bytes (codes "1") && declares probe reference.bytes code.bytes) ≡ test → Named probe declarations → Named probe (var word type size code reference more close ∷ declarations)
+named_by probe word type size code reference more close declarations true is each rest declaring are some =
+    let same = and_both (bytes_eq size.bytes (codes "1")) (declares probe reference.bytes code.bytes) is in
+    let of_type = and_both (not (is_end type.bytes)) _ declaring.0.1 in
     let of_size = and_both (not (is_end size.bytes)) _ of_type.1 in
     let of_code = and_both (not (is_end code.bytes)) _ of_size.1 in
     let of_reference = and_both (not (is_end reference.bytes)) (without_end more) of_code.1 in
-    is_reference reference.bytes name are.1.1.1.1.0 (not_true (is_end reference.bytes) of_reference.0) same.1
-named_by name word type size code reference more close declarations false is each rest declares are some =
+    can_be probe reference.bytes code.bytes are.1.1.1.1.0 (not_true (is_end reference.bytes) of_reference.0) are.1.1.1.0 (not_true (is_end code.bytes) of_code.0) same.1
+named_by probe word type size code reference more close declarations false is each rest declaring are some =
     let later = rw is at some in
-    each rest declares.1 (without_first (declaration_tokens (var word type size code reference more close)) declarations rest are) later
+    each rest declaring.1 (without_first (declaration_tokens (var word type size code reference more close)) declarations rest are) later
 
-named : (name : List ℕ) (declarations : List Declaration) → Named name declarations
-named name [] rest declares are some = absurd cc
-named name (var word type size code reference more close ∷ declarations) rest declares are some =
-    named_by name word type size code reference more close declarations (bytes_eq size.bytes (codes "1") && bytes_eq reference.bytes name) refl (named name declarations) rest declares are some
-named name (other command ∷ declarations) rest declares are some =
-    named name declarations rest declares.1 (without_first (declaration_tokens (other command)) declarations rest are) some
+named : (probe : Finder) (declarations : List Declaration) → Named probe declarations
+named probe [] rest declaring are some = absurd cc
+named probe (var word type size code reference more close ∷ declarations) rest declaring are some =
+    named_by probe word type size code reference more close declarations (bytes_eq size.bytes (codes "1") && declares probe reference.bytes code.bytes) refl (named probe declarations) rest declaring are some
+named probe (other command ∷ declarations) rest declaring are some =
+    named probe declarations rest declaring.1 (without_first (declaration_tokens (other command)) declarations rest are) some
 
 spelled_tokens : (text : List ℕ) (tokens : List Token) → tokens_of 1 text ≡ tokens → AreTokens tokens
 spelled_tokens text tokens is =
     let P : List Token → Type 0 = λ t. AreTokens t in
     subst P is (are_tokens (tokens_of 1 text) 1 text (are_runs text 1))
 
-pub names : (scl sda text : List ℕ) (samples : List Sample) → Spells scl sda (tokens_of 1 text) samples → IsReference scl × IsReference sda
+pub names : (scl sda : Finder) (text : List ℕ) (samples : List Sample) → Spells scl sda (tokens_of 1 text) samples → CanBe scl × CanBe sda
 names scl sda text samples (inl d) =
     let rest = skipped_tokens d.0.definitions_end ++ (entries_tokens d.0.first ++ stamps_tokens d.0.stamps) in
     let are = spelled_tokens text (declarations_tokens d.0.declarations ++ rest) d.2 in

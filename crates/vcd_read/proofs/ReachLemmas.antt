@@ -102,8 +102,8 @@ split (token ∷ tokens) s refusal is =
 -- ---- what stays
 
 pub record Stays (s next : State) : Type 0 where
-  pub scl : next.scl.name ≡ s.scl.name
-  pub sda : next.sda.name ≡ s.sda.name
+  pub scl : next.scl.probe ≡ s.scl.probe
+  pub sda : next.sda.probe ≡ s.sda.probe
   pub written : IsWritten s.time → IsWritten next.time
 
 stays_of_front : (front : List Sample) (s : State) (said : Run) (p : State × List Sample) → with_front front said ≡ Ok p → ((q : State × List Sample) → said ≡ Ok q → Stays s q.0) → Stays s p.0
@@ -119,7 +119,7 @@ stays_by s token tokens p (Ok q) keeps each is =
     stays_of_front (option_to_list q.1) s (run q.0 tokens) p is
     (λ r of_rest.
     let later = each q.0 r of_rest in
-    record { scl = later.scl ∙ keeps.scl_name; sda = later.sda ∙ keeps.sda_name; written = λ written. later.written (keeps.written written) })
+    record { scl = later.scl ∙ keeps.scl_probe; sda = later.sda ∙ keeps.sda_probe; written = λ written. later.written (keeps.written written) })
 stays_by s token tokens p (Err refusal) keeps each is = absurd cc
 
 pub stays_along : (tokens : List Token) (s : State) (p : State × List Sample) → run s tokens ≡ Ok p → Stays s p.0

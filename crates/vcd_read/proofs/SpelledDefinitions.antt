@@ -15,6 +15,7 @@ use Rattle.vcd_read.specs.Changes.{stays}
 use Rattle.vcd_read.specs.Definitions.{opened, var_token}
 use Rattle.vcd_read.specs.Dumps.{Run, step, run, and_then, ended}
 use Rattle.vcd_read.specs.Grammar.{Skipped, skipped_tokens, EndsOnce, Declaration, var, other, declaration_tokens, IsDeclaration, declarations_tokens, AreDeclarations}
+use Rattle.vcd_read.specs.Probes.{Finder}
 use Rattle.vcd_read.specs.States.{State, state_at_first}
 use Rattle.vcd_read.specs.Tokens.{Token, is_white, line_after, ends_before, put_before, tokens_of}
 use Rattle.vcd_read.specs.Words.{is_empty, is_end, command_of}
@@ -97,7 +98,7 @@ Filled [] = Unit {0}
 Filled (token ∷ tokens) = (is_empty token.bytes ≡ false) × Filled tokens
 
 abbrev Parses : List Token → Type 0
-Parses tokens = (scl sda k m latest : List ℕ) (context : Context) → Reads (run (defining scl sda context k m latest) tokens) → Parsed context tokens
+Parses tokens = (scl sda : Finder) (k m latest : List ℕ) (context : Context) → Reads (run (defining scl sda context k m latest) tokens) → Parsed context tokens
 
 -- ---- the end of the text
 
@@ -110,7 +111,7 @@ parses_end scl sda k m latest (inside.Change began level) reads = tt
 
 -- ---- in a command
 
-skipped_by : (scl sda k m latest : List ℕ) (began : ℕ) (token : Token) (tokens : List Token) (test : Bool) → is_end token.bytes ≡ test → Parses tokens →
+skipped_by : (scl sda : Finder) (k m latest : List ℕ) (began : ℕ) (token : Token) (tokens : List Token) (test : Bool) → is_end token.bytes ≡ test → Parses tokens →
     Reads (run (defining scl sda (inside.Skipped began) k m latest) (token ∷ tokens)) → Body Definitions (token ∷ tokens)
 skipped_by scl sda k m latest began token tokens true is each reads =
     let s = defining scl sda inside.Nothing k m latest in
@@ -121,7 +122,7 @@ skipped_by scl sda k m latest began token tokens false is each reads =
     body_more Definitions token tokens is
     (each scl sda k m latest (inside.Skipped began) (reads_next s s token tokens (step_skipped s began token.line token.bytes is) reads))
 
-ending_by : (scl sda k m latest : List ℕ) (began : ℕ) (token : Token) (tokens : List Token) (test : Bool) → is_end token.bytes ≡ test → Parses tokens →
+ending_by : (scl sda : Finder) (k m latest : List ℕ) (began : ℕ) (token : Token) (tokens : List Token) (test : Bool) → is_end token.bytes ≡ test → Parses tokens →
     Reads (run (defining scl sda (inside.EndDefinitions began) k m latest) (token ∷ tokens)) → Body (λ rest. Unit {0}) (token ∷ tokens)
 ending_by scl sda k m latest began token tokens true is each reads = body_end (λ rest. Unit {0}) token tokens is tt
 ending_by scl sda k m latest began token tokens false is each reads =
@@ -130,7 +131,7 @@ ending_by scl sda k m latest began token tokens false is each reads =
     (each scl sda k m latest (inside.EndDefinitions began) (reads_next s s token tokens (step_end_definitions scl sda began k m latest token.bytes token.line is) reads))
 
 -- one more token of a `$var`, which is not its `$end`
-inner_reads : (scl sda k m latest : List ℕ) (began : ℕ) (so_far : Seen) (token : Token) (tokens : List Token) → is_end token.bytes ≡ false →
+inner_reads : (scl sda : Finder) (k m latest : List ℕ) (began : ℕ) (so_far : Seen) (token : Token) (tokens : List Token) → is_end token.bytes ≡ false →
     Reads (run (defining scl sda (inside.Var began so_far) k m latest) (token ∷ tokens)) →
     Reads (run (var_token began so_far (defining scl sda (inside.Var began so_far) k m latest) token.bytes) tokens)
 inner_reads scl sda k m latest began so_far token tokens inner reads =
@@ -141,7 +142,7 @@ abbrev AreFew : Seen → Type 0
 AreFew seen.Reference = ⊥
 AreFew _ = Unit {0}
 
-step_few : (scl sda : List ℕ) (began : ℕ) (so_far : Seen) (k m latest token : List ℕ) (line : ℕ) → AreFew so_far → is_end token ≡ true →
+step_few : (scl sda : Finder) (began : ℕ) (so_far : Seen) (k m latest token : List ℕ) (line : ℕ) → AreFew so_far → is_end token ≡ true →
     step (defining scl sda (inside.Var began so_far) k m latest) token line ≡ Err (BadToken line)
 unfolding step
 step_few scl sda began seen.Nothing k m latest token line few is = rw is refl
@@ -150,12 +151,12 @@ step_few scl sda began (seen.Size one_bit) k m latest token line few is = rw is 
 step_few scl sda began (seen.Code one_bit) k m latest token line few is = rw is refl
 step_few scl sda began seen.Reference k m latest token line few is = absurd few
 
-few_by : (scl sda k m latest : List ℕ) (began : ℕ) (so_far : Seen) (token : Token) (tokens : List Token) → AreFew so_far → is_end token.bytes ≡ true →
+few_by : (scl sda : Finder) (k m latest : List ℕ) (began : ℕ) (so_far : Seen) (token : Token) (tokens : List Token) → AreFew so_far → is_end token.bytes ≡ true →
     Reads (run (defining scl sda (inside.Var began so_far) k m latest) (token ∷ tokens)) → ⊥
 few_by scl sda k m latest began so_far token tokens few is reads =
     not_bad (defining scl sda (inside.Var began so_far) k m latest) token tokens token.line (step_few scl sda began so_far k m latest token.bytes token.line few is) reads
 
-var_by : (scl sda k m latest : List ℕ) (began : ℕ) (so_far : Seen) (token : Token) (tokens : List Token) (test : Bool) → is_end token.bytes ≡ test → is_empty token.bytes ≡ false → Parses tokens →
+var_by : (scl sda : Finder) (k m latest : List ℕ) (began : ℕ) (so_far : Seen) (token : Token) (tokens : List Token) (test : Bool) → is_end token.bytes ≡ test → is_empty token.bytes ≡ false → Parses tokens →
     Reads (run (defining scl sda (inside.Var began so_far) k m latest) (token ∷ tokens)) → InVar so_far (token ∷ tokens)
 var_by scl sda k m latest began seen.Nothing token tokens false is some each reads =
     record {
@@ -253,12 +254,12 @@ end_declaration word tokens is r = record {
 
 -- ---- outside commands
 
-step_outside : (scl sda k m latest : List ℕ) (word : Token) (o : Option Command) → command_of word.bytes ≡ o →
+step_outside : (scl sda : Finder) (k m latest : List ℕ) (word : Token) (o : Option Command) → command_of word.bytes ≡ o →
     step (defining scl sda inside.Nothing k m latest) word.bytes word.line ≡ stays (opened word.line (defining scl sda inside.Nothing k m latest) o)
 step_outside scl sda k m latest word o is =
     step_definition scl sda k m latest word.bytes word.line ∙ ap (λ c. stays (opened word.line (defining scl sda inside.Nothing k m latest) c)) is
 
-declared_by : (scl sda k m latest : List ℕ) (word : Token) (tokens : List Token) (o : Option Command) → command_of word.bytes ≡ o → Parses tokens →
+declared_by : (scl sda : Finder) (k m latest : List ℕ) (word : Token) (tokens : List Token) (o : Option Command) → command_of word.bytes ≡ o → Parses tokens →
     Reads (run (defining scl sda inside.Nothing k m latest) (word ∷ tokens)) → Definitions (word ∷ tokens)
 declared_by scl sda k m latest word tokens (Some Var) is each reads =
     let d = defining scl sda in
@@ -309,5 +310,5 @@ filled [] line = tt
 filled (byte ∷ bytes) line =
     filled_by (is_white byte) (ends_before bytes) _ _ _ (filled bytes (line_after line byte)) (refl, filled bytes line) (filled_first byte (tokens_of line bytes) (filled bytes line))
 
-pub definitions_of : (scl sda text : List ℕ) → Reads (run (state_at_first scl sda) (tokens_of 1 text)) → Definitions (tokens_of 1 text)
+pub definitions_of : (scl sda : Finder) (text : List ℕ) → Reads (run (state_at_first scl sda) (tokens_of 1 text)) → Definitions (tokens_of 1 text)
 definitions_of scl sda text reads = parses (tokens_of 1 text) (filled text 1) scl sda [] [] [] inside.Nothing reads

@@ -15,6 +15,7 @@ use Rattle.vcd_read.specs.Changes.{Step, stays}
 use Rattle.vcd_read.specs.Definitions.{opened, missing}
 use Rattle.vcd_read.specs.Dumps.{step, run, and_then, open_line, at_end, with_last, ended, samples_of}
 use Rattle.vcd_read.specs.Grammar.{Skipped, skipped_tokens, without_end, EndsOnce, Declaration, code_for, declarations_tokens, AreDeclarations, Dump, IsDump, dump_tokens, dump_samples, Spells}
+use Rattle.vcd_read.specs.Probes.{Finder}
 use Rattle.vcd_read.specs.States.{State, state_at_first}
 use Rattle.vcd_read.specs.Tokens.{Token, tokens_of}
 use Rattle.vcd_read.specs.Words.{is_empty, is_end, command_of}
@@ -30,15 +31,15 @@ use Rattle.vcd_read.proofs.StepLemmas.{not_both, Past, Says, says}
 abbrev Answer : Type 0
 Answer = Result (List Sample) Refusal
 
-alone : (scl sda k m latest : List ℕ) (signal : Signal) → missing (defining scl sda inside.Nothing k m latest) ≡ Some signal → ended (run (defining scl sda inside.Nothing k m latest) []) ≡ Err (NoSignal signal)
+alone : (scl sda : Finder) (k m latest : List ℕ) (signal : Signal) → missing (defining scl sda inside.Nothing k m latest) ≡ Some signal → ended (run (defining scl sda inside.Nothing k m latest) []) ≡ Err (NoSignal signal)
 alone scl sda k m latest signal none = rw none refl
 
-step_missing : (scl sda : List ℕ) (began : ℕ) (k m latest token : List ℕ) (line : ℕ) (signal : Signal) → is_end token ≡ true → missing (defining scl sda inside.Nothing k m latest) ≡ Some signal →
+step_missing : (scl sda : Finder) (began : ℕ) (k m latest token : List ℕ) (line : ℕ) (signal : Signal) → is_end token ≡ true → missing (defining scl sda inside.Nothing k m latest) ≡ Some signal →
     step (defining scl sda (inside.EndDefinitions began) k m latest) token line ≡ Err (NoSignal signal)
 unfolding step
 step_missing scl sda began k m latest token line signal is none = rw (is, none) refl
 
-run_missing : (body : List Token) (close : Token) (rest : List Token) (scl sda : List ℕ) (began : ℕ) (k m latest : List ℕ) (signal : Signal) → without_end body ≡ true → is_end close.bytes ≡ true →
+run_missing : (body : List Token) (close : Token) (rest : List Token) (scl sda : Finder) (began : ℕ) (k m latest : List ℕ) (signal : Signal) → without_end body ≡ true → is_end close.bytes ≡ true →
     missing (defining scl sda inside.Nothing k m latest) ≡ Some signal →
     run (defining scl sda (inside.EndDefinitions began) k m latest) ((body ++ (close ∷ [])) ++ rest) ≡ Err (NoSignal signal)
 run_missing [] close rest scl sda began k m latest signal none is without =
@@ -49,7 +50,7 @@ run_missing (token ∷ body) close rest scl sda began k m latest signal none is 
     run_token s s token ((body ++ (close ∷ [])) ++ rest) (step_end_definitions scl sda began k m latest token.bytes token.line (not_true (is_end token.bytes) parts.0))
     ∙ run_missing body close rest scl sda began k m latest signal parts.1 is without
 
-run_definitions_missing : (command : Skipped) (rest : List Token) (scl sda k m latest : List ℕ) (signal : Signal) → command_of command.word.bytes ≡ Some EndDefinitions → EndsOnce command →
+run_definitions_missing : (command : Skipped) (rest : List Token) (scl sda : Finder) (k m latest : List ℕ) (signal : Signal) → command_of command.word.bytes ≡ Some EndDefinitions → EndsOnce command →
     missing (defining scl sda inside.Nothing k m latest) ≡ Some signal →
     run (defining scl sda inside.Nothing k m latest) (skipped_tokens command ++ rest) ≡ Err (NoSignal signal)
 run_definitions_missing command rest scl sda k m latest signal is ends without =
@@ -92,19 +93,19 @@ never_missed (token ∷ tokens) s signal past is =
 
 -- ---- the definitions, and what follows them
 
-abbrev defined : (scl sda : List ℕ) → List Declaration → State
+abbrev defined : (scl sda : Finder) → List Declaration → State
 defined scl sda declarations = defining scl sda inside.Nothing (code_for scl declarations) (code_for sda declarations) (latest_after declarations [])
 
-of_definitions : (scl sda text : List ℕ) (declarations : List Declaration) (rest : List Token) → tokens_of 1 text ≡ declarations_tokens declarations ++ rest → AreDeclarations declarations →
+of_definitions : (scl sda : Finder) (text : List ℕ) (declarations : List Declaration) (rest : List Token) → tokens_of 1 text ≡ declarations_tokens declarations ++ rest → AreDeclarations declarations →
     samples_of scl sda text ≡ ended (run (defined scl sda declarations) rest)
 of_definitions scl sda text declarations rest spelled are =
     ap (λ tokens. ended (run (state_at_first scl sda) tokens)) spelled ∙ ap ended (run_declarations declarations rest scl sda [] [] [] are)
 
-missing_in : (scl sda : List ℕ) (declarations : List Declaration) (signal : Signal) → AreWithout scl sda declarations signal → missing (defined scl sda declarations) ≡ Some signal
+missing_in : (scl sda : Finder) (declarations : List Declaration) (signal : Signal) → AreWithout scl sda declarations signal → missing (defined scl sda declarations) ≡ Some signal
 missing_in scl sda declarations Scl without = rw without refl
 missing_in scl sda declarations Sda without = rw (without.0, without.1) refl
 
-refused_by : (scl sda text : List ℕ) (declarations : List Declaration) (rest : List Token) (signal : Signal) → tokens_of 1 text ≡ declarations_tokens declarations ++ rest → AreDeclarations declarations →
+refused_by : (scl sda : Finder) (text : List ℕ) (declarations : List Declaration) (rest : List Token) (signal : Signal) → tokens_of 1 text ≡ declarations_tokens declarations ++ rest → AreDeclarations declarations →
     AreWithout scl sda declarations signal → EndsDefinitions rest → samples_of scl sda text ≡ Err (NoSignal signal)
 refused_by scl sda text declarations rest signal spelled are without (inl none) =
     of_definitions scl sda text declarations rest spelled are
@@ -115,14 +116,14 @@ refused_by scl sda text declarations rest signal spelled are without (inr c) =
     ∙ ap (λ tokens. ended (run (defined scl sda declarations) tokens)) c.4
     ∙ ap ended (run_definitions_missing c.0 c.1 scl sda (code_for scl declarations) (code_for sda declarations) (latest_after declarations []) signal c.2 c.3 (missing_in scl sda declarations signal without))
 
-pub refused : (scl sda text : List ℕ) (signal : Signal) → Lacks scl sda (tokens_of 1 text) signal → samples_of scl sda text ≡ Err (NoSignal signal)
+pub refused : (scl sda : Finder) (text : List ℕ) (signal : Signal) → Lacks scl sda (tokens_of 1 text) signal → samples_of scl sda text ≡ Err (NoSignal signal)
 refused scl sda text signal lacks = refused_by scl sda text lacks.declarations lacks.rest signal lacks.spelled lacks.are lacks.without lacks.ended
 
 -- both signals have a code
-abbrev AreNamed : (scl sda : List ℕ) → List Declaration → Type 0
+abbrev AreNamed : (scl sda : Finder) → List Declaration → Type 0
 AreNamed scl sda declarations = (is_empty (code_for scl declarations) ≡ false) × (is_empty (code_for sda declarations) ≡ false)
 
-named_or_not : (scl sda : List ℕ) (declarations : List Declaration) (of_scl of_sda : Bool) → is_empty (code_for scl declarations) ≡ of_scl → is_empty (code_for sda declarations) ≡ of_sda →
+named_or_not : (scl sda : Finder) (declarations : List Declaration) (of_scl of_sda : Bool) → is_empty (code_for scl declarations) ≡ of_scl → is_empty (code_for sda declarations) ≡ of_sda →
     AreNamed scl sda declarations ⊎ ((signal : Signal) × AreWithout scl sda declarations signal)
 named_or_not scl sda declarations true of_sda is_scl is_sda = inr (Scl, is_scl)
 named_or_not scl sda declarations false true is_scl is_sda = inr (Sda, (is_scl, is_sda))
@@ -132,16 +133,16 @@ abbrev ends_of : (rest : List Token) → (rest ≡ []) ⊎ Ended rest → EndsDe
 ends_of rest (inl none) = inl none
 ends_of rest (inr c) = inr (c.command, c.rest, c.is, c.ends, c.spelled)
 
-lacks_in : (scl sda text : List ℕ) (r : Definitions (tokens_of 1 text)) (signal : Signal) → AreWithout scl sda r.declarations signal → Lacks scl sda (tokens_of 1 text) signal
+lacks_in : (scl sda : Finder) (text : List ℕ) (r : Definitions (tokens_of 1 text)) (signal : Signal) → AreWithout scl sda r.declarations signal → Lacks scl sda (tokens_of 1 text) signal
 lacks_in scl sda text r signal without =
     record { declarations = r.declarations; rest = r.rest; spelled = r.spelled; are = r.are; ended = ends_of r.rest r.follows; without = without }
 
 -- the state in which the changes begin
-abbrev beginning : (scl sda : List ℕ) → List Declaration → State
+abbrev beginning : (scl sda : Finder) → List Declaration → State
 beginning scl sda declarations =
     state_at (record { scl = scl; sda = sda; scl_code = code_for scl declarations; sda_code = code_for sda declarations; latest = latest_after declarations [] }) 0 Unknown Unknown Unknown Unknown None
 
-of_changes : (scl sda text : List ℕ) (r : Definitions (tokens_of 1 text)) (c : Ended r.rest) → AreNamed scl sda r.declarations → samples_of scl sda text ≡ ended (run (beginning scl sda r.declarations) c.rest)
+of_changes : (scl sda : Finder) (text : List ℕ) (r : Definitions (tokens_of 1 text)) (c : Ended r.rest) → AreNamed scl sda r.declarations → samples_of scl sda text ≡ ended (run (beginning scl sda r.declarations) c.rest)
 of_changes scl sda text r c named =
     of_definitions scl sda text r.declarations r.rest r.spelled r.are
     ∙ ap (λ tokens. ended (run (defined scl sda r.declarations) tokens)) c.spelled
@@ -149,11 +150,11 @@ of_changes scl sda text r c named =
 
 -- ---- what is accepted
 
-pub accepted : (scl sda text : List ℕ) (samples : List Sample) → Spells scl sda (tokens_of 1 text) samples → samples_of scl sda text ≡ Ok samples
+pub accepted : (scl sda : Finder) (text : List ℕ) (samples : List Sample) → Spells scl sda (tokens_of 1 text) samples → samples_of scl sda text ≡ Ok samples
 accepted scl sda text samples (inl d) = samples_of-dump scl sda text d.0 d.1 d.2 ∙ ap Ok (sym d.3)
 accepted scl sda text samples (inr d) = samples_of-definitions scl sda text d.0 d.1 d.2 ∙ ap Ok (sym d.3)
 
-of_declarations : (scl sda text : List ℕ) (r : Definitions (tokens_of 1 text)) → r.rest ≡ [] → AreNamed scl sda r.declarations → Spells scl sda (tokens_of 1 text) []
+of_declarations : (scl sda : Finder) (text : List ℕ) (r : Definitions (tokens_of 1 text)) → r.rest ≡ [] → AreNamed scl sda r.declarations → Spells scl sda (tokens_of 1 text) []
 of_declarations scl sda text r none named =
     inr (
       r.declarations,
@@ -162,10 +163,10 @@ of_declarations scl sda text r none named =
       refl,
     )
 
-same_samples : (scl sda text : List ℕ) (samples more : List Sample) → samples_of scl sda text ≡ Ok samples → samples_of scl sda text ≡ Ok more → samples ≡ more
+same_samples : (scl sda : Finder) (text : List ℕ) (samples more : List Sample) → samples_of scl sda text ≡ Ok samples → samples_of scl sda text ≡ Ok more → samples ≡ more
 same_samples scl sda text samples more is also = ok_is samples more (sym is ∙ also)
 
-spelled_changes : (scl sda text : List ℕ) (samples : List Sample) (r : Definitions (tokens_of 1 text)) (c : Ended r.rest) → AreNamed scl sda r.declarations → Rest 0 false c.rest →
+spelled_changes : (scl sda : Finder) (text : List ℕ) (samples : List Sample) (r : Definitions (tokens_of 1 text)) (c : Ended r.rest) → AreNamed scl sda r.declarations → Rest 0 false c.rest →
     samples_of scl sda text ≡ Ok samples → Spells scl sda (tokens_of 1 text) samples
 spelled_changes scl sda text samples r c named changes is =
     let d : Dump = record { declarations = r.declarations; definitions_end = c.command; first = changes.entries; stamps = changes.stamps } in
@@ -182,7 +183,7 @@ spelled_changes scl sda text samples r c named changes is =
     r.spelled ∙ ap (λ t. declarations_tokens r.declarations ++ t) (c.spelled ∙ ap (λ t. skipped_tokens c.command ++ t) changes.spelled) in
     inl (d, is_dump, spelled, same_samples scl sda text samples (dump_samples scl sda d) is (samples_of-dump scl sda text d is_dump spelled))
 
-spelled_by : (scl sda text : List ℕ) (samples : List Sample) (r : Definitions (tokens_of 1 text)) → ((r.rest ≡ []) ⊎ Ended r.rest) → AreNamed scl sda r.declarations ⊎ ((signal : Signal) × AreWithout scl sda r.declarations signal) →
+spelled_by : (scl sda : Finder) (text : List ℕ) (samples : List Sample) (r : Definitions (tokens_of 1 text)) → ((r.rest ≡ []) ⊎ Ended r.rest) → AreNamed scl sda r.declarations ⊎ ((signal : Signal) × AreWithout scl sda r.declarations signal) →
     samples_of scl sda text ≡ Ok samples → Spells scl sda (tokens_of 1 text) samples
 spelled_by scl sda text samples r follows (inr lacks) is =
     let h = sym is ∙ refused scl sda text lacks.0 (lacks_in scl sda text r lacks.0 lacks.1) in absurd cc
@@ -198,14 +199,14 @@ spelled_by scl sda text samples r (inr c) (inl named) is =
 reads_of : (answer other : Answer) → IsRead other → answer ≡ other → IsRead answer
 reads_of answer other reads is = let P : Answer → Type 0 = λ a. IsRead a in subst P (sym is) reads
 
-pub spelled : (scl sda text : List ℕ) (samples : List Sample) → samples_of scl sda text ≡ Ok samples → Spells scl sda (tokens_of 1 text) samples
+pub spelled : (scl sda : Finder) (text : List ℕ) (samples : List Sample) → samples_of scl sda text ≡ Ok samples → Spells scl sda (tokens_of 1 text) samples
 spelled scl sda text samples is =
     let r = definitions_of scl sda text (reads_of (samples_of scl sda text) (Ok samples) tt is) in
     spelled_by scl sda text samples r r.follows (named_or_not scl sda r.declarations (is_empty (code_for scl r.declarations)) (is_empty (code_for sda r.declarations)) refl refl) is
 
 -- ---- a missing signal
 
-lacking_by : (scl sda text : List ℕ) (signal : Signal) (r : Definitions (tokens_of 1 text)) → ((r.rest ≡ []) ⊎ Ended r.rest) → AreNamed scl sda r.declarations ⊎ ((found : Signal) × AreWithout scl sda r.declarations found) →
+lacking_by : (scl sda : Finder) (text : List ℕ) (signal : Signal) (r : Definitions (tokens_of 1 text)) → ((r.rest ≡ []) ⊎ Ended r.rest) → AreNamed scl sda r.declarations ⊎ ((found : Signal) × AreWithout scl sda r.declarations found) →
     samples_of scl sda text ≡ Err (NoSignal signal) → Lacks scl sda (tokens_of 1 text) signal
 lacking_by scl sda text signal r follows (inr found) is =
     let lacks = lacks_in scl sda text r found.0 found.1 in
@@ -220,7 +221,7 @@ lacking_by scl sda text signal r (inl none) (inl named) is =
 lacking_by scl sda text signal r (inr c) (inl named) is =
     absurd (never_missed c.rest (beginning scl sda r.declarations) signal (record { defined = refl; elsewhere = tt }) (sym (of_changes scl sda text r c named) ∙ is))
 
-pub lacking : (scl sda text : List ℕ) (signal : Signal) → samples_of scl sda text ≡ Err (NoSignal signal) → Lacks scl sda (tokens_of 1 text) signal
+pub lacking : (scl sda : Finder) (text : List ℕ) (signal : Signal) → samples_of scl sda text ≡ Err (NoSignal signal) → Lacks scl sda (tokens_of 1 text) signal
 lacking scl sda text signal is =
     let r = definitions_of scl sda text (reads_of (samples_of scl sda text) (Err (NoSignal signal)) tt is) in
     lacking_by scl sda text signal r r.follows (named_or_not scl sda r.declarations (is_empty (code_for scl r.declarations)) (is_empty (code_for sda r.declarations)) refl refl) is

@@ -15,15 +15,16 @@ use Rattle.vcd_read.specs.declared.words.Command.TheVariants.{Var, EndDefinition
 use Rattle.vcd_read.specs.Changes.{stays, change, change_of_code, both_changed, vector_change, time_change, time_reached, stamp_sample, same_level}
 use Rattle.vcd_read.specs.Dumps.{Run, step, run, and_then, with_front, with_last, at_end, ended}
 use Rattle.vcd_read.specs.Grammar.{Skipped, Entry, scalar, vector, real, command, opens, closes, again, entry_tokens, IsEntry, AreEntries, is_skipped, opened_by, level_by, level_after, Stamp, entries_tokens, stamps_tokens, AreStamps, open_after, open_after_stamps, sample_at, stamp_samples}
+use Rattle.vcd_read.specs.Probes.{Finder}
 use Rattle.vcd_read.specs.States.{Line, State}
 use Rattle.vcd_read.specs.Tokens.{Token}
 use Rattle.vcd_read.specs.Words.{is_empty, command_of, vector_level, time_of}
 use Rattle.vcd_read.proofs.RunLemmas.{run_token, run_skipped, change_command, change_scalar}
 
--- the names and codes of the two signals, and the code of the latest `$var`
+-- how the two signals are found, their codes, and the code of the latest `$var`
 pub record Names : Type 0 where
-  pub scl : List ℕ
-  pub sda : List ℕ
+  pub scl : Finder
+  pub sda : Finder
   pub scl_code : List ℕ
   pub sda_code : List ℕ
   pub latest : List ℕ
@@ -31,8 +32,8 @@ pub record Names : Type 0 where
 -- after the definitions, in this context, at this time and with these levels before the stamp and now
 abbrev pub state_in : Names → Context → ℕ → (x y a b : Level) → Option ℕ → State
 state_in n context time x y a b block = record {
-  scl = record { name = n.scl; code = n.scl_code; before = x; level = a };
-  sda = record { name = n.sda; code = n.sda_code; before = y; level = b };
+  scl = record { probe = n.scl; code = n.scl_code; before = x; level = a };
+  sda = record { probe = n.sda; code = n.sda_code; before = y; level = b };
   context = context;
   block = block;
   code = n.latest;
@@ -64,9 +65,9 @@ pub both_changed-by : (n : Names) (time : ℕ) (x y a b : Level) (block : Option
     ≡ state_at n time x y (if bytes_eq code n.scl_code then level else a) (if bytes_eq code n.sda_code then level else b) block
 both_changed-by n time x y a b block code level =
     ap (λ line. record (both_changed code level (state_at n time x y a b block)) { scl = line })
-    (changed-by (bytes_eq code n.scl_code) (record { name = n.scl; code = n.scl_code; before = x; level = a }) level)
+    (changed-by (bytes_eq code n.scl_code) (record { probe = n.scl; code = n.scl_code; before = x; level = a }) level)
     ∙ ap (λ line. record (state_at n time x y (if bytes_eq code n.scl_code then level else a) b block) { sda = line })
-    (changed-by (bytes_eq code n.sda_code) (record { name = n.sda; code = n.sda_code; before = y; level = b }) level)
+    (changed-by (bytes_eq code n.sda_code) (record { probe = n.sda; code = n.sda_code; before = y; level = b }) level)
 
 pub step_changes : (n : Names) (time : ℕ) (x y a b : Level) (block : Option ℕ) (token : List ℕ) (line : ℕ) →
     step (state_at n time x y a b block) token line ≡ change (state_at n time x y a b block) token line

@@ -18,6 +18,7 @@ use Rattle.vcd_read.specs.Beginnings.{IsTime}
 use Rattle.vcd_read.specs.Changes.{Step, stays, settled, changed, both_changed, change_of_code, command_among_changes, time_change, vector_change, scalar_change, change}
 use Rattle.vcd_read.specs.Definitions.{opened, named_by, declared, var_token, inside_var, missing, definitions_end, inside_end_definitions}
 use Rattle.vcd_read.specs.Dumps.{outside, token_in, step}
+use Rattle.vcd_read.specs.Probes.{declares}
 use Rattle.vcd_read.specs.States.{Line, State}
 use Rattle.vcd_read.specs.Words.{is_code, is_empty, is_end, command_of, level_of, vector_level, time_of}
 use Rattle.vcd_read.proofs.WordLemmas.{time_is_code}
@@ -58,8 +59,8 @@ pub record Past (s : State) : Type 0 where
 -- ---- what each token leaves
 
 pub record Keeps (s : State) (token : List ℕ) (next : State) : Type 0 where
-  pub scl_name : next.scl.name ≡ s.scl.name
-  pub sda_name : next.sda.name ≡ s.sda.name
+  pub scl_probe : next.scl.probe ≡ s.scl.probe
+  pub sda_probe : next.sda.probe ≡ s.sda.probe
   pub past : Past s → Past next
   pub lost : Lost next → Lost s ⊎ (command_of token ≡ Some EndDefinitions)
   pub written : IsWritten s.time → IsWritten next.time
@@ -78,12 +79,12 @@ Says s token line (Err (TimeBack at)) = (at ≡ line) × IsTime token × IsAt s 
 Says s token line (Err (Unended at)) = ⊥
 
 keeps_all : (s : State) (token : List ℕ) → Keeps s token s
-keeps_all s token = record { scl_name = refl; sda_name = refl; past = λ past. past; lost = λ lost. inl lost; written = λ written. written }
+keeps_all s token = record { scl_probe = refl; sda_probe = refl; past = λ past. past; lost = λ lost. inl lost; written = λ written. written }
 
-elsewhere_then : (s next : State) (token : List ℕ) → next.scl.name ≡ s.scl.name → next.sda.name ≡ s.sda.name → next.defined ≡ s.defined → IsElsewhere next.context → (IsWritten s.time → IsWritten next.time) → Keeps s token next
+elsewhere_then : (s next : State) (token : List ℕ) → next.scl.probe ≡ s.scl.probe → next.sda.probe ≡ s.sda.probe → next.defined ≡ s.defined → IsElsewhere next.context → (IsWritten s.time → IsWritten next.time) → Keeps s token next
 elsewhere_then s next token scl sda defined elsewhere written = record {
-  scl_name = scl;
-  sda_name = sda;
+  scl_probe = scl;
+  sda_probe = sda;
   past = λ past. record { defined = defined ∙ past.defined; elsewhere = elsewhere };
   lost = λ lost. absurd (not_both next.context elsewhere lost.ending);
   written = written;
@@ -104,8 +105,8 @@ bad s token line not_time = (refl, λ time. absurd (not_time time))
 says_opened : (s : State) (token : List ℕ) (line : ℕ) (o : Option Command) → command_of token ≡ o → IsAt s false → Says s token line (stays (opened line s o))
 says_opened s token line (Some Var) is at = in_context s token (inside.Var line seen.Nothing) tt
 says_opened s token line (Some EndDefinitions) is at = record {
-  scl_name = refl;
-  sda_name = refl;
+  scl_probe = refl;
+  sda_probe = refl;
   past = λ past. let h : true ≡ false = sym past.defined ∙ at.part in absurd cc;
   lost = λ lost. inr is;
   written = λ written. written;
@@ -115,16 +116,16 @@ says_opened s token line (Some Changes) is at = (refl, λ time. at)
 says_opened s token line (Some End) is at = (refl, λ time. at)
 says_opened s token line None is at = (refl, λ time. at)
 
-same_name : (test : Bool) (line : Line) (code : List ℕ) → (let l : Line = if test then record line { code = code } else line in l).name ≡ line.name
-same_name true line code = refl
-same_name false line code = refl
+same_probe : (test : Bool) (line : Line) (code : List ℕ) → (let l : Line = if test then record line { code = code } else line in l).probe ≡ line.probe
+same_probe true line code = refl
+same_probe false line code = refl
 
-pub named-name : (reference code : List ℕ) (line : Line) → (named_by reference code line).name ≡ line.name
-named-name reference code line = same_name (is_empty line.code && bytes_eq reference line.name) line code
+pub named-probe : (reference code : List ℕ) (line : Line) → (named_by reference code line).probe ≡ line.probe
+named-probe reference code line = same_probe (is_empty line.code && declares line.probe reference code) line code
 
 keeps_declared : (s : State) (token : List ℕ) (one_bit : Bool) (context : Context) → IsElsewhere context → Keeps s token (record (declared one_bit token s) { context = context })
 keeps_declared s token true context elsewhere =
-    elsewhere_then s (record (declared true token s) { context = context }) token (named-name token s.code s.scl) (named-name token s.code s.sda) refl elsewhere (λ written. written)
+    elsewhere_then s (record (declared true token s) { context = context }) token (named-probe token s.code s.scl) (named-probe token s.code s.sda) refl elsewhere (λ written. written)
 keeps_declared s token false context elsewhere = in_context s token context elsewhere
 
 keeps_var : (s : State) (token : List ℕ) (began : ℕ) (so_far : Seen) → IsElsewhere s.context → Keeps s token (var_token began so_far s token)
@@ -155,8 +156,8 @@ end_by s None = Ok (record s { context = inside.Nothing; defined = true })
 says_missing : (s : State) (token : List ℕ) (line : ℕ) (o : Option Signal) → missing s ≡ o → IsEnding s.context → Says s token line (stays (end_by s o))
 says_missing s token line (Some signal) is ending = record { ending = ending; signal = signal; none = is }
 says_missing s token line None is ending = record {
-  scl_name = refl;
-  sda_name = refl;
+  scl_probe = refl;
+  sda_probe = refl;
   past = λ past. record { defined = refl; elsewhere = tt };
   lost = λ lost. absurd lost.ending;
   written = λ written. written;
@@ -171,32 +172,32 @@ says_ending s token line false is ending = rw is (keeps_all s token)
 
 -- ---- changes
 
-level_name : (test : Bool) (line : Line) (level : Level) → (let l : Line = if test then record line { level = level } else line in l).name ≡ line.name
-level_name true line level = refl
-level_name false line level = refl
+level_probe : (test : Bool) (line : Line) (level : Level) → (let l : Line = if test then record line { level = level } else line in l).probe ≡ line.probe
+level_probe true line level = refl
+level_probe false line level = refl
 
-pub changed-name : (code : List ℕ) (level : Level) (line : Line) → (changed code level line).name ≡ line.name
-changed-name code level line = level_name (bytes_eq code line.code) line level
+pub changed-probe : (code : List ℕ) (level : Level) (line : Line) → (changed code level line).probe ≡ line.probe
+changed-probe code level line = level_probe (bytes_eq code line.code) line level
 
 -- from the state in which the code is read
-keeps_changed : (s t : State) (token code : List ℕ) (level : Level) → t.scl.name ≡ s.scl.name → t.sda.name ≡ s.sda.name → t.defined ≡ s.defined → IsElsewhere t.context → (IsWritten s.time → IsWritten t.time) → Keeps s token (both_changed code level t)
+keeps_changed : (s t : State) (token code : List ℕ) (level : Level) → t.scl.probe ≡ s.scl.probe → t.sda.probe ≡ s.sda.probe → t.defined ≡ s.defined → IsElsewhere t.context → (IsWritten s.time → IsWritten t.time) → Keeps s token (both_changed code level t)
 keeps_changed s t token code level scl sda defined elsewhere written =
-    elsewhere_then s (both_changed code level t) token (changed-name code level t.scl ∙ scl) (changed-name code level t.sda ∙ sda) defined elsewhere written
+    elsewhere_then s (both_changed code level t) token (changed-probe code level t.scl ∙ scl) (changed-probe code level t.sda ∙ sda) defined elsewhere written
 
 -- the state in which a code is read, as the state before it
 pub record IsLike (s t : State) : Type 0 where
-  pub scl_name : t.scl.name ≡ s.scl.name
-  pub sda_name : t.sda.name ≡ s.sda.name
+  pub scl_probe : t.scl.probe ≡ s.scl.probe
+  pub sda_probe : t.sda.probe ≡ s.sda.probe
   pub defined : t.defined ≡ s.defined
   pub elsewhere : IsElsewhere t.context
   pub written : IsWritten s.time → IsWritten t.time
 
 says_code : (s t : State) (token code : List ℕ) (line : ℕ) (level : Option Level) (test : Bool) → is_code code ≡ test → IsLike s t → (is_code code ≡ false → IsTime token → ⊥) →
     Says s token line (stays (change_of_code t level code line))
-says_code s t token code line None true is like not_time = rw is (elsewhere_then s t token like.scl_name like.sda_name like.defined like.elsewhere like.written)
+says_code s t token code line None true is like not_time = rw is (elsewhere_then s t token like.scl_probe like.sda_probe like.defined like.elsewhere like.written)
 says_code s t token code line None false is like not_time = rw is (bad s token line (not_time is))
 says_code s t token code line (Some level) true is like not_time =
-    rw is (keeps_changed s t token code level like.scl_name like.sda_name like.defined like.elsewhere like.written)
+    rw is (keeps_changed s t token code level like.scl_probe like.sda_probe like.defined like.elsewhere like.written)
 says_code s t token code line (Some level) false is like not_time = rw is (bad s token line (not_time is))
 
 abbrev block_ends : State → ℕ → Option ℕ → Result State Refusal
@@ -245,7 +246,7 @@ says_scalar : (s : State) (token code : List ℕ) (line : ℕ) (o : Option Level
 says_scalar s token code line None elsewhere not_time = bad s token line not_time
 says_scalar s token code line (Some level) elsewhere not_time =
     says_code s s token code line (Some level) (is_code code) refl
-    (record { scl_name = refl; sda_name = refl; defined = refl; elsewhere = elsewhere; written = λ written. written }) (λ none. not_time)
+    (record { scl_probe = refl; sda_probe = refl; defined = refl; elsewhere = elsewhere; written = λ written. written }) (λ none. not_time)
 
 -- what does not begin with `#`
 begins_no_time : (first : ℕ) (rest : List ℕ) → (first == 35) ≡ false → IsTime (first ∷ rest) → ⊥
@@ -312,7 +313,7 @@ says_in (inside.EndDefinitions began) s token line is =
     says_ending s token line (is_end token) refl ending
 says_in (inside.Change began level) s token line is =
     says_code s (record s { context = inside.Nothing }) token token line level (is_code token) refl
-    (record { scl_name = refl; sda_name = refl; defined = refl; elsewhere = tt; written = λ written. written }) (code_is_time token)
+    (record { scl_probe = refl; sda_probe = refl; defined = refl; elsewhere = tt; written = λ written. written }) (code_is_time token)
 
 pub says : (s : State) (token : List ℕ) (line : ℕ) → Says s token line (step s token line)
 unfolding step

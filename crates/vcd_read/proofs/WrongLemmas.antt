@@ -10,11 +10,12 @@ use Rattle.vcd_read.specs.declared.errors.Refusal.TheVariants.{NoSignal, BadToke
 use Rattle.vcd_read.specs.declared.samples.Sample.{Sample}
 use Rattle.vcd_read.specs.declared.words.Command.{Command}
 use Rattle.vcd_read.specs.declared.words.Command.TheVariants.{Var, EndDefinitions, Changes, End, Other}
-use Rattle.vcd_read.specs.Beginnings.{IsReference, Begins, FirstWrong, IsLate, IsTime, IsOtherTime, HasBadToken, HasTimeBack}
+use Rattle.vcd_read.specs.Beginnings.{CanBe, Begins, FirstWrong, IsLate, IsTime, IsOtherTime, HasBadToken, HasTimeBack}
 use Rattle.vcd_read.specs.Changes.{Step, stays, change, time_change}
 use Rattle.vcd_read.specs.Definitions.{definition, opened}
 use Rattle.vcd_read.specs.Dumps.{Run, outside, token_in, step, run, with_front, ended, samples_of}
 use Rattle.vcd_read.specs.Grammar.{Spells}
+use Rattle.vcd_read.specs.Probes.{Finder}
 use Rattle.vcd_read.specs.Runs.{AreRuns}
 use Rattle.vcd_read.specs.States.{State, state_at_first}
 use Rattle.vcd_read.specs.Tokens.{Token, tokens_of}
@@ -33,7 +34,7 @@ use Rattle.vcd_read.proofs.WordLemmas.{time_is_code, code_is_one_token}
 -- ---- what an accepted dump begins with
 
 -- these tokens leave this state, which is not lost
-pub record Reaches (scl sda : List ℕ) (tokens : List Token) : Type 0 where
+pub record Reaches (scl sda : Finder) (tokens : List Token) : Type 0 where
   pub reached : State × List Sample
   pub is : run (state_at_first scl sda) tokens ≡ Ok reached
   pub going : Lost reached.0 → ⊥
@@ -41,7 +42,7 @@ pub record Reaches (scl sda : List ℕ) (tokens : List Token) : Type 0 where
 accepted_rest : (front : List Sample) (said : Run) (samples : List Sample) → ended (with_front front said) ≡ Ok samples → Accepts said
 accepted_rest front said samples is = rest_ok front (ended said) samples (sym (ended-front front said) ∙ is)
 
-reaches_by : (scl sda : List ℕ) (tokens more : List Token) (samples : List Sample) (said : Run) → run (state_at_first scl sda) tokens ≡ said → ended (run (state_at_first scl sda) (tokens ++ more)) ≡ Ok samples →
+reaches_by : (scl sda : Finder) (tokens more : List Token) (samples : List Sample) (said : Run) → run (state_at_first scl sda) tokens ≡ said → ended (run (state_at_first scl sda) (tokens ++ more)) ≡ Ok samples →
     Reaches scl sda tokens
 reaches_by scl sda tokens more samples (Ok p) is accepts = record {
   reached = p;
@@ -52,7 +53,7 @@ reaches_by scl sda tokens more samples (Ok p) is accepts = record {
 reaches_by scl sda tokens more samples (Err refusal) is accepts =
     let h = ap ended (sym (refused_after tokens more (state_at_first scl sda) refusal is)) ∙ accepts in absurd cc
 
-reaches : (scl sda : List ℕ) (tokens : List Token) → Begins scl sda tokens → Reaches scl sda tokens
+reaches : (scl sda : Finder) (tokens : List Token) → Begins scl sda tokens → Reaches scl sda tokens
 reaches scl sda tokens b =
     let accepts = accepted scl sda b.text b.samples b.spelled in
     reaches_by scl sda tokens b.more b.samples (run (state_at_first scl sda) tokens) refl (ap (λ t. ended (run (state_at_first scl sda) t)) (sym b.begun) ∙ accepts)
@@ -60,14 +61,14 @@ reaches scl sda tokens b =
 -- ---- accepted dumps
 
 -- some accepted dump begins with these tokens and goes on by these words
-pub record Goes (scl sda : List ℕ) (tokens : List Token) (words : List (List ℕ)) : Type 0 where
+pub record Goes (scl sda : Finder) (tokens : List Token) (words : List (List ℕ)) : Type 0 where
   pub text : List ℕ
   pub line : ℕ
   pub samples : List Sample
   pub spelled : Spells scl sda (tokens_of 1 text) samples
   pub begun : tokens_of 1 text ≡ tokens ++ on_line line words
 
-goes : (scl sda text : List ℕ) (tokens rest : List Token) (p : State × List Sample) → tokens_of 1 text ≡ tokens ++ rest → run (state_at_first scl sda) tokens ≡ Ok p → (c : Closes (λ line. p.0)) → Goes scl sda tokens c.words
+goes : (scl sda : Finder) (text : List ℕ) (tokens rest : List Token) (p : State × List Sample) → tokens_of 1 text ≡ tokens ++ rest → run (state_at_first scl sda) tokens ≡ Ok p → (c : Closes (λ line. p.0)) → Goes scl sda tokens c.words
 goes scl sda text tokens rest p stands is c =
     let P : List Token → Type 0 = λ t. AreRuns 1 text t in
     let f = front_of tokens rest 1 text (subst P stands (are_runs text 1)) in
@@ -83,10 +84,10 @@ goes scl sda text tokens rest p stands is c =
     ∙ ap (in_front p.1) accepts.1 in
     record { text = whole; line = f.next; samples = samples; spelled = spelled scl sda whole samples is_accepted; begun = begun }
 
-begins : (scl sda : List ℕ) (tokens : List Token) (words : List (List ℕ)) → Goes scl sda tokens words → Begins scl sda tokens
+begins : (scl sda : Finder) (tokens : List Token) (words : List (List ℕ)) → Goes scl sda tokens words → Begins scl sda tokens
 begins scl sda tokens words g = record { text = g.text; samples = g.samples; spelled = g.spelled; more = on_line g.line words; begun = g.begun }
 
-begins_with : (scl sda : List ℕ) (tokens : List Token) (word : List ℕ) (words : List (List ℕ)) → (g : Goes scl sda tokens (word ∷ words)) → Begins scl sda (tokens ++ (record { bytes = word; line = g.line } ∷ []))
+begins_with : (scl sda : Finder) (tokens : List Token) (word : List ℕ) (words : List (List ℕ)) → (g : Goes scl sda tokens (word ∷ words)) → Begins scl sda (tokens ++ (record { bytes = word; line = g.line } ∷ []))
 begins_with scl sda tokens word words g =
     let token : Token = record { bytes = word; line = g.line } in
     record {
@@ -98,17 +99,17 @@ begins_with scl sda tokens word words g =
     }
 
 -- no accepted dump goes on with a token that is refused
-not_right : (scl sda : List ℕ) (tokens : List Token) (token : Token) (p : State × List Sample) (refusal : Refusal) → run (state_at_first scl sda) tokens ≡ Ok p → step p.0 token.bytes token.line ≡ Err refusal →
+not_right : (scl sda : Finder) (tokens : List Token) (token : Token) (p : State × List Sample) (refusal : Refusal) → run (state_at_first scl sda) tokens ≡ Ok p → step p.0 token.bytes token.line ≡ Err refusal →
     Begins scl sda (tokens ++ (token ∷ [])) → ⊥
 not_right scl sda tokens token p refusal is steps b =
     let r = reaches scl sda (tokens ++ (token ∷ [])) b in
     let h = sym (refused_then tokens token [] (state_at_first scl sda) p refusal is steps) ∙ r.is in
     cc
 
-can_close : (scl sda : List ℕ) (tokens : List Token) (p : State × List Sample) → IsReference scl → IsReference sda → run (state_at_first scl sda) tokens ≡ Ok p → Closes (λ line. p.0) ⊎ Lost p.0
+can_close : (scl sda : Finder) (tokens : List Token) (p : State × List Sample) → CanBe scl → CanBe sda → run (state_at_first scl sda) tokens ≡ Ok p → Closes (λ line. p.0) ⊎ Lost p.0
 can_close scl sda tokens p of_scl of_sda is =
     let s = stays_along tokens (state_at_first scl sda) p is in
-    let P : List ℕ → Type 0 = λ name. IsReference name in
+    let P : Finder → Type 0 = λ probe. CanBe probe in
     closes_or_lost p.0 (subst P (sym s.scl) of_scl) (subst P (sym s.sda) of_sda)
 
 -- ---- times
@@ -138,7 +139,7 @@ time_word : (digits : List ℕ) (time : ℕ) → time_of digits ≡ Some time �
 time_word digits time is = record { some = refl; one_token = code_is_one_token (35 ∷ digits) (time_is_code digits time is) }
 
 -- where changes stand, the last time can stand
-other_time : (scl sda text : List ℕ) (tokens rest : List Token) (token : Token) (p : State × List Sample) → tokens_of 1 text ≡ tokens ++ rest → run (state_at_first scl sda) tokens ≡ Ok p → Closes (λ line. p.0) →
+other_time : (scl sda : Finder) (text : List ℕ) (tokens rest : List Token) (token : Token) (p : State × List Sample) → tokens_of 1 text ≡ tokens ++ rest → run (state_at_first scl sda) tokens ≡ Ok p → Closes (λ line. p.0) →
     IsTime token.bytes → IsAt p.0 true → IsOtherTime scl sda tokens token
 other_time scl sda text tokens rest token p stands is c time at =
     let last = (stays_along tokens (state_at_first scl sda) p is).written first_written in
@@ -152,7 +153,7 @@ other_time scl sda text tokens rest token p stands is c time at =
       right = begins_with scl sda tokens word c.words g;
     }
 
-no_other_time : (scl sda : List ℕ) (tokens : List Token) (token : Token) (p : State × List Sample) → run (state_at_first scl sda) tokens ≡ Ok p → (IsTime token.bytes → IsAt p.0 false) →
+no_other_time : (scl sda : Finder) (tokens : List Token) (token : Token) (p : State × List Sample) → run (state_at_first scl sda) tokens ≡ Ok p → (IsTime token.bytes → IsAt p.0 false) →
     IsOtherTime scl sda tokens token → ⊥
 no_other_time scl sda tokens token p is at o =
     not_right scl sda tokens o.other p (BadToken o.other.line) is (time_too_soon p.0 o.other.bytes o.other.line (at o.is) o.other_is) o.right
@@ -215,11 +216,11 @@ never_refused s token line refusal is steps =
 
 -- ---- a refused token is the first wrong one
 
-refused_run : (scl sda text : List ℕ) (refusal : Refusal) → OfToken refusal → samples_of scl sda text ≡ Err refusal → Split (state_at_first scl sda) (tokens_of 1 text) refusal
+refused_run : (scl sda : Finder) (text : List ℕ) (refusal : Refusal) → OfToken refusal → samples_of scl sda text ≡ Err refusal → Split (state_at_first scl sda) (tokens_of 1 text) refusal
 refused_run scl sda text refusal of is =
     split (tokens_of 1 text) (state_at_first scl sda) refusal (refused_within (run (state_at_first scl sda) (tokens_of 1 text)) refusal of is)
 
-abbrev SplitOf : (scl sda text : List ℕ) → Refusal → Type 0
+abbrev SplitOf : (scl sda : Finder) (text : List ℕ) → Refusal → Type 0
 SplitOf scl sda text refusal = Split (state_at_first scl sda) (tokens_of 1 text) refusal
 
 -- a state in which a token is refused as V2 or V3 is not lost
@@ -230,7 +231,7 @@ not_lost s token line refusal of steps lost =
       | inr refused ↦ not_of_token refusal (NoSignal lost.signal) (let h = sym refused ∙ steps in cc) of
     ]
 
-abbrev first_wrong : (scl sda text : List ℕ) (refusal : Refusal) (sp : SplitOf scl sda text refusal) → Closes (λ line. sp.reached.0) → FirstWrong scl sda (tokens_of 1 text) sp.token
+abbrev first_wrong : (scl sda : Finder) (text : List ℕ) (refusal : Refusal) (sp : SplitOf scl sda text refusal) → Closes (λ line. sp.reached.0) → FirstWrong scl sda (tokens_of 1 text) sp.token
 first_wrong scl sda text refusal sp c = record {
   before = sp.before;
   rest = sp.rest;
@@ -244,7 +245,7 @@ says_refused s token refusal steps =
     let P : Step → Type 0 = λ result. Says s token.bytes token.line result in
     subst P steps (says s token.bytes token.line)
 
-bad_by : (scl sda text : List ℕ) (line : ℕ) (sp : SplitOf scl sda text (BadToken line)) → Closes (λ l. sp.reached.0) ⊎ Lost sp.reached.0 → HasBadToken scl sda (tokens_of 1 text) line
+bad_by : (scl sda : Finder) (text : List ℕ) (line : ℕ) (sp : SplitOf scl sda text (BadToken line)) → Closes (λ l. sp.reached.0) ⊎ Lost sp.reached.0 → HasBadToken scl sda (tokens_of 1 text) line
 bad_by scl sda text line sp (inr lost) = absurd (not_lost sp.reached.0 sp.token.bytes sp.token.line (BadToken line) tt sp.steps lost)
 bad_by scl sda text line sp (inl c) =
     let at = says_refused sp.reached.0 sp.token (BadToken line) sp.steps in
@@ -256,12 +257,12 @@ bad_by scl sda text line sp (inl c) =
       no_end = λ is. never_refused sp.reached.0 sp.token.bytes sp.token.line (BadToken line) is sp.steps;
     }
 
-pub bad : (scl sda text : List ℕ) (line : ℕ) → IsReference scl → IsReference sda → samples_of scl sda text ≡ Err (BadToken line) → HasBadToken scl sda (tokens_of 1 text) line
+pub bad : (scl sda : Finder) (text : List ℕ) (line : ℕ) → CanBe scl → CanBe sda → samples_of scl sda text ≡ Err (BadToken line) → HasBadToken scl sda (tokens_of 1 text) line
 bad scl sda text line of_scl of_sda is =
     let sp = refused_run scl sda text (BadToken line) tt is in
     bad_by scl sda text line sp (can_close scl sda sp.before sp.reached of_scl of_sda sp.is)
 
-back_by : (scl sda text : List ℕ) (line : ℕ) (sp : SplitOf scl sda text (TimeBack line)) → Closes (λ l. sp.reached.0) ⊎ Lost sp.reached.0 → HasTimeBack scl sda (tokens_of 1 text) line
+back_by : (scl sda : Finder) (text : List ℕ) (line : ℕ) (sp : SplitOf scl sda text (TimeBack line)) → Closes (λ l. sp.reached.0) ⊎ Lost sp.reached.0 → HasTimeBack scl sda (tokens_of 1 text) line
 back_by scl sda text line sp (inr lost) = absurd (not_lost sp.reached.0 sp.token.bytes sp.token.line (TimeBack line) tt sp.steps lost)
 back_by scl sda text line sp (inl c) =
     let at = says_refused sp.reached.0 sp.token (TimeBack line) sp.steps in
@@ -272,7 +273,7 @@ back_by scl sda text line sp (inl c) =
       time = other_time scl sda text sp.before (sp.token ∷ sp.rest) sp.token sp.reached sp.stands sp.is c at.1 at.2;
     }
 
-pub back : (scl sda text : List ℕ) (line : ℕ) → IsReference scl → IsReference sda → samples_of scl sda text ≡ Err (TimeBack line) → HasTimeBack scl sda (tokens_of 1 text) line
+pub back : (scl sda : Finder) (text : List ℕ) (line : ℕ) → CanBe scl → CanBe sda → samples_of scl sda text ≡ Err (TimeBack line) → HasTimeBack scl sda (tokens_of 1 text) line
 back scl sda text line of_scl of_sda is =
     let sp = refused_run scl sda text (TimeBack line) tt is in
     back_by scl sda text line sp (can_close scl sda sp.before sp.reached of_scl of_sda sp.is)
@@ -280,7 +281,7 @@ back scl sda text line of_scl of_sda is =
 -- ---- the first wrong token is refused
 
 -- it is refused on its line
-pub record Blamed (scl sda text : List ℕ) (s : State) (token : Token) : Type 0 where
+pub record Blamed (scl sda : Finder) (text : List ℕ) (s : State) (token : Token) : Type 0 where
   pub refusal : Refusal
   pub of : OfToken refusal
   pub steps : step s token.bytes token.line ≡ Err refusal
@@ -290,7 +291,7 @@ late_after : (front : List Sample) (rest : Result (List Sample) Refusal) → IsL
 late_after front rest (inl missing) = inl (missing.0, ap (in_front front) missing.1)
 late_after front rest (inr unended) = inr (unended.0, ap (in_front front) unended.1)
 
-late_dump : (scl sda text : List ℕ) (tokens rest : List Token) (p : State × List Sample) → tokens_of 1 text ≡ tokens ++ rest → run (state_at_first scl sda) tokens ≡ Ok p → Lost p.0 → IsLate (samples_of scl sda text)
+late_dump : (scl sda : Finder) (text : List ℕ) (tokens rest : List Token) (p : State × List Sample) → tokens_of 1 text ≡ tokens ++ rest → run (state_at_first scl sda) tokens ≡ Ok p → Lost p.0 → IsLate (samples_of scl sda text)
 late_dump scl sda text tokens rest p stands is lost =
     let P : Result (List Sample) Refusal → Type 0 = λ answer. IsLate answer in
     let same : samples_of scl sda text ≡ in_front p.1 (ended (run p.0 rest)) =
@@ -298,10 +299,10 @@ late_dump scl sda text tokens rest p stands is lost =
     subst P (sym same) (late_after p.1 (ended (run p.0 rest)) (late rest p.0 lost))
 
 -- it is `$enddefinitions`
-abbrev EndsLate : (scl sda text : List ℕ) → Token → Type 0
+abbrev EndsLate : (scl sda : Finder) (text : List ℕ) → Token → Type 0
 EndsLate scl sda text token = (command_of token.bytes ≡ Some EndDefinitions) × IsLate (samples_of scl sda text)
 
-blamed_by : (scl sda text : List ℕ) (token : Token) (w : FirstWrong scl sda (tokens_of 1 text) token) (r : Reaches scl sda w.before) → IsReference scl → IsReference sda → (result : Step) →
+blamed_by : (scl sda : Finder) (text : List ℕ) (token : Token) (w : FirstWrong scl sda (tokens_of 1 text) token) (r : Reaches scl sda w.before) → CanBe scl → CanBe sda → (result : Step) →
     step r.reached.0 token.bytes token.line ≡ result → Says r.reached.0 token.bytes token.line result → Blamed scl sda text r.reached.0 token ⊎ EndsLate scl sda text token
 blamed_by scl sda text token w r of_scl of_sda (Err (NoSignal signal)) steps lost = absurd (r.going lost)
 blamed_by scl sda text token w r of_scl of_sda (Err (Unended line)) steps at = absurd at
@@ -322,13 +323,13 @@ blamed_by scl sda text token w r of_scl of_sda (Ok q) steps keeps =
       ]
     ]
 
-blamed : (scl sda text : List ℕ) (token : Token) (w : FirstWrong scl sda (tokens_of 1 text) token) (r : Reaches scl sda w.before) → Blamed scl sda text r.reached.0 token ⊎ EndsLate scl sda text token
+blamed : (scl sda : Finder) (text : List ℕ) (token : Token) (w : FirstWrong scl sda (tokens_of 1 text) token) (r : Reaches scl sda w.before) → Blamed scl sda text r.reached.0 token ⊎ EndsLate scl sda text token
 blamed scl sda text token w r =
     let of = names scl sda w.right.text w.right.samples w.right.spelled in
     blamed_by scl sda text token w r of.0 of.1 (step r.reached.0 token.bytes token.line) refl (says r.reached.0 token.bytes token.line)
 
 -- where the state is not lost, it can close
-closes : (scl sda text : List ℕ) (token : Token) (w : FirstWrong scl sda (tokens_of 1 text) token) (r : Reaches scl sda w.before) → Closes (λ line. r.reached.0)
+closes : (scl sda : Finder) (text : List ℕ) (token : Token) (w : FirstWrong scl sda (tokens_of 1 text) token) (r : Reaches scl sda w.before) → Closes (λ line. r.reached.0)
 closes scl sda text token w r =
     let of = names scl sda w.right.text w.right.samples w.right.spelled in
     elim (can_close scl sda w.before r.reached of.0 of.1 r.is) [
@@ -336,7 +337,7 @@ closes scl sda text token w r =
       | inr lost ↦ absurd (r.going lost)
     ]
 
-bad_from : (scl sda text : List ℕ) (line : ℕ) (h : HasBadToken scl sda (tokens_of 1 text) line) (r : Reaches scl sda h.first.before) (refusal : Refusal) → OfToken refusal →
+bad_from : (scl sda : Finder) (text : List ℕ) (line : ℕ) (h : HasBadToken scl sda (tokens_of 1 text) line) (r : Reaches scl sda h.first.before) (refusal : Refusal) → OfToken refusal →
     step r.reached.0 h.token.bytes h.token.line ≡ Err refusal → samples_of scl sda text ≡ Err refusal → samples_of scl sda text ≡ Err (BadToken line)
 bad_from scl sda text line h r (BadToken on) of steps is =
     let at = says_refused r.reached.0 h.token (BadToken on) steps in
@@ -347,7 +348,7 @@ bad_from scl sda text line h r (TimeBack on) of steps is =
 bad_from scl sda text line h r (NoSignal signal) of steps is = absurd of
 bad_from scl sda text line h r (Unended on) of steps is = absurd of
 
-pub bad_is_refused : (scl sda text : List ℕ) (line : ℕ) → HasBadToken scl sda (tokens_of 1 text) line → samples_of scl sda text ≡ Err (BadToken line)
+pub bad_is_refused : (scl sda : Finder) (text : List ℕ) (line : ℕ) → HasBadToken scl sda (tokens_of 1 text) line → samples_of scl sda text ≡ Err (BadToken line)
 bad_is_refused scl sda text line h =
     let r = reaches scl sda h.first.before h.first.right in
     elim (blamed scl sda text h.token h.first r) [
@@ -355,7 +356,7 @@ bad_is_refused scl sda text line h =
       | inr ending ↦ absurd (h.no_end ending.0)
     ]
 
-back_from : (scl sda text : List ℕ) (line : ℕ) (h : HasTimeBack scl sda (tokens_of 1 text) line) (r : Reaches scl sda h.first.before) (refusal : Refusal) → OfToken refusal →
+back_from : (scl sda : Finder) (text : List ℕ) (line : ℕ) (h : HasTimeBack scl sda (tokens_of 1 text) line) (r : Reaches scl sda h.first.before) (refusal : Refusal) → OfToken refusal →
     step r.reached.0 h.token.bytes h.token.line ≡ Err refusal → samples_of scl sda text ≡ Err refusal → samples_of scl sda text ≡ Err (TimeBack line)
 back_from scl sda text line h r (BadToken on) of steps is =
     let at = says_refused r.reached.0 h.token (BadToken on) steps in
@@ -369,7 +370,7 @@ back_from scl sda text line h r (Unended on) of steps is = absurd of
 time_is_no_end : (token : List ℕ) → IsTime token → command_of token ≡ Some EndDefinitions → ⊥
 time_is_no_end token time is = let h = ap command_of (sym time.spelled) ∙ is in cc
 
-pub back_is_refused : (scl sda text : List ℕ) (line : ℕ) → HasTimeBack scl sda (tokens_of 1 text) line → samples_of scl sda text ≡ Err (TimeBack line)
+pub back_is_refused : (scl sda : Finder) (text : List ℕ) (line : ℕ) → HasTimeBack scl sda (tokens_of 1 text) line → samples_of scl sda text ≡ Err (TimeBack line)
 back_is_refused scl sda text line h =
     let r = reaches scl sda h.first.before h.first.right in
     elim (blamed scl sda text h.token h.first r) [
@@ -377,7 +378,7 @@ back_is_refused scl sda text line h =
       | inr ending ↦ absurd (time_is_no_end h.token.bytes h.time.is ending.0)
     ]
 
-pub ending : (scl sda text : List ℕ) (token : Token) → FirstWrong scl sda (tokens_of 1 text) token → command_of token.bytes ≡ Some EndDefinitions → IsLate (samples_of scl sda text)
+pub ending : (scl sda : Finder) (text : List ℕ) (token : Token) → FirstWrong scl sda (tokens_of 1 text) token → command_of token.bytes ≡ Some EndDefinitions → IsLate (samples_of scl sda text)
 ending scl sda text token w is =
     let r = reaches scl sda w.before w.right in
     elim (blamed scl sda text token w r) [

@@ -7,19 +7,24 @@ use Rattle.vcd_read.specs.declared.samples.Signal.{Signal}
 use Rattle.vcd_read.specs.declared.samples.Signal.TheVariants.{Scl, Sda}
 use Rattle.vcd_read.specs.declared.words.Command.TheVariants.{EndDefinitions}
 use Rattle.vcd_read.specs.Grammar.{Skipped, skipped_tokens, EndsOnce, Declaration, code_for, declarations_tokens, AreDeclarations, Spells}
+use Rattle.vcd_read.specs.Probes.{Finder, word_of}
 use Rattle.vcd_read.specs.Tokens.{Token, tokens_of, has_white}
 use Rattle.vcd_read.specs.Words.{is_empty, is_end, command_of, time_of}
 
 -- ---- the first wrong token
 
--- what a `$var` can have as its reference: a token other than `$end`
-pub record IsReference (name : List ℕ) : Type 0 where
-  pub some : is_empty name ≡ false
-  pub one_token : has_white name ≡ false
-  pub no_end : is_end name ≡ false
+-- what a `$var` can have as its code or reference: a token other than `$end`
+pub record IsInVar (word : List ℕ) : Type 0 where
+  pub some : is_empty word ≡ false
+  pub one_token : has_white word ≡ false
+  pub no_end : is_end word ≡ false
+
+-- Some `$var` can be one of this signal.
+abbrev pub CanBe : Finder → Type 0
+CanBe probe = IsInVar (word_of probe)
 
 -- Some text that the grammar spells begins with these tokens.
-pub record Begins (scl sda : List ℕ) (tokens : List Token) : Type 0 where
+pub record Begins (scl sda : Finder) (tokens : List Token) : Type 0 where
   pub text : List ℕ
   pub samples : List Sample
   pub spelled : Spells scl sda (tokens_of 1 text) samples
@@ -27,7 +32,7 @@ pub record Begins (scl sda : List ℕ) (tokens : List Token) : Type 0 where
   pub begun : tokens_of 1 text ≡ tokens ++ more
 
 -- Some accepted dump begins with the tokens before this one, and none with these and this one.
-pub record FirstWrong (scl sda : List ℕ) (tokens : List Token) (token : Token) : Type 0 where
+pub record FirstWrong (scl sda : Finder) (tokens : List Token) (token : Token) : Type 0 where
   pub before : List Token
   pub rest : List Token
   pub stands : tokens ≡ before ++ (token ∷ rest)
@@ -42,7 +47,7 @@ pub record IsTime (bytes : List ℕ) : Type 0 where
   pub is : time_of digits ≡ Some time
 
 -- It is a time, where some accepted dump goes on with another time.
-pub record IsOtherTime (scl sda : List ℕ) (before : List Token) (token : Token) : Type 0 where
+pub record IsOtherTime (scl sda : Finder) (before : List Token) (token : Token) : Type 0 where
   pub is : IsTime token.bytes
   pub other : Token
   pub other_is : IsTime other.bytes
@@ -50,7 +55,7 @@ pub record IsOtherTime (scl sda : List ℕ) (before : List Token) (token : Token
 
 -- The first wrong token stands on this line, and is no time where another time is right; nor is it `$enddefinitions`,
 -- which is wrong where a signal is missing: that is told at its `$end`.
-pub record HasBadToken (scl sda : List ℕ) (tokens : List Token) (line : ℕ) : Type 0 where
+pub record HasBadToken (scl sda : Finder) (tokens : List Token) (line : ℕ) : Type 0 where
   pub token : Token
   pub first : FirstWrong scl sda tokens token
   pub on : token.line ≡ line
@@ -58,7 +63,7 @@ pub record HasBadToken (scl sda : List ℕ) (tokens : List Token) (line : ℕ) :
   pub no_end : command_of token.bytes ≡ Some EndDefinitions → ⊥
 
 -- The first wrong token stands on this line, and is a time where another time is right.
-pub record HasTimeBack (scl sda : List ℕ) (tokens : List Token) (line : ℕ) : Type 0 where
+pub record HasTimeBack (scl sda : Finder) (tokens : List Token) (line : ℕ) : Type 0 where
   pub token : Token
   pub first : FirstWrong scl sda tokens token
   pub on : token.line ≡ line
@@ -71,7 +76,7 @@ IsLate answer = ((signal : Signal) × (answer ≡ Err (NoSignal signal))) ⊎ ((
 -- ---- the missing signal
 
 -- The declarations give this signal no code. Where both have none it is SCL.
-abbrev pub AreWithout : (scl sda : List ℕ) → List Declaration → Signal → Type 0
+abbrev pub AreWithout : (scl sda : Finder) → List Declaration → Signal → Type 0
 AreWithout scl sda declarations Scl = is_empty (code_for scl declarations) ≡ true
 AreWithout scl sda declarations Sda = (is_empty (code_for scl declarations) ≡ false) × (is_empty (code_for sda declarations) ≡ true)
 
@@ -86,7 +91,7 @@ EndsDefinitions tokens =
     × (tokens ≡ skipped_tokens command ++ rest))
 
 -- The definitions end, and this signal has no code.
-pub record Lacks (scl sda : List ℕ) (tokens : List Token) (signal : Signal) : Type 0 where
+pub record Lacks (scl sda : Finder) (tokens : List Token) (signal : Signal) : Type 0 where
   pub declarations : List Declaration
   pub rest : List Token
   pub spelled : tokens ≡ declarations_tokens declarations ++ rest

@@ -11,6 +11,7 @@ use Rattle.vcd_read.specs.declared.samples.Signal.{Signal}
 use Rattle.vcd_read.specs.declared.samples.Signal.TheVariants.{Scl, Sda}
 use Rattle.vcd_read.specs.declared.words.Command.{Command}
 use Rattle.vcd_read.specs.declared.words.Command.TheVariants.{Var, EndDefinitions, Other}
+use Rattle.vcd_read.specs.Probes.{declares}
 use Rattle.vcd_read.specs.States.{Line, State}
 use Rattle.vcd_read.specs.Words.{is_end, is_empty, command_of}
 
@@ -24,10 +25,10 @@ opened line s _ = Err (BadToken line)
 abbrev pub definition : State → List ℕ → ℕ → Result State Refusal
 definition s token line = opened line s (command_of token)
 
--- The line takes the code of a `$var` of one bit whose reference is its name, if it has none yet.
+-- The line takes the code of a `$var` of one bit by which it is found, if it has none yet.
 abbrev pub named_by : List ℕ → List ℕ → Line → Line
 named_by reference code line =
-    if is_empty line.code && bytes_eq reference line.name then record line { code = code } else line
+    if is_empty line.code && declares line.probe reference code then record line { code = code } else line
 
 abbrev pub declared : Bool → List ℕ → State → State
 declared false reference s = s

@@ -9,6 +9,7 @@ use Rattle.vcd_read.specs.declared.samples.Sample.{Sample}
 use Rattle.vcd_read.specs.declared.samples.Signal.{Signal}
 use Rattle.vcd_read.specs.Changes.{Step, stays, change, change_of_code, stamp_sample}
 use Rattle.vcd_read.specs.Definitions.{definition, inside_var, inside_end_definitions, missing}
+use Rattle.vcd_read.specs.Probes.{Finder}
 use Rattle.vcd_read.specs.States.{State, state_at_first}
 use Rattle.vcd_read.specs.Tokens.{Token, tokens_of, up_to_white}
 use Rattle.vcd_read.specs.Words.{is_end}
@@ -77,8 +78,8 @@ abbrev pub ended : Run → Result (List Sample) Refusal
 ended (Ok p) = with_last p.1 (at_end p.0)
 ended (Err refusal) = Err refusal
 
--- The samples of a dump, for two names of signals, or its first refusal.
-abbrev pub samples_of : List ℕ → List ℕ → List ℕ → Result (List Sample) Refusal
+-- The samples of a dump, for two signals that are found by their names or codes, or its first refusal.
+abbrev pub samples_of : Finder → Finder → List ℕ → Result (List Sample) Refusal
 samples_of scl sda text = ended (run (state_at_first scl sda) (tokens_of 1 text))
 
 -- the samples of the time stamps that tokens close, up to a token that is refused
@@ -91,9 +92,9 @@ given s [] = []
 given s (token ∷ tokens) = given_by (step s token.bytes token.line) (λ next. given next tokens)
 
 -- What a dump that goes on has said: each token that has white space after it, and the samples that these give.
-abbrev pub said_so_far : List ℕ → List ℕ → List ℕ → Run
+abbrev pub said_so_far : Finder → Finder → List ℕ → Run
 said_so_far scl sda text = run (state_at_first scl sda) (tokens_of 1 (up_to_white text))
 
 -- The samples that a dump that goes on has given, up to a token that is refused.
-abbrev pub given_so_far : List ℕ → List ℕ → List ℕ → List Sample
+abbrev pub given_so_far : Finder → Finder → List ℕ → List Sample
 given_so_far scl sda text = given (state_at_first scl sda) (tokens_of 1 (up_to_white text))

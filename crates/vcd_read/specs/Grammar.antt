@@ -10,6 +10,7 @@ use Rattle.vcd_read.specs.declared.samples.Sample.{Sample}
 use Rattle.vcd_read.specs.declared.words.Command.{Command}
 use Rattle.vcd_read.specs.declared.words.Command.TheVariants.{Var, EndDefinitions, Changes, End, Other}
 use Rattle.vcd_read.specs.Changes.{same_level}
+use Rattle.vcd_read.specs.Probes.{Finder, declares}
 use Rattle.vcd_read.specs.Tokens.{Token}
 use Rattle.vcd_read.specs.Words.{is_empty, is_end, command_of, level_of, vector_level, is_code, time_of}
 
@@ -50,12 +51,13 @@ IsDeclaration (var word type size code reference more close) =
     × (is_end close.bytes ≡ true)
 IsDeclaration (other command) = (command_of command.word.bytes ≡ Some Other) × EndsOnce command
 
--- the code of the first `$var` of this reference whose size is `1`; none: empty
-abbrev pub code_for : List ℕ → List Declaration → List ℕ
-code_for name [] = []
-code_for name (var word type size code reference more close ∷ rest) =
-    if bytes_eq size.bytes (codes "1") && bytes_eq reference.bytes name then code.bytes else code_for name rest
-code_for name (other command ∷ rest) = code_for name rest
+-- the code of the first `$var` of this reference, or of this code, whose size is `1`; none: empty
+abbrev pub code_for : Finder → List Declaration → List ℕ
+code_for probe [] = []
+code_for probe (var word type size code reference more close ∷ rest) =
+    if bytes_eq size.bytes (codes "1") && declares probe reference.bytes code.bytes then code.bytes
+    else code_for probe rest
+code_for probe (other command ∷ rest) = code_for probe rest
 
 -- ---- changes
 
@@ -199,8 +201,8 @@ dump_tokens d =
     declarations_tokens d.declarations
     ++ (skipped_tokens d.definitions_end ++ (entries_tokens d.first ++ stamps_tokens d.stamps))
 
--- The dump names both signals, and its parts are spelled as they should.
-pub record IsDump (scl sda : List ℕ) (d : Dump) : Type 0 where
+-- The dump has both signals, and its parts are spelled as they should.
+pub record IsDump (scl sda : Finder) (d : Dump) : Type 0 where
   pub declarations : AreDeclarations d.declarations
   pub definitions_end : (command_of d.definitions_end.word.bytes ≡ Some EndDefinitions) × EndsOnce d.definitions_end
   pub scl_named : is_empty (code_for scl d.declarations) ≡ false
@@ -210,7 +212,7 @@ pub record IsDump (scl sda : List ℕ) (d : Dump) : Type 0 where
   pub blocks_end : open_after_stamps (open_after (Some false) d.first) d.stamps ≡ Some false
 
 -- the samples of the dump: both levels are unknown before it
-abbrev pub dump_samples : List ℕ → List ℕ → Dump → List Sample
+abbrev pub dump_samples : Finder → Finder → Dump → List Sample
 dump_samples scl sda d =
     let scl_code = code_for scl d.declarations in
     let sda_code = code_for sda d.declarations in
@@ -219,13 +221,13 @@ dump_samples scl sda d =
     sample_at 0 Unknown Unknown scl_first sda_first ++ stamp_samples scl_code sda_code scl_first sda_first d.stamps
 
 -- Definitions alone are a dump too, of which nothing was recorded.
-pub record IsDefinitions (scl sda : List ℕ) (declarations : List Declaration) : Type 0 where
+pub record IsDefinitions (scl sda : Finder) (declarations : List Declaration) : Type 0 where
   pub are : AreDeclarations declarations
   pub scl_named : is_empty (code_for scl declarations) ≡ false
   pub sda_named : is_empty (code_for sda declarations) ≡ false
 
 -- The tokens are spelled as a dump that has these samples.
-abbrev pub Spells : (scl sda : List ℕ) → List Token → List Sample → Type 0
+abbrev pub Spells : (scl sda : Finder) → List Token → List Sample → Type 0
 Spells scl sda tokens samples =
     ((d : Dump) × IsDump scl sda d × (tokens ≡ dump_tokens d) × (samples ≡ dump_samples scl sda d))
     ⊎ ((declarations : List Declaration)

@@ -1,5 +1,6 @@
 pub mod Tokens
 pub mod Words
+pub mod Probes
 pub mod States
 pub mod Definitions
 pub mod Changes

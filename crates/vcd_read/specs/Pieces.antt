@@ -7,6 +7,7 @@ use Rattle.vcd_read.specs.declared.samples.Sample.{Sample}
 use Rattle.vcd_read.specs.declared.scanner.Scanner.{Scanner}
 use Rattle.vcd_read.specs.Changes.{Step}
 use Rattle.vcd_read.specs.Dumps.{step, with_last, at_end}
+use Rattle.vcd_read.specs.Probes.{Finder}
 use Rattle.vcd_read.specs.States.{State, state_at_first}
 use Rattle.vcd_read.specs.Tokens.{is_white, line_after}
 use Rattle.vcd_read.specs.Views.{state_of, HasRoom}
@@ -29,7 +30,7 @@ abbrev pub Scan : Type 0
 Scan = Result Kept Refused
 
 -- before the first byte
-abbrev pub kept_at_first : List ℕ → List ℕ → Kept
+abbrev pub kept_at_first : Finder → Finder → Kept
 kept_at_first scl sda = record { line = 1; held = []; state = state_at_first scl sda; samples = [] }
 
 abbrev pub kept_after : Kept → Step → Scan

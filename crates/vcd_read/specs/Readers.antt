@@ -6,6 +6,7 @@ use Rattle.vcd_read.specs.declared.errors.VcdError.TheVariants.{NoMemory}
 use Rattle.vcd_read.specs.declared.reader.Reader.{Reader}
 use Rattle.vcd_read.specs.declared.samples.Sample.{Sample}
 use Rattle.vcd_read.specs.Pieces.{Kept, Scan, kept_at_first, bytes_read, kept_of}
+use Rattle.vcd_read.specs.Probes.{Finder}
 use Rattle.vcd_read.specs.Refusals.{error_of}
 
 -- what a reader keeps, and the refusal that it has answered
@@ -24,8 +25,8 @@ abbrev pub StandsFor : Option Refusal → Scan → List Sample → Kept → Type
 StandsFor None scan cleared k = scan ≡ Ok (record k { samples = cleared ++ k.samples })
 StandsFor (Some refusal) scan cleared k = scan ≡ Err (record { refusal = refusal; samples = cleared ++ k.samples })
 
--- A reader for these two names that was fed this text, in whatever pieces, and from which these samples were cleared.
-unfoldable pub Fed : (scl sda text : List ℕ) → List Sample → Reading → Type 0
+-- A reader for these two signals that was fed this text, in whatever pieces, and from which these samples were cleared.
+unfoldable pub Fed : (scl sda : Finder) (text : List ℕ) → List Sample → Reading → Type 0
 Fed scl sda text cleared r = StandsFor r.refused (bytes_read (kept_at_first scl sda) text) cleared r.kept
 
 -- This holds after the call, unless it answered want of memory.

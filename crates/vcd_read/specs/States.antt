@@ -4,11 +4,12 @@ use Rattle.vcd_read.specs.declared.dumps.Context.{Context}
 use Rattle.vcd_read.specs.declared.dumps.Context.TheVariants as inside
 use Rattle.vcd_read.specs.declared.samples.Level.{Level}
 use Rattle.vcd_read.specs.declared.samples.Level.TheVariants.{Unknown}
+use Rattle.vcd_read.specs.Probes.{Finder}
 
--- A line of the bus: the name that its `$var` has, the code that this `$var` gives it (none yet: empty), and its levels
--- before the time stamp and now.
+-- A line of the bus: how its `$var` is found, the code that this `$var` gives it (none yet: empty), and its levels before
+-- the time stamp and now.
 pub record Line : Type 0 where
-  pub name : List ℕ
+  pub probe : Finder
   pub code : List ℕ
   pub before : Level
   pub level : Level
@@ -24,11 +25,11 @@ pub record State : Type 0 where
   pub defined : Bool
   pub time : ℕ
 
-abbrev pub line_at_first : List ℕ → Line
-line_at_first name = record { name = name; code = []; before = Unknown; level = Unknown }
+abbrev pub line_at_first : Finder → Line
+line_at_first probe = record { probe = probe; code = []; before = Unknown; level = Unknown }
 
 -- before the first token
-abbrev pub state_at_first : List ℕ → List ℕ → State
+abbrev pub state_at_first : Finder → Finder → State
 state_at_first scl sda = record {
   scl = line_at_first scl;
   sda = line_at_first sda;

@@ -2,13 +2,27 @@
 use Rattle.std.specs.Prelude.{◌≡◌, ℕ, ◌≤◌, Option, Result, Ok, Err, string_bytes, vec_capacity, MatchResult}
 use Rattle.vcd_read.specs.declared.dumps.Dump.{Dump}
 use Rattle.vcd_read.specs.declared.errors.Refusal.{Refusal}
+use Rattle.vcd_read.specs.declared.probes.Probe as rust
+use Rattle.vcd_read.specs.declared.probes.Probe.TheVariants.{Named, Coded}
+use Rattle.vcd_read.specs.declared.probes.Sought.{Sought}
+use Rattle.vcd_read.specs.declared.probes.Sought.TheVariants.{Name, Code}
 use Rattle.vcd_read.specs.declared.samples.Sample.{Sample}
 use Rattle.vcd_read.specs.declared.wires.Wire.{Wire}
 use Rattle.vcd_read.specs.Changes.{Step}
+use Rattle.vcd_read.specs.Probes.{Finder, by_name, by_code}
 use Rattle.vcd_read.specs.States.{Line, State}
 
+-- what a call is asked for
+abbrev pub asked : rust.Probe → Finder
+asked (Named name) = by_name name.now
+asked (Coded code) = by_code code.now
+
+abbrev pub sought_by : Sought → Finder
+sought_by (Name name) = by_name (string_bytes name)
+sought_by (Code code) = by_code (string_bytes code)
+
 abbrev pub line_of : Wire → Line
-line_of w = record { name = string_bytes w.name; code = w.code.items; before = w.before; level = w.level }
+line_of w = record { probe = sought_by w.sought; code = w.code.items; before = w.before; level = w.level }
 
 abbrev pub state_of : Dump → State
 state_of d = record {

@@ -88,7 +88,7 @@ impl Dump {
         Ok(())
     }
 
-    /// The first of the two signals that no `$var` of one bit has named.
+    /// The first of the two signals that no `$var` of one bit has been found for.
     pub(crate) fn missing(&self) -> Option<Signal>
         ensures { result ≡ missing (state_of self.now) }
     {

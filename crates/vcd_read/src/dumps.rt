@@ -3,6 +3,7 @@
 ghost use Rattle.std.specs.Prelude.{◌≡◌, ℕ, ◌≤◌, length, vec_len, vec_capacity, IfOk, OnOk};
 
 use crate::errors::Refusal;
+use crate::probes::Probe;
 use crate::samples::{Level, Sample};
 use crate::wires::Wire;
 use crate::words::is_end;
@@ -50,12 +51,12 @@ pub(crate) struct Dump {
 
 impl Dump {
     ghost use Rattle.vcd_read.specs.Dumps.{step, at_end, open_line};
-    ghost use Rattle.vcd_read.specs.Views.{state_of, HasRoom, Steps};
+    ghost use Rattle.vcd_read.specs.Views.{asked, state_of, HasRoom, Steps};
     ghost use Rattle.vcd_read.specs.States.{state_at_first};
 
     /// Before the first token.
-    pub(crate) fn new(alloc: Global, scl: &str, sda: &str) -> Result<Dump, AllocError>
-        ensures { IfOk result (λ d. state_of d ≡ state_at_first scl.now sda.now) }
+    pub(crate) fn new(alloc: Global, scl: Probe<'_>, sda: Probe<'_>) -> Result<Dump, AllocError>
+        ensures { IfOk result (λ d. state_of d ≡ state_at_first (asked scl.entry) (asked sda.entry)) }
     {
         Ok(Dump {
             scl: Wire::new(alloc, scl)?,

@@ -11,7 +11,7 @@ use thiserror::Error;
 /// The first refusal of a dump, in text order. A line is one more than the number of line feeds before the token.
 #[derive(Clone, Copy, Debug, PartialEq, Eq)]
 pub enum Refusal {
-    /// V1: no `$var` of one bit names this signal.
+    /// V1: no `$var` of one bit has the name, or the code, of this signal.
     NoSignal(Signal),
     /// V2: a token that cannot stand in its place.
     BadToken(u64),
@@ -24,7 +24,7 @@ pub enum Refusal {
 /// Why a call on a reader failed.
 #[derive(Clone, Copy, Debug, PartialEq, Eq, Error)]
 pub enum VcdError {
-    /// V1: no `$var` of one bit names this signal.
+    /// V1: no `$var` of one bit has the name, or the code, of this signal.
     #[error("V1 {0}")]
     NoSignal(Signal),
     /// V2: a token that cannot stand in its place.

@@ -3,6 +3,7 @@
 ghost use Rattle.vcd_read.specs.Pieces.{RoomForToken, RoomForSamples};
 
 use crate::errors::{Refusal, VcdError};
+use crate::probes::Probe;
 use crate::samples::Sample;
 use crate::scanner::Scanner;
 use std::alloc::{AllocError, Global};
@@ -25,6 +26,8 @@ impl Reader {
     ghost use Rattle.vcd_read.specs.declared.errors.VcdError.TheVariants.{NoMemory};
     ghost use Rattle.vcd_read.specs.declared.samples.Sample.{Sample};
     ghost use Rattle.vcd_read.specs.Dumps.{samples_of, said_so_far, given_so_far};
+    ghost use Rattle.vcd_read.specs.Probes.{Finder, by_name};
+    ghost use Rattle.vcd_read.specs.Views.{asked};
     ghost use Rattle.vcd_read.specs.Readers.{Fed, UnlessMemory, Answers, IsRefusal, reading_of, samples_in};
     ghost use Rattle.vcd_read.specs.Refusals.{error_of};
 
@@ -34,7 +37,18 @@ impl Reader {
     ///
     /// V5 where memory is refused.
     pub fn new(alloc: Global, scl: &str, sda: &str) -> Result<Reader, AllocError>
-        ensures { IfOk result (λ r. Fed scl.now sda.now [] [] (reading_of r)) }
+        ensures { IfOk result (λ r. Fed (by_name scl.now) (by_name sda.now) [] [] (reading_of r)) }
+    {
+        Reader::of(alloc, Probe::Named(scl), Probe::Named(sda))
+    }
+
+    /// A reader of the lines that are found so in the definitions of a dump.
+    ///
+    /// # Errors
+    ///
+    /// V5 where memory is refused.
+    pub fn of(alloc: Global, scl: Probe<'_>, sda: Probe<'_>) -> Result<Reader, AllocError>
+        ensures { IfOk result (λ r. Fed (asked scl.entry) (asked sda.entry) [] [] (reading_of r)) }
     {
         Ok(Reader {
             scanner: Scanner::new(alloc, scl, sda)?,
@@ -50,14 +64,14 @@ impl Reader {
     /// reader is then as before the call, and may be fed the same piece again.
     pub fn feed(&mut self, piece: &[u8]) -> Result<(), VcdError>
         // The text that it was fed grows by the piece, unless memory is refused.
-        ensures fed { (scl sda text : List ℕ) (cleared : List Sample) →
+        ensures fed { (scl sda : Finder) (text : List ℕ) (cleared : List Sample) →
             Fed scl sda text cleared (reading_of self.old) →
             UnlessMemory result (Fed scl sda (text ++ piece.now) cleared (reading_of self.new)) }
 
         // A refusal comes in the call in which its token is read, and then in every later call.
-        ensures told { (scl sda text : List ℕ) (cleared : List Sample) →
+        ensures told { (scl sda : Finder) (text : List ℕ) (cleared : List Sample) →
             Fed scl sda text cleared (reading_of self.old) → Answers result (said_so_far scl sda (text ++ piece.now)) }
-        ensures again { (scl sda text : List ℕ) (cleared : List Sample) →
+        ensures again { (scl sda : Finder) (text : List ℕ) (cleared : List Sample) →
             Fed scl sda text cleared (reading_of self.old) →
             MatchResult (said_so_far scl sda text) (λ _. Unit {0}) (λ refusal. result ≡ Err (error_of refusal)) }
         ensures memory { result ≡ Err NoMemory → reading_of self.new ≡ reading_of self.old }
@@ -78,10 +92,10 @@ impl Reader {
     /// The samples so far, without those that were cleared. After a refusal: those of the tokens before it.
     pub fn samples(&self) -> &[Sample]
         ensures samples { result.now ≡ samples_in (reading_of self.now) }
-        ensures so_far { (scl sda text : List ℕ) (cleared : List Sample) →
+        ensures so_far { (scl sda : Finder) (text : List ℕ) (cleared : List Sample) →
             Fed scl sda text cleared (reading_of self.now) →
             IfOk (said_so_far scl sda text) (λ said. said.1 ≡ cleared ++ result.now) }
-        ensures up_to_refusal { (scl sda text : List ℕ) (cleared : List Sample) →
+        ensures up_to_refusal { (scl sda : Finder) (text : List ℕ) (cleared : List Sample) →
             Fed scl sda text cleared (reading_of self.now) → given_so_far scl sda text ≡ cleared ++ result.now }
     {
         self.scanner.samples.as_slice()
@@ -89,7 +103,7 @@ impl Reader {
 
     /// Forgets the samples so far, which the caller has used.
     pub fn clear_samples(&mut self)
-        ensures { (scl sda text : List ℕ) (cleared : List Sample) →
+        ensures { (scl sda : Finder) (text : List ℕ) (cleared : List Sample) →
             Fed scl sda text cleared (reading_of self.old) →
             Fed scl sda text (cleared ++ samples_in (reading_of self.old)) (reading_of self.new) }
     {
@@ -102,7 +116,7 @@ impl Reader {
     ///
     /// V1 to V4.
     pub fn end(self) -> Result<Vec<Sample>, VcdError>
-        ensures { (scl sda text : List ℕ) (cleared : List Sample) →
+        ensures { (scl sda : Finder) (text : List ℕ) (cleared : List Sample) →
             Fed scl sda text cleared (reading_of self) →
             MatchResult result (λ samples. samples_of scl sda text ≡ Ok (cleared ++ samples.items))
             (λ e. IsRefusal (samples_of scl sda text) e) }

@@ -4,10 +4,12 @@ ghost use Rattle.std.specs.Prelude.{◌≡◌, ℕ, ◌+◌, ◌<◌, ◌≤◌,
 ghost use Rattle.std.specs.Prelude.{IfOk, OnOk, MatchResult, Ok, Err};
 ghost use Rattle.vcd_read.specs.Pieces.{kept_at_first, kept_of, with_held, bytes_read, token_ended};
 ghost use Rattle.vcd_read.specs.Pieces.{samples_at_end, Scans, RoomForToken, RoomForSamples};
+ghost use Rattle.vcd_read.specs.Views.{asked};
 
 use crate::bytes::{is_white, line_after, whites};
 use crate::dumps::Dump;
 use crate::errors::Refusal;
+use crate::probes::Probe;
 use crate::samples::Sample;
 use std::alloc::{AllocError, Global};
 use std::simd::prelude::*;
@@ -25,8 +27,8 @@ pub(crate) struct Scanner {
 
 impl Scanner {
     /// Before the first byte.
-    pub(crate) fn new(alloc: Global, scl: &str, sda: &str) -> Result<Scanner, AllocError>
-        ensures kept { IfOk result (λ s. kept_of s ≡ kept_at_first scl.now sda.now) }
+    pub(crate) fn new(alloc: Global, scl: Probe<'_>, sda: Probe<'_>) -> Result<Scanner, AllocError>
+        ensures kept { IfOk result (λ s. kept_of s ≡ kept_at_first (asked scl.entry) (asked sda.entry)) }
         ensures token_room { IfOk result (λ s. RoomForToken 0 s) }
         ensures samples_room { IfOk result (λ s. RoomForSamples 2 s) }
     {

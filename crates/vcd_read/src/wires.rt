@@ -3,14 +3,15 @@
 ghost use Rattle.std.specs.Prelude.{◌≡◌, ◌<◌, ◌≤◌, List, ℕ, length, vec_capacity, IfOk};
 ghost use Rattle.vcd_read.specs.Words.{is_empty, code_number};
 
+use crate::probes::{Probe, Sought};
 use crate::samples::Level;
 use crate::words::code_number;
 use std::alloc::{AllocError, Global};
 
-/// A line: the name that its `$var` has, the code that this `$var` gives it, and its levels.
+/// A line: how its `$var` is found, the code that this `$var` gives it, and its levels.
 #[derive(Debug, Drop)]
 pub(crate) struct Wire {
-    name: String,
+    sought: Sought,
     // empty until the `$var` has come
     pub(crate) code: Vec<u8>,
     // the number of the code, if it has one
@@ -24,15 +25,15 @@ pub(crate) struct Wire {
 impl Wire {
     ghost use Rattle.vcd_read.specs.Definitions.{named_by};
     ghost use Rattle.vcd_read.specs.Changes.{changed, settled, stays_level};
-    ghost use Rattle.vcd_read.specs.Views.{line_of};
+    ghost use Rattle.vcd_read.specs.Views.{asked, line_of};
     ghost use Rattle.vcd_read.specs.States.{line_at_first};
 
-    /// The line of this name, before the first token.
-    pub(crate) fn new(alloc: Global, name: &str) -> Result<Wire, AllocError>
-        ensures { IfOk result (λ w. line_of w ≡ line_at_first name.now) }
+    /// The line of this probe, before the first token.
+    pub(crate) fn new(alloc: Global, probe: Probe<'_>) -> Result<Wire, AllocError>
+        ensures { IfOk result (λ w. line_of w ≡ line_at_first (asked probe.entry)) }
     {
         Ok(Wire {
-            name: String::from_str(alloc, name)?,
+            sought: Sought::new(alloc, probe)?,
             code: Vec::new(alloc),
             number: 0,
             before: Level::Unknown,
@@ -40,7 +41,7 @@ impl Wire {
         })
     }
 
-    /// Whether no `$var` of one bit has named it yet.
+    /// Whether no `$var` of one bit has been its own yet.
     pub(crate) fn is_missing(&self) -> bool
         ensures { result ≡ is_empty (line_of self.now).code }
     {
@@ -53,7 +54,7 @@ impl Wire {
         ensures line { line_of self.new ≡ named_by reference.now code.now (line_of self.old) }
         ensures room { vec_capacity self.old.code ≤ vec_capacity self.new.code }
     {
-        if self.is_missing() && reference == self.name.as_bytes() {
+        if self.is_missing() && self.sought.is_declared_by(reference, code) {
             self.code.clear();
             let _ = self.code.extend_from_slice(code);
             self.number = code_number(code);

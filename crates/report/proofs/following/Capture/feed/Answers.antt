@@ -1,5 +1,6 @@
 use Rattle.std.proofs.Common.{List, ℕ, ◌++◌}
 use Rattle.plan_core.specs.PlanContents.{plan_contents}
+use Rattle.vcd_read.specs.Probes.{Finder}
 use Rattle.report.specs.Captures.{RefusesBeginning}
 use Rattle.report.specs.CaptureViews.{Follows}
 use Rattle.run_parts.specs.RunErrors.{vcd_error}
@@ -12,7 +13,7 @@ returns-clause-passed g c = λ scl sda text f. c.in_ok-feed.ensures.told scl sda
 
 pub returns-in_err-feed-clause-refused : goal.returns-in_err-feed-clause-refused
 returns-in_err-feed-clause-refused g c =
-    on_error c.from_residual.result (vcd_error c.in_err-feed.field-0.0) (λ error. (scl sda text : List ℕ) →
+    on_error c.from_residual.result (vcd_error c.in_err-feed.field-0.0) (λ error. (scl sda : Finder) (text : List ℕ) →
     Follows scl sda (plan_contents c.args.plan.now) text c.args.self.now →
     RefusesBeginning scl sda (text ++ c.args.piece.now) error) c.from_residual.ensures.1
     (λ scl sda text f. refuses_beginning scl sda (text ++ c.args.piece.now) c.in_err-feed.field-0.0

@@ -1,0 +1,201 @@
+// What is passed on of a report on a capture.
+
+use crate::lines::{Told, What, read_line};
+use crate::tallies::Tallies;
+use dump_times::{Scale, Time};
+use plan_core::Plan;
+use run_parts::Status;
+use std::alloc::{AllocError, Global};
+use std::cmp::Ordering;
+
+/// Which transactions are told, and how.
+#[derive(Clone, Copy, Debug)]
+pub struct View {
+    /// How many Stopped transactions there are to be.
+    pub at_least: Option<u32>,
+    /// Those that begin before this time are left out.
+    pub from: Option<Time>,
+    /// Those that begin after this time are left out.
+    pub to: Option<Time>,
+    /// Whether times are written in parts of a second, where the dump says what its numbers count.
+    pub si: bool,
+    /// Whether participants are counted in place of transactions.
+    pub summary: bool,
+}
+
+impl View {
+    /// Whether the report is passed on as it is.
+    pub fn is_whole(&self) -> bool {
+        self.at_least.is_none()
+            && self.from.is_none()
+            && self.to.is_none()
+            && !self.si
+            && !self.summary
+    }
+
+    /// Whether it matters what the numbers of the dump count.
+    pub fn needs_scale(&self) -> bool {
+        self.si || self.has_units()
+    }
+
+    /// Whether a time was given with a unit.
+    pub fn has_units(&self) -> bool {
+        has_unit(self.from) || has_unit(self.to)
+    }
+
+    // Whether a transaction that begins at this time is told.
+    fn has(&self, scale: Option<Scale>, from: u64) -> bool {
+        let is_late = match self.from {
+            Some(least) => compare(scale, from, least) != Ordering::Less,
+            None => true,
+        };
+        let is_early = match self.to {
+            Some(most) => compare(scale, from, most) != Ordering::Greater,
+            None => true,
+        };
+        is_late && is_early
+    }
+}
+
+fn has_unit(time: Option<Time>) -> bool {
+    match time {
+        Some(time) => time.unit.is_some(),
+        None => false,
+    }
+}
+
+fn compare(scale: Option<Scale>, time: u64, other: Time) -> Ordering {
+    match scale {
+        Some(scale) => scale.compare(time, other),
+        None => time.cmp(&other.number),
+    }
+}
+
+/// What the view shows of a report with its lines for people, and the status of a run with it.
+pub fn shown(
+    alloc: Global,
+    plan: &Plan,
+    report: &str,
+    view: &View,
+    scale: Option<Scale>,
+) -> Result<(String, Status), AllocError> {
+    let mut page = Page {
+        text: String::new(alloc),
+        is_shown: true,
+        stopped: 0,
+        unexplained: 0,
+        tallies: if view.summary {
+            Some(Tallies::new(alloc, plan)?)
+        } else {
+            None
+        },
+    };
+    let scale_of_times = scale.filter(|_| view.si);
+    for line in report.trim_ascii_end().split('\n') {
+        if line.starts_with("    ") {
+            page.below(line)?;
+        } else if let Some(told) = read_line(line) {
+            page.is_shown = view.has(scale, told.from);
+            page.line(alloc, line, &told, scale_of_times)?;
+        }
+    }
+    page.finish(alloc, view)
+}
+
+// What has been passed on so far.
+#[derive(Drop)]
+struct Page {
+    text: String,
+    // whether the lines for people belong to a transaction that is told
+    is_shown: bool,
+    stopped: u64,
+    unexplained: u64,
+    tallies: Option<Tallies>,
+}
+
+impl Page {
+    fn below(&mut self, line: &str) -> Result<(), AllocError> {
+        if self.is_shown && self.tallies.is_none() {
+            self.push_line(line)?;
+        }
+        Ok(())
+    }
+
+    fn line(
+        &mut self,
+        alloc: Global,
+        line: &str,
+        told: &Told<'_>,
+        scale: Option<Scale>,
+    ) -> Result<(), AllocError> {
+        if !self.is_shown {
+            return Ok(());
+        }
+        if told.what.is_stopped() {
+            self.stopped = self.stopped.saturating_add(1);
+        }
+        if let What::Unexplained = told.what {
+            self.unexplained = self.unexplained.saturating_add(1);
+        }
+        if let Some(tallies) = &mut self.tallies {
+            tallies.count(told.what);
+            return Ok(());
+        }
+        match scale {
+            Some(scale) => self.push_told(alloc, line, told, scale),
+            None => self.push_line(line),
+        }
+    }
+
+    // The line with its times in parts of a second.
+    fn push_told(
+        &mut self,
+        alloc: Global,
+        line: &str,
+        told: &Told<'_>,
+        scale: Scale,
+    ) -> Result<(), AllocError> {
+        let from = scale.told(alloc, told.from)?;
+        self.text.push_str(from.as_str())?;
+        self.text.push('-')?;
+        if let Some(until) = told.until {
+            let until = scale.told(alloc, until)?;
+            self.text.push_str(until.as_str())?;
+        }
+        self.text.push(' ')?;
+        let words = line.split_once(' ').map(|parts| parts.1).unwrap_or("");
+        self.push_line(words)
+    }
+
+    fn push_line(&mut self, line: &str) -> Result<(), AllocError> {
+        self.text.push_str(line)?;
+        self.text.push('\n')
+    }
+
+    fn finish(mut self, alloc: Global, view: &View) -> Result<(String, Status), AllocError> {
+        if let Some(tallies) = &self.tallies {
+            tallies.push_to(alloc, &mut self.text)?;
+        }
+        let Page {
+            mut text,
+            stopped,
+            unexplained,
+            ..
+        } = self;
+        let last = format!(in alloc; "{stopped} transactions, {unexplained} unexplained\n")?;
+        text.push_str(last.as_str())?;
+        let mut status = if unexplained == 0 {
+            Status::Good
+        } else {
+            Status::Bad
+        };
+        if let Some(least) = view.at_least {
+            if stopped < u64::from(least) {
+                let few = format!(in alloc; "too few: {stopped} of {least}\n")?;
+                text.push_str(few.as_str())?;
+                status = Status::Bad;
+            }
+        }
+        Ok((text, status))
+    }
+}

@@ -1,0 +1,177 @@
+// What a file is that stands in the place of another: its first bytes tell.
+
+use crate::lines::Lines;
+use dump_tokens::reading::part;
+use std::alloc::{AllocError, Global};
+use std::io::{Read, Seek};
+
+/// How many of the first bytes of a file are looked at.
+pub const LOOKED_AT: usize = 4_096;
+
+/// What a file is.
+#[derive(Clone, Copy, PartialEq, Eq)]
+pub enum Kind {
+    Plan,
+    Brief,
+    Certificate,
+    Dump,
+    Gzip,
+    Zip,
+    Archive,
+    Utf16,
+    ByteOrderMark,
+}
+
+impl Kind {
+    /// Whether the file is no text of ASCII, so that no place in it says more.
+    pub fn is_binary(self) -> bool {
+        !matches!(
+            self,
+            Kind::Plan | Kind::Brief | Kind::Certificate | Kind::Dump
+        )
+    }
+
+    fn words(self) -> &'static str {
+        match self {
+            Kind::Plan => "this is a plan: commands that read a plan take it as it is",
+            Kind::Brief => "this is a brief: 'twire expand' writes the plan that it means",
+            Kind::Certificate => {
+                "this is a certificate: 'twire verify PLAN CERT' takes it after its plan"
+            }
+            Kind::Dump => {
+                "this is a value change dump: 'twire capture PLAN VCD' takes it after a plan"
+            }
+            Kind::Gzip => "this file is compressed by gzip: unpack it first with 'gunzip'",
+            Kind::Zip => {
+                "this is a ZIP archive, as a session of sigrok is (.sr): for a dump of one, 'sigrok-cli -i FILE -O vcd -o OUT'"
+            }
+            Kind::Archive => "this is an archive or a compressed file: unpack it first",
+            Kind::Utf16 => {
+                "this text has two bytes for each character (UTF-16): save it as ASCII or UTF-8"
+            }
+            Kind::ByteOrderMark => {
+                "this text begins with a byte order mark (EF BB BF): save it as UTF-8 without one"
+            }
+        }
+    }
+}
+
+/// Says what the file is, where it is not what was expected.
+pub fn push_kind(lines: &mut Lines, found: Option<Kind>, expected: Kind) -> Result<(), AllocError> {
+    match found {
+        Some(kind) if kind != expected => lines.say(kind.words()),
+        _ => Ok(()),
+    }
+}
+
+/// What a file is, where it can be read once more and its first bytes tell.
+pub fn kind_of_file<F: Read + Seek>(alloc: Global, file: &mut Option<F>) -> Option<Kind> {
+    let file = file.as_mut()?;
+    match part(alloc, file, 0, LOOKED_AT) {
+        Ok(head) => kind_of(head.as_slice()),
+        Err(_) => None,
+    }
+}
+
+/// What the first bytes of a file tell, if they do.
+pub fn kind_of(head: &[u8]) -> Option<Kind> {
+    packed(head)
+        .or_else(|| encoded(head))
+        .or_else(|| text(head))
+}
+
+fn packed(head: &[u8]) -> Option<Kind> {
+    if head.starts_with(b"\x1f\x8b") {
+        Some(Kind::Gzip)
+    } else if head.starts_with(b"PK\x03\x04") {
+        Some(Kind::Zip)
+    } else if is_archive(head) {
+        Some(Kind::Archive)
+    } else {
+        None
+    }
+}
+
+// bzip2, xz, zstd, 7z, and tar.
+fn is_archive(head: &[u8]) -> bool {
+    head.starts_with(b"BZh")
+        || head.starts_with(b"\xfd7zXZ\x00")
+        || head.starts_with(b"\x28\xb5\x2f\xfd")
+        || head.starts_with(b"7z\xbc\xaf\x27\x1c")
+        || head.get(257..262) == Some(b"ustar".as_slice())
+}
+
+fn encoded(head: &[u8]) -> Option<Kind> {
+    if head.starts_with(b"\xef\xbb\xbf") {
+        return Some(Kind::ByteOrderMark);
+    }
+    let has_mark = head.starts_with(b"\xff\xfe") || head.starts_with(b"\xfe\xff");
+    if has_mark || is_wide(head) {
+        return Some(Kind::Utf16);
+    }
+    None
+}
+
+// ASCII with a zero beside each character.
+fn is_wide(head: &[u8]) -> bool {
+    match head {
+        [0, a, 0, b, ..] | [a, 0, b, 0, ..] => is_printed(*a) && is_printed(*b),
+        _ => false,
+    }
+}
+
+fn is_printed(byte: u8) -> bool {
+    matches!(byte, b'\t' | b'\n' | b'\r' | b' '..=b'~')
+}
+
+fn text(head: &[u8]) -> Option<Kind> {
+    let head = after_comments(head);
+    if has_word(head, b"plan") {
+        Some(Kind::Plan)
+    } else if has_word(head, b"brief") {
+        Some(Kind::Brief)
+    } else if has_word(head, b"cert") {
+        Some(Kind::Certificate)
+    } else if is_dump(head) {
+        Some(Kind::Dump)
+    } else {
+        None
+    }
+}
+
+// What stands after blanks and comments of a plan.
+fn after_comments(head: &[u8]) -> &[u8] {
+    let mut rest = head.trim_ascii_start();
+    for _ in 0..LOOKED_AT {
+        if !rest.starts_with(b"#") {
+            break;
+        }
+        let end = rest.iter().position(|byte| *byte == b'\n');
+        rest = rest
+            .get(end.unwrap_or(rest.len())..)
+            .unwrap_or(&[])
+            .trim_ascii_start();
+    }
+    rest
+}
+
+// A word, a blank and a digit.
+fn has_word(head: &[u8], word: &[u8]) -> bool {
+    match head.strip_prefix(word) {
+        Some([blank, digit, ..]) => blank.is_ascii_whitespace() && digit.is_ascii_digit(),
+        _ => false,
+    }
+}
+
+fn is_dump(head: &[u8]) -> bool {
+    const COMMANDS: [&[u8]; 7] = [
+        b"$date",
+        b"$version",
+        b"$timescale",
+        b"$comment",
+        b"$scope",
+        b"$var",
+        b"$enddefinitions",
+    ];
+    COMMANDS.iter().any(|command| head.starts_with(command))
+}

@@ -1,0 +1,117 @@
+// How like one another two names are.
+
+use crate::lines::Lines;
+use crate::marking::push_quoted;
+use std::alloc::{AllocError, Global};
+use strsim::generic_levenshtein;
+
+// How many names are kept, and how many bytes of a name are compared.
+const MOST: usize = 10;
+
+const COMPARED: usize = 64;
+
+// Names that have the wanted one in them come before all others.
+const OTHERS: usize = 1_000;
+
+// A name, and how far it is from the wanted one.
+#[derive(Drop)]
+struct Near {
+    name: Vec<u8>,
+    far: usize,
+}
+
+/// The names that are nearest to a wanted one.
+#[derive(Drop)]
+pub struct Nearest {
+    wanted: Vec<u8>,
+    // the nearest first
+    found: Vec<Near>,
+    others: u64,
+}
+
+impl Nearest {
+    /// No name yet.
+    pub fn new(alloc: Global, wanted: &[u8]) -> Result<Nearest, AllocError> {
+        Ok(Nearest {
+            wanted: wanted.to_vec(alloc)?,
+            found: Vec::new(alloc),
+            others: 0,
+        })
+    }
+
+    /// One more name. One that is there already is not kept twice.
+    pub fn add(&mut self, alloc: Global, name: &[u8]) -> Result<(), AllocError> {
+        if self.found.iter().any(|known| known.name.as_slice() == name) {
+            return Ok(());
+        }
+        let far = distance(alloc, self.wanted.as_slice(), name)?;
+        let at = self.found.iter().position(|known| far < known.far);
+        let at = at.unwrap_or(self.found.len());
+        if at < MOST && at <= self.found.len() {
+            let name = name.to_vec(alloc)?;
+            self.found.insert(at, Near { name, far })?;
+        } else {
+            self.others = self.others.saturating_add(1);
+        }
+        if self.found.len() > MOST {
+            let _ = self.found.pop();
+            self.others = self.others.saturating_add(1);
+        }
+        Ok(())
+    }
+
+    /// Whether no name was added.
+    pub fn is_empty(&self) -> bool {
+        self.found.is_empty()
+    }
+
+    /// Tells the nearest names, each on a line of its own.
+    pub fn tell(&self, alloc: Global, lines: &mut Lines) -> Result<(), AllocError> {
+        for near in self.found.iter() {
+            push_quoted(alloc, lines, near.name.as_slice())?;
+        }
+        if self.others != 0 {
+            return lines.detail("..");
+        }
+        Ok(())
+    }
+}
+
+// How far a name is from the wanted one: by how many bytes it is longer where it has the wanted name in it, in letters of
+// either case, and else by how many bytes would have to be put in, taken out or changed.
+fn distance(alloc: Global, wanted: &[u8], name: &[u8]) -> Result<usize, AllocError> {
+    if has_within(wanted, name) {
+        return Ok(name.len().saturating_sub(wanted.len()).min(OTHERS));
+    }
+    Ok(OTHERS.saturating_add(edits(alloc, wanted, name)?))
+}
+
+fn has_within(wanted: &[u8], name: &[u8]) -> bool {
+    if wanted.is_empty() {
+        return false;
+    }
+    for from in 0..name.len() {
+        let rest = name.get(from..).unwrap_or(&[]);
+        match rest.get(..wanted.len()) {
+            Some(part) if part.eq_ignore_ascii_case(wanted) => return true,
+            _ => {}
+        }
+    }
+    false
+}
+
+// The least number of edits that make one name the other, in letters of either case.
+fn edits(alloc: Global, wanted: &[u8], name: &[u8]) -> Result<usize, AllocError> {
+    let wanted = compared(alloc, wanted)?;
+    let name = compared(alloc, name)?;
+    generic_levenshtein(alloc, wanted.as_slice(), name.as_slice())
+}
+
+// What is compared of a name.
+fn compared(alloc: Global, name: &[u8]) -> Result<Vec<u8>, AllocError> {
+    let mut letters = Vec::new(alloc);
+    for byte in name.iter().take(COMPARED) {
+        letters.push(byte.to_ascii_lowercase())?;
+    }
+    Ok(letters)
+}

@@ -1,0 +1,258 @@
+// Pairs of signals that look like the two lines of a bus: the events are those of a capture (docs/FORMATS.md, bus events),
+// found for all pairs at once.
+
+use crate::masks::{MOST, Mask};
+use std::alloc::{AllocError, Global};
+use vcd_read::Level;
+
+/// A signal whose level differs after a time stamp from that before.
+#[derive(Clone, Copy)]
+pub(crate) struct Change {
+    pub(crate) signal: usize,
+    pub(crate) before: Level,
+    pub(crate) now: Level,
+}
+
+/// Two signals that look like the two lines of a bus, and how many of its transactions a STOP ended.
+#[derive(Clone, Copy)]
+pub(crate) struct Bus {
+    pub(crate) scl: usize,
+    pub(crate) sda: usize,
+    pub(crate) stopped: u32,
+}
+
+// What two signals have shown, the one as SCL and the other as SDA.
+#[derive(Clone, Copy)]
+struct Pair {
+    // how often SCL had risen at the last START or repeated START
+    rises: u64,
+    stopped: u32,
+    // from START or repeated START to the next of these or to STOP: those of whole bytes, and others
+    whole: u32,
+    broken: u32,
+}
+
+const UNSEEN: Pair = Pair {
+    rises: 0,
+    stopped: 0,
+    whole: 0,
+    broken: 0,
+};
+
+// So many broken ones, and no more whole ones, and a pair is no bus.
+const PATIENCE: u32 = 8;
+
+/// The pairs of the first 256 signals.
+#[derive(Drop)]
+pub(crate) struct Buses {
+    count: usize,
+    // the levels before the time stamp
+    known: Mask,
+    high: Mask,
+    // for each signal as SDA: those that may be its SCL, and those with which the bus is free, and busy
+    likely: Vec<Mask>,
+    free: Vec<Mask>,
+    busy: Vec<Mask>,
+    // how often each has risen
+    rises: Vec<u64>,
+    // for each signal as SDA, each other as SCL
+    pairs: Vec<Pair>,
+}
+
+impl Buses {
+    /// So many signals, of which nothing is known.
+    pub(crate) fn new(alloc: Global, signals: usize) -> Result<Buses, AllocError> {
+        let count = signals.min(MOST);
+        let mut all = Mask::empty();
+        for number in 0..count {
+            all.set(number, true);
+        }
+        Ok(Buses {
+            count,
+            known: Mask::empty(),
+            high: Mask::empty(),
+            likely: vec![in alloc; all; count]?,
+            free: vec![in alloc; Mask::empty(); count]?,
+            busy: vec![in alloc; Mask::empty(); count]?,
+            rises: vec![in alloc; 0u64; count]?,
+            pairs: vec![in alloc; UNSEEN; count.saturating_mul(count)]?,
+        })
+    }
+
+    /// The changes of a time stamp, each of another signal.
+    pub(crate) fn stamp(&mut self, changes: &[Change]) {
+        let was_high = self.high;
+        for change in changes {
+            self.known.set(change.signal, change.now != Level::Unknown);
+            self.high.set(change.signal, change.now == Level::High);
+        }
+        let stays_high = was_high.and(&self.high);
+        for change in changes {
+            if change.signal < self.count {
+                self.change(change, &stays_high);
+            }
+        }
+    }
+
+    fn change(&mut self, change: &Change, stays_high: &Mask) {
+        let signal = change.signal;
+        match (change.before, change.now) {
+            (Level::High, Level::Low) => self.falls(signal, stays_high),
+            (Level::Low, Level::High) => {
+                self.stops(signal, stays_high);
+                if let Some(rises) = self.rises.get_mut(signal) {
+                    *rises = rises.saturating_add(1);
+                }
+            }
+            (_, Level::Unknown) => self.unknown(signal),
+            (Level::Unknown, now) => self.becomes_known(signal, now == Level::High),
+            _ => {}
+        }
+    }
+
+    // SDA falls: a START on a free bus, and a repeated START on a busy one.
+    fn falls(&mut self, sda: usize, stays_high: &Mask) {
+        let (Some(likely), Some(free), Some(busy)) = (
+            self.likely.get(sda).copied(),
+            self.free.get(sda).copied(),
+            self.busy.get(sda).copied(),
+        ) else {
+            return;
+        };
+        let scls = stays_high.and(&likely);
+        let mut again = scls.and(&busy);
+        let begun = scls.and(&free);
+        put(&mut self.free, sda, free.without(&begun));
+        put(&mut self.busy, sda, busy.or(&begun));
+        for _ in 0..MOST {
+            let Some(scl) = again.take_least() else {
+                break;
+            };
+            self.part_ends(scl, sda);
+        }
+        let mut started = scls.and(&busy.or(&free));
+        for _ in 0..MOST {
+            let Some(scl) = started.take_least() else {
+                break;
+            };
+            self.part_begins(scl, sda);
+        }
+    }
+
+    // SDA rises: a STOP.
+    fn stops(&mut self, sda: usize, stays_high: &Mask) {
+        let (Some(likely), Some(free), Some(busy)) = (
+            self.likely.get(sda).copied(),
+            self.free.get(sda).copied(),
+            self.busy.get(sda).copied(),
+        ) else {
+            return;
+        };
+        let scls = stays_high.and(&likely);
+        put(&mut self.free, sda, free.or(&scls));
+        put(&mut self.busy, sda, busy.without(&scls));
+        let mut ended = scls.and(&busy);
+        for _ in 0..MOST {
+            let Some(scl) = ended.take_least() else {
+                break;
+            };
+            if let Some(pair) = self.pair(scl, sda) {
+                pair.stopped = pair.stopped.saturating_add(1);
+            }
+            self.part_ends(scl, sda);
+        }
+    }
+
+    fn part_begins(&mut self, scl: usize, sda: usize) {
+        let rises = self.rises.get(scl).copied().unwrap_or(0);
+        if let Some(pair) = self.pair(scl, sda) {
+            pair.rises = rises;
+        }
+    }
+
+    // Whole bytes, each with its acknowledge, are nine bits each; then SCL rises once more.
+    fn part_ends(&mut self, scl: usize, sda: usize) {
+        let rises = self.rises.get(scl).copied().unwrap_or(0);
+        let Some(pair) = self.pair(scl, sda) else {
+            return;
+        };
+        let rises = rises.saturating_sub(pair.rises);
+        if rises > 1 && rises % 9 == 1 {
+            pair.whole = pair.whole.saturating_add(1);
+        } else {
+            pair.broken = pair.broken.saturating_add(1);
+        }
+        if pair.broken >= PATIENCE && pair.broken >= pair.whole {
+            if let Some(likely) = self.likely.get_mut(sda) {
+                likely.set(scl, false);
+            }
+        }
+    }
+
+    fn pair(&mut self, scl: usize, sda: usize) -> Option<&mut Pair> {
+        self.pairs
+            .get_mut(sda.saturating_mul(self.count).saturating_add(scl))
+    }
+
+    fn unknown(&mut self, signal: usize) {
+        put(&mut self.free, signal, Mask::empty());
+        put(&mut self.busy, signal, Mask::empty());
+        for mask in self.free.iter_mut() {
+            mask.set(signal, false);
+        }
+        for mask in self.busy.iter_mut() {
+            mask.set(signal, false);
+        }
+    }
+
+    // With each other signal that is known: the bus is free where both are HIGH.
+    fn becomes_known(&mut self, signal: usize, is_high: bool) {
+        let high = self.high;
+        put(
+            &mut self.free,
+            signal,
+            if is_high { high } else { Mask::empty() },
+        );
+        put(&mut self.busy, signal, Mask::empty());
+        for mask in self.busy.iter_mut() {
+            mask.set(signal, false);
+        }
+        for (other, mask) in self.free.iter_mut().enumerate() {
+            mask.set(signal, is_high && high.has(other));
+        }
+    }
+
+    /// The pairs that look like a bus: some transaction was ended by a STOP, more parts have whole bytes than not, and SDA
+    /// rises no more often than SCL.
+    pub(crate) fn found(&self, alloc: Global) -> Result<Vec<Bus>, AllocError> {
+        let mut found = Vec::new(alloc);
+        for scl in 0..self.count {
+            for sda in 0..self.count {
+                if let Some(stopped) = self.stopped(scl, sda) {
+                    found.push(Bus { scl, sda, stopped })?;
+                }
+            }
+        }
+        Ok(found)
+    }
+}
+
+impl Buses {
+    // How many transactions of the two were ended by a STOP, where they look like a bus. For each bit SCL rises once, and
+    // SDA once at most.
+    fn stopped(&self, scl: usize, sda: usize) -> Option<u32> {
+        if self.rises.get(sda)? > self.rises.get(scl)? {
+            return None;
+        }
+        let pair = self
+            .pairs
+            .get(sda.saturating_mul(self.count).saturating_add(scl))?;
+        (pair.stopped > 0 && pair.whole > pair.broken).then_some(pair.stopped)
+    }
+}
+
+fn put(masks: &mut Vec<Mask>, signal: usize, mask: Mask) {
+    if let Some(place) = masks.get_mut(signal) {
+        *place = mask;
+    }
+}

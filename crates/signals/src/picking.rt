@@ -1,0 +1,174 @@
+// The two lines of a bus, found among the signals of a dump by what people say of them.
+
+use crate::beginning::{Again, read_beginning};
+use crate::definitions::{Found, Listing};
+use dump_times::Scale;
+use run_parts::{Input, RunError};
+use std::alloc::{AllocError, Global};
+use vcd_read::Probe;
+
+/// The codes of the two lines, where signals were found that have them, and what one step of the dump's time is.
+#[derive(Drop)]
+pub struct Picked {
+    scl: Option<String>,
+    sda: Option<String>,
+    pub scale: Option<Scale>,
+}
+
+impl Picked {
+    /// By which code SCL is found; where it was not found, by one that no signal has.
+    pub fn scl(&self) -> Probe<'_> {
+        probe_of(&self.scl)
+    }
+
+    /// The same of SDA.
+    pub fn sda(&self) -> Probe<'_> {
+        probe_of(&self.sda)
+    }
+}
+
+// No signal has an empty code.
+fn probe_of(code: &Option<String>) -> Probe<'_> {
+    match code {
+        Some(code) => Probe::Coded(code.as_str()),
+        None => Probe::Coded(""),
+    }
+}
+
+/// Whether a line is not found by its reference or code alone: there is a scope, or its name has white space.
+pub fn needs_picking(scl: Probe<'_>, sda: Probe<'_>, scope: Option<&str>) -> bool {
+    scope.is_some() || has_blanks(scl) || has_blanks(sda)
+}
+
+fn has_blanks(probe: Probe<'_>) -> bool {
+    match probe {
+        Probe::Named(name) => name.bytes().any(|byte| byte.is_ascii_whitespace()),
+        Probe::Coded(_) => false,
+    }
+}
+
+/// Reads the definitions of a dump, and finds the two lines in them. A name is that of the first signal of one bit in the
+/// scope (in any scope, where none is given) that has it as its reference, or as the whole of what stands up to the
+/// `$end`, token by token. What was read is given once more before the rest.
+///
+/// # Errors
+///
+/// `Read` where the reader fails, and `NoMemory`.
+pub fn pick<'a, J: Input>(
+    alloc: Global,
+    vcd: &'a mut J,
+    scl: Probe<'_>,
+    sda: Probe<'_>,
+    scope: Option<&str>,
+) -> Result<(Again<'a, J>, Picked), RunError> {
+    let picker = Picker::new(alloc, scl, sda, scope)?;
+    let (again, picker, scale) = read_beginning(alloc, vcd, picker)?;
+    let Picker { scl, sda, .. } = picker;
+    let picked = Picked {
+        scl: scl.into_code()?,
+        sda: sda.into_code()?,
+        scale,
+    };
+    Ok((again, picked))
+}
+
+/// What is looked for among the signals.
+#[derive(Drop)]
+pub struct Picker {
+    alloc: Global,
+    scl: Sought,
+    sda: Sought,
+    scope: Option<Vec<u8>>,
+}
+
+// A line that is looked for, and its code once it is found.
+#[derive(Drop)]
+struct Sought {
+    word: Vec<u8>,
+    by_code: bool,
+    code: Option<Vec<u8>>,
+}
+
+impl Picker {
+    /// Nothing has been found.
+    pub fn new(
+        alloc: Global,
+        scl: Probe<'_>,
+        sda: Probe<'_>,
+        scope: Option<&str>,
+    ) -> Result<Picker, AllocError> {
+        let scope = match scope {
+            Some(scope) => Some(scope.as_bytes().to_vec(alloc)?),
+            None => None,
+        };
+        Ok(Picker {
+            alloc,
+            scl: Sought::new(alloc, scl)?,
+            sda: Sought::new(alloc, sda)?,
+            scope,
+        })
+    }
+}
+
+impl Sought {
+    fn new(alloc: Global, probe: Probe<'_>) -> Result<Sought, AllocError> {
+        Ok(match probe {
+            Probe::Named(name) => Sought {
+                word: with_single_blanks(alloc, name)?,
+                by_code: false,
+                code: None,
+            },
+            Probe::Coded(code) => Sought {
+                word: code.as_bytes().to_vec(alloc)?,
+                by_code: true,
+                code: None,
+            },
+        })
+    }
+
+    // A name counts where the signal stands in the scope, and a code everywhere.
+    fn see(&mut self, alloc: Global, found: Found<'_>, in_scope: bool) -> Result<(), AllocError> {
+        let word = self.word.as_slice();
+        let is_it = if self.by_code {
+            found.code == word
+        } else {
+            in_scope && (found.reference == word || found.name == word)
+        };
+        if is_it && self.code.is_none() {
+            self.code = Some(found.code.to_vec(alloc)?);
+        }
+        Ok(())
+    }
+
+    // A code has printing characters alone; with any other no change names the signal.
+    fn into_code(self) -> Result<Option<String>, AllocError> {
+        let Sought { code, .. } = self;
+        match code {
+            Some(code) => Ok(String::from_utf8(code).ok()),
+            None => Ok(None),
+        }
+    }
+}
+
+// The words of a name, with one blank between two.
+fn with_single_blanks(alloc: Global, name: &str) -> Result<Vec<u8>, AllocError> {
+    let mut word = Vec::new(alloc);
+    for part in name.split_ascii_whitespace() {
+        if !word.is_empty() {
+            word.push(b' ')?;
+        }
+        word.extend_from_slice(part.as_bytes())?;
+    }
+    Ok(word)
+}
+
+impl Listing for Picker {
+    fn signal(&mut self, found: Found<'_>) -> Result<(), AllocError> {
+        let in_scope = match &self.scope {
+            Some(scope) => found.scope == scope.as_slice(),
+            None => true,
+        };
+        self.scl.see(self.alloc, found, in_scope)?;
+        self.sda.see(self.alloc, found, in_scope)
+    }
+}

@@ -1,0 +1,14 @@
+//! A run of the bus as waves: a value change dump (IEEE 1364-2005, clause 18) of SCL and SDA, and of what each participant
+//! pulls, for programs that show waves.
+//!
+//! `drawing` goes along the wire slot by slot, `rows` has what a participant does in a slot, `dump` writes the changes, and
+//! `runs` has the waves of a check and of a rehearsal.
+#![tactic(auto)]
+
+mod drawing;
+mod dump;
+mod rows;
+mod runs;
+
+pub use drawing::wave_of;
+pub use runs::{wave_of_bench, wave_of_check};

@@ -1,0 +1,513 @@
+#!/usr/bin/env bash
+# Captures as they come from a bench: which lines, which transactions, the signals of a dump, and what is learned of one.
+# The last line is 'N passed, M failed', and the exit status is 1 where a case fails.
+#
+# It runs the launcher at the top of the repository, or the program that TWIRE names.
+set -u
+
+tests=$(dirname -- "$(readlink -f -- "${BASH_SOURCE[0]}")")
+twire=$(readlink -f -- "${TWIRE:-$tests/../twire}")
+work=$(mktemp -d)
+trap 'rm -rf -- "$work"' EXIT
+cd -- "$work" || exit 1
+
+passed=0
+failed=0
+
+# expect NAME STATUS OUT ERR COMMAND ARG..: one call of twire, with hints only where the arguments say so.
+expect() {
+    local name=$1 status=$2 out=$3 err=$4
+    shift 4
+    local found_out found_err found_status
+    found_out=$("$twire" "$@" 2>err)
+    found_status=$?
+    found_err=$(cat err)
+    if [[ $found_status == "$status" && $found_out == "$out" && $found_err == "$err" ]]; then
+        passed=$((passed + 1))
+    else
+        failed=$((failed + 1))
+        printf 'FAILED: %s: wanted %s, found %s\n%s\n%s\n' "$name" "$status $out $err" "$found_status" "$found_out" "$found_err"
+    fi
+}
+
+# refuses NAME WORDS COMMAND ARG..: a command line that does not parse, for this reason.
+refuses() {
+    local name=$1 words=$2
+    shift 2
+    local found_out found_status
+    found_out=$("$twire" "$@" 2>err)
+    found_status=$?
+    if [[ $found_status == 2 && -z $found_out && $(head -n 1 err) == "error: $words" ]]; then
+        passed=$((passed + 1))
+    else
+        failed=$((failed + 1))
+        printf 'FAILED: %s: wanted %s, found %s\n' "$name" "$words" "$found_status"
+        cat err
+    fi
+}
+
+"$twire" --version >/dev/null 2>&1
+
+cat >plan <<'PLAN'
+plan 1
+message m write 1001000 stop else stop ;
+message n write 1001000 0000000x stop else stop else stop ;
+controller a m ;
+controller b n ;
+PLAN
+
+# transaction SCL SDA LEVELS TIME: a transaction of these levels, from this time on, in steps of 5. Its STOP comes after two
+# steps for the START, three for each level, and two more: 5 to 160 for nine levels.
+transaction() {
+    awk -v c="$1" -v d="$2" -v levels="$3" -v time="$4" '
+    function put(change) { print "#" time " " change; time += 5 }
+    BEGIN {
+        put("0" d); put("0" c)
+        for (i = 1; i <= length(levels); i++) {
+            level = substr(levels, i, 1)
+            if (level == "r") { put("1" d); put("1" c); put("0" d); put("0" c) }
+            else { put(level d); put("1" c); put("0" c) }
+        }
+        put("0" d); put("1" c); put("1" d)
+    }'
+}
+
+# ---- two buses
+
+{
+    printf '%s\n' '$timescale 1 us $end' '$scope module top $end' \
+        '$scope module i2c0 $end' '$var wire 1 ! scl $end' '$var wire 1 " sda $end' '$upscope $end' \
+        '$scope module i2c1 $end' '$var wire 1 # scl $end' '$var wire 1 $ sda $end' '$upscope $end' \
+        '$upscope $end' '$enddefinitions $end' '#0 1! 1" 1# 1$'
+    transaction ! '"' 100100000 5
+    transaction '#' '$' 111111111 200
+} >two
+first=$'5-160 a/m\n1 transactions, 0 unexplained'
+second=$'200-355 unexplained\n1 transactions, 1 unexplained'
+expect "the first of two buses" 0 "$first" "" capture plan two
+expect "the first by its scope" 0 "$first" "" capture plan two --scope top.i2c0
+expect "the second by its scope" 1 "$second" "" capture plan two --scope top.i2c1
+expect "the second by its codes" 1 "$second" "" capture plan two --scl-code '#' --sda-code '$'
+expect "the second by a code and a scope" 1 "$second" "" capture plan two --scl-code '#' --scope top.i2c1
+expect "the second through a pipe" 1 "$second" "" capture plan - --scope top.i2c1 < <(cat two)
+expect "a scope above them" 2 "" "refused V1 scl" capture plan two --scope top
+expect "a scope without the first name" 2 "" "refused V1 scl" capture plan two --scope i2c1
+expect "a code that no signal has" 2 "" "refused V1 scl" capture plan two --scl-code '%'
+expect "another code that no signal has" 2 "" "refused V1 sda" capture plan two --scl-code '#' --sda-code '%%'
+expect "an empty code" 2 "" "refused V1 scl" capture plan two --scl-code ''
+expect "a code that is a name" 2 "" "refused V1 scl" capture plan two --scl-code scl
+expect "a name that is a code" 2 "" "refused V1 scl" capture plan two --scl '#'
+expect "one code for both" 0 "0 transactions, 0 unexplained" "" capture plan two --scl-code '#' --sda-code '#'
+expect "the signals" 0 'signal ! 20 top.i2c0 scl
+signal " 6 top.i2c0 sda
+signal # 20 top.i2c1 scl
+signal $ 4 top.i2c1 sda
+bus 1 transactions --scl-code '"'!'"' --sda-code '"'\"'"'
+bus 1 transactions --scl-code '"'#'"' --sda-code '"'\$'"'
+4 signals, 2 buses' "" signals two
+expect "the signals through a pipe" 0 "$("$twire" signals two)" "" signals - < <(cat two)
+expect "a hint on names that are not the only ones" 0 "$first" "hint: 2 signals of one bit have the name 'scl', and the first of them counts
+hint:   in scope top.i2c0, code !
+hint:   in scope top.i2c1, code #
+hint: 2 signals of one bit have the name 'sda', and the first of them counts
+hint:   in scope top.i2c0, code \"
+hint:   in scope top.i2c1, code \$
+hint: choose with --scope PATH, or by codes with --scl-code and --sda-code;
+hint: 'twire signals two' shows what each does" capture plan two --hints always
+expect "no hint where a scope was given" 0 "$first" "" capture plan two --scope top.i2c0 --hints always
+expect "no hint where codes were given" 0 "$first" "" capture plan two --scl-code ! --sda-code '"' --hints always
+
+# A code of a `$var` of another size, and of one with a name that no option can give.
+sed 's/wire 1 # scl/wire 2 # scl/' two >wide
+expect "a code of two bits" 2 "" "refused V1 scl" capture plan wide --scl-code '#' --sda-code '$'
+LC_ALL=C sed 's/# scl \$end/# '$'\377'' $end/' two >unreadable
+expect "a code of a signal without a readable name" 1 "$second" "" capture plan unreadable --scl-code '#' --sda-code '$'
+
+# ---- names as they stand
+
+{
+    printf '%s\n' '$scope module libsigrok $end' '$var wire 1 ! I2C SCL $end' '$var wire 1 " I2C  SDA $end' \
+        '$upscope $end' '$enddefinitions $end' '#0 1! 1"'
+    transaction ! '"' 100100000 5
+} >blanks
+expect "names with blanks" 0 "$first" "" capture plan blanks --scl "I2C SCL" --sda "I2C SDA"
+expect "names with more blanks" 0 "$first" "" capture plan blanks --scl " I2C   SCL" --sda $'I2C\tSDA'
+expect "a name with a blank in a scope" 0 "$first" "" capture plan blanks --scl "I2C SCL" --sda "I2C SDA" --scope libsigrok
+expect "a reference, and a name with a blank" 0 "$first" "" capture plan blanks --scl I2C --sda "I2C SDA"
+expect "a name with a blank that is not there" 2 "" "refused V1 sda" capture plan blanks --scl "I2C SCL" --sda "I2C SDB"
+expect "the signals with blanks" 0 'signal ! 20 libsigrok I2C SCL
+signal " 6 libsigrok I2C SDA
+bus 1 transactions --scl-code '"'!'"' --sda-code '"'\"'"'
+2 signals, 1 buses' "" signals blanks
+sed 's/I2C SCL/i2c [1]/; s/I2C  SDA/i2c [0]/' blanks >bits
+expect "bits of a vector" 0 "$first" "" capture plan bits --scl "i2c [1]" --sda "i2c [0]"
+expect "bits of a vector, exchanged" 1 $'25-65 unexplained\n70- unfinished\n1 transactions, 1 unexplained' "" capture plan bits --scl "i2c [0]" --sda "i2c [1]"
+
+# Refusals come where the exact reader has them, whatever stood in the definitions.
+printf '%s\n' '$scope module top $end' '$var wire 1 ! $end' >short_var
+expect "a var that lacks something, with a scope" 2 "" "refused V2 line 2" capture plan short_var --scope top
+printf '%s\n' '$scope module top $end' '#5' >early
+expect "a time among the definitions, with a scope" 2 "" "refused V2 line 2" capture plan early --scope top
+printf '%s\n' '$scope module top $end' '$comment' >open_comment
+expect "an open comment, with a scope" 2 "" "refused V4 line 2" capture plan open_comment --scope top
+: >empty
+expect "an empty dump, with a scope" 2 "" "refused V1 scl" capture plan empty --scope top
+{ cat two; echo '?'; } >stray
+expect "a token of no kind, with a scope" 2 "" "refused V2 line $(wc -l <stray)" capture plan stray --scope top.i2c1
+expect "no such file, with a scope" 2 "" "refused read" capture plan missing --scope top
+expect "a directory, with a scope" 2 "" "refused read" capture plan / --scope top
+expect "a refused plan first" 2 "" "refused P3 line 1" capture <(echo "plan 1 ;") / --scope top
+expect "signals of a token of no kind" 2 "" "refused V2 line $(wc -l <stray)" signals stray
+expect "signals of an empty dump" 2 "" "refused V1 scl" signals empty
+expect "signals of definitions alone" 0 $'signal ! 0 - scl\n1 signals, 0 buses' "" signals <(echo '$var wire 1 ! scl $end')
+expect "signals of no file" 2 "" "refused read" signals missing
+
+# A file that was cut among its definitions.
+head -n 4 two >cut_definitions
+expect "a hint on definitions that break off" 2 "" "refused V1 sda
+hint: no signal of one bit has the name 'sda'
+hint: the file ends, or breaks off, among its definitions: it has no
+hint: '\$enddefinitions \$end'
+hint: these signals have one bit, the nearest names first:
+hint:   scl
+hint: give the name that the line has in the file with --sda NAME
+hint: this lists the signals: twire signals cut_definitions" capture plan cut_definitions --hints always
+
+# ---- dumps of simulators and logic analysers: examples, made by the programs or in their forms
+
+example=$tests/../examples
+probe=$'5-160 service/probe_10\n1 transactions, 0 unexplained'
+expect "two buses of Icarus Verilog" 0 "$probe" "" capture "$example/stop_meets_data.plan" "$example/two_buses.vcd"
+expect "the second of them" 1 $'165-320 unexplained\n1 transactions, 1 unexplained' "" \
+    capture "$example/stop_meets_data.plan" "$example/two_buses.vcd" --scope board.i2c1
+expect "their signals" 0 'signal ! 20 board.i2c0 scl
+signal " 4 board.i2c0 sda
+signal % 20 board.i2c1 scl
+signal & 6 board.i2c1 sda
+bus 1 transactions --scl-code '"'!'"' --sda-code '"'\"'"'
+bus 1 transactions --scl-code '"'%'"' --sda-code '"'&'"'
+4 signals, 2 buses' "" signals "$example/two_buses.vcd"
+si=$'5 us-160 us service/probe_10\n1 transactions, 0 unexplained'
+expect "GHDL" 0 "$si" "" capture "$example/stop_meets_data.plan" "$example/probe_ghdl.vcd" --times si
+expect "Verilator" 0 "$si" "" capture "$example/stop_meets_data.plan" "$example/probe_verilator.vcd" --times si
+expect "Questa" 0 "$si" "" capture "$example/stop_meets_data.plan" "$example/probe_questa.vcd" --times si
+expect "Logic 2" 0 "$si" "" capture "$example/stop_meets_data.plan" "$example/probe_logic.vcd" \
+    --scl "Channel 0" --sda "Channel 1" --times si
+expect "PulseView" 0 "$si" "" capture "$example/stop_meets_data.plan" "$example/probe_pulseview.vcd" \
+    --scl "I2C SCL" --sda "I2C SDA" --times si
+# Without its option for four states GHDL begins with 'U' in each digit of a vector.
+sed 's/^bxxxxxxxx/bUUUUUUUU/' "$example/probe_ghdl.vcd" >nine_states
+expect "a hint on nine states of a vector" 2 "" "refused V2 line 21
+hint: line 21 of the capture:
+hint:   bUUUUUUUU !
+hint:   ^^^^^^^^^
+hint: this is one of VHDL's nine states, and only '0', '1', 'x' and 'z' are
+hint: read: have the dump written with four states (GHDL: --vcd-4states)" \
+    capture "$example/stop_meets_data.plan" nine_states --hints always
+printf '%s\n' '$var wire 1 ! scl $end $var wire 1 " sda $end $enddefinitions $end' '#0 s %' >no_text
+expect "a hint on an empty string" 2 "" "refused V2 line 2
+hint: line 2 of the capture:
+hint:   #0 s %
+hint:      ^
+hint: a text is expected directly after this letter, as in 'sidle !': leave
+hint: signals out of the dump whose text may be empty" capture plan no_text --hints always
+printf '%s\n' '$var port 1 <0 scl $end $var wire 1 ! scl $end $var wire 1 " sda $end $enddefinitions $end' \
+    '#0 pD 6 0 <0' >ports
+expect "a hint on a dump of ports" 2 "" "refused V2 line 2
+hint: line 2 of the capture:
+hint:   #0 pD 6 0 <0
+hint:      ^^
+hint: this is a port of an extended dump (\$dumpports), which is not read: have
+hint: the lines written with \$dumpvars" capture plan ports --hints always
+long=$(printf 'n%.0s' {1..60})
+sed "s/scl/$long/g" ports >long_names
+expect "a hint with a long name" 2 "" "refused V1 scl
+hint: no signal of one bit has the name 'scl'
+hint: these signals have one bit, the nearest names first:
+hint:   sda
+hint:   $long
+hint: give the name that the line has in the file with --scl NAME
+hint: this lists the signals: twire signals long_names" capture plan long_names --hints always
+expect "a hint on exchanged lines" 1 $'25-65 unexplained\n70- unfinished\n1 transactions, 1 unexplained' \
+    "hint: 0 of the transactions have whole bytes; with the two lines exchanged 1
+hint: would: are they?" capture plan bits --scl "i2c [0]" --sda "i2c [1]" --hints always
+expect "a hint on one signal for both" 0 "0 transactions, 0 unexplained" "hint: the capture has 21 samples of the two lines, and no START on a free bus
+hint: SCL and SDA are to be one and the same signal: each line is to be one of
+hint: its own
+hint: the bus is free at times, but SDA never falls there while SCL stays HIGH
+hint: 2 signals of one bit have the name 'scl', and the first of them counts
+hint:   in scope top.i2c0, code !
+hint:   in scope top.i2c1, code #
+hint: choose with --scope PATH, or by codes with --scl-code and --sda-code;
+hint: 'twire signals two' shows what each does
+hint: the names of the two lines are given with --scl NAME and --sda NAME" capture plan two --scl scl --sda scl --hints always
+
+# ---- which transactions
+
+"$tests/../tools/dump" 100100000 2 >twice
+whole=$'5-160 a/m\n165-320 a/m\n2 transactions, 0 unexplained'
+late=$'165-320 a/m\n1 transactions, 0 unexplained'
+none='0 transactions, 0 unexplained'
+expect "all" 0 "$whole" "" capture plan twice
+expect "all that are asked for" 0 "$whole" "" capture plan twice --at-least 2
+expect "fewer than asked for" 1 "$whole"$'\ntoo few: 2 of 3' "" capture plan twice --at-least 3
+expect "none at all" 1 "$none"$'\ntoo few: 0 of 1' "" capture plan twice --scl clk --sda clk --at-least 1
+expect "from a time on" 0 "$late" "" capture plan twice --from 6
+expect "from the time of a START on" 0 "$late" "" capture plan twice --from 165
+expect "up to a time" 0 "$first" "" capture plan twice --to 164
+expect "up to the time of a START" 0 "$whole" "" capture plan twice --to 165
+expect "between two times" 0 "$none" "" capture plan twice --from 6 --to 164
+expect "too few between two times" 1 "$none"$'\ntoo few: 0 of 1' "" capture plan twice --from 6 --to 164 --at-least 1
+expect "from a time with a unit" 0 "$late" "" capture plan twice --from 5001ns
+expect "from just that time" 0 "$whole" "" capture plan twice --from 5000ns
+expect "up to a time with a unit" 0 "$first" "" capture plan twice --to 164999999ps
+expect "times in parts of a second" 0 $'5 us-160 us a/m\n165 us-320 us a/m\n2 transactions, 0 unexplained' "" \
+    capture plan twice --times si
+expect "plain times" 0 "$whole" "" capture plan twice --times plain
+sed 's/1 us/100ns/' twice >tenths
+expect "other parts of a second" 0 $'500 ns-16 us a/m\n16.5 us-32 us a/m\n2 transactions, 0 unexplained' "" \
+    capture plan tenths --times si
+sed 's/\$timescale 1 us/$timescale 10\n\tms\n/' twice >hundredths
+expect "greater parts of a second" 0 $'50 ms-1.6 s a/m\n1.65 s-3.2 s a/m\n2 transactions, 0 unexplained' "" \
+    capture plan hundredths --times si
+sed '/timescale/d' twice >no_scale
+expect "no parts of a second" 0 "$whole" "" capture plan no_scale --times si
+expect "a unit without a scale" 2 "" "refused timescale" capture plan no_scale --from 5us
+expect "a unit without a scale, and a refused dump" 2 "" "refused V1 scl" capture plan empty --from 5us
+expect "a hint on it" 2 "" "refused timescale
+hint: the capture does not say what its times count: it has no \$timescale
+hint: give times as plain numbers, as they stand in the file" capture plan no_scale --from 5us --hints always
+expect "explained, from a time on" 0 $'165-320 a/m\n    S 48 Wr A P\n1 transactions, 0 unexplained' "" \
+    capture plan twice --from 6 --explain
+printf '#400 0" #405 x!\n#500 1! 1" #505 0"\n' | cat twice - >ends
+expect "cut and unfinished" 0 $'5-160 a/m\n165-320 a/m\n400-405 cut\n505- unfinished\n2 transactions, 0 unexplained' "" \
+    capture plan ends
+expect "cut and unfinished in parts of a second" 0 \
+    $'5 us-160 us a/m\n165 us-320 us a/m\n400 us-405 us cut\n505 us- unfinished\n2 transactions, 0 unexplained' "" \
+    capture plan ends --times si
+
+# ---- who spoke
+
+"$tests/../tools/dump" 100100001 2 >refused
+expect "a summary of two that explain all" 0 'a/m 0 alone, 2 with others
+b/n 0 alone, 2 with others
+unexplained 0
+cut 0
+unfinished 0
+2 transactions, 0 unexplained' "" capture plan refused --summary
+expect "a summary of one" 0 'a/m 2 alone, 0 with others
+b/n 0 alone, 0 with others
+unexplained 0
+cut 1
+unfinished 1
+2 transactions, 0 unexplained' "" capture plan ends --summary
+expect "a summary of what nobody explains" 1 'a/m 0 alone, 0 with others
+b/n 0 alone, 0 with others
+unexplained 1
+cut 0
+unfinished 0
+1 transactions, 1 unexplained
+too few: 1 of 2' "" capture plan two --scope top.i2c1 --summary --at-least 2
+
+# ---- command lines
+
+refuses "both ways for SCL" "'--scl' and '--scl-code' both say which signal is SCL: give one" \
+    capture plan two --scl scl --scl-code '#'
+refuses "both ways for SDA" "'--sda' and '--sda-code' both say which signal is SDA: give one" \
+    learn two --sda sda --sda-code '#'
+refuses "a scope for codes" "'--scope' is where names are looked for, and codes need none" \
+    capture plan two --scl-code '#' --sda-code '$' --scope top
+refuses "a time that is none" "the value for '--from <TIME>' is no time as 15 or 15us" capture plan two --from 1.5us
+refuses "a time that is too great" "the value for '--to <TIME>' is no time as 15 or 15us" \
+    capture plan two --to 18446744073709551616
+refuses "a unit that is none" "the value for '--to <TIME>' is no time as 15 or 15us" capture plan two --to 5min
+refuses "a summary that is explained" "'--summary' leaves no transactions for '--explain'" \
+    capture plan two --summary --explain
+
+# ---- what is learned
+
+expect "one message" 0 'brief 1
+# seen: 2 transactions, 1 messages
+
+# 2 times, first at 5: S 48 Wr A P
+# never seen: 48 Wr NA,
+message write_48 write 0x48 ;
+
+controller seen write_48 ;' "" learn twice
+expect "nothing" 0 'brief 1
+# seen: 0 transactions, 0 messages
+
+controller seen ;' "" learn twice --scl clk --sda clk
+{
+    printf '%s\n' '$var wire 1 ! scl $end' '$var wire 1 " sda $end' '$enddefinitions $end' '#0 1! 1"'
+    transaction ! '"' 100100000000000010r100100010110101000010101011 1000
+    transaction ! '"' 100100001r101000000000000000 2000
+    transaction ! '"' 100100000000000010 3000
+    transaction ! '"' 100100000000000100 4000
+    transaction ! '"' 100100000000000010 5000
+    transaction ! '"' 1001 6000
+    transaction ! '"' '' 7000
+} >lesson
+expect "messages with answers" 1 'brief 1
+# seen: 7 transactions, 3 messages
+# in no message: 2, first at 6000: a START or STOP stands in the midst of a
+#   byte, or no byte between two
+
+# 1 times, first at 1000: S 48 Wr A 01 A Sr 48 Rd A (2 bytes) P
+# 1 times, first at 2000: S 48 Wr NA Sr 50 Wr A 00 A P
+# never seen: 0x01 NA, 48 Rd NA, 50 Wr NA, 0x00 NA,
+message write_48_read_48 write 0x48 else ( write 0x50 0x00 ) 0x01 read 0x48 2 ;
+
+# 2 times, first at 3000: S 48 Wr A 01 A P
+# never seen: 48 Wr NA, 0x01 NA,
+message write_48 write 0x48 0x01 ;
+
+# 1 times, first at 4000: S 48 Wr A 02 A P
+# never seen: 48 Wr NA, 0x02 NA,
+message write_48_2 write 0x48 0x02 ;
+
+controller seen write_48_read_48 write_48 write_48_2 ;' "" learn lesson
+expect "messages of one shape put together" 1 'brief 1
+# seen: 7 transactions, 2 messages
+# in no message: 2, first at 6000: a START or STOP stands in the midst of a
+#   byte, or no byte between two
+
+# 1 times, first at 1000: S 48 Wr A 01 A Sr 48 Rd A (2 bytes) P
+# 1 times, first at 2000: S 48 Wr NA Sr 50 Wr A 00 A P
+# never seen: 0x01 NA, 48 Rd NA, 50 Wr NA, 0x00 NA,
+message write_48_read_48 write 0x48 else ( write 0x50 0x00 ) 0x01 read 0x48 2 ;
+
+# 2 times, first at 3000: S 48 Wr A 01 A P
+# 1 times, first at 4000: S 48 Wr A 02 A P
+# never seen: 48 Wr NA, 0b000000xx NA,
+message write_48 write 0x48 0b000000xx ;
+
+controller seen write_48_read_48 write_48 ;' "" learn lesson --merge
+expect "into a file" 0 "" "" learn twice -o learned
+expect "from the file" 0 "plan 1
+message write_48 write 1001000 stop else stop ;
+controller seen write_48 ;" "" expand learned
+expect "a refused dump" 2 "" "refused V2 line $(wc -l <stray)" learn stray
+expect "a signal that is not there" 2 "" "refused V1 scl" learn blanks
+
+# again NAME DUMP ARG..: what is learned of a dump explains each transaction of it that a STOP ended.
+again() {
+    local name=$1 dump=$2
+    shift 2
+    local merge
+    for merge in "" --merge; do
+        if "$twire" learn "$dump" $merge "$@" >brief && "$twire" expand brief >learned_plan &&
+            "$twire" capture learned_plan "$dump" "$@" >report && grep -q ' transactions, 0 unexplained$' report; then
+            passed=$((passed + 1))
+        else
+            failed=$((failed + 1))
+            echo "FAILED: learned: $name $merge"
+            cat brief report
+        fi
+    done
+}
+again "an example" "$tests/../examples/stop_meets_data.vcd"
+again "an example of sigrok" "$tests/../examples/probe_sigrok.vcd" --scl D0 --sda D1
+again "an example of Icarus Verilog" "$tests/../examples/probe_icarus.vcd"
+again "an example of GHDL" "$tests/../examples/write_ghdl.vcd"
+again "the first bus" two --scope top.i2c0
+again "the second bus" two --scope top.i2c1
+again "names with blanks" blanks --scl "I2C SCL" --sda "I2C SDA"
+
+# Generated dumps: transactions of one to three frames, to few addresses, of few data bytes, refused at times.
+for seed in 1 2 3 4 5 6 7 8; do
+    {
+        printf '%s\n' '$var wire 1 ! scl $end' '$var wire 1 " sda $end' '$enddefinitions $end' '#0 1! 1"'
+        time=5
+        while read -r levels; do
+            transaction ! '"' "$levels" "$time"
+            time=$((time + 20000))
+        done < <(awk -v seed="$seed" '
+        function any(n) { return int(rand() * n) }
+        function byte(value,  k, text) {
+            text = ""
+            for (k = 128; k >= 1; k /= 2) { text = text (int(value / k) % 2) }
+            return text
+        }
+        function frame(  text, n, i) {
+            if (any(2)) {
+                text = byte(2 * (72 + any(2)) + 1)
+                if (!any(5)) return text "1"
+                text = text "0"
+                n = 1 + any(3)
+                for (i = 1; i <= n; i++) { text = text byte(any(256)) (i == n) }
+                return text
+            }
+            text = byte(2 * (72 + any(2)))
+            if (!any(5)) return text "1"
+            text = text "0"
+            n = any(4)
+            for (i = 1; i <= n; i++) {
+                text = text byte(any(3))
+                if (!any(6)) return text "1"
+                text = text "0"
+            }
+            return text
+        }
+        BEGIN {
+            srand(seed)
+            for (k = 0; k < 12; k++) {
+                text = frame()
+                n = any(3)
+                for (i = 0; i < n; i++) text = text "r" frame()
+                print text
+            }
+        }')
+    } >generated
+    again "generated $seed" generated
+done
+
+# ---- hostile dumps: each is answered, in a minute and within 2 GB. A trial build, which checks each access, has dumps of a
+# fiftieth of the size, and no bound on memory.
+bounds="ulimit -v 2000000"
+size=1000000
+if [[ $("$twire" --version) == *trial* ]]; then
+    bounds=:
+    size=20000
+fi
+
+# quick NAME STATUS LINE COMMAND ARG..: the last line of the report or of the refusal.
+quick() {
+    local name=$1 status=$2 line=$3
+    shift 3
+    local found found_status
+    found=$( ($bounds; timeout 60 "$twire" "$@") 2>&1)
+    found_status=$?
+    found=${found##*$'\n'}
+    if [[ $found_status == "$status" && $found == "$line" ]]; then
+        passed=$((passed + 1))
+    else
+        failed=$((failed + 1))
+        printf 'FAILED: %s: wanted %s, found %s\n%s\n' "$name" "$status $line" "$found_status" "${found:0:300}"
+    fi
+}
+tail='$var wire 1 ! scl $end $var wire 1 " sda $end $enddefinitions $end #0 1! 1" #5 0" #9 1"'
+{ yes '$scope module deep $end' | head -n $size; echo "$tail"; } >deep
+quick "scopes in one another" 2 "refused V1 scl" capture plan deep --scope deep.deep
+quick "their signals" 0 "2 signals, 0 buses" signals deep
+{ printf '$var wire 1 # '; head -c $size /dev/zero | tr '\0' n; echo ' $end'; echo "$tail"; } >long_name
+quick "a long name" 1 "1 transactions, 1 unexplained" capture plan long_name
+quick "a long name, with a scope" 2 "refused V1 scl" capture plan long_name --scope top
+quick "its signals" 0 "2 signals, 0 buses" signals long_name
+{ printf '$scope module '; head -c $size /dev/zero | tr '\0' n; echo ' $end'; echo "$tail"; } >long_scope
+quick "a scope with a long name" 0 "2 signals, 0 buses" signals long_scope
+{ awk -v size=$size 'BEGIN { for (n = 0; n < size; n++) print "$var wire 1 a" n " scl $end" }'; echo "$tail"; } >many
+quick "many signals of one name" 0 "0 transactions, 0 unexplained" capture plan many
+quick "many signals of one name, and a scope" 2 "refused V1 scl" capture plan many --scope top
+quick "hints on them" 0 "hint: the names of the two lines are given with --scl NAME and --sda NAME" \
+    capture plan many --hints always
+quick "all of them" 0 "$((size + 2)) signals, 0 buses" signals many
+{ echo "$tail"; awk -v size=$size 'BEGIN { for (n = 10; n < size; n++) print "#" n " 1b" n " 0b" n }'; } >strange
+quick "codes that no signal has" 1 "1 transactions, 1 unexplained" capture plan strange
+quick "codes that no signal has, and the signals" 0 "2 signals, 0 buses" signals strange
+{ echo '$var wire 1 ! scl $end $var wire 1 " sda $end $enddefinitions $end'
+    awk -v size=$size 'BEGIN { for (n = 0; n < size; n++) print "1!0!x!" }' | sed 's/!/!\n/g'; } >one_time
+quick "many changes at one time" 0 "2 signals, 0 buses" signals one_time
+
+echo "$passed passed, $failed failed"
+[[ $failed == 0 ]]

@@ -1,0 +1,82 @@
+//! The cases: a command with its files, and what is to be answered. docs/TESTING.md says how they are written.
+
+use crate::blocks::cases_of;
+use crate::commands::Command;
+use crate::plain::Answer;
+use std::fs;
+use std::path::Path;
+
+/// A command with its files.
+#[derive(Clone, Debug)]
+pub struct Asked {
+    pub command: Command,
+    /// The plan, or the brief.
+    pub first: Vec<u8>,
+    /// The certificate, the capture or the script.
+    pub second: Vec<u8>,
+}
+
+/// A case of a file, and what is to be answered.
+#[derive(Clone, Debug)]
+pub struct Case {
+    pub name: String,
+    pub asked: Asked,
+    pub wanted: Answer,
+    /// What is also to stand on standard error where hints are asked for, if that is compared.
+    pub hints: Option<String>,
+}
+
+impl Case {
+    /// Whether no file is read: the number of workers is looked at before the first read.
+    pub fn is_unread(&self) -> bool {
+        self.wanted.refusal == "workers"
+    }
+
+    /// Whether the second file may be left before its end, or not be read at all: the refusal of a plan comes before it, and
+    /// that of a dump may come before the dump's end.
+    pub fn leaves_second(&self) -> bool {
+        self.wanted.refusal.starts_with('P') || self.wanted.refusal.starts_with('V')
+    }
+}
+
+/// The case files, in the order in which they are run.
+pub const FILES: [&str; 15] = [
+    "plans",
+    "checks",
+    "certificates",
+    "orders",
+    "captures",
+    "rehearsals",
+    "seats",
+    "refusals",
+    "spellings",
+    "briefs",
+    "hints_plans",
+    "hints_certificates",
+    "hints_starters",
+    "hints_dumps",
+    "hints_files",
+];
+
+/// The cases of a file. What stands before its first case is for people.
+///
+/// # Errors
+///
+/// Where a case cannot be read: the file, the line on which the case begins, and why.
+pub fn read_cases(folder: &Path, file: &str) -> Result<Vec<Case>, String> {
+    let path = folder.join(format!("{file}.case"));
+    let text = fs::read_to_string(&path).map_err(|error| format!("{}: {error}", path.display()))?;
+    let mut blocks = text.split("\n=== ");
+    let mut line = lines_of(blocks.next().unwrap_or(""));
+    let mut cases = Vec::new();
+    for block in blocks {
+        line += 1;
+        cases.extend(cases_of(block).map_err(|error| format!("{file}.case line {line}: {error}"))?);
+        line += lines_of(block) - 1;
+    }
+    Ok(cases)
+}
+
+fn lines_of(text: &str) -> usize {
+    text.split('\n').count()
+}

@@ -1,0 +1,165 @@
+//! What can be done for a case: by twire, or by the program `calls`, which makes the calls that no command of twire makes.
+
+use crate::cases::Asked;
+use crate::commands::Command;
+
+/// What is done for a case.
+#[derive(Clone, Copy, Debug)]
+pub enum Deed {
+    /// Its command.
+    Command,
+    /// Its command, with hints for people on standard error.
+    Hinted,
+    /// Its command, a check, by so many workers.
+    By(u32),
+    /// A call in place of its command.
+    Call(Call),
+    /// The calls on lists of samples and events, and on messages, that no command makes.
+    Lists,
+    /// The calls that take no memory, with every allocation refused.
+    Quiet(Quiet),
+}
+
+/// A call in place of a command.
+#[derive(Clone, Copy, Debug)]
+pub enum Call {
+    /// In place of `verify`, the answer to the bytes of both texts.
+    Accept,
+    /// In place of `verify`, the same for the certificate as it is printed again.
+    Reprint,
+    /// In place of `verify`, the acceptance of the plan by proofs that were all read before.
+    AcceptPlan,
+    /// In place of `certify`, the certificate of a table of all pairs.
+    Table,
+    /// The same, by so many workers.
+    TableBy(u32),
+    /// In place of `print`, the spelling of a plan that was built again, call by call.
+    Rebuild,
+}
+
+/// What the calls without memory are made on.
+#[derive(Clone, Copy, Debug, PartialEq, Eq)]
+pub enum Quiet {
+    Plan,
+    Table,
+    Certificate,
+    Dump,
+    Seats,
+}
+
+impl Quiet {
+    pub const ALL: [Quiet; 5] = [Quiet::Plan, Quiet::Table, Quiet::Certificate, Quiet::Dump, Quiet::Seats];
+
+    /// What they are made on, for a case of this command.
+    pub fn of(command: &Command) -> Option<Quiet> {
+        match command {
+            Command::Check { .. } => Some(Quiet::Plan),
+            Command::Certify => Some(Quiet::Table),
+            Command::Verify => Some(Quiet::Certificate),
+            Command::Capture { .. } => Some(Quiet::Dump),
+            Command::Seats { .. } => Some(Quiet::Seats),
+            _ => None,
+        }
+    }
+
+    fn name(self) -> &'static str {
+        match self {
+            Quiet::Plan => "quiet-plan",
+            Quiet::Table => "quiet-table",
+            Quiet::Certificate => "quiet-certificate",
+            Quiet::Dump => "quiet-dump",
+            Quiet::Seats => "quiet-seats",
+        }
+    }
+}
+
+/// The calls that say what this command says.
+pub fn calls_of(command: &Command) -> &'static [Call] {
+    match command {
+        Command::Certify => &[Call::Table, Call::TableBy(1), Call::TableBy(2), Call::TableBy(8)],
+        Command::Verify => &[Call::Accept, Call::Reprint, Call::AcceptPlan],
+        Command::Print => &[Call::Rebuild],
+        _ => &[],
+    }
+}
+
+/// Which program is run.
+#[derive(Clone, Copy, Debug, PartialEq, Eq)]
+pub enum Program {
+    Twire,
+    Calls,
+}
+
+/// A command line in parts: the program, what stands before the names of the files, how many files it names, and what stands
+/// after them.
+#[derive(Debug)]
+pub struct Line {
+    pub program: Program,
+    pub before: Vec<String>,
+    pub files: usize,
+    pub after: Vec<String>,
+}
+
+/// The command line of a deed.
+pub fn line_of(deed: Deed, asked: &Asked) -> Line {
+    match deed {
+        Deed::Command => command_line(&asked.command),
+        Deed::Hinted => hinted_line(&asked.command),
+        Deed::By(workers) => twire_line("check", vec![format!("--workers={workers}")], 1),
+        Deed::Call(call) => call_line(call),
+        Deed::Lists => calls_line("lists", 2, words_of(&asked.command)),
+        Deed::Quiet(quiet) => calls_line(quiet.name(), 2, words_of(&asked.command)),
+    }
+}
+
+fn command_line(command: &Command) -> Line {
+    match command {
+        Command::Check { workers: 1 } => twire_line("check", vec![], 1),
+        Command::Check { workers } => twire_line("check", vec![format!("--workers={workers}")], 1),
+        Command::Capture { scl, sda } => twire_line("capture", vec![format!("--scl={scl}"), format!("--sda={sda}")], 2),
+        Command::Bench { starters, fill, answers } => {
+            let options = vec![format!("--fill={}", u8::from(*fill)), format!("--answers={answers}")];
+            Line { after: vec![starters.clone()], ..twire_line("bench", options, 2) }
+        }
+        Command::Seats { .. } => calls_line("seats", 2, words_of(command)),
+        other => twire_line(other.name(), vec![], if other.reads_two() { 2 } else { 1 }),
+    }
+}
+
+fn hinted_line(command: &Command) -> Line {
+    let mut line = command_line(command);
+    line.before.insert(1, "--hints=always".to_owned());
+    line
+}
+
+// No word after `--` is taken for an option.
+fn twire_line(name: &str, options: Vec<String>, files: usize) -> Line {
+    let mut before = vec![name.to_owned()];
+    before.extend(options);
+    before.push("--".to_owned());
+    Line { program: Program::Twire, before, files, after: vec![] }
+}
+
+fn calls_line(name: &str, files: usize, after: Vec<String>) -> Line {
+    Line { program: Program::Calls, before: vec![name.to_owned()], files, after }
+}
+
+fn call_line(call: Call) -> Line {
+    match call {
+        Call::Accept => calls_line("verify-by-accept", 2, vec![]),
+        Call::Reprint => calls_line("verify-by-reprint", 2, vec![]),
+        Call::AcceptPlan => calls_line("verify-by-proofs", 2, vec![]),
+        Call::Table => calls_line("certify-by-table", 2, vec![]),
+        Call::TableBy(workers) => calls_line("certify-by-workers", 2, vec![workers.to_string()]),
+        Call::Rebuild => calls_line("print-by-builder", 2, vec![]),
+    }
+}
+
+// What a call takes besides its files.
+fn words_of(command: &Command) -> Vec<String> {
+    match command {
+        Command::Capture { scl, sda } => vec![scl.clone(), sda.clone()],
+        Command::Seats { starters, answers } => vec![starters.clone(), answers.clone()],
+        _ => vec![],
+    }
+}

@@ -1,0 +1,154 @@
+//! Tries twire: runs its cases, each a command with the files that it reads and what it is to write, over devices that fail,
+//! that give or take a few bytes, or that signals interrupt, by several workers, by calls of the libraries, while memory is
+//! refused, and by plain programs that were written from the documents. Then it changes bytes and words of their files, and
+//! compares what twire says with the plain programs; and it makes up plans, which are to come back from the briefs that twire
+//! writes of them. All these come from a seed, so a run can be repeated.
+//!
+//! tests/trials.sh builds it and runs it; docs/TESTING.md says what it tries, and how cases are written.
+
+mod blocks;
+mod cases;
+mod changed;
+mod commands;
+mod crew;
+mod deeds;
+mod desks;
+mod devices;
+mod dice;
+mod disagreements;
+mod generated;
+mod made_up;
+mod memory;
+mod mutations;
+mod plain;
+mod plainly;
+mod quiet;
+mod returns;
+mod runs;
+mod safe_plans;
+mod seeds;
+mod setups;
+mod tallies;
+mod texts;
+mod unreadable;
+mod waves;
+mod ways;
+mod words;
+
+use cases::{read_cases, Case, FILES};
+use changed::{try_changed, Lot};
+use crew::Crew;
+use desks::Programs;
+use disagreements::Score;
+use generated::{try_generated, try_sets};
+use memory::try_scarce;
+use plainly::try_plainly;
+use quiet::try_quiet;
+use returns::try_returns;
+use runs::{judge, Run};
+use std::error::Error;
+use std::io;
+use std::path::PathBuf;
+use std::process::ExitCode;
+use waves::try_waves;
+use ways::Way;
+
+// What the command line asks for.
+struct Orders {
+    programs: Programs,
+    cases: PathBuf,
+    work: PathBuf,
+    changed: u64,
+    seed: u64,
+    // whether the numbers are others than those of the suite
+    is_by_hand: bool,
+}
+
+const CHANGED: u64 = 20_000;
+
+// Of plans that are made up, to be expanded from their briefs, there is one for so many changed cases.
+const EACH: u64 = 10;
+
+const SEED: u64 = 20_261_123;
+
+// A trial build takes many times as long, and the gate does not run it: so many runs are left out for one that is made.
+const THINNED: usize = 40;
+
+fn main() -> ExitCode {
+    match orders().and_then(|orders| try_all(&orders)) {
+        Ok(score) => {
+            println!("{} passed, {} failed", score.runs - score.wrong.min(score.runs), score.wrong);
+            ExitCode::from(u8::from(score.wrong > 0))
+        }
+        Err(error) => {
+            eprintln!("trials: {error}");
+            println!("0 passed, 1 failed");
+            ExitCode::from(2)
+        }
+    }
+}
+
+fn orders() -> Result<Orders, Box<dyn Error>> {
+    let words: Vec<String> = std::env::args().skip(1).collect();
+    let [twire, calls, devices, cases, work, numbers @ ..] = words.as_slice() else {
+        return Err("usage: trials TWIRE CALLS DEVICES CASES_FOLDER WORK_FOLDER [CHANGED [SEED]]".into());
+    };
+    let number_at = |k: usize| numbers.get(k).map(|word| word.parse::<u64>()).transpose();
+    Ok(Orders {
+        programs: Programs { twire: twire.into(), calls: calls.into(), devices: devices.into() },
+        cases: cases.into(),
+        work: work.into(),
+        changed: number_at(0)?.unwrap_or(CHANGED),
+        seed: number_at(1)?.unwrap_or(SEED),
+        is_by_hand: !numbers.is_empty(),
+    })
+}
+
+fn try_all(orders: &Orders) -> Result<Score, Box<dyn Error>> {
+    let mut crew = Crew::new(&orders.programs, &orders.work)?;
+    let mut score = Score::default();
+    let takes_refusals = devices::takes_refusals(crew.desk())?;
+    let step = if takes_refusals { 1 } else { THINNED };
+    if step > 1 {
+        println!("this is a trial build: one run of {step}, and memory is not refused");
+    }
+    devices::try_devices(&mut crew, &mut score, takes_refusals)?;
+    let mut cases = Vec::new();
+    for file in FILES {
+        let of_file = read_cases(&orders.cases, file)?;
+        try_file(&mut crew, &mut score, file, &of_file, step)?;
+        cases.extend(of_file);
+    }
+    println!("{} cases, {} disagreements", cases.len(), score.wrong);
+    let lot = Lot { number: orders.changed / step as u64, seed: orders.seed };
+    try_changed(&mut crew, &mut score, &cases, lot, orders.is_by_hand)?;
+    try_returns(&mut crew, &mut score, Lot { number: lot.number / EACH, ..lot })?;
+    try_generated(&mut crew, &mut score, orders.seed, step)?;
+    try_sets(&mut crew, &mut score, step)?;
+    try_waves(&mut crew, &mut score, &cases, orders.seed, step)?;
+    if takes_refusals {
+        try_scarce(&mut crew, &mut score, &cases)?;
+        try_quiet(&mut crew, &mut score, &cases)?;
+    }
+    Ok(score)
+}
+
+// Runs the cases of a file in each way, and says how many runs that were.
+fn try_file(crew: &mut Crew, score: &mut Score, file: &str, cases: &[Case], step: usize) -> io::Result<()> {
+    println!("{file}: {} cases", cases.len());
+    for way in Way::ALL {
+        let runs_of = |case| way.runs(case).into_iter().map(move |run| (case, run));
+        let runs: Vec<(&Case, Run)> = cases.iter().flat_map(runs_of).step_by(step).collect();
+        let judged = crew.each(&runs, |desk, (case, run)| {
+            let said = desk.run(run.deed, &case.asked, &run.setup)?;
+            Ok(judge(case, way.name(), run, &said))
+        })?;
+        println!("{file} {}: {}", way.name(), judged.len());
+        score.count(&judged);
+    }
+    let known: Vec<&Case> = cases.iter().filter(|case| !case.is_unread()).step_by(step).collect();
+    let judged = crew.each(&known, |desk, case| try_plainly(desk, case))?;
+    println!("{file} plainly: {}", judged.len());
+    score.count(&judged);
+    Ok(())
+}

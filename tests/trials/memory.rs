@@ -1,0 +1,143 @@
+//! Cases while memory is scarce: allocations of a case are refused in turn, each alone, and with all that come after it.
+
+use crate::cases::Case;
+use crate::commands::Command;
+use crate::crew::Crew;
+use crate::deeds::{calls_of, Deed};
+use crate::desks::{Desk, Said};
+use crate::disagreements::{Disagreement, Score};
+use crate::plain::Answer;
+use crate::setups::{Refused, Setup};
+use std::io;
+
+/// Runs the cases while memory is scarce, and says in how many runs an allocation was refused.
+pub fn try_scarce(crew: &mut Crew, score: &mut Score, cases: &[Case]) -> io::Result<()> {
+    let mut tasks = Vec::new();
+    for (place, case) in cases.iter().enumerate() {
+        let first = 1 + place as u64 % DISTANCE;
+        tasks.extend(deeds_of(&case.asked.command).into_iter().map(|deed| Task { case, deed, first }));
+    }
+    let tried = crew.each(&tasks, try_task)?;
+    let (mut refused, mut out_of_memory) = (0, 0);
+    for deed in tried {
+        score.count(&deed.runs);
+        refused += deed.refused;
+        out_of_memory += deed.out_of_memory;
+    }
+    println!("{} cases, {refused} runs with a refused allocation, {out_of_memory} of them out of memory", cases.len());
+    Ok(())
+}
+
+// What is done for a case, and the number of the allocation that is refused first.
+struct Task<'a> {
+    case: &'a Case,
+    deed: Deed,
+    first: u64,
+}
+
+// Where a thread is refused, the players that have one wait for the others, so more starters would take minutes.
+const MOST_STARTERS: usize = 4;
+
+// What is done for a case.
+fn deeds_of(command: &Command) -> Vec<Deed> {
+    let mut deeds = match command {
+        Command::Bench { starters, .. } if starters.split(',').count() > MOST_STARTERS => return Vec::new(),
+        Command::Check { workers: 1 } => vec![Deed::Command, Deed::By(2)],
+        Command::Capture { .. } => vec![Deed::Command, Deed::Lists],
+        _ => vec![Deed::Command],
+    };
+    deeds.extend(calls_of(command).iter().map(|call| Deed::Call(*call)));
+    deeds
+}
+
+// The runs of a deed, in how many of them an allocation was refused, and how many of these were out of memory.
+#[derive(Default)]
+struct Tried {
+    runs: Vec<Option<Disagreement>>,
+    refused: usize,
+    out_of_memory: usize,
+}
+
+fn try_task(desk: &mut Desk, task: &Task<'_>) -> io::Result<Tried> {
+    let ample = desk.run(task.deed, &task.case.asked, &Setup::WHOLE)?;
+    let mut tried = Tried::default();
+    tried.runs.push(judge_ample(task, &ample));
+    for refused in [Refused::One, Refused::From] {
+        refuse_in_turn(desk, task, &ample, refused, &mut tried)?;
+    }
+    let is_tried = tried.refused > 0 || asks_for_none(task);
+    tried.runs.push(told(task, is_tried, "no allocation was refused"));
+    Ok(tried)
+}
+
+// Of so many allocations one is refused, and later fewer and fewer. Each case begins with another one, so that of cases that
+// allocate at the same places, as most of a command do, each of these is refused in some.
+const DISTANCE: u64 = 6;
+
+const GROWTH: u64 = 16;
+
+fn next_refused(number: u64) -> u64 {
+    number + DISTANCE + number / GROWTH
+}
+
+// More allocations than any case makes.
+const MOST: u64 = 10_000_000;
+
+// Refuses one allocation after the other, until the run makes fewer.
+fn refuse_in_turn(
+    desk: &mut Desk,
+    task: &Task<'_>,
+    ample: &Said,
+    refused: fn(u64) -> Refused,
+    tried: &mut Tried,
+) -> io::Result<()> {
+    let mut number = task.first.min(ample.told.allocations).max(1);
+    while number < MOST {
+        let setup = Setup { refused: refused(number), ..Setup::WHOLE };
+        let said = desk.run(task.deed, &task.case.asked, &setup)?;
+        tried.runs.push(judge(task.case, &ample.answer, &said));
+        if !said.told.refused {
+            return Ok(());
+        }
+        tried.refused += 1;
+        tried.out_of_memory += usize::from(said.answer.refusal == "memory");
+        number = next_refused(number);
+    }
+    tried.runs.push(told(task, false, "the allocations have no end"));
+    Ok(())
+}
+
+// The run with memory, of which only what the calls on lists write is not known before.
+fn judge_ample(task: &Task<'_>, ample: &Said) -> Option<Disagreement> {
+    let wanted = match task.deed {
+        Deed::Lists => ample.answer.clone(),
+        _ => task.case.wanted.clone(),
+    };
+    let is_right = ample.answer.refusal != "memory" && !ample.told.refused && ample.told.is_sound();
+    let fault = (!is_right).then_some("something was wrong while there was memory");
+    Disagreement::of(task.case, "ample memory", wanted, &ample.answer, fault)
+}
+
+// The answer is the one with memory; or want of memory, where an allocation was refused, and then nothing is written.
+fn judge(case: &Case, ample: &Answer, said: &Said) -> Option<Disagreement> {
+    let found = &said.answer;
+    let is_want = found.refusal == "memory" && found.status == 2 && found.out.is_empty();
+    if said.told.refused && is_want {
+        return None;
+    }
+    Disagreement::of(case, "refused memory", ample.clone(), found, None)
+}
+
+// What is to be so of all runs of a task.
+fn told(task: &Task<'_>, is_right: bool, why: &'static str) -> Option<Disagreement> {
+    let fault = (!is_right).then_some(why);
+    Disagreement::of(task.case, "refused memory", task.case.wanted.clone(), &task.case.wanted, fault)
+}
+
+// The number of workers is judged first, and a call may refuse a text before it takes memory.
+fn asks_for_none(task: &Task<'_>) -> bool {
+    match task.deed {
+        Deed::Command | Deed::Hinted | Deed::By(_) => task.case.is_unread(),
+        Deed::Call(_) | Deed::Lists | Deed::Quiet(_) => !task.case.wanted.refusal.is_empty(),
+    }
+}

@@ -1,0 +1,244 @@
+//! The commands, from the bytes of their files to what they write and their status
+//! (docs/FORMATS.md, "The program").
+
+use super::benches::{play_on, Answers, Player};
+use super::briefs::{expansion, has_brief_word};
+use super::captures::{events_of, explains, samples_of, transactions_of, Transaction, Until};
+use super::certificates::{read_certificate, Certificate, Wrong};
+use super::dumps::changes_of;
+use super::order::{ways, Span, Totals};
+use super::pairs::{clashes_so, first_clash, is_proved, proof_of};
+use super::participants::{Participant, Participants};
+use super::plans::items_of;
+use super::seats::Bench;
+use super::wires::symbols;
+use std::fmt::Display;
+
+/// What a command answers: its status, what it writes, and why it is refused, where it is: what
+/// follows the word `refused` and a blank.
+#[derive(Clone, Debug, PartialEq, Eq)]
+pub struct Answer {
+    pub status: u8,
+    pub out: String,
+    pub refusal: String,
+}
+
+impl Answer {
+    fn written(status: u8, out: impl Into<String>) -> Answer {
+        Answer { status, out: out.into(), refusal: String::new() }
+    }
+
+    fn refused(refusal: impl Display) -> Answer {
+        Answer { status: 2, out: String::new(), refusal: refusal.to_string() }
+    }
+}
+
+// What is answered of a plan, or its refusal.
+fn of_plan(plan: &[u8], answer: impl FnOnce(&Participants) -> Answer) -> Answer {
+    match items_of(&String::from_utf8_lossy(plan)) {
+        Ok(items) => answer(&Participants::of(&items)),
+        Err(refusal) => Answer::refused(refusal),
+    }
+}
+
+/// `twire check PLAN`.
+pub fn check(plan: &[u8]) -> Answer {
+    of_plan(plan, |plan| {
+        let pairs = plan.pairs();
+        let mut out = String::new();
+        let mut faults = 0;
+        for (i, (x, y)) in pairs.iter().enumerate() {
+            if let Some(clash) = first_clash(x.sender, y.sender) {
+                faults += 1;
+                let (first, second, wire) = (clash.first, clash.second, symbols(&clash.wire));
+                out += &format!("pair {i} {} {}: {first} against {second} after {wire}\n", x.label, y.label);
+            }
+        }
+        let count = pairs.len();
+        match faults {
+            0 => Answer::written(0, format!("safe: {count} pairs\n")),
+            _ => Answer::written(1, format!("{out}unsafe: {faults} of {count} pairs\n")),
+        }
+    })
+}
+
+/// `twire order PLAN`.
+pub fn order(plan: &[u8]) -> Answer {
+    of_plan(plan, |plan| {
+        let mut out = String::new();
+        let mut totals = Totals::default();
+        let mut status = 0;
+        for (i, (x, y)) in plan.pairs().iter().enumerate() {
+            let (first, second) = (&x.label, &y.label);
+            out += &format!("pair {i} {first} {second}:");
+            if first_clash(x.sender, y.sender).is_some() {
+                status = 1;
+                out += " unsafe\n";
+                continue;
+            }
+            let ways = ways(x.sender, y.sender);
+            let named = [("both", &ways.both), (first.as_str(), &ways.first), (second.as_str(), &ways.second)];
+            let said: Vec<String> = named
+                .iter()
+                .filter(|(_, slots)| !slots.is_empty())
+                .map(|(who, slots)| format!(" {who} {}", Span(slots)))
+                .collect();
+            out += &format!("{}\n", said.join(","));
+            totals.count(first, second, &ways);
+        }
+        let lines = plan.all.iter().map(|one| totals.line(&one.label));
+        Answer::written(status, out + &lines.collect::<String>())
+    })
+}
+
+/// `twire certify PLAN`.
+pub fn certify(plan: &[u8]) -> Answer {
+    of_plan(plan, |plan| {
+        let pairs = plan.pairs();
+        let mut proofs = format!("cert 1\npairs {}\n", pairs.len());
+        for (i, (x, y)) in pairs.iter().enumerate() {
+            if let Some(clash) = first_clash(x.sender, y.sender) {
+                let (first, second, wire) = (clash.first, clash.second, symbols(&clash.wire));
+                return Answer::written(1, format!("cert 1\nfault {i} {wire} {first} {second}\n"));
+            }
+            proofs += &proof_of(x.sender, y.sender).unwrap_or_default();
+            proofs.push('\n');
+        }
+        Answer::written(0, proofs)
+    })
+}
+
+/// `twire verify PLAN CERT`.
+pub fn verify(plan: &[u8], cert: &[u8]) -> Answer {
+    of_plan(plan, |plan| match is_safe(plan, &String::from_utf8_lossy(cert)) {
+        Ok(true) => Answer::written(0, "accepted safe\n"),
+        Ok(false) => Answer::written(1, "accepted unsafe\n"),
+        Err(wrong) => Answer::written(2, format!("wrong {wrong}\n")),
+    })
+}
+
+// Whether a certificate shows that the plan is safe, or that it is not.
+fn is_safe(plan: &Participants, cert: &str) -> Result<bool, Wrong> {
+    let pairs = plan.pairs();
+    match read_certificate(cert)? {
+        Certificate::Fault(number, clash) => match pairs.get(number) {
+            Some((x, y)) if clashes_so(x.sender, y.sender, &clash) => Ok(false),
+            _ => Err(Wrong::Pair(number)),
+        },
+        Certificate::Proofs(lines) if lines.len() != pairs.len() => Err(Wrong::Count),
+        Certificate::Proofs(lines) => {
+            let mut pairs = pairs.iter().zip(&lines);
+            match pairs.position(|((x, y), line)| !is_proved(line, x.sender, y.sender)) {
+                Some(pair) => Err(Wrong::Pair(pair)),
+                None => Ok(true),
+            }
+        }
+    }
+}
+
+/// `twire capture PLAN VCD`, with these names of the two lines.
+pub fn capture(plan: &[u8], dump: &[u8], scl: &str, sda: &str) -> Answer {
+    of_plan(plan, |plan| match changes_of(dump, scl, sda) {
+        Ok(changes) => explained(plan, &transactions_of(&events_of(&samples_of(&changes)))),
+        Err(refusal) => Answer::refused(refusal),
+    })
+}
+
+fn explained(plan: &Participants, transactions: &[Transaction]) -> Answer {
+    let mut out = String::new();
+    let (mut stopped, mut unexplained) = (0, 0);
+    for transaction in transactions {
+        let who = match transaction.until {
+            Until::Stopped(_) => who_explains(plan, transaction),
+            Until::Cut(_) => " cut".into(),
+            Until::Unfinished => " unfinished".into(),
+        };
+        stopped += u32::from(matches!(transaction.until, Until::Stopped(_)));
+        unexplained += u32::from(who.is_empty());
+        let who = if who.is_empty() { " unexplained" } else { &who };
+        out += &format!("{transaction}{who}\n");
+    }
+    out += &format!("{stopped} transactions, {unexplained} unexplained\n");
+    Answer::written(u8::from(unexplained > 0), out)
+}
+
+fn who_explains(plan: &Participants, transaction: &Transaction) -> String {
+    let all = plan.all.iter();
+    listed(all.filter(|one| explains(one.sender, &transaction.marks)))
+}
+
+// Their labels, each behind a blank.
+fn listed<'a>(participants: impl Iterator<Item = &'a Participant<'a>>) -> String {
+    participants.map(|one| format!(" {}", one.label)).collect()
+}
+
+/// `twire bench PLAN CERT STARTERS`: each starter sends `fill` wherever it may choose, and the
+/// targets' bits are the characters `0` and `1` of `answers`, slot by slot, and 1 past their end.
+pub fn bench(plan: &[u8], cert: &[u8], starters: &str, fill: bool, answers: &str) -> Answer {
+    let verified = verify(plan, cert);
+    if verified.status != 0 {
+        return verified;
+    }
+    of_plan(plan, |plan| {
+        let starters = match plan.starters(starters) {
+            Ok(starters) => starters,
+            Err(refusal) => return Answer::refused(refusal),
+        };
+        let mut players: Vec<Player> = starters.iter().map(|one| Player::new(one.sender)).collect();
+        let wire = symbols(&play_on(&mut players, fill, Answers(answers)));
+        let ended = starters.iter().zip(&players);
+        let winners = ended.filter(|(_, player)| player.lost.is_none());
+        let won = listed(winners.map(|(one, _)| *one));
+        Answer::written(0, format!("wire {wire}\nwon{won}\n"))
+    })
+}
+
+/// The lines of a script with what the seats of a bench answer, for these starters of a safe plan.
+pub fn seats(plan: &[u8], script: &[u8], starters: &str, answers: &str) -> Answer {
+    if certify(plan).status == 1 {
+        return Answer::written(1, "accepted unsafe\n");
+    }
+    of_plan(plan, |plan| match plan.starters(starters) {
+        Ok(starters) => {
+            let seated = starters.iter().map(|one| (one.label.as_str(), one.sender));
+            let mut bench = Bench::new(seated, Answers(answers));
+            Answer::written(0, bench.say(&String::from_utf8_lossy(script)))
+        }
+        Err(refusal) => Answer::refused(refusal),
+    })
+}
+
+/// The labels of the participants, or none where the text spells no plan.
+pub fn labels(plan: &[u8]) -> Vec<String> {
+    let text = String::from_utf8_lossy(plan);
+    let Ok(items) = items_of(&text) else {
+        return Vec::new();
+    };
+    let all = Participants::of(&items).all;
+    all.into_iter().map(|one| one.label).collect()
+}
+
+/// `twire expand BRIEF`.
+pub fn expand(brief: &[u8]) -> Answer {
+    match expansion(&String::from_utf8_lossy(brief)) {
+        Ok(plan) => Answer::written(0, spelling(plan.as_bytes())),
+        Err(refusal) => Answer::refused(refusal),
+    }
+}
+
+/// `twire brief PLAN`, with the canonical spelling of the plan in place of a brief.
+pub fn brief(plan: &[u8]) -> Answer {
+    match items_of(&String::from_utf8_lossy(plan)) {
+        Ok(items) if has_brief_word(&items) => Answer::refused("brief name"),
+        Ok(items) => Answer::written(0, items.to_string()),
+        Err(refusal) => Answer::refused(refusal),
+    }
+}
+
+/// The canonical spelling of a plan, or nothing where the text spells none.
+pub fn spelling(plan: &[u8]) -> String {
+    match items_of(&String::from_utf8_lossy(plan)) {
+        Ok(items) => items.to_string(),
+        Err(_) => String::new(),
+    }
+}

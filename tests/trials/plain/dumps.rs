@@ -1,0 +1,273 @@
+//! Value change dumps, read as whole lists of tokens: what happens to the two lines of a bus, or
+//! the first refusal (IEEE 1364-2005, clause 18; docs/FORMATS.md, "Value change dumps").
+
+use std::fmt;
+use std::str;
+use DumpRefusal::{BadToken, NoSignal, TimeBack, Unended};
+
+/// One of the two lines of the bus.
+#[derive(Clone, Copy, Debug, PartialEq, Eq)]
+pub enum Signal {
+    Scl,
+    Sda,
+}
+
+/// The level of a line.
+#[derive(Clone, Copy, Debug, PartialEq, Eq)]
+pub enum Level {
+    Low,
+    High,
+    Unknown,
+}
+
+/// What a dump says after its definitions: a time, or that a line takes a level.
+#[derive(Clone, Copy, Debug, PartialEq, Eq)]
+pub enum Change {
+    At(u64),
+    Takes(Signal, Level),
+}
+
+/// Why a dump is refused, most often with a line of its text.
+#[derive(Clone, Copy, Debug, PartialEq, Eq)]
+pub enum DumpRefusal {
+    /// V1
+    NoSignal(Signal),
+    /// V2
+    BadToken(usize),
+    /// V3
+    TimeBack(usize),
+    /// V4
+    Unended(usize),
+}
+
+impl fmt::Display for DumpRefusal {
+    fn fmt(&self, f: &mut fmt::Formatter) -> fmt::Result {
+        match self {
+            NoSignal(Signal::Scl) => f.write_str("V1 scl"),
+            NoSignal(Signal::Sda) => f.write_str("V1 sda"),
+            BadToken(line) => write!(f, "V2 line {line}"),
+            TimeBack(line) => write!(f, "V3 line {line}"),
+            Unended(line) => write!(f, "V4 line {line}"),
+        }
+    }
+}
+
+// A token, which is never empty, and the line on which it stands.
+#[derive(Clone, Copy)]
+struct Token<'a> {
+    text: &'a [u8],
+    line: usize,
+}
+
+// What begins a block of changes.
+const BLOCKS: [&str; 4] = ["$dumpvars", "$dumpall", "$dumpoff", "$dumpon"];
+
+impl Token<'_> {
+    fn is(&self, text: &str) -> bool {
+        self.text == text.as_bytes()
+    }
+
+    fn begins_block(&self) -> bool {
+        BLOCKS.iter().any(|word| self.is(word))
+    }
+}
+
+// White space is bytes 9 to 13 and 32.
+fn is_white(byte: &u8) -> bool {
+    matches!(byte, 9..=13 | 32)
+}
+
+fn tokens_of(dump: &[u8]) -> Vec<Token<'_>> {
+    let mut tokens = Vec::new();
+    for (line, content) in (1..).zip(dump.split(|byte| *byte == b'\n')) {
+        let texts = content.split(is_white).filter(|text| !text.is_empty());
+        tokens.extend(texts.map(|text| Token { text, line }));
+    }
+    tokens
+}
+
+// The tokens that have not been read.
+struct Rest<'t, 'a>(&'t [Token<'a>]);
+
+impl<'t, 'a> Rest<'t, 'a> {
+    fn next(&mut self) -> Option<Token<'a>> {
+        let (first, rest) = self.0.split_first()?;
+        self.0 = rest;
+        Some(*first)
+    }
+
+    // All tokens before the next `$end`, and that one.
+    fn up_to_end(&mut self) -> Option<(&'t [Token<'a>], Token<'a>)> {
+        let place = self.0.iter().position(|token| token.is("$end"))?;
+        let (body, rest) = self.0.split_at(place);
+        self.0 = rest;
+        Some((body, self.next()?))
+    }
+}
+
+// The codes of SCL and SDA, once they are declared.
+#[derive(Default)]
+struct Codes<'a> {
+    scl: Option<&'a [u8]>,
+    sda: Option<&'a [u8]>,
+}
+
+impl Codes<'_> {
+    // Both are there.
+    fn complete(&self) -> Result<(), DumpRefusal> {
+        self.scl.ok_or(NoSignal(Signal::Scl))?;
+        self.sda.ok_or(NoSignal(Signal::Sda))?;
+        Ok(())
+    }
+}
+
+/// What happens in a dump, in which the two lines have these names; or its first refusal.
+pub fn changes_of(dump: &[u8], scl: &str, sda: &str) -> Result<Vec<Change>, DumpRefusal> {
+    let tokens = tokens_of(dump);
+    let mut rest = Rest(&tokens);
+    let codes = read_definitions(&mut rest, scl, sda)?;
+    let mut changes = Changes { codes, found: Vec::new(), block: None };
+    while let Some(first) = rest.next() {
+        changes.read(first, &mut rest)?;
+    }
+    match changes.block {
+        Some(line) => Err(Unended(line)),
+        None => Ok(changes.found),
+    }
+}
+
+// Reads the definitions, up to the end of the text where they have none.
+fn read_definitions<'a>(rest: &mut Rest<'_, 'a>, scl: &str, sda: &str) -> Result<Codes<'a>, DumpRefusal> {
+    let mut codes = Codes::default();
+    while let Some(first) = rest.next() {
+        if !first.text.starts_with(b"$") || first.is("$end") || first.begins_block() {
+            return Err(BadToken(first.line));
+        }
+        let (body, end) = rest.up_to_end().ok_or(Unended(first.line))?;
+        if first.is("$enddefinitions") {
+            break;
+        }
+        if first.is("$var") {
+            let [_, size, code, reference, ..] = body else {
+                return Err(BadToken(end.line));
+            };
+            // The first signal of one bit with the name of a line is this line.
+            if size.is("1") && reference.is(scl) {
+                codes.scl = codes.scl.or(Some(code.text));
+            }
+            if size.is("1") && reference.is(sda) {
+                codes.sda = codes.sda.or(Some(code.text));
+            }
+        }
+    }
+    codes.complete()?;
+    Ok(codes)
+}
+
+// What was found behind the definitions, and the line of the block that is open.
+struct Changes<'a> {
+    codes: Codes<'a>,
+    found: Vec<Change>,
+    block: Option<usize>,
+}
+
+impl<'a> Changes<'a> {
+    fn read(&mut self, first: Token<'a>, rest: &mut Rest<'_, 'a>) -> Result<(), DumpRefusal> {
+        match first.text.split_first() {
+            Some((b'$', _)) => self.read_command(first, rest),
+            Some((b'#', digits)) => self.read_time(first, digits),
+            Some((b'b' | b'B', digits)) => {
+                let level = vector_level(digits).ok_or(BadToken(first.line))?;
+                let code = self.next_code(first, rest)?;
+                self.take(code.text, level);
+                Ok(())
+            }
+            // A number or a string is skipped with its code.
+            Some((b'r' | b'R' | b's' | b'S', [_, ..])) => self.next_code(first, rest).map(|_| ()),
+            Some((letter, code)) => {
+                let level = level_of(*letter).ok_or(BadToken(first.line))?;
+                judge_code(code, first.line)?;
+                self.take(code, level);
+                Ok(())
+            }
+            None => Ok(()),
+        }
+    }
+
+    // A block of changes begins or ends, or a command is skipped.
+    fn read_command(&mut self, first: Token, rest: &mut Rest) -> Result<(), DumpRefusal> {
+        match (first.is("$end"), first.begins_block(), self.block) {
+            (true, _, Some(_)) => self.block = None,
+            (_, true, None) => self.block = Some(first.line),
+            (true, _, None) | (_, true, Some(_)) => return Err(BadToken(first.line)),
+            (false, false, _) => {
+                rest.up_to_end().ok_or(self.unended(first))?;
+            }
+        }
+        Ok(())
+    }
+
+    // The text ends behind this token: it, or the block that it stands in, has no end.
+    fn unended(&self, first: Token) -> DumpRefusal {
+        Unended(self.block.unwrap_or(first.line))
+    }
+
+    fn read_time(&mut self, first: Token, digits: &[u8]) -> Result<(), DumpRefusal> {
+        let time = time(digits).ok_or(BadToken(first.line))?;
+        let is_later = |change: &Change| matches!(change, Change::At(other) if time < *other);
+        if self.found.iter().any(is_later) {
+            return Err(TimeBack(first.line));
+        }
+        self.found.push(Change::At(time));
+        Ok(())
+    }
+
+    // The token behind this one, which is to be its code.
+    fn next_code(&self, first: Token, rest: &mut Rest<'_, 'a>) -> Result<Token<'a>, DumpRefusal> {
+        let code = rest.next().ok_or(self.unended(first))?;
+        judge_code(code.text, code.line)?;
+        Ok(code)
+    }
+
+    // The lines with this code take the level.
+    fn take(&mut self, code: &[u8], level: Level) {
+        for (line, known) in [(Signal::Scl, self.codes.scl), (Signal::Sda, self.codes.sda)] {
+            if known == Some(code) {
+                self.found.push(Change::Takes(line, level));
+            }
+        }
+    }
+}
+
+// A code is one or more characters from `!` to `~`.
+fn judge_code(code: &[u8], line: usize) -> Result<(), DumpRefusal> {
+    let is_code = !code.is_empty() && code.iter().all(u8::is_ascii_graphic);
+    if is_code {
+        Ok(())
+    } else {
+        Err(BadToken(line))
+    }
+}
+
+// Digits alone, of a number below 2 to the power 64.
+fn time(digits: &[u8]) -> Option<u64> {
+    if !digits.iter().all(u8::is_ascii_digit) {
+        return None;
+    }
+    str::from_utf8(digits).ok()?.parse().ok()
+}
+
+// The level of the last digit, where all digits are levels.
+fn vector_level(digits: &[u8]) -> Option<Level> {
+    let levels: Option<Vec<Level>> = digits.iter().map(|digit| level_of(*digit)).collect();
+    levels?.last().copied()
+}
+
+fn level_of(letter: u8) -> Option<Level> {
+    match letter {
+        b'0' => Some(Level::Low),
+        b'1' | b'z' | b'Z' => Some(Level::High),
+        b'x' | b'X' => Some(Level::Unknown),
+        _ => None,
+    }
+}

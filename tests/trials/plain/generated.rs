@@ -1,0 +1,9 @@
+//! Plans, who starts, what targets answer, scripts for seats, and dumps: made up, from a seed.
+
+mod dumps;
+mod plans;
+
+#[cfg(test)]
+pub use dumps::{changes, dump_of};
+pub use dumps::{dump, wrong_dump};
+pub use plans::{answers, plan, safe_plan, script, starters};

@@ -1,0 +1,29 @@
+//! The rules of the bus and of the files as plain and slow programs, written from docs/BUS.md and
+//! docs/FORMATS.md alone: the commands from the bytes of their files to what they write, with which
+//! the trials compare those of twire. They are for small plans, and nothing is made fast.
+//!
+//! `texts` and `runs` have the definitions of docs/BUS.md as they stand there, for `tests`.
+
+mod benches;
+mod briefs;
+mod captures;
+mod certificates;
+mod commands;
+mod dumps;
+pub mod generated;
+mod order;
+mod pairs;
+mod participants;
+mod plans;
+#[cfg(test)]
+mod runs;
+mod seats;
+mod senders;
+#[cfg(test)]
+mod tests;
+#[cfg(test)]
+mod texts;
+mod wires;
+mod words;
+
+pub use commands::{bench, brief, capture, certify, check, expand, labels, order, seats, spelling, verify, Answer};

@@ -1,0 +1,427 @@
+//! Tests of the plain programs alone: what they say of worked plans, and that they say what the
+//! definitions of docs/BUS.md say, listed text by text and played run by run. The worked examples
+//! of docs/FORMATS.md are cases of the trials.
+
+use super::benches::{play_on, Answers, Player};
+use super::captures::{events_of, explains, samples_of, transactions_of, Until};
+use super::commands::{capture, certify, check, expand, seats, verify};
+use super::dumps::{changes_of, DumpRefusal};
+use super::generated;
+use super::participants::Participants;
+use super::plans::{items_of, Items};
+use super::runs::{first_meeting, lawful_sets, meetings_of, Meeting};
+use super::texts::{one_has, texts_of};
+use super::wires::{symbols, Item};
+use crate::dice::Dice;
+
+fn items(text: &str) -> Items<'_> {
+    items_of(text).unwrap_or_else(|refusal| panic!("{refusal}: {text}"))
+}
+
+// What `check` writes of a plan, by the runs of each of its pairs; and how many faults they have.
+fn report_by_runs(plan: &Participants) -> (String, usize) {
+    let mut out = String::new();
+    let mut faults = 0;
+    let mut pairs = lawful_sets(plan);
+    pairs.retain(|set| set.len() == 2);
+    pairs.sort();
+    for (i, pair) in pairs.iter().enumerate() {
+        if let Some(Meeting { x, y, clash }) = first_meeting(&meetings_of(plan, pair)) {
+            let (x, y) = (&plan.all[*x].label, &plan.all[*y].label);
+            let (first, second, wire) = (clash.first, clash.second, symbols(&clash.wire));
+            out += &format!("pair {i} {x} {y}: {first} against {second} after {wire}\n");
+            faults += 1;
+        }
+    }
+    let end = match faults {
+        0 => format!("safe: {} pairs\n", pairs.len()),
+        _ => format!("unsafe: {faults} of {} pairs\n", pairs.len()),
+    };
+    (out + &end, faults)
+}
+
+// How many faults the plan has, which has so many pairs: by its runs, which is what the check says
+// too. Its certificate says whether it has one, and is right.
+fn agreed_faults(text: &str, pairs: usize) -> usize {
+    let items = items(text);
+    let plan = Participants::of(&items);
+    assert_eq!(plan.pairs().len(), pairs, "{text}");
+    let (report, faults) = report_by_runs(&plan);
+    let status = u8::from(faults > 0);
+    let checked = check(text.as_bytes());
+    assert_eq!((checked.out, checked.status), (report, status), "{text}");
+    let certificate = certify(text.as_bytes());
+    assert_eq!(certificate.status, status, "{text}");
+    let verified = verify(text.as_bytes(), certificate.out.as_bytes());
+    assert_eq!(verified.status, status, "{text}\n{}", certificate.out);
+    faults
+}
+
+// Two messages of two controllers, and how many faults they have.
+const WORKED: [(&str, &str, usize); 12] = [
+    // different addresses
+    ("write 1001000 stop else stop", "write 1001001 stop else stop", 0),
+    // one stops where the other sends a byte
+    ("write 1001000 stop else stop", "write 1001000 0000000x stop else stop else stop", 1),
+    // a read follows the write, or nothing
+    (
+        "write 1001000 00000001 again read 1001000 1 stop else stop else stop else stop",
+        "write 1001000 00000001 stop else stop else stop",
+        1,
+    ),
+    // a second try follows a header that is refused, or nothing
+    ("write 1001000 stop else stop", "write 1001000 stop else again write 1001000 stop else stop", 1),
+    // the open bit may be sent as the other's 1
+    (
+        "write 1001000 0000000x stop else stop else stop",
+        "write 1001000 00000001 00000000 stop else stop else stop else stop",
+        1,
+    ),
+    ("read 1001000 1 stop else stop", "read 1001000 2 stop else stop", 0),
+    ("read 1001000 2..4 stop else stop", "read 1001000 5 stop else stop", 0),
+    ("read 1001000 1..2 stop else stop", "read 1001000 2 stop else stop", 0),
+    // Both may end after three bytes.
+    ("read 1001000 2..4 stop else stop", "read 1001000 3..6 again write 1001000 stop else stop else stop", 1),
+    ("write 1010000 xxxxxxxx stop else stop else stop", "write 1010000 xxxxxxxx stop else stop else stop", 0),
+    ("write 1001000 11110000 stop else stop else stop", "write 1001000 11001111 stop else stop else stop", 0),
+    ("write 1001000 11001111 stop else stop else stop", "write 1001000 1100xxxx stop else stop else stop", 0),
+];
+
+// A message of one controller and an interrupt, and how many faults they have.
+const WITH_INTERRUPTS: [(&str, &str, usize); 4] = [
+    // the direction alone differs
+    ("write 1001000 stop else stop", "1001000", 0),
+    ("read 10100xx 1 stop else stop", "1010010", 1),
+    ("write 1111110 stop else stop", "0101010", 0),
+    // only the read after the repeated START has the interrupt's header, and there the interrupt
+    // has lost
+    ("write 1111110 stop else again read 1001000 1 stop else stop", "1001000", 0),
+];
+
+#[test]
+fn the_check_and_the_runs_agree_on_worked_messages() {
+    for (first, second, faults) in WORKED {
+        let text = format!("plan 2 message m {first} ; message n {second} ; controller a m ; controller b n ;");
+        assert_eq!(agreed_faults(&text, 1), faults, "{text}");
+    }
+}
+
+#[test]
+fn the_check_and_the_runs_agree_on_interrupts() {
+    for (message, address, faults) in WITH_INTERRUPTS {
+        let text = format!("plan 1 message m {message} ; controller a m ; interrupt t {address} ;");
+        assert_eq!(agreed_faults(&text, 1), faults, "{text}");
+    }
+    assert_eq!(agreed_faults("plan 1 interrupt t 0101010 ; interrupt u 0101010 ;", 1), 1);
+}
+
+// Each plan has four pairs of `a` and `b`, four with `c`, ten with an interrupt and one of
+// interrupts: nineteen in all.
+#[test]
+fn the_check_and_the_runs_agree_on_generated_plans() {
+    let mut dice = Dice { state: 20_261_122 };
+    let faults: usize = (0..16).map(|_| agreed_faults(&generated::plan(&mut dice), 19)).sum();
+    // Both answers are common.
+    assert!(50 < faults && faults < 16 * 19 - 50, "{faults}");
+}
+
+// ---- sets of more than two participants: what faults they have are those of two of them alone
+
+// Each two part at a bit or end alike.
+const SAFE: &str = "\
+plan 2
+message m write 1001000 11110000 stop else stop else stop ;
+message n write 1001000 11001111 stop else stop else stop ;
+message o write 1001000 1100xxxx stop else stop else stop ;
+controller a m ;
+controller b n ;
+controller c o ;
+interrupt t 1001000 ;
+";
+
+// `a` and `b` alone clash, so the four sets that have both have a fault.
+const ONE_FAULTY_PAIR: &str = "\
+plan 2
+message m write 1001000 stop else stop ;
+message n write 1001000 0000000x stop else stop else stop ;
+message o write 1111110 stop else stop ;
+controller a m ;
+controller b n ;
+controller c o ;
+interrupt t 1111111 ;
+";
+
+// `b` clashes with the interrupt, and nobody else clashes. With `a`, which sends the first 0, both
+// lose arbitration before they meet; `c` keeps them apart only if it sends its open bits as they
+// do. So two of the four sets that have both have the fault.
+const KEPT_APART: &str = "\
+plan 2
+message m write 0001000 stop else stop ;
+message n read 1001000 1..2 stop else stop ;
+message o write 1xx1000 stop else stop ;
+controller a m ;
+controller b n ;
+controller c o ;
+interrupt t 1001000 ;
+";
+
+// Repeated STARTs, refusals and ranges of counts. `a` and `b` stop together where their header is
+// acknowledged, and where it is refused they read as many bytes; each other two part in the first
+// header.
+const BEHIND_REFUSALS: &str = "\
+plan 2
+message m write 1001000 stop else again read 1001000 1..2 stop else stop ;
+message n write 100100x stop else again read 100100x 2..3 stop else stop ;
+message o read 1001000 1..3 again write 1001000 stop else stop else stop ;
+controller a m ;
+controller b n ;
+controller c o ;
+interrupt t 1001001 ;
+";
+
+// Controllers of several messages, two of which never start together. Without the interrupt: `a`
+// alone 2, `b` 2, `c` 2, `a` with `b` 4, `a` with `c` 4. With it each once more, and the interrupt
+// alone. `m` and `n` clash, with the interrupt or without, and so do `o` and the interrupt, where
+// no write sends its 0 before.
+const CHOOSING: &str = "\
+plan 2
+message m write 1001000 stop else stop ;
+message n write 1001000 0000000x stop else stop else stop ;
+message o read 100100x 1 stop else stop ;
+controller a m n ;
+controller b n o ;
+controller c o m ;
+interrupt t 1001000 ;
+never c b ;
+";
+
+// Each fault of a set is one of two of it alone, at the same wire.
+fn assert_of_pairs(plan: &Participants, set: &[usize], together: &[Meeting]) {
+    for meeting in together {
+        assert!(set.contains(&meeting.x) && set.contains(&meeting.y));
+        let alone = meetings_of(plan, &[meeting.x, meeting.y]);
+        assert!(alone.contains(meeting), "{meeting:?} of {set:?}");
+    }
+}
+
+// So a plan with a faulty set has a faulty pair; and a pair is a set itself.
+#[test]
+fn pairs_suffice_for_all_sets() {
+    for (text, sets, faulty) in [
+        (SAFE, 15, 0),
+        (ONE_FAULTY_PAIR, 15, 4),
+        (KEPT_APART, 15, 2),
+        (BEHIND_REFUSALS, 15, 0),
+        (CHOOSING, 14 + 14 + 1, 6),
+    ] {
+        let items = items(text);
+        let plan = Participants::of(&items);
+        let all = lawful_sets(&plan);
+        let has_fault = |set: &&Vec<usize>| {
+            let together = meetings_of(&plan, set);
+            assert_of_pairs(&plan, set, &together);
+            !together.is_empty()
+        };
+        let found = all.iter().filter(has_fault).count();
+        assert_eq!((all.len(), found), (sets, faulty), "{text}");
+    }
+}
+
+// ---- briefs
+
+// A header and 21 data bytes, after the refusal of each a header and so many data bytes: 22 and 21 times 194 are 4,096.
+#[test]
+fn what_follows_the_refusals_of_a_repeated_byte_is_counted_each_time() {
+    for (number, refusal) in [(193, ""), (194, "P5 line 3")] {
+        let brief = format!("brief 1\nmessage m write 0x50 any*21 else ( write 0x51 any *\n{number} ) ;");
+        assert_eq!(expand(brief.as_bytes()).refusal, refusal, "{brief}");
+    }
+}
+
+// The bytes that are read stand on the path behind the acknowledge of the header alone.
+#[test]
+fn what_follows_the_refusal_of_a_read_has_its_header_before_it() {
+    let brief = "brief 1 message m read 0x50 255 else ( write 0x50 any*254 ) ;";
+    assert_eq!(expand(brief.as_bytes()).status, 0);
+    let brief = "brief 1 message m read 0x50 255\nelse ( write 0x50 any*255 ) ;";
+    assert_eq!(expand(brief.as_bytes()).refusal, "P5 line 2");
+}
+
+// ---- benches
+
+// Three writers of one byte each to one target, of which two may send the same.
+const THREE_WRITERS: &str = "\
+plan 1
+message m write 1001000 11110000 stop else stop else stop ;
+message n write 1001000 11001111 stop else stop else stop ;
+message o write 1001000 1100xxxx stop else stop else stop ;
+controller a m ;
+controller b n ;
+controller c o ;
+";
+
+// Two readers of one target, of which one reads one or two bytes and the other two.
+const RANGES: &str = "\
+plan 2
+message m read 1001000 1..2 stop else stop ;
+message n read 1001000 2 stop else stop ;
+controller a m ;
+controller b n ;
+";
+
+// All start, and so many answers acknowledge: how many slots the run has, the last of them a STOP,
+// who wins, and the slot in which the first starter has lost.
+#[test]
+fn worked_plans_are_played() {
+    for (text, fill, acknowledged, slots, won, lost) in [
+        (THREE_WRITERS, true, 18, 19, [1, 2].as_slice(), Some(11)),
+        (THREE_WRITERS, false, 18, 19, &[2], Some(11)),
+        (THREE_WRITERS, false, 0, 10, &[0, 1, 2], None),
+        (RANGES, true, 9, 28, &[1], Some(17)),
+        (RANGES, false, 9, 28, &[0, 1], None),
+    ] {
+        let items = items(text);
+        let plan = Participants::of(&items);
+        let mut players: Vec<Player> = plan.all.iter().map(|one| Player::new(one.sender)).collect();
+        let wire = play_on(&mut players, fill, Answers(&"0".repeat(acknowledged)));
+        assert_eq!((wire.len(), wire.last()), (slots, Some(&Item::Stop)), "{text}");
+        let winners: Vec<usize> = (0..players.len()).filter(|k| players[*k].lost.is_none()).collect();
+        assert_eq!((winners.as_slice(), players[0].lost), (won, lost), "{text}");
+    }
+}
+
+// Whoever wins has sent all of the wire, as one of its texts; whoever loses could send a 1 where
+// the wire has a 0.
+#[test]
+fn generated_safe_plans_are_played_to_an_end() {
+    let mut dice = Dice { state: 20_261_123 };
+    let (mut slots, mut most) = (0, 0);
+    for _ in 0..300 {
+        let text = generated::safe_plan(dice.index(7) + 2, &mut dice);
+        let items = items(&text);
+        let plan = Participants::of(&items);
+        most = most.max(plan.all.len());
+        let Ok(starters) = plan.starters(&generated::starters(&text, &mut dice)) else {
+            panic!("no starters: {text}");
+        };
+        let mut players: Vec<Player> = starters.iter().map(|one| Player::new(one.sender)).collect();
+        let answers = generated::answers(&mut dice);
+        let wire = play_on(&mut players, dice.throw(2) == 1, Answers(&answers));
+        slots += wire.len();
+        assert!(wire.last().is_some_and(|item| item.ends_run()), "{text}");
+        for (one, player) in starters.iter().zip(&players) {
+            let sent = wire.get(..player.lost.unwrap_or(wire.len())).unwrap_or(&[]);
+            let end = one.sender.end_of(sent).expect("a text that begins so");
+            match player.lost {
+                None => assert!(one.sender.is_over(end), "{text}"),
+                Some(slot) => {
+                    assert!(one.sender.may_put(end, Item::Sent(true)), "{text}");
+                    assert_eq!(wire.get(slot), Some(&Item::Sent(false)), "{text}");
+                }
+            }
+        }
+        assert!(players.iter().any(|player| player.lost.is_none()), "{text}");
+    }
+    assert_eq!(most, 8);
+    // Most runs get past their first header.
+    assert!(slots > 300 * 15, "{slots}");
+}
+
+// Whatever the order in which seats are asked, they play to an end, and whoever wins has sent all of the wire.
+#[test]
+fn seats_of_generated_safe_plans_are_asked_in_any_order() {
+    let mut dice = Dice { state: 20_261_125 };
+    for _ in 0..300 {
+        let text = generated::safe_plan(dice.index(7) + 2, &mut dice);
+        let starters = generated::starters(&text, &mut dice);
+        let script = generated::script(&starters, &mut dice);
+        let answers = generated::answers(&mut dice);
+        let said = seats(text.as_bytes(), script.as_bytes(), &starters, &answers).out;
+        let end = said.lines().find_map(|line| line.split_once("-> wire ")?.1.split_once(", won "));
+        let (wire, won) = end.unwrap_or_else(|| panic!("no end: {said}"));
+        let wire: Option<Vec<Item>> = wire.chars().map(Item::from_symbol).collect();
+        let wire = wire.expect("symbols");
+        let items = items(&text);
+        for winner in Participants::of(&items).starters(&won.replace(' ', ",")).expect("labels") {
+            let end = winner.sender.end_of(&wire).expect("a text that begins so");
+            assert!(winner.sender.is_over(end), "{text}{said}");
+        }
+    }
+}
+
+// ---- captures
+
+const DEFINITIONS: &str = "$var wire 1 ! scl $end $var wire 1 \" sda $end $enddefinitions $end";
+
+// A START begins a transaction on a bus that is known to be free: by two HIGH levels, or by a STOP.
+#[test]
+fn a_bus_whose_lines_were_first_known_low_is_free_after_a_stop() {
+    for (changes, transactions) in [
+        ("#0 1! 1\" #1 0\" #2 1\"", "1-2 unexplained\n1 transactions, 1 unexplained\n"),
+        // both LOW, or one of them, and then HIGH: no START and no STOP was seen
+        ("#0 0! 0\" #1 1\" #2 1! #3 0\" #4 1\"", "0 transactions, 0 unexplained\n"),
+        ("#0 0! 1\" #1 1! #2 0\" #3 1\"", "0 transactions, 0 unexplained\n"),
+        // the rise of SDA while SCL is HIGH is a STOP
+        ("#0 1! 0\" #1 1\" #2 0\" #3 1\"", "2-3 unexplained\n1 transactions, 1 unexplained\n"),
+    ] {
+        let dump = format!("{DEFINITIONS} {changes}");
+        assert_eq!(capture(b"plan 1", dump.as_bytes(), "scl", "sda").out, transactions, "{changes}");
+    }
+}
+
+// What is written into a dump is read from it, and those explain a transaction that have a text
+// with its marks.
+#[test]
+fn generated_captures_are_read_and_explained_as_texts_say() {
+    let mut dice = Dice { state: 20_261_123 };
+    let (mut explained, mut unexplained) = (0, 0);
+    for _ in 0..12 {
+        let text = generated::plan(&mut dice);
+        let items = items(&text);
+        let plan = Participants::of(&items);
+        let changes = generated::changes(&text, &mut dice);
+        let dump = generated::dump_of(&changes, &mut dice);
+        assert_eq!(changes_of(dump.as_bytes(), "scl", "sda").as_ref(), Ok(&changes));
+        for transaction in transactions_of(&events_of(&samples_of(&changes))) {
+            let Until::Stopped(_) = transaction.until else {
+                continue;
+            };
+            let mut explainers = 0;
+            for one in &plan.all {
+                let explains = explains(one.sender, &transaction.marks);
+                let has_text = one_has(&texts_of(one.sender), &transaction.marks);
+                assert_eq!(explains, has_text, "{} {transaction:?} {text}", one.label);
+                explainers += u32::from(explains);
+            }
+            if explainers > 0 {
+                explained += 1;
+            } else {
+                unexplained += 1;
+            }
+        }
+    }
+    // Both answers are common.
+    assert!(explained > 20, "{explained}");
+    assert!(unexplained > 10, "{unexplained}");
+}
+
+// So trials with such dumps try each refusal.
+#[test]
+fn generated_dumps_with_wrong_tokens_are_refused_in_each_way() {
+    let mut dice = Dice { state: 20_261_124 };
+    let plan = generated::plan(&mut dice);
+    let mut counts = [0; 5];
+    for _ in 0..600 {
+        let dump = generated::wrong_dump(&plan, &mut dice);
+        let kind = match changes_of(dump.as_bytes(), "scl", "sda") {
+            Ok(_) => 0,
+            Err(DumpRefusal::NoSignal(_)) => 1,
+            Err(DumpRefusal::BadToken(_)) => 2,
+            Err(DumpRefusal::TimeBack(_)) => 3,
+            Err(DumpRefusal::Unended(_)) => 4,
+        };
+        counts[kind] += 1;
+    }
+    // Each answer is common.
+    assert!(counts.iter().all(|count| *count > 10), "{counts:?}");
+}

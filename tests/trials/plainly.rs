@@ -1,0 +1,59 @@
+//! What the plain programs say of a case, and what twire says as they can say it.
+
+use crate::cases::{Asked, Case};
+use crate::commands::Command;
+use crate::desks::Desk;
+use crate::disagreements::Disagreement;
+use crate::plain::{self, Answer};
+use std::io;
+
+/// Tries the plain programs, which know no workers, on a case, and how twire spells its plan.
+pub fn try_plainly(desk: &mut Desk, case: &Case) -> io::Result<Option<Disagreement>> {
+    let spelling = spelling_of(desk, &case.asked)?;
+    let wanted = found_plainly(&case.asked, case.wanted.clone());
+    let found = said_plainly(&case.asked);
+    let is_spelt = plain::spelling(&case.asked.first) == spelling;
+    let fault = (!is_spelt).then_some("the plan is spelt otherwise");
+    Ok(Disagreement::of(case, "plainly", wanted, &found, fault))
+}
+
+/// What the plain program says.
+pub fn said_plainly(asked: &Asked) -> Answer {
+    let (first, second) = (asked.first.as_slice(), asked.second.as_slice());
+    match &asked.command {
+        Command::Check { .. } => plain::check(first),
+        Command::Certify => plain::certify(first),
+        Command::Verify => plain::verify(first, second),
+        Command::Capture { scl, sda } => plain::capture(first, second, scl, sda),
+        Command::Bench { starters, fill, answers } => plain::bench(first, second, starters, *fill, answers),
+        Command::Order => plain::order(first),
+        Command::Print => spelt_plainly(first),
+        Command::Expand => plain::expand(first),
+        Command::Brief => plain::brief(first),
+        Command::Seats { starters, answers } => plain::seats(first, second, starters, answers),
+    }
+}
+
+/// An answer as the plain program can say it: a brief that was written is expanded plainly.
+pub fn found_plainly(asked: &Asked, found: Answer) -> Answer {
+    match asked.command {
+        Command::Brief if found.status == 0 => plain::expand(found.out.as_bytes()),
+        _ => found,
+    }
+}
+
+/// How twire spells the plan, and nothing where it is none.
+pub fn spelling_of(desk: &mut Desk, asked: &Asked) -> io::Result<String> {
+    let print = Asked { command: Command::Print, first: asked.first.clone(), second: asked.second.clone() };
+    let answer = desk.answer(&print)?;
+    Ok(if answer.status == 0 { answer.out } else { String::new() })
+}
+
+// The plain spelling, or the refusal of the plan.
+fn spelt_plainly(plan: &[u8]) -> Answer {
+    let out = plain::spelling(plan);
+    if out.is_empty() {
+        return plain::check(plan);
+    }
+    Answer { status: 0, out, refusal: String::new() }
+}

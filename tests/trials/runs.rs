@@ -1,0 +1,110 @@
+//! A run of a case: what is done, over which devices, and what is due.
+
+use crate::cases::Case;
+use crate::deeds::Deed;
+use crate::desks::{refusal_of, Said};
+use crate::disagreements::Disagreement;
+use crate::plain::Answer;
+use crate::setups::Setup;
+
+/// A run of a case.
+#[derive(Clone, Copy, Debug)]
+pub struct Run {
+    pub deed: Deed,
+    pub setup: Setup,
+    pub due: Due,
+}
+
+/// What is due of a run.
+#[derive(Clone, Copy, Debug)]
+pub enum Due {
+    /// What is wanted of the case, from sound devices.
+    Wanted,
+    /// The same, and on standard error the hints of the case behind the refusal.
+    Hints,
+    /// The same, where reads give so many bytes.
+    Pieces(usize),
+    /// The same, where each call was interrupted so often.
+    Interrupted(u32),
+    /// That the plan could not be read, where that failed.
+    NoFirst,
+    /// That the second file could not be read, where that failed.
+    NoSecond,
+    /// The first bytes of the report, for which alone there was room, and that no more could be written.
+    Cut,
+}
+
+/// Where the run did not end as is due.
+pub fn judge(case: &Case, way: &str, run: &Run, said: &Said) -> Option<Disagreement> {
+    let (wanted, fault) = due_of(case, run, said);
+    Disagreement::of(case, way, wanted, &said.answer, fault)
+}
+
+// The answer that is due, and what is wrong with the devices.
+fn due_of(case: &Case, run: &Run, said: &Said) -> (Answer, Option<&'static str>) {
+    let told = &said.told;
+    let wanted = case.wanted.clone();
+    match run.due {
+        Due::Wanted => (wanted, fault(told.is_sound(), "a device failed")),
+        Due::Hints => (hinted(case), fault(told.is_sound(), "a device failed")),
+        Due::Pieces(piece) => {
+            let is_right = told.is_sound() && came_in_pieces(case, piece, said);
+            (wanted, fault(is_right, "the reads did not give so many bytes"))
+        }
+        Due::Interrupted(times) => {
+            let is_right = told.is_sound()
+                && told.interruptions == told.calls() * times as usize
+                && (told.first.calls > 0 || case.is_unread());
+            (wanted, fault(is_right, "not each call was interrupted so often"))
+        }
+        Due::NoFirst if told.first.failed => {
+            (refused("read", ""), fault(!told.second.failed, "the second file was read"))
+        }
+        Due::NoFirst => (wanted, fault(case.is_unread(), "the read that is to fail did not")),
+        Due::NoSecond if told.second.failed => (refused("read", ""), None),
+        Due::NoSecond => (wanted, fault(case.leaves_second(), "the read that is to fail did not")),
+        Due::Cut => due_of_cut(case, &run.setup, said),
+    }
+}
+
+// With hints the status, the report and the line of the refusal are as without.
+fn hinted(case: &Case) -> Answer {
+    let Answer { status, out, refusal } = case.wanted.clone();
+    let line = if refusal.is_empty() { String::new() } else { format!("refused {refusal}\n") };
+    let hints = case.hints.as_deref().unwrap_or("");
+    Answer { status, out, refusal: refusal_of(&format!("{line}{hints}")) }
+}
+
+// The report is longer than the room.
+fn due_of_cut(case: &Case, setup: &Setup, said: &Said) -> (Answer, Option<&'static str>) {
+    let taken = &case.wanted.out.as_bytes()[..setup.room.unwrap_or(0)];
+    let told = &said.told;
+    let is_right = told.page.failed == setup.fails && told.took_none != setup.fails;
+    (
+        refused("write", &String::from_utf8_lossy(taken)),
+        fault(is_right, "standard output did not fail, or take none, as it was to"),
+    )
+}
+
+/// The answer of a run that is refused so, and has written this.
+pub fn refused(refusal: &str, out: &str) -> Answer {
+    Answer { status: 2, out: out.to_owned(), refusal: refusal.to_owned() }
+}
+
+fn fault(is_right: bool, why: &'static str) -> Option<&'static str> {
+    (!is_right).then_some(why)
+}
+
+// How many calls the reading of a text takes, with the one that gives no bytes.
+pub fn calls_of(text: &[u8], piece: usize) -> usize {
+    text.len().div_ceil(piece) + 1
+}
+
+// Each file that is read to its end took as many calls as it has pieces.
+fn came_in_pieces(case: &Case, piece: usize, said: &Said) -> bool {
+    let asked = &case.asked;
+    let first = case.is_unread() || said.told.first.calls == calls_of(&asked.first, piece);
+    let second =
+        !asked.command.reads_two() || case.leaves_second() || said.told.second.calls == calls_of(&asked.second, piece);
+    first && second
+}
