@@ -45,6 +45,13 @@ pub enum Request<'a> {
         cert: &'a str,
         explain: bool,
     },
+    /// A page that shows a plan, and a recorded bus where there is one, on which these are the two lines.
+    Page {
+        plan: &'a str,
+        capture: Option<&'a str>,
+        lines: Lines<'a>,
+        output: Option<&'a str>,
+    },
     /// Who wins arbitration.
     Order {
         plan: &'a str,
@@ -155,6 +162,11 @@ fn fault_of(request: Request<'_>) -> Option<&'static str> {
     match request {
         Request::Verify { plan, cert, .. } if are_input(plan, cert) => Some(INPUT_TWICE),
         Request::Capture { plan, vcd, .. } if are_input(plan, vcd) => Some(INPUT_TWICE),
+        Request::Page {
+            plan,
+            capture: Some(vcd),
+            ..
+        } if are_input(plan, vcd) => Some(INPUT_TWICE),
         Request::Bench {
             plan,
             cert: Some(cert),
@@ -186,6 +198,7 @@ struct Found<'a> {
     brief: Option<&'a str>,
     cert: Option<&'a str>,
     vcd: Option<&'a str>,
+    recorded: Option<&'a str>,
     starters: Option<&'a str>,
     workers: Option<u32>,
     capture: Options<'a>,
@@ -225,6 +238,7 @@ fn found_in<'a>(matches: &ArgMatches<'a>) -> Found<'a> {
         brief: matches.get_str("BRIEF"),
         cert: matches.get_str("CERT"),
         vcd: matches.get_str("VCD"),
+        recorded: matches.get_str("capture"),
         starters: matches.get_str("STARTERS"),
         workers: matches.get_one::<u32>("workers"),
         capture: Options::found_in(matches),
@@ -287,6 +301,12 @@ fn request_of<'a>(name: &str, found: Found<'a>) -> Option<Request<'a>> {
             output: found.output,
         },
         "bench" => return bench_of(found),
+        "page" => Request::Page {
+            plan: found.plan?,
+            capture: found.recorded,
+            lines: found.capture.lines(),
+            output: found.output,
+        },
         "expand" => Request::Expand {
             brief: found.brief?,
             output: found.output,

@@ -112,6 +112,28 @@ which only the other can. Who always loses may wait long on a busy bus.
 
 Exit status: 0 the plan is safe, 1 it is not, 2 refused.";
 
+pub const AFTER_PAGE_HELP: &str = "\
+The page is one HTML file for a browser. It opens from disk, and loads nothing
+from elsewhere. It shows
+
+  the pairs        a matrix of the participants: which pairs are unsafe, which
+                   part in the header or later, which end alike, and where
+                   either may win. A cell leads to its drawing, with the data
+                   of both, SDA and SCL; above 2,000 pairs by messages
+  who wins         how often each participant can win, or always loses
+  what is sent     each message in bytes, as 'S 48 Wr A 01 A P'
+  the capture      its transactions on a line of time, and those that nobody in
+                   the plan explains, with '--capture VCD'
+
+and the reports of 'check', 'order' and 'capture --explain', of which all this
+is made.
+
+  twire page bus.plan -o bus.html
+  twire page bus.plan --capture bus.vcd --scl D0 --sda D1 -o bus.html
+
+Exit status: 0 the plan is safe, and the capture is explained; 1 written, and it
+is not so; 2 refused.";
+
 pub const AFTER_CAPTURE_HELP: &str = "\
 The capture is a value change dump (IEEE 1364-2005) with a signal of one bit for
 each of the two lines. The report has a line for each transaction, from its

@@ -2,8 +2,8 @@
 
 use crate::help::{
     AFTER_BENCH_HELP, AFTER_BRIEF_HELP, AFTER_CAPTURE_HELP, AFTER_CERTIFY_HELP, AFTER_CHECK_HELP,
-    AFTER_EXPAND_HELP, AFTER_LEARN_HELP, AFTER_ORDER_HELP, AFTER_PRINT_HELP, AFTER_SIGNALS_HELP,
-    AFTER_VERIFY_HELP,
+    AFTER_EXPAND_HELP, AFTER_LEARN_HELP, AFTER_ORDER_HELP, AFTER_PAGE_HELP, AFTER_PRINT_HELP,
+    AFTER_SIGNALS_HELP, AFTER_VERIFY_HELP,
 };
 
 /// A command of the program.
@@ -97,8 +97,8 @@ pub const COLOR: Argument = Argument::Choice {
 };
 
 /// The commands, in the order of the help.
-pub const COMMANDS: [Entry; 11] = [
-    CHECK, CERTIFY, VERIFY, ORDER, CAPTURE, SIGNALS, LEARN, BENCH, EXPAND, PRINT, BRIEF,
+pub const COMMANDS: [Entry; 12] = [
+    CHECK, CERTIFY, VERIFY, ORDER, CAPTURE, SIGNALS, LEARN, BENCH, PAGE, EXPAND, PRINT, BRIEF,
 ];
 
 const CHECK: Entry = Entry {
@@ -173,6 +173,14 @@ const BENCH: Entry = Entry {
 const BENCH_USAGE: &str = "\
 twire bench [OPTIONS] <PLAN> <CERT> <STARTERS>
        twire bench [OPTIONS] --certify <PLAN> <STARTERS>";
+
+const PAGE: Entry = Entry {
+    name: "page",
+    about: "Write a page for a browser: the pairs, who wins, a capture",
+    usage: None,
+    after_help: AFTER_PAGE_HELP,
+    arguments: &[PLAN, RECORDED, SCL, SDA, SCOPE, SCL_CODE, SDA_CODE, OUTPUT],
+};
 
 const EXPAND: Entry = Entry {
     name: "expand",
@@ -270,6 +278,12 @@ const PAIR: Argument = Argument::Count {
     id: "pair",
     value_name: "I",
     help: "The unsafe pair for --wave, not the first one",
+};
+
+const RECORDED: Argument = Argument::Option {
+    id: "capture",
+    value_name: "VCD",
+    help: "A capture, a value change dump, to show with it",
 };
 
 const SCL: Argument = Argument::Option {

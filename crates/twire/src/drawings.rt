@@ -1,7 +1,7 @@
 // Runs whose waves are drawn into a file.
 
 use crate::inputs::READS;
-use crate::outputs::{Form, Sheet};
+use crate::outputs::{FilesRead, Form, Sheet};
 use crate::rehearsals::{Play, rehearse};
 use crate::runs::{Extras, Look, look_over};
 use report::{Input, Output, RunError, Status, Watched, read_within, write_report};
@@ -12,6 +12,27 @@ use std::thread::Threads;
 use std::time::Clock;
 use std::{fs, str};
 use waves::{wave_of_bench, wave_of_check};
+
+/// The files that a run reads.
+#[derive(Clone, Copy)]
+pub struct Paths<'a> {
+    pub plan: &'a str,
+    pub cert: Option<&'a str>,
+}
+
+impl<'a> Paths<'a> {
+    /// A plan alone is read.
+    pub fn one(plan: &'a str) -> Paths<'a> {
+        Paths { plan, cert: None }
+    }
+
+    fn files<R: Files>(&self, rt: &R) -> FilesRead {
+        FilesRead {
+            first: fs::metadata(rt, self.plan).ok(),
+            second: self.cert.and_then(|path| fs::metadata(rt, path).ok()),
+        }
+    }
+}
 
 /// Checks a plan, and draws the fault of an unsafe pair.
 pub fn check_drawn<
@@ -45,7 +66,7 @@ fn draw_fault<R: Files + Print + Eprint + Clock + AllocGlobal>(
     extras: Extras,
 ) -> Result<Status, RunError> {
     let wave = wave_of_check(rt.alloc(), text, pair)?;
-    draw(rt, path, wave, status, file, extras)
+    draw(rt, Paths::one(path), wave, status, file, extras)
 }
 
 /// Rehearses a plan, and draws the run.
@@ -56,7 +77,7 @@ pub fn bench_drawn<
     O: Output,
 >(
     rt: &R,
-    path: &str,
+    paths: Paths<'_>,
     reader: &mut I,
     cert: &mut J,
     out: &mut O,
@@ -68,7 +89,7 @@ pub fn bench_drawn<
     let (report, status) = made(rt, text.as_slice(), cert, play)?;
     draw_run(
         rt,
-        path,
+        paths,
         text.as_slice(),
         report.as_slice(),
         out,
@@ -96,7 +117,7 @@ fn made<R: AllocGlobal + Threads + Wait + Clock + Sync, J: Input>(
 
 fn draw_run<R: Files + Print + Eprint + Clock + AllocGlobal, O: Output>(
     rt: &R,
-    path: &str,
+    paths: Paths<'_>,
     text: &[u8],
     report: &[u8],
     out: &mut O,
@@ -108,14 +129,14 @@ fn draw_run<R: Files + Print + Eprint + Clock + AllocGlobal, O: Output>(
     write_report(out, report)?;
     let lines = str::from_utf8(report).unwrap_or("");
     let wave = wave_of_bench(rt.alloc(), text, play.starters, play.fill, lines)?;
-    draw(rt, path, wave, status, file, extras)
+    draw(rt, paths, wave, status, file, extras)
 }
 
 // Writes the waves into this file, whole or not at all. Where there are none, the file is left as it is. The status is that of
 // the run.
 fn draw<R: Files + Print + Eprint + Clock + AllocGlobal>(
     rt: &R,
-    path: &str,
+    paths: Paths<'_>,
     wave: Option<String>,
     status: Status,
     file: &str,
@@ -128,8 +149,7 @@ fn draw<R: Files + Print + Eprint + Clock + AllocGlobal>(
                 Ok(()) => Ok(status),
                 Err(error) => Err(error),
             };
-            let read = fs::metadata(rt, path).ok();
-            sheet.into_inner().settle(read, ended)
+            sheet.into_inner().settle(paths.files(rt), ended)
         }
         None => {
             if extras.hints {

@@ -7,6 +7,7 @@ mod drawings;
 mod explaining;
 mod inputs;
 mod outputs;
+mod pages;
 mod progress;
 mod recordings;
 mod rehearsals;

@@ -27,6 +27,23 @@ pub enum Form<'a> {
     File(&'a str),
 }
 
+/// What the system knows of the files that a run has read, as far as it does.
+#[derive(Drop)]
+pub struct FilesRead {
+    pub first: Option<Metadata>,
+    pub second: Option<Metadata>,
+}
+
+impl FilesRead {
+    /// One file was read.
+    pub fn one(first: Option<Metadata>) -> FilesRead {
+        FilesRead {
+            first,
+            second: None,
+        }
+    }
+}
+
 /// What takes a report. It keeps the beginning of the report, and the last error.
 #[derive(Drop)]
 pub struct Sheet<'a, R: Files> {
@@ -82,10 +99,10 @@ impl<'a, R: Files + Print + Eprint + Clock + AllocGlobal> Sheet<'a, R> {
     }
 
     /// Gives the file its name once the run has ended with its report, and answers how the run ends by that. After a run that
-    /// has not, nothing is left of it. The file that was read is not replaced.
+    /// has not, nothing is left of it. A file that was read is not replaced.
     pub fn settle(
         &mut self,
-        read: Option<Metadata>,
+        read: FilesRead,
         ended: Result<Status, RunError>,
     ) -> Result<Status, RunError> {
         let Target::Part(part) = mem::replace(&mut self.target, Target::None) else {
@@ -254,16 +271,23 @@ fn put<R: Files>(
     file: R::File,
     name: &str,
     path: &str,
-    read: Option<Metadata>,
+    read: FilesRead,
 ) -> io::Result<bool> {
-    if let (Ok(old), Some(read)) = (fs::metadata(rt, path), read) {
-        if read.dev() == old.dev() && read.ino() == old.ino() {
-            return Err(io::Error::new(ErrorKind::InvalidInput, "it is the file that was read"));
+    if let Ok(old) = fs::metadata(rt, path) {
+        if is_same(&read.first, &old) || is_same(&read.second, &old) {
+            return Err(io::Error::new(ErrorKind::InvalidInput, "it is a file that was read"));
         }
     }
     file.sync_all()?;
     fs::rename(rt, name, path)?;
     Ok(true)
+}
+
+fn is_same(read: &Option<Metadata>, old: &Metadata) -> bool {
+    match read {
+        Some(read) => read.dev() == old.dev() && read.ino() == old.ino(),
+        None => false,
+    }
 }
 
 fn create_beside<R: Files + AllocGlobal>(rt: &R, path: &str) -> io::Result<(R::File, String)> {

@@ -3,7 +3,7 @@
 use crate::advice::{Outcome, advise_on_capture, advise_on_text};
 use crate::explaining::explain_capture;
 use crate::inputs::{file_of, metadata_of, open, open_both, reading_error};
-use crate::outputs::Sheet;
+use crate::outputs::{FilesRead, Sheet};
 use crate::runs::{Extras, form_of, last_read, outcome, status_of};
 use crate::viewing::{Asked, Halt, view_capture};
 use capture_views::View;
@@ -33,6 +33,23 @@ pub fn asked_of<'a>(lines: Lines<'a>, view: command_words::View, explain: bool) 
             summary: view.summary,
         },
         explain,
+    }
+}
+
+/// The whole report on a capture with these lines, explained.
+pub fn whole_of(lines: Lines<'_>) -> Asked<'_> {
+    Asked {
+        scl: probe_of(lines.scl),
+        sda: probe_of(lines.sda),
+        scope: lines.scope,
+        view: View {
+            at_least: None,
+            from: None,
+            to: None,
+            si: false,
+            summary: false,
+        },
+        explain: true,
     }
 }
 
@@ -82,8 +99,8 @@ pub fn capture<'x, R: Files + Input + Print + Eprint + Clock + AllocGlobal + Thr
     status
 }
 
-// The exact report is made as it is read, and any other from the exact one.
-fn explained<R: AllocGlobal + Threads + Sync, I: report::Input, J: report::Input, O: Output>(
+/// Explains a capture. The exact report is made as it is read, and any other from the exact one.
+pub fn explained<R: AllocGlobal + Threads + Sync, I: report::Input, J: report::Input, O: Output>(
     rt: &R,
     plan: &mut I,
     vcd: &mut J,
@@ -146,7 +163,7 @@ pub fn learn<R: Files + Input + Print + Eprint + Clock + AllocGlobal>(
     let error = reading_error(&mut reader);
     let file = file_of(reader);
     let mut out = out.into_inner();
-    let ended = out.settle(metadata_of(rt, &file), ended);
+    let ended = out.settle(FilesRead::one(metadata_of(rt, &file)), ended);
     let status = status_of(rt, ended, extras.watcher);
     if extras.hints {
         let command = command_of(rt.alloc(), "learn", &[vcd.path]);
@@ -191,8 +208,8 @@ pub fn list_signals<R: Files + Input + Print + Eprint + Clock + AllocGlobal>(
     status
 }
 
-// A command with its files, to be given once more with other options.
-fn command_of(alloc: Global, name: &str, paths: &[&str]) -> Result<String, AllocError> {
+/// A command with its files, to be given once more with other options.
+pub fn command_of(alloc: Global, name: &str, paths: &[&str]) -> Result<String, AllocError> {
     let mut command = format!(in alloc; "twire {name}")?;
     for path in paths {
         command.push(' ')?;
@@ -201,8 +218,8 @@ fn command_of(alloc: Global, name: &str, paths: &[&str]) -> Result<String, Alloc
     Ok(command)
 }
 
-// After a run over a dump alone.
-fn advise_on_recording<R: Eprint + AllocGlobal, F: Read + Seek + Drop>(
+/// Hints after a run over a dump alone.
+pub fn advise_on_recording<R: Eprint + AllocGlobal, F: Read + Seek + Drop>(
     rt: &R,
     file: Option<F>,
     names: Names<'_>,

@@ -1,7 +1,7 @@
 // The runs of a bench.
 
 use crate::advice::advise_on_certified;
-use crate::drawings::bench_drawn;
+use crate::drawings::{Paths, bench_drawn};
 use crate::explaining::{Starting, explain_bench};
 use crate::inputs::{READS, file_of, open, open_both, reading_error};
 use crate::outputs::Sheet;
@@ -48,7 +48,10 @@ pub fn bench<R: Files + HasInput + Print + Eprint + AllocGlobal + Threads + Wait
         Some(file) => {
             bench_drawn(
                 rt,
-                plan.path,
+                Paths {
+                    plan: plan.path,
+                    cert: Some(cert.path),
+                },
                 &mut reader,
                 &mut second,
                 &mut out,
@@ -149,7 +152,10 @@ fn rehearse_alone<
     let mut plan = Watched::new(Cursor::new(text.as_slice()));
     let mut cert = Watched::new(Cursor::new(cert.as_slice()));
     match play.wave {
-        Some(file) => bench_drawn(rt, path, &mut plan, &mut cert, out, play, file, extras),
+        Some(file) => {
+            let paths = Paths::one(path);
+            bench_drawn(rt, paths, &mut plan, &mut cert, out, play, file, extras)
+        }
         None => rehearse(rt, &mut plan, &mut cert, out, play),
     }
 }

@@ -6,11 +6,12 @@ use crate::explaining::{explain_check, explain_verify};
 use crate::inputs::{
     Source, file_of, is_standard_input, metadata_of, open, open_both, reading_error,
 };
-use crate::outputs::{Form, Sheet};
+use crate::outputs::{FilesRead, Form, Sheet};
+use crate::pages::{Recorded, page};
 use crate::progress::{Comparing, Watcher};
-use crate::recordings::{asked_of, capture, learn, lesson_of, list_signals};
+use crate::recordings::{asked_of, capture, learn, lesson_of, list_signals, whole_of};
 use crate::rehearsals::{Play, bench, bench_alone};
-use command_words::{Asked, Request, When, read_words};
+use command_words::{Asked, Lines, Request, When, read_words};
 use hints::Named;
 use order::run_order;
 use report::{
@@ -134,6 +135,7 @@ fn files_of(request: Request<'_>) -> Option<(&str, &str)> {
         Request::Verify { plan, cert, .. } => Some((plan, cert)),
         Request::Capture { plan, vcd, .. } => Some((plan, vcd)),
         Request::Signals { vcd } | Request::Learn { vcd, .. } => Some((vcd, vcd)),
+        Request::Page { plan, capture, .. } => Some((plan, capture.unwrap_or(plan))),
         _ => None,
     }
 }
@@ -191,6 +193,15 @@ fn do_request<R: Files + Input + Print + Eprint + AllocGlobal + Threads + Wait +
             let asked = asked_of(lines, view, explain);
             capture(rt, the_plan(plan), the_capture(vcd), asked, extras)
         }
+        Request::Page {
+            plan,
+            capture,
+            lines,
+            output,
+        } => {
+            let recorded = capture.map(|vcd| the_recorded(vcd, lines));
+            page(rt, the_plan(plan), recorded, output, extras)
+        }
         Request::Order { plan } => tell_order(rt, the_plan(plan), extras),
         Request::Signals { vcd } => list_signals(rt, the_capture(vcd), extras),
         Request::Learn {
@@ -244,6 +255,13 @@ fn the_plan(path: &str) -> Named<'_> {
 
 fn the_certificate(path: &str) -> Named<'_> {
     named("CERT", "certificate", path)
+}
+
+fn the_recorded<'a>(path: &'a str, lines: Lines<'a>) -> Recorded<'a> {
+    Recorded {
+        vcd: the_capture(path),
+        asked: whole_of(lines),
+    }
 }
 
 fn the_capture(path: &str) -> Named<'_> {
@@ -405,9 +423,9 @@ fn expand<R: Files + Input + Print + Eprint + Clock + AllocGlobal>(
     finish(rt, brief, reader, out.into_inner(), output, ended, extras)
 }
 
-// Writes the file of a run that is to write one, and answers the status of a run over one text, with the line of a
-// refusal, and hints where they are wanted.
-fn finish<R: Files + Input + Print + Eprint + Clock + AllocGlobal>(
+/// Writes the file of a run that is to write one, and answers the status of a run over one text, with the line of a
+/// refusal, and hints where they are wanted.
+pub fn finish<R: Files + Input + Print + Eprint + Clock + AllocGlobal>(
     rt: &R,
     read: Named<'_>,
     mut source: Source<'_, R, R::File, R::Reader>,
@@ -418,7 +436,7 @@ fn finish<R: Files + Input + Print + Eprint + Clock + AllocGlobal>(
 ) -> u8 {
     let error = reading_error(&mut source);
     let file = file_of(source);
-    let ended = out.settle(metadata_of(rt, &file), ended);
+    let ended = out.settle(FilesRead::one(metadata_of(rt, &file)), ended);
     let status = status_of(rt, ended, extras.watcher);
     if extras.hints {
         let outcome = outcome(read, error, out, output, ended, extras);

@@ -1,0 +1,210 @@
+// The third part of the script: the drawing of a pair, as the standard draws arbitration (UM10204, 3.1.8): the data of both, SDA
+// and SCL.
+
+pub(crate) const DRAWINGS: &str = r#"
+// ---- A run of a pair, slot by slot: { wire, puts, kinds } up to where the two meet or part, and then what the winner goes on
+// with to the end of the byte. Of a safe pair it is the one in which every byte is acknowledged.
+
+const SYMBOLS = { answer: 'l', restart: 'r', stop: 's', claim: 'c' };
+
+// What each may put of an open bit, so that they part where they may.
+function partedOf(first, second) {
+  if (first.bit !== second.bit && isKnown(first.bit + second.bit)) return [first.bit, second.bit];
+  if (isKnown(first.bit + second.bit)) return null;
+  if (first.bit !== '1' && second.bit !== '0') return ['0', '1'];
+  return ['1', '0'];
+}
+
+function metRun(pair, one, other) {
+  const slots = [];
+  let first = one.start(), second = other.start();
+  for (const symbol of pair.wire) {
+    slots.push({ wire: symbol, puts: [symbol, symbol], kinds: [first.kind, second.kind] });
+    first = first.after(symbol);
+    second = second.after(symbol);
+  }
+  const puts = [first, second].map(place => place.kind === 'data' ? place.bit : SYMBOLS[place.kind]);
+  slots.push({ wire: '?', puts, kinds: [first.kind, second.kind], meets: true });
+  return { slots, end: pair.wire.length };
+}
+
+function partedRun(one, other) {
+  const slots = [];
+  let places = [one.start(), other.start()], lost = null, end = null;
+  for (;;) {
+    const kinds = places.map(place => place && place.kind);
+    if (lost === null && kinds[0] === 'data' && kinds[1] === 'data') {
+      const parted = partedOf(places[0], places[1]);
+      if (parted) {
+        lost = parted[0] === '1' ? 0 : 1;
+        end = slots.length;
+        const may = !isKnown(places[0].bit + places[1].bit);
+        slots.push({ wire: '0', puts: parted, kinds, parts: true, may });
+        places = places.map((place, k) => k === lost ? null : place.after('0'));
+        continue;
+      }
+    }
+    const live = places.find(place => place);
+    const symbol = live.kind === 'data' ? live.bit.replace('x', '0') : SYMBOLS[live.kind];
+    slots.push({ wire: symbol, puts: places.map(place => place ? symbol : null), kinds });
+    places = places.map(place => place && place.after(symbol));
+    if (symbol === 's' || symbol === 'c') break;
+    if (lost !== null && (symbol === 'l' || slots.length - end > 12)) break;
+  }
+  return { slots, end: end === null ? slots.length - 1 : end, lost };
+}
+
+// ---- Its bytes.
+
+function wordsOf(symbols) {
+  const words = ['S'];
+  let bits = '', header = true, read = false;
+  const flush = () => { if (bits) words.push(bits); bits = ''; };
+  for (const symbol of symbols) {
+    if (symbol === 'r' || symbol === 's' || symbol === 'c') {
+      flush();
+      words.push(symbol === 'r' ? 'Sr' : symbol === 's' ? 'P' : '(waits)');
+      header = true;
+    } else if (bits.length < 8) {
+      bits += symbol === 'l' ? '0' : symbol === 'h' ? '1' : symbol;
+    } else {
+      if (header) words.push(hexOf(bits.slice(0, 7)), bits[7] === '1' ? 'Rd' : 'Wr');
+      else words.push(hexOf(bits));
+      read = header ? bits[7] === '1' : read;
+      words.push(symbol === 'l' || symbol === '0' ? 'A' : 'NA');
+      bits = '';
+      header = false;
+    }
+  }
+  if (bits.length === 8 && header) words.push(hexOf(bits.slice(0, 7)), bits[7] === '1' ? 'Rd' : 'Wr');
+  else flush();
+  return words.join(' ');
+}
+
+// ---- The drawing: the last slots before the end, and what comes after it.
+
+const WIDE = 34, TALL = 18, LEFT = 4, BEFORE = 20;
+const ROWS = { first: 40, second: 86, sda: 132, scl: 178 };
+
+const isLow = symbol => symbol === '0' || symbol === 'l';
+
+// The level of a line in each slot as a path, in which START, repeated START and STOP are seen beside SCL.
+function levelPath(symbols, top, x) {
+  const low = top + TALL;
+  let at = null;
+  const path = [];
+  const to = (place, level) => {
+    path.push((at === null ? 'M' : 'L') + place + ' ' + (at === null ? level : at) + ' L' + (place + 4) + ' ' + level);
+    at = level;
+  };
+  symbols.forEach((symbol, k) => {
+    const left = x(k);
+    if (symbol === 'S') { to(left, top); to(left + WIDE / 2, low); }
+    else if (symbol === 'r') { to(left, top); to(left + WIDE * .6, low); }
+    else if (symbol === 's') { to(left, low); to(left + WIDE * .6, top); }
+    else to(left, isLow(symbol) ? low : top);
+    path.push('L' + (left + WIDE) + ' ' + at);
+  });
+  return path.join(' ');
+}
+
+function clockPath(symbols, top, x) {
+  const low = top + TALL;
+  const path = [];
+  symbols.forEach((symbol, k) => {
+    const left = x(k), begin = path.length ? 'L' : 'M';
+    if (symbol === 'S') path.push(begin + left + ' ' + top + ' L' + (left + WIDE * .8) + ' ' + top + ' L' + (left + WIDE) + ' ' + low);
+    else if (symbol === 's') path.push('L' + left + ' ' + low + ' L' + (left + WIDE * .3) + ' ' + low + ' L' + (left + WIDE * .38) + ' ' + top + ' L' + (left + WIDE) + ' ' + top);
+    else {
+      path.push(begin + left + ' ' + low + ' L' + (left + WIDE * .3) + ' ' + low + ' L' + (left + WIDE * .38) + ' ' + top
+        + ' L' + (left + WIDE * .8) + ' ' + top + ' L' + (left + WIDE * .9) + ' ' + low + ' L' + (left + WIDE) + ' ' + low);
+    }
+  });
+  return path.join(' ');
+}
+
+// Stretches of slots in which a participant drives the line, and in which it lets go of it.
+function stretchesOf(puts, kinds) {
+  const stretches = [];
+  puts.forEach((put, k) => {
+    const idle = put === null || kinds[k] === 'answer';
+    const last = stretches[stretches.length - 1];
+    if (last && last.idle === idle) last.puts.push(idle ? '1' : put);
+    else stretches.push({ idle, from: k, puts: [idle ? '1' : put] });
+  });
+  return stretches;
+}
+
+function drawingOf(pair, one, other) {
+  const run = pair.way === 'unsafe' ? metRun(pair, one, other) : partedRun(one, other);
+  const from = Math.max(0, run.end - BEFORE);
+  const shown = run.slots.slice(from);
+  const begins = from === 0;
+  const margin = 8 + 7.4 * Math.max(one.label.length, other.label.length, 3);
+  const x = k => LEFT + margin + (k + (begins ? 1 : 0)) * WIDE;
+  const width = x(shown.length) + 70;
+  const svg = element('svg:svg', { viewBox: '0 0 ' + width + ' 232', width, height: 232, role: 'img',
+    'aria-label': saidOf(pair) });
+  const add = (name, attributes, text) => svg.append(element('svg:' + name, attributes, ...(text === undefined ? [] : [text])));
+  const mark = run.slots[run.end] || {};
+  if (mark.meets || mark.parts) {
+    add('rect', { x: x(run.end - from), y: 24, width: WIDE, height: 180, class: mark.meets ? 'meeting' : 'parting' });
+  }
+  shown.forEach((slot, k) => {
+    add('line', { x1: x(k), x2: x(k), y1: 20, y2: 206, class: 'grid' });
+    add('text', { x: x(k) + WIDE / 2, y: 14, 'text-anchor': 'middle', class: 'faint' }, String(from + k));
+    add('text', { x: x(k) + WIDE / 2, y: 222, 'text-anchor': 'middle' }, slot.wire);
+  });
+  add('text', { x: LEFT, y: 14, class: 'faint' }, 'slot');
+  add('text', { x: LEFT, y: 222, class: 'faint' }, 'wire');
+  [[one, ROWS.first, 0], [other, ROWS.second, 1]].forEach(([participant, top, k]) => {
+    add('text', { x: LEFT, y: top + 14 }, participant.label);
+    for (const stretch of stretchesOf(shown.map(slot => slot.puts[k]), shown.map(slot => slot.kinds[k]))) {
+      const opens = begins && stretch.from === 0;
+      const puts = opens ? ['S', ...stretch.puts] : stretch.puts;
+      const first = stretch.from - (opens ? 1 : 0);
+      add('path', { d: levelPath(puts, top, j => x(first + j)), class: stretch.idle ? 'idle' : 'level' });
+    }
+    if (run.lost === k) add('text', { x: x(run.end - from + 1) + 4, y: top + TALL + 14, class: 'faint' }, 'has lost');
+  });
+  const wire = shown.map(slot => slot.wire).filter(symbol => symbol !== '?');
+  const symbols = begins ? ['S', ...wire] : wire;
+  const at = k => x(k - (begins ? 1 : 0));
+  add('text', { x: LEFT, y: ROWS.sda + 14 }, 'SDA');
+  add('text', { x: LEFT, y: ROWS.scl + 14 }, 'SCL');
+  if (symbols.length > 0) {
+    add('path', { d: levelPath(symbols, ROWS.sda, at), class: 'level' });
+    add('path', { d: clockPath(symbols, ROWS.scl, at), class: 'level' });
+  }
+  if (mark.meets) {
+    add('text', { x: x(run.end - from) + WIDE / 2, y: ROWS.sda + 13, 'text-anchor': 'middle' }, '?');
+    [0, 1].forEach(k => add('text', { x: x(run.end - from) + WIDE + 4, y: (k === 0 ? ROWS.first : ROWS.second) + 14 }, pair.kinds[k]));
+  }
+  return { svg, run };
+}
+
+function meetingText(pair, run) {
+  const slot = run.slots[run.end];
+  if (pair.way === 'unsafe') {
+    return 'Slot ' + run.end + ', UM10204 3.1.8: ' + pair.kinds[0] + ' meets ' + pair.kinds[1]
+      + '. Both send alike until here, so neither has lost, and what follows is undefined.';
+  }
+  if (!slot.parts) return 'Both send the same to the end, and neither loses.';
+  const winner = run.lost === 0 ? pair.second : pair.first;
+  return slot.may ? 'Slot ' + run.end + ': the first in which they may part. Here ' + winner + ' sends 0 and wins.'
+    : 'Slot ' + run.end + ': ' + winner + ' sends 0 and wins; the other one has lost.';
+}
+
+function shownPair(pair, byLabel) {
+  const one = byLabel.get(pair.first), other = byLabel.get(pair.second);
+  const { svg, run } = drawingOf(pair, one, other);
+  const before = wordsOf(run.slots.slice(0, run.end).map(slot => slot.wire));
+  return element('div', { class: 'drawing', id: 'pair-' + pair.number },
+    element('h3', {}, 'pair ' + pair.number + ': ' + pair.first + ' and ' + pair.second + ' ',
+      element('b', { class: pair.way }, '\u00a0' + WAYS[pair.way][0] + '\u00a0')),
+    element('p', {}, saidOf(pair).replace(/^.*?: /, '') + '.'),
+    element('p', { class: 'mono' }, before),
+    element('p', {}, meetingText(pair, run)),
+    element('div', { class: 'wide' }, svg));
+}
+"#;

@@ -1,0 +1,183 @@
+// The last part of the script: a capture on a line of time, who wins, and the page itself.
+
+pub(crate) const TIMES: &str = r#"
+// ---- A capture: { from, to, who, notes } for each transaction, of the lines of the report and those below them.
+
+function transactionsOf(lines) {
+  const list = [];
+  for (const line of lines) {
+    const found = /^(\d+)-(\d*) (.+)$/.exec(line);
+    if (found) list.push({ from: BigInt(found[1]), to: found[2] ? BigInt(found[2]) : null, who: found[3], notes: [] });
+    else if (line.startsWith('    ') && list.length > 0) list[list.length - 1].notes.push(line.slice(4));
+  }
+  return list;
+}
+
+const fateOf = one => one.who === 'unexplained' ? 'odd' : one.who === 'cut' || one.who === 'unfinished' ? 'cut' : 'seen';
+
+const MOST_BARS = 1000, MOST_ROWS = 200;
+
+// Of many transactions neighbours share a bar, which is odd where one of them is.
+function timeLineOf(list) {
+  const width = 1100, first = list[0].from;
+  const last = list.reduce((late, one) => one.to !== null && one.to > late ? one.to : one.from > late ? one.from : late, first);
+  const span = last > first ? last - first : 1n;
+  const place = time => 20 + Number((time - first) * 100000n / span) / 100000 * (width - 40);
+  const svg = element('svg:svg', { viewBox: '0 0 ' + width + ' 84', width, height: 84, role: 'img',
+    'aria-label': list.length + ' transactions from ' + first + ' to ' + last });
+  const step = Math.max(1, Math.ceil(list.length / MOST_BARS));
+  for (let k = 0; k < list.length; k += step) {
+    const some = list.slice(k, k + step);
+    const fates = some.map(fateOf);
+    const fate = fates.includes('odd') ? 'odd' : fates.includes('cut') ? 'cut' : 'seen';
+    const left = place(some[0].from), end = some[some.length - 1];
+    const right = Math.max(left + 3, place(end.to === null ? last : end.to));
+    const bar = element('svg:rect', { x: left, y: fate === 'odd' ? 14 : 22, width: right - left, height: fate === 'odd' ? 38 : 22,
+      class: fate }, element('svg:title', {}, some[0].from + '-' + (end.to === null ? '' : end.to) + ' ' + some[0].who));
+    svg.append(bar);
+    if (fate === 'odd' && list.length <= 60) {
+      svg.append(element('svg:text', { x: (left + right) / 2, y: 11, 'text-anchor': 'middle' }, '!'));
+    }
+  }
+  svg.append(element('svg:line', { x1: 20, x2: width - 20, y1: 58, y2: 58, class: 'grid' }),
+    element('svg:text', { x: 20, y: 74, class: 'faint' }, String(first)),
+    element('svg:text', { x: width - 20, y: 74, 'text-anchor': 'end', class: 'faint' }, String(last)));
+  return element('div', { class: 'times wide' }, svg);
+}
+
+function captureOf(lines) {
+  const list = transactionsOf(lines);
+  const parts = [element('h2', { id: 'capture-seen' }, 'The capture'), element('p', {}, lines.filter(line =>
+    /transactions, \d+ unexplained$/.test(line)).join(''))];
+  if (list.length === 0) return parts;
+  parts.push(timeLineOf(list), element('ul', { class: 'key' },
+    element('li', {}, 'low bar: explained by the plan'), element('li', {}, 'tall bar, !: nobody of the plan explains it'),
+    element('li', {}, 'dashed bar: cut, or unfinished')));
+  const odd = list.filter(one => fateOf(one) === 'odd');
+  const told = odd.length > 0 ? odd : list;
+  parts.push(element('h3', {}, odd.length > 0 ? 'Unexplained' : 'Transactions'));
+  for (const one of told.slice(0, MOST_ROWS)) {
+    parts.push(element('p', { class: 'mono' }, one.from + '-' + (one.to === null ? '' : one.to) + ' ' + one.who),
+      element('div', { class: 'notes mono' }, one.notes.join('\n')));
+  }
+  if (told.length > MOST_ROWS) {
+    parts.push(element('p', {}, 'and ' + (told.length - MOST_ROWS) + ' more, which stand in the report below'));
+  }
+  return parts;
+}
+
+// ---- Who wins.
+
+function totalsOf(lines) {
+  const rows = [];
+  for (const line of lines) {
+    const found = /^total (\S+): wins (\d+), may win (\d+), loses (\d+)$/.exec(line);
+    if (found) rows.push(found.slice(1));
+  }
+  if (rows.length === 0) return [];
+  const head = element('tr', {}, ...['participant', 'wins', 'may win', 'loses', ''].map((name, k) =>
+    element('th', { scope: 'col', class: k === 0 || k === 4 ? '' : 'number' }, name)));
+  return [element('h2', {}, 'Who wins'),
+    element('p', {}, 'In how many of its pairs a participant alone can win, in how many either can, and in how many only the '
+      + 'other one can. Whoever never wins may wait for long on a busy bus.'),
+    element('div', { class: 'wide' }, element('table', { class: 'lines' }, element('thead', {}, head), element('tbody', {},
+      ...rows.map(([label, wins, may, loses]) => element('tr', {}, element('th', { scope: 'row' }, label),
+        element('td', { class: 'number' }, wins), element('td', { class: 'number' }, may),
+        element('td', { class: 'number' }, loses),
+        element('td', {}, wins === '0' && may === '0' ? 'never wins' : ''))))))];
+}
+
+// ---- What each participant sends.
+
+function sendersOf(plan) {
+  const rows = [];
+  const row = (who, what) => rows.push(element('tr', {}, element('th', { scope: 'row' }, who), element('td', {}, ...what)));
+  for (const message of plan.messages.values()) {
+    const paths = rowsOf(message.frame, 'S', 0, []);
+    row(message.name, [...paths.map(path => element('div', { class: 'mono', style: 'margin-left:' + path.depth * 1.5 + 'rem' },
+      path.text)), element('div', {}, message.controllers.length > 0 ? 'sent by ' + message.controllers.join(', ')
+      : 'nobody sends it')]);
+  }
+  for (const one of plan.interrupts) {
+    row('!' + one.name, [element('div', { class: 'mono' }, 'S ' + hexOf(one.address) + ' Rd (waits)'),
+      element('div', {}, 'an interrupt')]);
+  }
+  const nevers = plan.nevers.map(([one, other]) => one + ' and ' + other + ' never start together');
+  return [element('h2', {}, 'What is sent'),
+    element('p', {}, 'Bytes as documents of the bus write them; any is a byte with eight open bits, x one open bit. What is done '
+      + 'after a refusal stands below, where it is more than a STOP.'),
+    element('div', { class: 'wide' }, element('table', { class: 'lines' }, element('tbody', {}, ...rows))),
+    ...nevers.map(said => element('p', {}, said + '.'))];
+}
+
+// ---- The page.
+
+const MOST_DRAWN = 20;
+
+function choiceOf(participants, pairs, show) {
+  const byNames = new Map(pairs.flatMap(pair => [[pair.first + ' ' + pair.second, pair], [pair.second + ' ' + pair.first, pair]]));
+  const select = name => element('select', { 'aria-label': name }, ...participants.map(p => element('option', {}, p.label)));
+  const one = select('one participant'), other = select('the other participant');
+  if (participants.length > 1) other.selectedIndex = 1;
+  const said = element('span', { role: 'status' });
+  const form = element('form', {}, 'Draw ', one, ' and ', other, element('button', {}, 'Draw'), said);
+  form.addEventListener('submit', event => {
+    event.preventDefault();
+    const pair = byNames.get(one.value + ' ' + other.value);
+    said.textContent = pair ? '' : WAYS.apart[1];
+    if (pair) { location.hash = 'pair-' + pair.number; show(pair.number); }
+  });
+  return form;
+}
+
+function page() {
+  const plan = readPlan(textOf('plan'));
+  const participants = participantsOf(plan);
+  const byLabel = new Map(participants.map(p => [p.label, p]));
+  const check = linesOf('check');
+  const pairs = pairsOf(linesOf('order'), check);
+  const byNumber = new Map(pairs.map(pair => [pair.number, pair]));
+  const main = document.getElementById('main');
+  const verdict = document.getElementById('verdict');
+  verdict.textContent = check[check.length - 1];
+  if (check[check.length - 1].startsWith('unsafe')) verdict.classList.add('is-unsafe');
+  const chosen = element('div', { id: 'chosen', tabindex: '-1', 'aria-live': 'polite' });
+  const show = number => {
+    const pair = byNumber.get(number);
+    if (!pair) return;
+    chosen.replaceChildren(shownPair(pair, byLabel));
+    for (const link of document.querySelectorAll('a[aria-current]')) link.removeAttribute('aria-current');
+    for (const link of document.querySelectorAll('a[data-pair="' + number + '"]')) link.setAttribute('aria-current', 'true');
+    chosen.scrollIntoView({ block: 'nearest' });
+  };
+  if (pairs.length > 0) {
+    const grid = gridOf(participants, pairs);
+    main.append(element('h2', {}, 'The pairs'), keyOf(pairs));
+    if (grid.many) {
+      main.append(element('p', {}, pairs.length + ' pairs, shown by what is sent: of the pairs with the same two messages the '
+        + 'worst one.'));
+    }
+    main.append(matrixOf(grid), choiceOf(participants, pairs, show), chosen);
+    const faulty = pairs.filter(pair => pair.way === 'unsafe');
+    if (faulty.length > 0) {
+      main.append(element('h2', {}, 'Unsafe pairs'), ...faulty.slice(0, MOST_DRAWN).map(pair => {
+        const drawn = shownPair(pair, byLabel);
+        drawn.id = 'unsafe-' + pair.number;
+        return drawn;
+      }));
+      if (faulty.length > MOST_DRAWN) main.append(element('p', {}, 'and ' + (faulty.length - MOST_DRAWN) + ' more'));
+    }
+    main.append(...totalsOf(linesOf('order')));
+  }
+  main.append(...sendersOf(plan));
+  if (document.getElementById('capture')) main.append(...captureOf(linesOf('capture')));
+  const follow = () => {
+    const found = /^#pair-(\d+)$/.exec(location.hash);
+    if (found) show(Number(found[1]));
+  };
+  window.addEventListener('hashchange', follow);
+  follow();
+}
+
+page();
+"#;
