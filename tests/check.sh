@@ -296,6 +296,8 @@ want 0 "$(cat "$tests/expected/signals_help.txt")" ""
 run "help on signals" signals --help
 want 0 "$(cat "$tests/expected/learn_help.txt")" ""
 run "help on learn" learn --help
+want 0 "$(cat "$tests/expected/page_help.txt")" ""
+run "help on page" page --help
 want 2 "" "$(cat help.txt)"
 run "no argument"
 

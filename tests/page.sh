@@ -1,0 +1,146 @@
+#!/usr/bin/env bash
+# The page that twire writes of a plan: that it has the exact texts, loads nothing, and takes no text for markup; and, where the
+# machine has a browser (chromium), that it opens there without an error, and that a cell of the matrix leads to its drawing.
+# The last line is 'N passed, M failed', and the exit status is 1 where a case fails.
+#
+# It runs the launcher at the top of the repository, or the program that TWIRE names.
+set -u
+
+tests=$(dirname -- "$(readlink -f -- "${BASH_SOURCE[0]}")")
+twire=$(readlink -f -- "${TWIRE:-$tests/../twire}")
+work=$(mktemp -d)
+trap 'rm -rf -- "$work"' EXIT
+cd -- "$work" || exit 1
+ln -s "$tests/../examples" examples
+# The first call may build the program, and says so.
+"$twire" --version >version 2>&1
+
+passed=0
+failed=0
+
+# want NAME WANTED FOUND
+want() {
+    if [[ $2 == "$3" ]]; then
+        passed=$((passed + 1))
+        return
+    fi
+    failed=$((failed + 1))
+    printf 'FAILED: %s: wanted\n%s\nfound\n%s\n' "$1" "$2" "$3"
+}
+
+# text ID FILE: the text of that name in a page.
+text() {
+    sed -n "/<pre id=\"$1\">/,/<\/pre>/p" "$2" | sed -e '1s/.*<pre id="[a-z]*">//' -e '/<\/pre><\/details>$/d' |
+        sed -e 's/&lt;/</g' -e 's/&gt;/>/g' -e 's/&quot;/"/g' -e 's/&amp;/\&/g'
+}
+
+# ---- the texts
+
+for plan in examples/*.plan; do
+    name=${plan##*/}
+    "$twire" page "$plan" -o page.html
+    status=$?
+    "$twire" check "$plan" >check.txt
+    want "$name: the status is that of check" $? $status
+    want "$name: the plan" "$("$twire" print "$plan")" "$(text plan page.html)"
+    want "$name: the report of check" "$(<check.txt)" "$(text check page.html)"
+    want "$name: the report of order" "$("$twire" order "$plan")" "$(text order page.html)"
+    want "$name: what it loads" "" "$(grep -oiE '(src|href) *= *.?(https?:|//|file:)|@import|url\(|fetch\(|XMLHttp' page.html)"
+done
+"$twire" page examples/stop_meets_data.plan >out.html
+want "standard output" "$("$twire" page examples/stop_meets_data.plan -o page.html; cat page.html)" "$(<out.html)"
+
+probe=(examples/stop_meets_data.plan --capture examples/probe_sigrok.vcd)
+"$twire" page "${probe[@]}" --scl D0 --sda D1 -o page.html
+want "a capture: the status of the unsafe plan" 1 $?
+want "a capture: its explained report" \
+    "$("$twire" capture examples/stop_meets_data.plan examples/probe_sigrok.vcd --scl D0 --sda D1 --explain)" "$(text capture page.html)"
+"$twire" page examples/two_writers.plan --capture examples/two_buses.vcd --scope board.i2c1 -o page.html
+want "a capture that the plan does not explain" 1 $?
+
+# ---- refusals: nothing is written, and the old file stays
+
+echo old >old.html
+refusal=$("$twire" page "${probe[@]}" -o old.html --hints never 2>&1)
+want "no such signal" "2 refused V1 scl old" "$? $refusal $(<old.html)"
+echo "plan 3" >no.plan
+refusal=$("$twire" page no.plan --capture nothing -o old.html --hints never 2>&1)
+want "a capture that is not there" "2 refused read old" "$? $refusal $(<old.html)"
+refusal=$("$twire" page no.plan -o old.html --hints never 2>&1)
+want "no plan" "2 refused P2 line 1 old" "$? $refusal $(<old.html)"
+cp examples/stop_meets_data.plan own.plan && cp examples/stop_meets_data.vcd own.vcd
+for own in own.plan own.vcd; do
+    refusal=$("$twire" page own.plan --capture own.vcd -o "$own" --hints never 2>&1)
+    want "over $own, which was read" "2 refused write" "$? $refusal"
+done
+want "both files are as they were" "" "$(cmp own.plan examples/stop_meets_data.plan; cmp own.vcd examples/stop_meets_data.vcd)"
+"$twire" page - --capture - </dev/null >/dev/null 2>&1
+want "standard input twice" 2 $?
+
+# ---- markup
+
+odd='a<b>&"c".plan'
+cp examples/two_writers.plan "$odd"
+"$twire" page "$odd" -o page.html
+want "a name of markup is a text" '<header><h1>a&lt;b&gt;&amp;&quot;c&quot;.plan</h1>' "$(grep -o '<header><h1>.*</h1>' page.html)"
+
+# ---- a browser
+
+browser=$(type -P chromium || type -P chromium-browser || type -P google-chrome)
+if [[ -z $browser ]]; then
+    echo "left out: the browser (no command 'chromium')"
+    echo "$passed passed, $failed failed"
+    ((failed == 0))
+    exit
+fi
+
+# opened FILE: the page as the browser has it after its script, in the file dom; its errors go into the file errors.
+opened() {
+    timeout 120 "$browser" --headless --no-sandbox --disable-gpu --disable-dev-shm-usage --user-data-dir="$work/profile" \
+        --enable-logging=stderr --virtual-time-budget=10000 --dump-dom "file://$work/$1" >dom 2>log
+    grep -E 'CONSOLE|Uncaught' log >errors
+}
+
+# followed: the page of the file page.html, in which the first cell that leads somewhere is clicked.
+followed() {
+    sed 's|^</body>|<script>document.querySelector("td a").click();</script>\n</body>|' page.html >followed.html
+    opened followed.html
+}
+
+for plan in examples/*.plan; do
+    name=${plan##*/}
+    "$twire" page "$plan" -o page.html
+    followed
+    want "$name in a browser: errors" "" "$(<errors)"
+    cells=$(grep -o 'data-pair="[0-9]*"' page.html dom | sort -u | wc -l)
+    pairs=$("$twire" order "$plan" | grep -c '^pair ')
+    want "$name in a browser: a cell for each pair" "$pairs" "$cells"
+    want "$name in a browser: the drawing of the cell that was clicked" 1 "$(grep -c '<div class="drawing" id="pair-0">' dom)"
+    want "$name in a browser: the cell is marked" 1 "$(grep -q 'data-pair="0" aria-current="true"' dom && echo 1)"
+    want "$name in a browser: the verdict" "$("$twire" check "$plan" | tail -n 1)" \
+        "$(sed -n 's/.*<p id="verdict" class="[a-z -]*">\([^<]*\)<.*/\1/p' dom)"
+done
+
+"$twire" page "$odd" -o page.html
+opened page.html
+want "a name of markup in a browser" "" "$(<errors)"
+want "its title" 'twire: a&lt;b&gt;&amp;"c".plan' "$(sed -n 's/.*<title>\(.*\)<\/title>.*/\1/p' dom)"
+
+"$twire" page examples/two_writers.plan --capture examples/two_buses.vcd --scope board.i2c1 -o page.html
+opened page.html
+want "a capture in a browser: errors" "" "$(<errors)"
+want "a capture in a browser: the bar of what nobody explains" 1 "$(grep -o '<rect [^>]*class="odd"' dom | wc -l)"
+
+# The largest plan: as many pairs as there may be, shown by what is sent. A trial build takes many times as long.
+if [[ $(<version) != *"trial"* ]]; then
+    "$tests/../tools/fullest_plan" >fullest.plan
+    "$twire" page fullest.plan -o page.html
+    want "the largest plan: the status" 0 $?
+    followed
+    want "the largest plan in a browser: errors" "" "$(<errors)"
+    want "the largest plan in a browser: it is shown by what is sent" 1 "$(grep -c '143856 pairs, shown by what is sent' dom)"
+    want "the largest plan in a browser: a drawing" 1 "$(grep -o '<div class="drawing"' dom | wc -l)"
+fi
+
+echo "$passed passed, $failed failed"
+((failed == 0))
