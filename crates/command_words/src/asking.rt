@@ -21,7 +21,8 @@ pub enum Asked<'a> {
     Refuse(String),
 }
 
-/// A run of the program, with lines for people in its report where `explain` says so. `output` is the file to write, where it is not standard output.
+/// A run of the program, with lines for people in its report where `explain` says so. `output` is the file to write, where it
+/// is not standard output.
 #[derive(Clone, Copy, Debug)]
 pub enum Request<'a> {
     /// Whether a plan is safe.

@@ -11,7 +11,8 @@ use std::alloc::AllocError;
 use std::io::{self, Read, Seek};
 
 /// How a run ended, and the file that it read last. Where a file failed there is the error of the system. `output` is the
-/// file that was to be written in place of standard output, and `report` the beginning of what was written. The marks of hints may be in colours.
+/// file that was to be written in place of standard output, and `report` the beginning of what was written. The marks of
+/// hints may be in colours.
 #[derive(Drop)]
 pub struct Outcome<'a> {
     pub read: Named<'a>,
