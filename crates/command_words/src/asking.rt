@@ -9,12 +9,8 @@ use std::alloc::{AllocError, Global};
 /// What a command line comes to.
 #[derive(Debug, Drop)]
 pub enum Asked<'a> {
-    /// A run, and whether hints and colours are wanted with it.
-    Run {
-        request: Request<'a>,
-        hints: When,
-        colors: When,
-    },
+    /// A run, and how what it says is written.
+    Run { request: Request<'a>, manner: Manner },
     /// The help or the version, for standard output.
     Show(String),
     /// Why the line does not parse, for standard error.
@@ -98,6 +94,14 @@ pub enum Request<'a> {
     },
 }
 
+/// Whether hints and colours are wanted with a run, and whether reports, refusals and hints are JSON.
+#[derive(Clone, Copy, Debug)]
+pub struct Manner {
+    pub hints: When,
+    pub colors: When,
+    pub is_json: bool,
+}
+
 /// When something for people is wanted.
 #[derive(Clone, Copy, Debug, PartialEq, Eq)]
 pub enum When {
@@ -110,12 +114,8 @@ pub enum When {
 /// What the words of a command line ask for. The first one is the program's name.
 pub fn read_words<'a>(alloc: Global, words: &'a [String]) -> Result<Asked<'a>, AllocError> {
     match parse(alloc, words) {
-        Ok(Some((request, hints, colors))) => match fault_of(request) {
-            None => Ok(Asked::Run {
-                request,
-                hints,
-                colors,
-            }),
+        Ok(Some((request, manner))) => match fault_of(request) {
+            None => Ok(Asked::Run { request, manner }),
             Some(fault) => refusal(alloc, fault),
         },
         Ok(None) => refusal(alloc, TOO_MANY_WORDS),
@@ -201,13 +201,14 @@ struct Found<'a> {
     output: Option<&'a str>,
     hints: Option<&'a str>,
     color: Option<&'a str>,
+    format: Option<&'a str>,
 }
 
 // There is no request where a word is missing, which clap refuses by itself, or one too many stands beside `--certify`.
 fn parse<'a>(
     alloc: Global,
     words: &'a [String],
-) -> Result<Option<(Request<'a>, When, When)>, Error> {
+) -> Result<Option<(Request<'a>, Manner)>, Error> {
     let matches = program(alloc)?.try_get_matches_from(words)?;
     let Some((name, matches)) = matches.subcommand() else {
         return Ok(None);
@@ -240,6 +241,7 @@ fn found_in<'a>(matches: &ArgMatches<'a>) -> Found<'a> {
         output: output_of(matches.get_str("output")),
         hints: matches.get_str("hints"),
         color: matches.get_str("color"),
+        format: matches.get_str("format"),
     }
 }
 
@@ -248,9 +250,14 @@ fn output_of(path: Option<&str>) -> Option<&str> {
     path.filter(|path| *path != "-")
 }
 
-fn asked_of<'a>(name: &str, found: Found<'a>) -> Option<(Request<'a>, When, When)> {
+fn asked_of<'a>(name: &str, found: Found<'a>) -> Option<(Request<'a>, Manner)> {
     let request = request_of(name, found)?;
-    Some((request, when_of(found.hints), when_of(found.color)))
+    let manner = Manner {
+        hints: when_of(found.hints),
+        colors: when_of(found.color),
+        is_json: found.format == Some("json"),
+    };
+    Some((request, manner))
 }
 
 fn request_of<'a>(name: &str, found: Found<'a>) -> Option<Request<'a>> {

@@ -12,6 +12,7 @@ mod recordings;
 mod rehearsals;
 mod runs;
 mod viewing;
+mod voices;
 
 use runs::Terminals;
 use std::io::IsTerminal;
