@@ -1,7 +1,7 @@
 // Lines of `capture`.
 
 use crate::below::{nearest_in, unbroken};
-use crate::kinds::{Heard, Object, Time};
+use crate::kinds::{Heard, Near, Object, Time};
 use crate::words::{number, push, push_words};
 use std::alloc::{AllocError, Global};
 
@@ -56,29 +56,12 @@ pub(crate) fn push_transaction<'a>(
     notes: &[&'a str],
 ) -> Result<(), AllocError> {
     match taken_apart(line) {
-        Some(told) if notes.is_empty() => push_told(alloc, text, told),
-        Some(told) => push_heard(alloc, text, told, notes),
+        Some(told) => push_told(alloc, text, told, notes),
         None => push(alloc, text, &Object::Line { text: line }),
     }
 }
 
-fn push_told<'a>(alloc: Global, text: &mut String, told: Told<'a>) -> Result<(), AllocError> {
-    let mut labels = Vec::new(alloc);
-    push_labels(&mut labels, told.words)?;
-    push(
-        alloc,
-        text,
-        &Object::Transaction {
-            from: told.from,
-            to: told.to,
-            end: end_of(told.words),
-            participants: labels.as_slice(),
-            explain: None,
-        },
-    )
-}
-
-fn push_heard<'a>(
+fn push_told<'a>(
     alloc: Global,
     text: &mut String,
     told: Told<'a>,
@@ -88,11 +71,6 @@ fn push_heard<'a>(
     push_labels(&mut labels, told.words)?;
     let said = unbroken(alloc, notes)?;
     let nearest = nearest_in(alloc, said.as_str())?;
-    let explain = Some(Heard {
-        bytes: said.as_str().split('\n').next().unwrap_or(""),
-        nearest: nearest.as_slice(),
-        notes: &*notes,
-    });
     push(
         alloc,
         text,
@@ -101,9 +79,25 @@ fn push_heard<'a>(
             to: told.to,
             end: end_of(told.words),
             participants: labels.as_slice(),
-            explain,
+            explain: heard_of(said.as_str(), nearest.as_slice(), &*notes),
         },
     )
+}
+
+// What those below a transaction say, where there are some.
+fn heard_of<'s, 'a>(
+    said: &'s str,
+    nearest: &'s [Near],
+    notes: &'s [&'a str],
+) -> Option<Heard<'s, 'a>> {
+    if notes.is_empty() {
+        return None;
+    }
+    Some(Heard {
+        bytes: said.split('\n').next().unwrap_or(""),
+        nearest,
+        notes,
+    })
 }
 
 // How a transaction ended of which these words are said.

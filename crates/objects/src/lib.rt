@@ -2,7 +2,7 @@
 //! people below them too; what an object says is what its line says.
 //!
 //! `kinds` has the objects, `lines` finds the one of a line, `checks`, `orders`, `captures`, `signals` and `benches` take lines
-//! apart, `below` the lines for people, and `pages` gathers objects. `refusals` has what goes to standard error.
+//! apart, `below` the lines for people, and `pages` makes the objects of a whole report. `refusals` has what goes to standard error.
 #![tactic(auto)]
 
 mod below;
@@ -17,5 +17,5 @@ mod refusals;
 mod signals;
 mod words;
 
-pub use pages::Page;
+pub use pages::report_objects;
 pub use refusals::{hint_objects, refusal_object};

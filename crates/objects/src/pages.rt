@@ -1,69 +1,62 @@
-// Objects that are gathered before they are written.
+// The objects of a whole report.
 
 use crate::lines::push_line;
 use std::alloc::{AllocError, Global};
 
-// How many bytes are gathered before they are written.
-const BLOCK: usize = 65_536;
-
 // With what a line for people begins.
 const MARGIN: &str = "    ";
 
-/// The objects of a report, whose lines come one by one. Lines for people belong to the object of the line above them, so an
-/// object is there once the next one's line has come, or the end.
+/// The objects of a report, one a line. Lines for people, which begin with four spaces, belong to the object of the line above
+/// them.
+pub fn report_objects(alloc: Global, report: &str) -> Result<String, AllocError> {
+    let mut page = Page::new(alloc);
+    for line in report.lines() {
+        page.line(alloc, line)?;
+    }
+    page.finish(alloc)
+}
+
+// The objects that are there, and the line of the next one with those for people below it.
 #[derive(Drop)]
-pub struct Page<'a> {
-    alloc: Global,
+struct Page<'a> {
     line: Option<&'a str>,
     notes: Vec<&'a str>,
     text: String,
 }
 
 impl<'a> Page<'a> {
-    /// No line has come.
-    pub fn new(alloc: Global) -> Page<'a> {
+    fn new(alloc: Global) -> Page<'a> {
         Page {
-            alloc,
             line: None,
             notes: Vec::new(alloc),
             text: String::new(alloc),
         }
     }
 
-    /// The next line, without its end.
-    pub fn line(&mut self, line: &'a str) -> Result<(), AllocError> {
+    fn line(&mut self, alloc: Global, line: &'a str) -> Result<(), AllocError> {
         match line.strip_prefix(MARGIN) {
             Some(note) => Ok(self.notes.push(note)?),
             None => {
-                self.finish()?;
+                self.end_object(alloc)?;
                 self.line = Some(line);
                 Ok(())
             }
         }
     }
 
-    /// The report has ended.
-    pub fn finish(&mut self) -> Result<(), AllocError> {
+    // No more lines for people come.
+    fn end_object(&mut self, alloc: Global) -> Result<(), AllocError> {
         if let Some(line) = self.line {
-            push_line(self.alloc, &mut self.text, line, self.notes.as_slice())?;
+            push_line(alloc, &mut self.text, line, self.notes.as_slice())?;
         }
         self.line = None;
         self.notes.clear();
         Ok(())
     }
 
-    /// Whether there are enough objects to be written.
-    pub fn is_full(&self) -> bool {
-        BLOCK <= self.text.len()
-    }
-
-    /// The objects that are there.
-    pub fn text(&self) -> &str {
-        self.text.as_str()
-    }
-
-    /// They were written.
-    pub fn clear(&mut self) {
-        self.text.clear();
+    fn finish(mut self, alloc: Global) -> Result<String, AllocError> {
+        self.end_object(alloc)?;
+        let Page { text, .. } = self;
+        Ok(text)
     }
 }
