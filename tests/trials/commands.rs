@@ -38,6 +38,11 @@ impl Command {
         matches!(self, Command::Verify | Command::Capture { .. } | Command::Bench { .. } | Command::Seats { .. })
     }
 
+    /// Whether it writes a report, and no plan, brief or certificate.
+    pub fn reports(&self) -> bool {
+        !matches!(self, Command::Certify | Command::Print | Command::Expand | Command::Brief)
+    }
+
     /// The command that a line has: its name, the starters of a bench, and its options. The word `""` is empty.
     pub fn of_line(line: &str) -> Result<Command, Unreadable> {
         let (name, rest) = line.split_once(' ').unwrap_or((line, ""));

@@ -4,6 +4,7 @@ use crate::cases::Case;
 use crate::deeds::Deed;
 use crate::desks::{refusal_of, Said};
 use crate::disagreements::Disagreement;
+use crate::objects;
 use crate::plain::Answer;
 use crate::setups::Setup;
 
@@ -22,6 +23,10 @@ pub enum Due {
     Wanted,
     /// The same, and on standard error the hints of the case behind the refusal.
     Hints,
+    /// The same as `Wanted`, in objects.
+    Objects,
+    /// The same as `Hints`, in objects.
+    ObjectsAndHints,
     /// The same, where reads give so many bytes.
     Pieces(usize),
     /// The same, where each call was interrupted so often.
@@ -37,7 +42,12 @@ pub enum Due {
 /// Where the run did not end as is due.
 pub fn judge(case: &Case, way: &str, run: &Run, said: &Said) -> Option<Disagreement> {
     let (wanted, fault) = due_of(case, run, said);
-    Disagreement::of(case, way, wanted, &said.answer, fault)
+    match run.due {
+        Due::Objects | Due::ObjectsAndHints => {
+            Disagreement::of(case, way, wanted, &in_lines(case, &said.answer), fault)
+        }
+        _ => Disagreement::of(case, way, wanted, &said.answer, fault),
+    }
 }
 
 // The answer that is due, and what is wrong with the devices.
@@ -45,8 +55,8 @@ fn due_of(case: &Case, run: &Run, said: &Said) -> (Answer, Option<&'static str>)
     let told = &said.told;
     let wanted = case.wanted.clone();
     match run.due {
-        Due::Wanted => (wanted, fault(told.is_sound(), "a device failed")),
-        Due::Hints => (hinted(case), fault(told.is_sound(), "a device failed")),
+        Due::Wanted | Due::Objects => (wanted, fault(told.is_sound(), "a device failed")),
+        Due::Hints | Due::ObjectsAndHints => (hinted(case), fault(told.is_sound(), "a device failed")),
         Due::Pieces(piece) => {
             let is_right = told.is_sound() && came_in_pieces(case, piece, said);
             (wanted, fault(is_right, "the reads did not give so many bytes"))
@@ -73,6 +83,18 @@ fn hinted(case: &Case) -> Answer {
     let line = if refusal.is_empty() { String::new() } else { format!("refused {refusal}\n") };
     let hints = case.hints.as_deref().unwrap_or("");
     Answer { status, out, refusal: refusal_of(&format!("{line}{hints}")) }
+}
+
+// What the objects of an answer say, as lines. A text that is no report stays as it is.
+fn in_lines(case: &Case, answer: &Answer) -> Answer {
+    let told = |text: &str| objects::lines_of(text).unwrap_or_else(|why| format!("no objects: {why}"));
+    let out = if case.asked.command.reports() { told(&answer.out) } else { answer.out.clone() };
+    let refusal = match answer.refusal.strip_prefix("on standard error: ") {
+        Some(text) => refusal_of(&told(text)),
+        None if answer.refusal.is_empty() => String::new(),
+        None => format!("no object: {}", answer.refusal),
+    };
+    Answer { status: answer.status, out, refusal }
 }
 
 // The report is longer than the room.

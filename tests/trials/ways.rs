@@ -26,10 +26,12 @@ pub enum Way {
     Calls,
     /// The command with hints, where the case says which there are.
     Hints,
+    /// The command with objects in place of lines, and with hints too, where the case says which there are.
+    Objects,
 }
 
 impl Way {
-    pub const ALL: [Way; 8] = [
+    pub const ALL: [Way; 9] = [
         Way::Whole,
         Way::InPieces,
         Way::FailingReads,
@@ -38,6 +40,7 @@ impl Way {
         Way::Workers,
         Way::Calls,
         Way::Hints,
+        Way::Objects,
     ];
 
     pub fn name(self) -> &'static str {
@@ -50,6 +53,7 @@ impl Way {
             Way::Workers => "workers",
             Way::Calls => "calls",
             Way::Hints => "hints",
+            Way::Objects => "objects",
         }
     }
 
@@ -64,6 +68,7 @@ impl Way {
             Way::Workers => by_workers(&case.asked.command),
             Way::Calls => by_calls(&case.asked.command),
             Way::Hints => with_hints(case),
+            Way::Objects => with_objects(case),
         }
     }
 }
@@ -142,6 +147,20 @@ fn by_calls(command: &Command) -> Vec<Run> {
 
 fn with_hints(case: &Case) -> Vec<Run> {
     case.hints.iter().map(|_| Run { deed: Deed::Hinted, setup: Setup::WHOLE, due: Due::Hints }).collect()
+}
+
+// Of the seats of a bench there are no objects.
+fn with_objects(case: &Case) -> Vec<Run> {
+    if let Command::Seats { .. } = case.asked.command {
+        return Vec::new();
+    }
+    let mut list = vec![objects(false, Due::Objects)];
+    list.extend(case.hints.iter().map(|_| objects(true, Due::ObjectsAndHints)));
+    list
+}
+
+fn objects(hints: bool, due: Due) -> Run {
+    Run { deed: Deed::Objects { hints }, setup: Setup::WHOLE, due }
 }
 
 fn done(deed: Deed) -> Run {

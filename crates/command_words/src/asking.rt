@@ -9,11 +9,10 @@ use std::alloc::{AllocError, Global};
 /// What a command line comes to.
 #[derive(Debug, Drop)]
 pub enum Asked<'a> {
-    /// A run, and whether hints and colours are wanted with it.
+    /// A run, and how what it says is written.
     Run {
         request: Request<'a>,
-        hints: When,
-        colors: When,
+        manner: Manner,
     },
     /// The help or the version, for standard output.
     Show(String),
@@ -106,6 +105,14 @@ pub enum Request<'a> {
     },
 }
 
+/// Whether hints and colours are wanted with a run, and whether reports, refusals and hints are JSON.
+#[derive(Clone, Copy, Debug)]
+pub struct Manner {
+    pub hints: When,
+    pub colors: When,
+    pub is_json: bool,
+}
+
 /// When something for people is wanted.
 #[derive(Clone, Copy, Debug, PartialEq, Eq)]
 pub enum When {
@@ -118,12 +125,8 @@ pub enum When {
 /// What the words of a command line ask for. The first one is the program's name.
 pub fn read_words<'a>(alloc: Global, words: &'a [String]) -> Result<Asked<'a>, AllocError> {
     match parse(alloc, words) {
-        Ok(Some((request, hints, colors))) => match fault_of(request) {
-            None => Ok(Asked::Run {
-                request,
-                hints,
-                colors,
-            }),
+        Ok(Some((request, manner))) => match fault_of(request) {
+            None => Ok(Asked::Run { request, manner }),
             Some(fault) => refusal(alloc, fault),
         },
         Ok(None) => refusal(alloc, TOO_MANY_WORDS),
@@ -215,13 +218,11 @@ struct Found<'a> {
     output: Option<&'a str>,
     hints: Option<&'a str>,
     color: Option<&'a str>,
+    format: Option<&'a str>,
 }
 
 // There is no request where a word is missing, which clap refuses by itself, or one too many stands beside `--certify`.
-fn parse<'a>(
-    alloc: Global,
-    words: &'a [String],
-) -> Result<Option<(Request<'a>, When, When)>, Error> {
+fn parse<'a>(alloc: Global, words: &'a [String]) -> Result<Option<(Request<'a>, Manner)>, Error> {
     let matches = program(alloc)?.try_get_matches_from(words)?;
     let Some((name, matches)) = matches.subcommand() else {
         return Ok(None);
@@ -255,6 +256,7 @@ fn found_in<'a>(matches: &ArgMatches<'a>) -> Found<'a> {
         output: output_of(matches.get_str("output")),
         hints: matches.get_str("hints"),
         color: matches.get_str("color"),
+        format: matches.get_str("format"),
     }
 }
 
@@ -263,9 +265,14 @@ fn output_of(path: Option<&str>) -> Option<&str> {
     path.filter(|path| *path != "-")
 }
 
-fn asked_of<'a>(name: &str, found: Found<'a>) -> Option<(Request<'a>, When, When)> {
+fn asked_of<'a>(name: &str, found: Found<'a>) -> Option<(Request<'a>, Manner)> {
     let request = request_of(name, found)?;
-    Some((request, when_of(found.hints), when_of(found.color)))
+    let manner = Manner {
+        hints: when_of(found.hints),
+        colors: when_of(found.color),
+        is_json: found.format == Some("json"),
+    };
+    Some((request, manner))
 }
 
 fn request_of<'a>(name: &str, found: Found<'a>) -> Option<Request<'a>> {

@@ -1,7 +1,7 @@
 // Clap's commands, from the table. A `Command` or an `Arg` that a function holds at a `?` makes its proof long, so few do.
 
 use crate::help::{ABOUT, AFTER_HELP, VERSION};
-use crate::table::{Argument, COLOR, COMMANDS, Entry, HINTS};
+use crate::table::{Argument, COLOR, COMMANDS, Entry, FORMAT, HINTS};
 use clap::{Arg, ArgAction, Command, value_parser};
 use std::alloc::{AllocError, Global};
 
@@ -26,7 +26,7 @@ fn program_alone<'a>(alloc: Global) -> Result<Command<'a>, AllocError> {
 // The options of all commands.
 fn options<'a>(alloc: Global) -> Result<Vec<Arg<'a>>, AllocError> {
     let mut options = Vec::new(alloc);
-    for one in [HINTS, COLOR] {
+    for one in [HINTS, COLOR, FORMAT] {
         options.push(argument(alloc, one)?.global(true))?;
     }
     Ok(options)

@@ -10,5 +10,5 @@ mod capturing;
 mod help;
 mod table;
 
-pub use asking::{Asked, Request, When, read_words};
+pub use asking::{Asked, Manner, Request, When, read_words};
 pub use capturing::{Line, Lines, View};

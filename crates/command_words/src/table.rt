@@ -96,6 +96,15 @@ pub const COLOR: Argument = Argument::Choice {
     help: "Colours for people: auto (on a terminal), always, never",
 };
 
+/// An option of all commands.
+pub const FORMAT: Argument = Argument::Choice {
+    id: "format",
+    value_name: "HOW",
+    default: "text",
+    values: &["text", "json"],
+    help: "Reports as text, or as json, with one object a line",
+};
+
 /// The commands, in the order of the help.
 pub const COMMANDS: [Entry; 12] = [
     CHECK, CERTIFY, VERIFY, ORDER, CAPTURE, SIGNALS, LEARN, BENCH, PAGE, EXPAND, PRINT, BRIEF,

@@ -1,18 +1,17 @@
 // Further lines for people on standard error, after a refusal or a report.
 
-use crate::colors::colored_hints;
+use crate::voices::{Voice, say};
 use dump_hints::{Names, on_choice, on_dump, on_silence, on_unexplained};
 use hints::{
     Named, on_brief, on_certificate, on_closed_input, on_memory, on_no_brief, on_opening, on_plan,
     on_reading, on_safe, on_starters, on_workers, on_writing, wrong_of,
 };
 use report::{RunError, Status};
-use std::alloc::AllocError;
 use std::io::{self, Read, Seek};
 
 /// How a run ended, and the file that it read last. Where a file failed there is the error of the system. `output` is the
-/// file that was to be written in place of standard output, and `report` the beginning of what was written. The marks of
-/// hints may be in colours.
+/// file that was to be written in place of standard output, and `report` the beginning of what was written. Hints are
+/// written by this voice.
 #[derive(Drop)]
 pub struct Outcome<'a> {
     pub read: Named<'a>,
@@ -20,17 +19,22 @@ pub struct Outcome<'a> {
     pub error: Option<io::Error>,
     pub output: Option<&'a str>,
     pub report: String,
-    pub is_colored: bool,
+    pub voice: Voice,
 }
 
 /// After a file that cannot be opened, with the error of the system.
-pub fn advise_on_opening<R: Eprint + AllocGlobal>(rt: &R, file: Named<'_>, error: &io::Error) {
-    say(rt, on_opening(rt.alloc(), file, error), false);
+pub fn advise_on_opening<R: Eprint + AllocGlobal>(
+    rt: &R,
+    file: Named<'_>,
+    error: &io::Error,
+    voice: Voice,
+) {
+    say(rt, on_opening(rt.alloc(), file, error), voice.uncolored());
 }
 
 /// After standard input, where it is closed.
-pub fn advise_on_closed_input<R: Eprint + AllocGlobal>(rt: &R, file: Named<'_>) {
-    say(rt, on_closed_input(rt.alloc(), file), false);
+pub fn advise_on_closed_input<R: Eprint + AllocGlobal>(rt: &R, file: Named<'_>, voice: Voice) {
+    say(rt, on_closed_input(rt.alloc(), file), voice.uncolored());
 }
 
 /// After a run over one text. The file is that one.
@@ -41,9 +45,9 @@ pub fn advise_on_text<R: Eprint + AllocGlobal, F: Read + Seek + Drop>(
 ) {
     match outcome.ended {
         Err(RunError::Plan(refusal)) if outcome.read.what == "brief" => {
-            say(rt, on_brief(rt.alloc(), file, refusal), outcome.is_colored);
+            say(rt, on_brief(rt.alloc(), file, refusal), outcome.voice);
         }
-        Err(RunError::Brief(_)) => say(rt, on_no_brief(rt.alloc(), file), outcome.is_colored),
+        Err(RunError::Brief(_)) => say(rt, on_no_brief(rt.alloc(), file), outcome.voice),
         _ => advise_on_plan(rt, file, outcome),
     }
 }
@@ -55,13 +59,9 @@ fn advise_on_plan<R: Eprint + AllocGlobal, F: Read + Seek + Drop>(
     outcome: Outcome<'_>,
 ) {
     match outcome.ended {
-        Err(RunError::Plan(refusal)) => say(
-            rt,
-            on_plan(rt.alloc(), plan, refusal),
-            outcome.is_colored,
-        ),
+        Err(RunError::Plan(refusal)) => say(rt, on_plan(rt.alloc(), plan, refusal), outcome.voice),
         Ok(Status::Good) if says_safe(outcome.report.as_str()) => {
-            say(rt, on_safe(rt.alloc(), plan), outcome.is_colored);
+            say(rt, on_safe(rt.alloc(), plan), outcome.voice);
         }
         _ => advise_on_devices(rt, outcome),
     }
@@ -83,13 +83,13 @@ pub fn advise_on_certified<R: Eprint + AllocGlobal, F: Read + Seek + Drop>(
         (Ok(Status::Refused), Some(wrong)) => say(
             rt,
             on_certificate(rt.alloc(), cert, wrong),
-            outcome.is_colored,
+            outcome.voice,
         ),
         (Err(RunError::Bench(refusal)), _) => {
             say(
                 rt,
                 on_starters(rt.alloc(), plan, starters, refusal),
-                outcome.is_colored,
+                outcome.voice,
             );
         }
         _ => advise_on_plan(rt, plan, outcome),
@@ -108,7 +108,7 @@ pub fn advise_on_capture<R: Eprint + AllocGlobal, F: Read + Seek + Drop>(
         Err(RunError::Vcd(refusal)) => say(
             rt,
             on_dump(rt.alloc(), vcd, names, refusal),
-            outcome.is_colored,
+            outcome.voice,
         ),
         Ok(status) => {
             let alloc = rt.alloc();
@@ -122,7 +122,7 @@ pub fn advise_on_capture<R: Eprint + AllocGlobal, F: Read + Seek + Drop>(
             } else {
                 on_choice(alloc, vcd, names)
             };
-            say(rt, hints, outcome.is_colored);
+            say(rt, hints, outcome.voice);
         }
         _ => advise_on_plan(rt, plan, outcome),
     }
@@ -140,25 +140,15 @@ fn advise_on_devices<R: Eprint + AllocGlobal>(rt: &R, outcome: Outcome<'_>) {
         ended,
         error,
         output,
+        voice,
         ..
     } = outcome;
+    let voice = voice.uncolored();
     match ended {
-        Err(RunError::Read) => say(rt, on_reading(rt.alloc(), read, error.as_ref()), false),
-        Err(RunError::Write) => say(rt, on_writing(rt.alloc(), output, error.as_ref()), false),
-        Err(RunError::Workers) => say(rt, on_workers(rt.alloc()), false),
-        Err(RunError::NoMemory) => say(rt, on_memory(rt.alloc()), false),
+        Err(RunError::Read) => say(rt, on_reading(rt.alloc(), read, error.as_ref()), voice),
+        Err(RunError::Write) => say(rt, on_writing(rt.alloc(), output, error.as_ref()), voice),
+        Err(RunError::Workers) => say(rt, on_workers(rt.alloc()), voice),
+        Err(RunError::NoMemory) => say(rt, on_memory(rt.alloc()), voice),
         _ => {}
-    }
-}
-
-// Where there is no memory for hints, or standard error takes nothing, there are none.
-fn say<R: Eprint + AllocGlobal>(rt: &R, hints: Result<String, AllocError>, is_colored: bool) {
-    let Ok(hints) = hints else {
-        return;
-    };
-    if !is_colored {
-        let _ = eprint!(rt; "{hints}");
-    } else if let Ok(hints) = colored_hints(rt.alloc(), hints.as_str()) {
-        let _ = eprint!(rt; "{hints}");
     }
 }

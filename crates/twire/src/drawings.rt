@@ -4,6 +4,7 @@ use crate::inputs::READS;
 use crate::outputs::{FilesRead, Form, Sheet};
 use crate::rehearsals::{Play, rehearse};
 use crate::runs::{Extras, Look, look_over};
+use crate::voices::say;
 use report::{Input, Output, RunError, Status, Watched, read_within, write_report};
 use std::io::Cursor;
 use std::rt::Files;
@@ -153,9 +154,10 @@ fn draw<R: Files + Print + Eprint + Clock + AllocGlobal>(
         }
         None => {
             if extras.hints {
-                let _ = eprintln!(rt;
-                    "hint: there is nothing to draw, so '{file}' was not written"
+                let hint = format!(in rt.alloc();
+                    "hint: there is nothing to draw, so '{file}' was not written\n"
                 );
+                say(rt, hint, extras.voice().uncolored());
             }
             Ok(status)
         }

@@ -2,7 +2,8 @@
 
 use crate::advice::{advise_on_closed_input, advise_on_opening};
 use crate::progress::{Count, Told, Watcher};
-use crate::runs::{Extras, refused};
+use crate::runs::Extras;
+use crate::voices::refused;
 use hints::Named;
 use report::{Input as _, Opened, RunError, Watched};
 use std::fs::{self, Metadata, OpenFile};
@@ -32,7 +33,7 @@ pub fn open_both<'a, R: Files + Input + Eprint + Clock + AllocGlobal>(
     ),
 > {
     if let Some(error) = missing(rt, second.path) {
-        unopened(rt, second, &error, extras.hints);
+        unopened(rt, second, &error, extras);
         return None;
     }
     let first = open(rt, first, extras)?;
@@ -49,26 +50,27 @@ pub fn open<'a, R: Files + Input + Eprint + Clock + AllocGlobal>(
     match opened(rt, file, extras.watcher) {
         Ok(source) => Some(source),
         Err(error) => {
-            unopened(rt, file, &error, extras.hints);
+            unopened(rt, file, &error, extras);
             None
         }
     }
 }
 
 // The line of the refusal of a file that cannot be opened.
-fn unopened<R: Eprint + AllocGlobal>(rt: &R, file: Named<'_>, error: &io::Error, hints: bool) {
+fn unopened<R: Eprint + AllocGlobal>(rt: &R, file: Named<'_>, error: &io::Error, extras: Extras) {
+    let voice = extras.voice();
     if error.kind() == io::ErrorKind::OutOfMemory {
-        refused(rt, RunError::NoMemory);
+        refused(rt, RunError::NoMemory, voice);
         return;
     }
-    refused(rt, RunError::Read);
-    if !hints {
+    refused(rt, RunError::Read, voice);
+    if !extras.hints {
         return;
     }
     if is_standard_input(file.path) {
-        advise_on_closed_input(rt, file);
+        advise_on_closed_input(rt, file, voice);
     } else {
-        advise_on_opening(rt, file, error);
+        advise_on_opening(rt, file, error, voice);
     }
 }
 

@@ -13,6 +13,7 @@ mod recordings;
 mod rehearsals;
 mod runs;
 mod viewing;
+mod voices;
 
 use runs::Terminals;
 use std::io::IsTerminal;

@@ -4,14 +4,15 @@ ghost use Rattle.std.specs.Io.{WritesAtMost};
 
 use crate::colors::colored_report;
 use crate::progress::{Count, Watcher};
+use objects::report_objects;
 use report::{RunError, Status};
 use std::alloc::Global;
 use std::fs::{self, Metadata, OpenFile, OpenOptions, Permissions};
 use std::io::{self, ErrorKind, Write};
-use std::mem;
 use std::os::unix::fs::MetadataExt;
 use std::rt::Files;
 use std::time::Clock;
+use std::{mem, str};
 
 // How much of a report is kept to look at.
 const KEPT: usize = 64;
@@ -19,11 +20,12 @@ const KEPT: usize = 64;
 // How many names are tried for the file that is written first.
 const NAMES: u32 = 1_000;
 
-/// Where a report goes: to standard output, there perhaps with its words in colours, or into the file of a path.
+/// Where a report goes: to standard output, there perhaps with its words in colours or as objects, or into the file of a path.
 #[derive(Clone, Copy)]
 pub enum Form<'a> {
     Plain,
     Colored,
+    Objects,
     File(&'a str),
 }
 
@@ -51,6 +53,8 @@ pub struct Sheet<'a, R: Files> {
     form: Form<'a>,
     target: Target<R::File>,
     beginning: String,
+    // the whole report, of which objects are made at its end
+    gathered: Vec<u8>,
     // whether the next byte begins a line
     is_at_line: bool,
     error: Option<io::Error>,
@@ -84,6 +88,7 @@ impl<'a, R: Files + Print + Eprint + Clock + AllocGlobal> Sheet<'a, R> {
             form,
             target: Target::None,
             beginning: String::new(rt.alloc()),
+            gathered: Vec::new(rt.alloc()),
             is_at_line: true,
             error: None,
             watcher,
@@ -98,13 +103,17 @@ impl<'a, R: Files + Print + Eprint + Clock + AllocGlobal> Sheet<'a, R> {
         Sheet { count, ..self }
     }
 
-    /// Gives the file its name once the run has ended with its report, and answers how the run ends by that. After a run that
-    /// has not, nothing is left of it. A file that was read is not replaced.
+    /// Writes the objects, or gives the file its name, once the run has ended with its report, and answers how the run ends by
+    /// that. After a run that has not, nothing is left of it. A file that was read is not replaced.
     pub fn settle(
         &mut self,
         read: FilesRead,
         ended: Result<Status, RunError>,
     ) -> Result<Status, RunError> {
+        if let (Form::Objects, Ok(_)) = (self.form, ended) {
+            let ended = self.written(ended);
+            return self.named(ended);
+        }
         let Target::Part(part) = mem::replace(&mut self.target, Target::None) else {
             return self.named(ended);
         };
@@ -125,10 +134,21 @@ impl<'a, R: Files + Print + Eprint + Clock + AllocGlobal> Sheet<'a, R> {
         }
     }
 
-    // Where memory was refused for a file, that is why the run ended.
+    fn written(&mut self, ended: Result<Status, RunError>) -> Result<Status, RunError> {
+        self.make_room();
+        match write_objects(self.rt, self.gathered.as_slice()) {
+            Ok(()) => ended,
+            Err(error) => {
+                self.error = Some(error);
+                Err(RunError::Write)
+            }
+        }
+    }
+
+    // Where memory was refused for a file or for objects, that is why the run ended.
     fn named(&self, ended: Result<Status, RunError>) -> Result<Status, RunError> {
         match (self.form, &self.error, ended) {
-            (Form::File(_), Some(error), Err(RunError::Write))
+            (Form::File(_) | Form::Objects, Some(error), Err(RunError::Write))
                 if error.kind() == ErrorKind::OutOfMemory => { Err(RunError::NoMemory) }
             _ => ended,
         }
@@ -174,8 +194,16 @@ impl<'a, R: Files + Print + Eprint + Clock + AllocGlobal> Sheet<'a, R> {
         match self.form {
             Form::Plain => io::writer(self.rt).write(buf),
             Form::Colored => write_colored(self.rt, self.is_at_line, buf),
+            Form::Objects => self.gather(buf),
             Form::File(path) => self.put_in_file(path, buf),
         }
+    }
+
+    fn gather(&mut self, buf: &[u8]) -> io::Result<usize>
+        ensures bound { WritesAtMost result buf.now }
+    {
+        self.gathered.extend_from_slice(buf)?;
+        Ok(buf.len())
     }
 
     fn put_in_file(&mut self, path: &str, buf: &[u8]) -> io::Result<usize>
@@ -225,6 +253,13 @@ fn write_colored<R: Print + AllocGlobal>(
     let text = colored_report(rt.alloc(), report, is_at_line)?;
     io::writer(rt).write_all(text.as_slice())?;
     Ok(report.len())
+}
+
+// Writes the objects of a report.
+fn write_objects<R: Print + AllocGlobal>(rt: &R, report: &[u8]) -> io::Result<()> {
+    let report = str::from_utf8(report).unwrap_or("");
+    let text = report_objects(rt.alloc(), report)?;
+    io::writer(rt).write_all(text.as_bytes())
 }
 
 // Opens what takes the report of this path: a device or a pipe itself, and else a new file in the folder of the path.

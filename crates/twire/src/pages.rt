@@ -90,7 +90,7 @@ fn page_with_capture<
         second: metadata_of(rt, &second),
     };
     let ended = out.settle(files, ended);
-    let status = status_of(rt, ended, extras.watcher);
+    let status = status_of(rt, ended, extras);
     if extras.hints {
         let outcome = outcome(read, error, out, output, ended, extras);
         match ended {

@@ -6,6 +6,7 @@ use crate::inputs::{file_of, metadata_of, open, open_both, reading_error};
 use crate::outputs::{FilesRead, Sheet};
 use crate::runs::{Extras, form_of, last_read, outcome, status_of};
 use crate::viewing::{Asked, Halt, view_capture};
+use crate::voices::{refused_timescale, say};
 use capture_views::View;
 use command_words::{self, Line, Lines};
 use dump_hints::Names;
@@ -78,9 +79,11 @@ pub fn capture<'x, R: Files + Input + Print + Eprint + Clock + AllocGlobal + Thr
         Err(Halt::NoTimescale) => return no_timescale(rt, extras),
     };
     let (read, error) = last_read(plan, &mut reader, vcd, &mut second);
-    let status = status_of(rt, ended, extras.watcher);
+    let mut out = out.into_inner();
+    let ended = out.settle(FilesRead::one(None), ended);
+    let status = status_of(rt, ended, extras);
     if extras.hints {
-        let mut outcome = outcome(read, error, out.into_inner(), None, ended, extras);
+        let mut outcome = outcome(read, error, out, None, ended, extras);
         if asked.view.from.is_some() || asked.view.to.is_some() {
             // what was left out says nothing of the lines
             outcome.report.clear();
@@ -125,14 +128,18 @@ pub fn explained<R: AllocGlobal + Threads + Sync, I: report::Input, J: report::I
     Ok(ended?)
 }
 
-fn no_timescale<R: Clock + Eprint>(rt: &R, extras: Extras) -> u8 {
+// What is said where times have no unit.
+const NO_TIMESCALE: &str = "\
+hint: the capture does not say what its times count: it has no $timescale
+hint: give times as plain numbers, as they stand in the file
+";
+
+fn no_timescale<R: Clock + Eprint + AllocGlobal>(rt: &R, extras: Extras) -> u8 {
     extras.watcher.clear(rt);
-    let _ = eprintln!(rt; "refused timescale");
+    refused_timescale(rt, extras.voice());
     if extras.hints {
-        let _ = eprintln!(rt;
-            "hint: the capture does not say what its times count: it has no $timescale"
-        );
-        let _ = eprintln!(rt; "hint: give times as plain numbers, as they stand in the file");
+        let hints = String::from_str(rt.alloc(), NO_TIMESCALE);
+        say(rt, hints, extras.voice().uncolored());
     }
     2
 }
@@ -164,7 +171,7 @@ pub fn learn<R: Files + Input + Print + Eprint + Clock + AllocGlobal>(
     let file = file_of(reader);
     let mut out = out.into_inner();
     let ended = out.settle(FilesRead::one(metadata_of(rt, &file)), ended);
-    let status = status_of(rt, ended, extras.watcher);
+    let status = status_of(rt, ended, extras);
     if extras.hints {
         let command = command_of(rt.alloc(), "learn", &[vcd.path]);
         let command = command.as_ref().map(|text| text.as_str()).unwrap_or("");
@@ -192,7 +199,9 @@ pub fn list_signals<R: Files + Input + Print + Eprint + Clock + AllocGlobal>(
     };
     let mut out = Watched::new(Sheet::new(rt, extras.form(), extras.watcher));
     let ended = run_signals(rt.alloc(), &mut reader, &mut out);
-    let status = status_of(rt, ended, extras.watcher);
+    let mut out = out.into_inner();
+    let ended = out.settle(FilesRead::one(None), ended);
+    let status = status_of(rt, ended, extras);
     if extras.hints {
         let error = reading_error(&mut reader);
         let names = Names {
@@ -202,7 +211,7 @@ pub fn list_signals<R: Files + Input + Print + Eprint + Clock + AllocGlobal>(
             command: "",
             vcd: vcd.path,
         };
-        let outcome = outcome(vcd, error, out.into_inner(), None, ended, extras);
+        let outcome = outcome(vcd, error, out, None, ended, extras);
         advise_on_recording(rt, file_of(reader), names, outcome);
     }
     status

@@ -4,7 +4,7 @@ use crate::advice::advise_on_certified;
 use crate::drawings::{Paths, bench_drawn};
 use crate::explaining::{Starting, explain_bench};
 use crate::inputs::{READS, file_of, open, open_both, reading_error};
-use crate::outputs::Sheet;
+use crate::outputs::{FilesRead, Sheet};
 use crate::runs::{Extras, last_read, outcome, status_of};
 use bench_run::{NoGate, run_bench};
 use hints::Named;
@@ -63,9 +63,11 @@ pub fn bench<R: Files + HasInput + Print + Eprint + AllocGlobal + Threads + Wait
         None => rehearse(rt, &mut reader, &mut second, &mut out, play),
     };
     let (read, error) = last_read(plan, &mut reader, cert, &mut second);
-    let status = status_of(rt, ended, extras.watcher);
+    let mut out = out.into_inner();
+    let ended = out.settle(FilesRead::one(None), ended);
+    let status = status_of(rt, ended, extras);
     if extras.hints {
-        let outcome = outcome(read, error, out.into_inner(), None, ended, extras);
+        let outcome = outcome(read, error, out, None, ended, extras);
         advise_on_certified(rt, file_of(reader), file_of(second), play.starters, outcome);
     }
     status
@@ -81,9 +83,11 @@ pub fn bench_alone<
     let mut out = Watched::new(Sheet::new(rt, extras.form(), extras.watcher));
     let ended = rehearse_alone(rt, plan.path, &mut reader, &mut out, play, extras);
     let error = reading_error(&mut reader);
-    let status = status_of(rt, ended, extras.watcher);
+    let mut out = out.into_inner();
+    let ended = out.settle(FilesRead::one(None), ended);
+    let status = status_of(rt, ended, extras);
     if extras.hints {
-        let outcome = outcome(plan, error, out.into_inner(), None, ended, extras);
+        let outcome = outcome(plan, error, out, None, ended, extras);
         advise_on_certified(rt, file_of(reader), None, play.starters, outcome);
     }
     status

@@ -11,7 +11,8 @@ use crate::pages::{Recorded, page};
 use crate::progress::{Comparing, Watcher};
 use crate::recordings::{asked_of, capture, learn, lesson_of, list_signals, whole_of};
 use crate::rehearsals::{Play, bench, bench_alone};
-use command_words::{Asked, Lines, Request, When, read_words};
+use crate::voices::{Voice, refused};
+use command_words::{Asked, Lines, Manner, Request, When, read_words};
 use hints::Named;
 use order::run_order;
 use report::{
@@ -25,22 +26,37 @@ use std::sync::Wait;
 use std::thread::Threads;
 use std::time::Clock;
 
-/// What people get beside the exact report: hints, colours in the report and in hints, and how far a long run is.
+/// What people get beside the exact report: hints, colours in the report and in hints, and how far a long run is; or that reports,
+/// refusals and hints are objects, for programs.
 #[derive(Clone, Copy)]
 pub struct Extras {
     pub hints: bool,
     pub colors_out: bool,
     pub colors_err: bool,
+    pub is_json: bool,
     pub watcher: Watcher,
 }
 
 impl Extras {
     /// How a report is written that has words for people.
     pub fn form(self) -> Form<'static> {
-        if self.colors_out {
+        if self.is_json {
+            Form::Objects
+        } else if self.colors_out {
             Form::Colored
         } else {
             Form::Plain
+        }
+    }
+
+    /// How refusals and hints are written.
+    pub fn voice(self) -> Voice {
+        if self.is_json {
+            Voice::Objects
+        } else if self.colors_err {
+            Voice::Colored
+        } else {
+            Voice::Plain
         }
     }
 }
@@ -61,15 +77,9 @@ pub fn run<R: Files + Env + Input + Print + Eprint + AllocGlobal + Threads + Wai
 ) -> u8 {
     match run_words(rt, terminals) {
         Ok(status) => status,
-        Err(error) => refused(rt, error),
+        // (before it is known whether objects are wanted)
+        Err(error) => refused(rt, error, Voice::Plain),
     }
-}
-
-/// Writes the line of a refusal, and answers its status.
-pub fn refused<R: Eprint>(rt: &R, error: RunError) -> u8 {
-    // Where standard error takes nothing the status is all that is left.
-    let _ = eprintln!(rt; "refused {error}");
-    2
 }
 
 fn run_words<R: Files + Env + Input + Print + Eprint + AllocGlobal + Threads + Wait + Clock + Sync>(
@@ -81,15 +91,9 @@ fn run_words<R: Files + Env + Input + Print + Eprint + AllocGlobal + Threads + W
         Err(error) => return no_words(rt, &error),
     };
     match read_words(rt.alloc(), words.as_slice()) {
-        Ok(
-            Asked::Run {
-                request,
-                hints,
-                colors,
-            },
-        ) => {
+        Ok(Asked::Run { request, manner }) => {
             let watcher = watcher_of(rt, request, terminals);
-            let extras = extras_of(rt, hints, colors, terminals, watcher);
+            let extras = extras_of(rt, manner, terminals, watcher);
             Ok(do_request(rt, request, extras))
         }
         Ok(Asked::Show(text)) => show(rt, text.as_str()),
@@ -100,16 +104,16 @@ fn run_words<R: Files + Env + Input + Print + Eprint + AllocGlobal + Threads + W
 
 fn extras_of<R: Env + AllocGlobal>(
     rt: &R,
-    hints: When,
-    colors: When,
+    manner: Manner,
     terminals: Terminals,
     watcher: Watcher,
 ) -> Extras {
     let take_colors = takes_colors(rt);
     Extras {
-        hints: are_wanted(hints, terminals.err),
-        colors_out: are_wanted(colors, terminals.out && take_colors),
-        colors_err: are_wanted(colors, terminals.err && take_colors),
+        hints: are_wanted(manner.hints, terminals.err),
+        colors_out: are_wanted(manner.colors, terminals.out && take_colors),
+        colors_err: are_wanted(manner.colors, terminals.err && take_colors),
+        is_json: manner.is_json,
         watcher,
     }
 }
@@ -360,9 +364,11 @@ fn verify<R: Files + Input + Print + Eprint + Clock + AllocGlobal>(
         run_verify(rt.alloc(), &mut reader, &mut second, &mut out)
     };
     let (read, error) = last_read(plan, &mut reader, cert, &mut second);
-    let status = status_of(rt, ended, extras.watcher);
+    let mut out = out.into_inner();
+    let ended = out.settle(FilesRead::one(None), ended);
+    let status = status_of(rt, ended, extras);
     if extras.hints {
-        let outcome = outcome(read, error, out.into_inner(), None, ended, extras);
+        let outcome = outcome(read, error, out, None, ended, extras);
         advise_on_certified(rt, file_of(reader), file_of(second), "", outcome);
     }
     status
@@ -437,7 +443,7 @@ pub fn finish<R: Files + Input + Print + Eprint + Clock + AllocGlobal>(
     let error = reading_error(&mut source);
     let file = file_of(source);
     let ended = out.settle(FilesRead::one(metadata_of(rt, &file)), ended);
-    let status = status_of(rt, ended, extras.watcher);
+    let status = status_of(rt, ended, extras);
     if extras.hints {
         let outcome = outcome(read, error, out, output, ended, extras);
         advise_on_text(rt, file, outcome);
@@ -461,7 +467,7 @@ pub fn outcome<'a, R: Files + Print + Eprint + Clock + AllocGlobal>(
         error: error.or(unwritten),
         output,
         report,
-        is_colored: extras.colors_err,
+        voice: extras.voice(),
     }
 }
 
@@ -480,17 +486,17 @@ pub fn last_read<'a, R: Clock + Eprint, F: Read, S: Read>(
 }
 
 /// The status of a run that has ended, with the line of a refusal. The line that told how far it was goes away.
-pub fn status_of<R: Clock + Eprint>(
+pub fn status_of<R: Clock + Eprint + AllocGlobal>(
     rt: &R,
     ended: Result<Status, RunError>,
-    watcher: Watcher,
+    extras: Extras,
 ) -> u8 {
-    watcher.clear(rt);
+    extras.watcher.clear(rt);
     match ended {
         Ok(Status::Good) => 0,
         Ok(Status::Bad) => 1,
         Ok(Status::Refused) => 2,
-        Err(error) => refused(rt, error),
+        Err(error) => refused(rt, error, extras.voice()),
     }
 }
 

@@ -1,0 +1,62 @@
+// The objects of a whole report.
+
+use crate::lines::push_line;
+use std::alloc::{AllocError, Global};
+
+// With what a line for people begins.
+const MARGIN: &str = "    ";
+
+/// The objects of a report, one a line. Lines for people, which begin with four spaces, belong to the object of the line above
+/// them.
+pub fn report_objects(alloc: Global, report: &str) -> Result<String, AllocError> {
+    let mut page = Page::new(alloc);
+    for line in report.lines() {
+        page.line(alloc, line)?;
+    }
+    page.finish(alloc)
+}
+
+// The objects that are there, and the line of the next one with those for people below it.
+#[derive(Drop)]
+struct Page<'a> {
+    line: Option<&'a str>,
+    notes: Vec<&'a str>,
+    text: String,
+}
+
+impl<'a> Page<'a> {
+    fn new(alloc: Global) -> Page<'a> {
+        Page {
+            line: None,
+            notes: Vec::new(alloc),
+            text: String::new(alloc),
+        }
+    }
+
+    fn line(&mut self, alloc: Global, line: &'a str) -> Result<(), AllocError> {
+        match line.strip_prefix(MARGIN) {
+            Some(note) => Ok(self.notes.push(note)?),
+            None => {
+                self.end_object(alloc)?;
+                self.line = Some(line);
+                Ok(())
+            }
+        }
+    }
+
+    // No more lines for people come.
+    fn end_object(&mut self, alloc: Global) -> Result<(), AllocError> {
+        if let Some(line) = self.line {
+            push_line(alloc, &mut self.text, line, self.notes.as_slice())?;
+        }
+        self.line = None;
+        self.notes.clear();
+        Ok(())
+    }
+
+    fn finish(mut self, alloc: Global) -> Result<String, AllocError> {
+        self.end_object(alloc)?;
+        let Page { text, .. } = self;
+        Ok(text)
+    }
+}

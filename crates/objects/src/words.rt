@@ -1,0 +1,40 @@
+// Words and numbers of lines, and how an object is added.
+
+use crate::kinds::{Notes, Object};
+use std::alloc::{AllocError, Global};
+
+/// Adds an object and the end of its line.
+pub(crate) fn push(
+    alloc: Global,
+    text: &mut String,
+    object: &Object<'_, '_>,
+) -> Result<(), AllocError> {
+    let Ok(written) = serde_json::to_string(alloc, object) else {
+        // an object has no number or key that JSON refuses
+        return Err(AllocError);
+    };
+    text.push_str(written.as_str())?;
+    text.push('\n')
+}
+
+/// A decimal number.
+pub(crate) fn number(word: &str) -> Option<u64> {
+    word.parse::<u64>().ok()
+}
+
+/// Adds the words between single blanks.
+pub(crate) fn push_words<'a>(list: &mut Vec<&'a str>, words: &'a str) -> Result<(), AllocError> {
+    for word in words.split(' ') {
+        list.push(word)?;
+    }
+    Ok(())
+}
+
+/// Lines for people, where there are some.
+pub(crate) fn notes_of<'s, 'a>(notes: &'s [&'a str]) -> Option<Notes<'s, 'a>> {
+    if notes.is_empty() {
+        None
+    } else {
+        Some(Notes { notes })
+    }
+}

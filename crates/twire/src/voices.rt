@@ -1,0 +1,76 @@
+// What goes to standard error: refusals, and hints for people.
+
+use crate::colors::colored_hints;
+use objects::{hint_objects, refusal_object};
+use report::RunError;
+use std::alloc::{AllocError, Global};
+
+/// How refusals and hints are written.
+#[derive(Clone, Copy)]
+pub enum Voice {
+    Plain,
+    /// The marks of hints are in colours.
+    Colored,
+    /// One object a line, for programs.
+    Objects,
+}
+
+impl Voice {
+    /// The same without colours.
+    pub fn uncolored(self) -> Voice {
+        match self {
+            Voice::Objects => Voice::Objects,
+            _ => Voice::Plain,
+        }
+    }
+}
+
+/// Writes the line of a refusal, and answers its status.
+pub fn refused<R: Eprint + AllocGlobal>(rt: &R, error: RunError, voice: Voice) -> u8 {
+    match voice {
+        Voice::Objects => say_refusal(rt, object_of(rt.alloc(), error)),
+        // Where standard error takes nothing the status is all that is left.
+        _ => {
+            let _ = eprintln!(rt; "refused {error}");
+        }
+    }
+    2
+}
+
+fn object_of(alloc: Global, error: RunError) -> Result<String, AllocError> {
+    let words = format!(in alloc; "{error}")?;
+    refusal_object(alloc, words.as_str())
+}
+
+// Where there is no memory for the object of a refusal, that is refused.
+fn say_refusal<R: Eprint>(rt: &R, object: Result<String, AllocError>) {
+    let _ = match object {
+        Ok(object) => eprint!(rt; "{object}"),
+        Err(_) => eprintln!(rt; "{{\"kind\":\"refusal\",\"code\":\"memory\"}}"),
+    };
+}
+
+/// Writes the line of the refusal of a time with a unit, of which a dump does not say what it counts.
+pub fn refused_timescale<R: Eprint + AllocGlobal>(rt: &R, voice: Voice) {
+    match voice {
+        Voice::Objects => say_refusal(rt, refusal_object(rt.alloc(), "timescale")),
+        _ => {
+            let _ = eprintln!(rt; "refused timescale");
+        }
+    }
+}
+
+/// Writes hints. Where there is no memory for them, or standard error takes nothing, there are none.
+pub fn say<R: Eprint + AllocGlobal>(rt: &R, hints: Result<String, AllocError>, voice: Voice) {
+    let Ok(hints) = hints else {
+        return;
+    };
+    let hints = match voice {
+        Voice::Plain => Ok(hints),
+        Voice::Colored => colored_hints(rt.alloc(), hints.as_str()),
+        Voice::Objects => hint_objects(rt.alloc(), hints.as_str()),
+    };
+    if let Ok(hints) = hints {
+        let _ = eprint!(rt; "{hints}");
+    }
+}

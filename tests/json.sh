@@ -1,0 +1,161 @@
+#!/usr/bin/env bash
+# Runs twire with --format json. Other suites, which compare lines, are run over a program that asks twire for objects and writes the
+# lines that they stand for (tests/objects); then some objects are compared as they are written. The last line is 'N passed, M
+# failed', and the exit status is 1 where a case fails.
+#
+# It runs the launcher at the top of the repository, or the program that TWIRE names.
+set -u
+
+tests=$(dirname -- "$(readlink -f -- "${BASH_SOURCE[0]}")")
+examples=$tests/../examples
+twire=$(readlink -f -- "${TWIRE:-$tests/../twire}")
+work=$(mktemp -d)
+trap 'rm -rf -- "$work"' EXIT
+cd -- "$work" || exit 1
+
+passed=0
+failed=0
+
+# The first call may build the program, and says so on standard error.
+"$twire" --version >out 2>err
+
+rustc -O --edition 2021 -D warnings -o objects "$tests/objects/main.rs" >log 2>&1 || {
+    cat log
+    echo "FAILED: the program that reads objects is not built"
+    echo "0 passed, 1 failed"
+    exit 1
+}
+
+# ---- Objects as lines.
+
+# suite NAME: all cases of a suite.
+suite() {
+    TWIRE=$work/objects TWIRE_OF_OBJECTS=$twire OBJECTS_LOG=$work/kinds bash "$tests/$1.sh" </dev/null >log 2>&1
+    read -r good _ bad _ < <(tail -n 1 log)
+    if [[ ${good:-} != [0-9]* || ${bad:-} != [0-9]* ]]; then
+        good=0 bad=1
+    fi
+    echo "$1 by objects: $good passed, $bad failed"
+    ((bad == 0)) || sed '$d' log
+    passed=$((passed + good))
+    failed=$((failed + bad))
+}
+
+for name in check certificates briefs captures signals bench explain; do
+    suite "$name"
+done
+
+# Each kind of object has been met, and with the notes of --explain each that has some.
+sort -u kinds >met
+printf '%s\n' bus certificate "certificate explained" count hint order pair "pair explained" participant plan "plan explained" \
+    refusal signal signals too_few total transaction "transaction explained" transactions wire "wire explained" won >wanted
+if diff -u --label wanted --label met wanted met; then
+    passed=$((passed + 1))
+else
+    failed=$((failed + 1))
+    echo "FAILED: the kinds of objects that were met"
+fi
+
+# ---- Objects as they are written.
+
+# run NAME STATUS OUT ERR ARG..: a case, with this script's standard input.
+run() {
+    local name=$1
+    echo "$2" >want_status
+    printf '%s' "${3:+$3$'\n'}" >want_out
+    printf '%s' "${4:+$4$'\n'}" >want_err
+    shift 4
+    "$twire" "$@" >out 2>err
+    echo "$?" >status
+    if cmp -s want_status status && cmp -s want_out out && cmp -s want_err err; then
+        passed=$((passed + 1))
+        return
+    fi
+    failed=$((failed + 1))
+    echo "FAILED: $name"
+    diff -u --label "wanted status" --label status want_status status
+    diff -u --label "wanted output" --label output want_out out
+    diff -u --label "wanted error" --label error want_err err
+}
+
+stop=$examples/stop_meets_data.plan
+two=$examples/two_writers.plan
+dump=$examples/stop_meets_data.vcd
+
+run "an unsafe plan" 1 '{"kind":"pair","pair":0,"participants":["main/write_output","service/probe_10"],"meet":["data","stop"],"after":"00100000l"}
+{"kind":"plan","safe":false,"pairs":2,"unsafe_pairs":1}' "" check --format json "$stop"
+run "an unsafe plan, explained" 1 '{"kind":"pair","pair":0,"participants":["main/write_output","service/probe_10"],"meet":["data","stop"],"after":"00100000l","explain":{"slot":9,"bus":"S 10 Wr A","bytes":["S 10 Wr A xxxxxxxx","S 10 Wr A P"],"next":["a data bit","a STOP"],"notes":["bus                S 10 Wr A","main/write_output  S 10 Wr A xxxxxxxx  next: a data bit","service/probe_10   S 10 Wr A P         next: a STOP","slot 9, UM10204 3.1.8: a data bit meets a STOP. Both send alike until here."]}}
+{"kind":"plan","safe":false,"pairs":2,"unsafe_pairs":1,"explain":{"never":[["main","service"]],"notes":["to mend it: a bit before that slot, known in both and different; or the same","shape from there on; or never main service ;"]}}' \
+    "" --format json check --explain "$stop"
+run "a safe plan" 0 '{"kind":"plan","safe":true,"pairs":2,"unsafe_pairs":0}' "" check --format=json "$two"
+run "a certificate" 0 '{"kind":"certificate","accepted":true,"safe":true}' "" verify --format json "$two" "${two%.plan}.cert"
+printf 'cert 1\npairs 2\nB\n' >wrong.cert
+run "a certificate that is wrong" 2 '{"kind":"certificate","accepted":false,"code":"C2"}' "" verify --format json "$two" wrong.cert
+printf 'cert 2\n' >wrong.cert
+run "a certificate of another form" 2 '{"kind":"certificate","accepted":false,"code":"C1","line":1}' "" \
+    verify --format json "$two" wrong.cert
+run "who wins" 0 '{"kind":"order","pair":0,"participants":["main/write_settings","guard/write_alarm"],"both":[9,27],"first":[21,25],"second":[19,25]}
+{"kind":"order","pair":1,"participants":["main/write_limit","guard/write_alarm"],"both":[9,9],"second":[15,15]}
+{"kind":"total","participant":"main/write_settings","wins":0,"may_win":1,"loses":0}
+{"kind":"total","participant":"main/write_limit","wins":0,"may_win":0,"loses":1}
+{"kind":"total","participant":"guard/write_alarm","wins":1,"may_win":1,"loses":0}' "" order --format json "$two"
+run "a transaction" 0 '{"kind":"transaction","from":5,"to":160,"end":"stop","participants":["service/probe_10"],"explain":{"bytes":"S 10 Wr A P","nearest":[],"notes":["S 10 Wr A P"]}}
+{"kind":"transactions","transactions":1,"unexplained":0}' "" capture --format json --explain "$stop" "$dump"
+run "a transaction that nobody explains, and too few" 1 '{"kind":"transaction","from":5,"to":160,"end":"stop","participants":[]}
+{"kind":"transactions","transactions":1,"unexplained":1}
+{"kind":"too_few","transactions":1,"at_least":2}' "" capture --format json --at-least 2 "$two" "$dump"
+run "times in parts of a second" 0 '{"kind":"transaction","from":"5 us","to":"160 us","end":"stop","participants":["service/probe_10"]}
+{"kind":"transactions","transactions":1,"unexplained":0}' "" capture --format json --times si "$stop" "$dump"
+run "participants, counted" 0 '{"kind":"participant","participant":"main/write_output","alone":0,"with_others":0}
+{"kind":"participant","participant":"service/probe_10","alone":1,"with_others":0}
+{"kind":"participant","participant":"service/probe_11","alone":0,"with_others":0}
+{"kind":"count","what":"unexplained","transactions":0}
+{"kind":"count","what":"cut","transactions":0}
+{"kind":"count","what":"unfinished","transactions":0}
+{"kind":"transactions","transactions":1,"unexplained":0}' "" capture --format json --summary "$stop" "$dump"
+run "a rehearsal" 0 '{"kind":"wire","wire":"10010000l00000001l00100000ls"}
+{"kind":"won","participants":["guard/write_alarm"]}' "" \
+    bench --format json --certify "$two" main/write_limit,guard/write_alarm --rest 0
+
+# The greatest time that a dump can have, which stays as it is.
+last=18446744073709551615
+{
+    printf '%s\n' '$var wire 1 ! scl $end' "\$var wire 1 ' sda \$end" '$enddefinitions $end' "#0 1! 1'" "#1 0'" "#$last x!"
+} >d.vcd
+run "a transaction that is cut, at the greatest time" 0 '{"kind":"transaction","from":1,"to":18446744073709551615,"end":"cut","participants":[]}
+{"kind":"transactions","transactions":0,"unexplained":0}' "" capture --format json "$two" d.vcd
+printf '%s\n' '$scope module top $end' '$var wire 1 ! a"b\c $end' '$upscope $end' $'$var wire 1 \' \x01\xff [1] $end' \
+    '$enddefinitions $end' "#0 1! 1'" "#1 0'" "#2 1'" >d.vcd
+run "signals, with bytes that JSON escapes and bytes that do not print" 0 '{"kind":"signal","code":"!","changes":0,"scope":"top","name":"a\"b\\c"}
+{"kind":"signal","code":"'"'"'","changes":2,"name":"\\x01\\xff [1]"}
+{"kind":"signals","signals":2,"buses":0}' "" signals --format json d.vcd
+
+run "refusals: a code with a line" 2 "" '{"kind":"refusal","code":"P2","line":1}' check --format json - <<<'plan 3'
+run "refusals: a code with a signal" 2 "" '{"kind":"refusal","code":"V1","signal":"scl"}' \
+    capture --format json --scl nothing "$two" "$dump"
+run "refusals: a code" 2 "" '{"kind":"refusal","code":"B2"}' bench --format json --certify "$two" nobody
+run "refusals: a word" 2 "" '{"kind":"refusal","code":"workers"}' check --format json --workers 9 "$two"
+run "refusals: two words" 2 "" '{"kind":"refusal","code":"brief name"}' brief --format json - <<<'plan 1 controller brief ;'
+run "refusals and hints" 2 "" '{"kind":"refusal","code":"workers"}
+{"kind":"hint","text":"a check has 1 to 8 workers: --workers N"}' check --format json --hints always --workers 9 "$two"
+run "a file in place of a report stays" 0 "plan 1" "" print --format json - <<<'plan 2'
+run "no third form" 2 "" "error: invalid value 'xml' for '--format <HOW>'
+  [possible values: text, json]
+
+For more information, try '--help'." check --format xml "$two"
+"$twire" check --format json --color always "$two" >coloured
+run "no colours" 0 "$(cat coloured)" "" check --format json "$two"
+if [[ -w /dev/full ]]; then
+    "$twire" check --format json --hints never "$two" >/dev/full 2>err
+    echo "$?" >out
+    cat err >>out
+    printf '%s\n' 2 '{"kind":"refusal","code":"write"}' >want_out
+    if cmp -s want_out out; then passed=$((passed + 1)); else
+        failed=$((failed + 1))
+        echo "FAILED: a full device"
+        diff -u want_out out
+    fi
+fi
+
+echo "$passed passed, $failed failed"
+((failed == 0))

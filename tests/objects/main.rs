@@ -1,0 +1,76 @@
+//! Stands in the place of twire: runs the program that TWIRE_OF_OBJECTS names with `--format json`, and writes the lines that its
+//! objects stand for. So a suite that compares lines compares objects too. tests/json.sh builds it and uses it.
+
+#[path = "../trials/json.rs"]
+mod json;
+#[path = "../trials/objects.rs"]
+mod objects;
+
+use std::env;
+use std::error::Error;
+use std::ffi::OsString;
+use std::fs::OpenOptions;
+use std::io::{self, Write};
+use std::process::{Command, ExitCode, Output, Stdio};
+
+// The commands that write reports, and those that write plans, briefs and certificates.
+const REPORTING: [&str; 6] = ["check", "verify", "order", "capture", "signals", "bench"];
+
+fn main() -> ExitCode {
+    match run() {
+        Ok(status) => ExitCode::from(status),
+        Err(error) => {
+            eprintln!("objects: {error}");
+            ExitCode::from(99)
+        }
+    }
+}
+
+fn run() -> Result<u8, Box<dyn Error>> {
+    let words: Vec<OsString> = env::args_os().skip(1).collect();
+    let program = env::var_os("TWIRE_OF_OBJECTS").ok_or("TWIRE_OF_OBJECTS names no program")?;
+    let output = Command::new(program).arg("--format=json").args(&words).stdin(Stdio::inherit()).output()?;
+    let status = output.status.code().and_then(|code| u8::try_from(code).ok()).ok_or("a signal ended the program")?;
+    let reports = words.iter().find_map(|word| word.to_str().filter(|it| !it.starts_with('-')));
+    let reports = reports.is_some_and(|name| REPORTING.contains(&name));
+    let (out, err) = in_lines(&output, reports)?;
+    log(&output)?;
+    io::stderr().write_all(&err)?;
+    io::stdout().write_all(&out)?;
+    Ok(status)
+}
+
+// Help, and what is wrong with a command line, are no objects.
+fn in_lines(output: &Output, reports: bool) -> Result<(Vec<u8>, Vec<u8>), String> {
+    let is_help = contains(&output.stdout, "\nUsage: twire");
+    let out = if reports && !is_help { lines(&output.stdout)? } else { output.stdout.clone() };
+    let is_plain = output.stderr.starts_with(b"error: ") || contains(&output.stderr, "\nUsage: twire");
+    let err = if is_plain { output.stderr.clone() } else { lines(&output.stderr)? };
+    Ok((out, err))
+}
+
+fn contains(text: &[u8], part: &str) -> bool {
+    String::from_utf8_lossy(text).contains(part)
+}
+
+fn lines(text: &[u8]) -> Result<Vec<u8>, String> {
+    let text = std::str::from_utf8(text).map_err(|error| error.to_string())?;
+    Ok(objects::lines_of(text)?.into_bytes())
+}
+
+// Which kinds of objects there were is counted by the suite.
+fn log(output: &Output) -> io::Result<()> {
+    let Some(path) = env::var_os("OBJECTS_LOG") else {
+        return Ok(());
+    };
+    let mut kinds = String::new();
+    for text in [&output.stdout, &output.stderr] {
+        for line in String::from_utf8_lossy(text).lines() {
+            if let Some((kind, _)) = line.strip_prefix("{\"kind\":\"").and_then(|rest| rest.split_once('"')) {
+                kinds.push_str(kind);
+                kinds.push_str(if line.contains("\"explain\":") { " explained\n" } else { "\n" });
+            }
+        }
+    }
+    OpenOptions::new().create(true).append(true).open(path)?.write_all(kinds.as_bytes())
+}
