@@ -12,5 +12,6 @@ pub mod RefusedLemmas
 pub mod TokenLemmas
 pub mod CanonicalWords
 pub mod CanonicalPhrases
+pub mod FrontLemmas
 pub mod CanonicalItems
 pub mod CanonicalSpelling

@@ -15,7 +15,7 @@ use plan_core::limits::{MOST_BYTES, MOST_NODES};
 
 impl Source<'_> {
     ghost use Rattle.plan_text.specs.Places.{place, before, Passes, Gives, Finds, node_at, tail_at, payload_at};
-    ghost use Rattle.plan_text.specs.Places.{write_at, read_at, byte_at};
+    ghost use Rattle.plan_text.specs.Places.{write_at, read_at, byte_at, refusal_at};
 
     /// The frame of a whole message.
     pub(crate) fn message_frame(&mut self) -> Result<Frame, PlanError>
@@ -47,8 +47,7 @@ impl Source<'_> {
         let header = self.header()?;
         let below = self.node(room, header.line)?;
         let acked = self.payload(below)?;
-        self.else_word()?;
-        let refused = self.tail(below)?;
+        let refused = self.refusal(below)?;
         Ok(Frame::Write {
             address: header.address,
             acked: Box::new(self.alloc, acked)?,
@@ -65,8 +64,7 @@ impl Source<'_> {
         let below = self.node(room, header.line)?;
         let count = self.count(below)?;
         let after = self.tail(below - count.greatest() as u32)?;
-        self.else_word()?;
-        let refused = self.tail(below)?;
+        let refused = self.refusal(below)?;
         Ok(Frame::Read {
             address: header.address,
             count,
@@ -80,6 +78,9 @@ impl Source<'_> {
     fn payload(&mut self, room: u32) -> Result<Payload, PlanError>
         ensures { Gives payload_tree result (payload_at room (place self.old)) (place self.new) }
     {
+        if let Some(byte) = self.tokens.data_byte() {
+            return self.byte(byte.bits, byte.line, room);
+        }
         let token = self.next();
         match token.symbol {
             Symbol::Word(word) => {
@@ -99,13 +100,24 @@ impl Source<'_> {
     {
         let below = self.node(room, line)?;
         let acked = self.payload(below)?;
-        self.else_word()?;
-        let refused = self.tail(below)?;
+        let refused = self.refusal(below)?;
         Ok(Payload::Byte {
             bits,
             acked: Box::new(self.alloc, acked)?,
             refused,
         })
+    }
+
+    // else tail
+    #[cycle(message)]
+    fn refusal(&mut self, room: u32) -> Result<Tail, PlanError>
+        ensures { Gives tail_tree result (refusal_at room (place self.old)) (place self.new) }
+    {
+        if self.tokens.else_stop() {
+            return Ok(Tail::Stop);
+        }
+        self.else_word()?;
+        self.tail(room)
     }
 
     // stop | again frame
