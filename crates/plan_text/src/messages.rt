@@ -78,9 +78,18 @@ impl Source<'_> {
     fn payload(&mut self, room: u32) -> Result<Payload, PlanError>
         ensures { Gives payload_tree result (payload_at room (place self.old)) (place self.new) }
     {
-        if let Some(byte) = self.tokens.data_byte() {
-            return self.byte(byte.bits, byte.line, room);
+        match self.tokens.data_byte() {
+            Some(byte) => self.byte(byte.bits, byte.line, room),
+            None => self.payload_by_token(room),
         }
+    }
+
+    // The same, by its first token.
+    #[cycle(message)]
+    #[inline(never)]
+    fn payload_by_token(&mut self, room: u32) -> Result<Payload, PlanError>
+        ensures { Gives payload_tree result (payload_at room (place self.old)) (place self.new) }
+    {
         let token = self.next();
         match token.symbol {
             Symbol::Word(word) => {
@@ -95,6 +104,7 @@ impl Source<'_> {
 
     // The payload that begins with this data byte on this line.
     #[cycle(message)]
+    #[inline(always)]
     fn byte(&mut self, bits: Pattern, line: u64, room: u32) -> Result<Payload, PlanError>
         ensures { Gives payload_tree result (byte_at room bits line (place self.old)) (place self.new) }
     {
