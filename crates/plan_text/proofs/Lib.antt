@@ -1,6 +1,7 @@
 pub mod Adding
 pub mod WordLemmas
 pub mod ValueLemmas
+pub mod EightLemmas
 pub mod StepLemmas
 pub mod NameLemmas
 pub mod TakesLemmas
