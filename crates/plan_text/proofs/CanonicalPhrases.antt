@@ -44,7 +44,7 @@ of_three false false c = (λ h. absurd (true≢false (sym h)), λ h. absurd (tru
 
 module _ (d : Dots) (steady : one_later d ≡ d) where
   -- a word is one token
-  word_token : (line : ℕ) (w rest : List ℕ) (t : Token) → is_word (dots_now d) w ≡ true → token_of_word w ≡ t → Apart (dots_now d) rest → tokens_of d line (w ++ rest) ≡ next t line (tokens_of d line rest)
+  pub word_token : (line : ℕ) (w rest : List ℕ) (t : Token) → is_word (dots_now d) w ≡ true → token_of_word w ≡ t → Apart (dots_now d) rest → tokens_of d line (w ++ rest) ≡ next t line (tokens_of d line rest)
   word_token line [] rest t is e apart = absurd (true≢false (sym is))
   word_token line (b ∷ bytes) rest t is e apart =
       let w : List ℕ = b ∷ bytes in

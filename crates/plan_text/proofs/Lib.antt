@@ -1,6 +1,7 @@
 pub mod Adding
 pub mod WordLemmas
 pub mod ValueLemmas
+pub mod EightLemmas
 pub mod StepLemmas
 pub mod NameLemmas
 pub mod TakesLemmas
@@ -12,5 +13,6 @@ pub mod RefusedLemmas
 pub mod TokenLemmas
 pub mod CanonicalWords
 pub mod CanonicalPhrases
+pub mod FrontLemmas
 pub mod CanonicalItems
 pub mod CanonicalSpelling

@@ -13,13 +13,15 @@ use Rattle.plan_text.specs.declared.symbols.Keyword.TheVariants as keywords
 use Rattle.plan_text.specs.declared.symbols.Symbol.{Symbol}
 use Rattle.plan_text.specs.declared.symbols.Symbol.TheVariants as symbols
 use Rattle.plan_text.specs.declared.symbols.Token as seen
+use Rattle.plan_text.specs.Canonical.{pattern_word}
 use Rattle.plan_text.specs.Places.{before, payload_at, node_at, tail_at, write_at, read_at, byte_at}
-use Rattle.plan_text.specs.Reader.{Place, ◌>>=◌, token_as, address_in, counted, count_at, writes, reads, Frames, tail_by, answers_by, tails_by, frame_in, byte_in, frame_at, or_refused, ends_in}
+use Rattle.plan_text.specs.Reader.{Place, ◌>>=◌, token_as, address_in, counted, count_at, writes, reads, Frames, tail_by, payload_from, answers_by, tails_by, frame_in, byte_in, frame_at, or_refused, ends_in}
 use Rattle.plan_text.specs.Reading.{with_symbol, unexpected_symbol, unexpected_at}
-use Rattle.plan_text.specs.Tokens.{Token, word}
+use Rattle.plan_text.specs.Tokens.{Token, word, next}
 use Rattle.plan_text.specs.Values.{pattern_of, count_of}
 use Rattle.plan_text.specs.Words.{count_ends}
 use Rattle.std.proofs.lemmas.Bool.{lt-leb}
+use Rattle.plan_text.proofs.ValueLemmas.{pattern_found}
 
 pub same_after : {A B : Type 0} (r : Result A PlanError) (f g : A → Result B PlanError) → ((x : A) → f x ≡ g x) → (r >>= f) ≡ (r >>= g)
 same_after (Ok x) f g h = h x
@@ -59,6 +61,14 @@ pub byte_in_is : (room line : ℕ) (bits : Pattern) (at : Place) → byte_in roo
 unfolding byte_in
 byte_in_is zero line bits at = refl
 byte_in_is (suc room) line bits at = node_is room line at (λ node. answers_by (frame_in node.0 0) (byte_in node.0) node.1 >>= λ answers. Ok (byte bits answers.0 answers.1, answers.2))
+
+-- a payload that begins with this data byte
+pub payload_by_byte : (room line : ℕ) (bits : Pattern) (at after : Place) → at.tokens ≡ next (word (pattern_word bits)) line after.tokens → at.nodes ≡ after.nodes → payload_at room at ≡ byte_at room bits line after
+payload_by_byte room line bits at after front same =
+    ap (λ t. payload_from (frame_in room 0) (byte_in room) t at.nodes) front
+    ∙ ap (λ n. payload_from (frame_in room 0) (byte_in room) (next (word (pattern_word bits)) line after.tokens) n) same
+    ∙ ap (λ (o : Option Pattern). or_refused o (Unexpected line) >>= λ b. byte_in room b line after) (pattern_found (pattern_word bits) bits refl)
+    ∙ byte_in_is room line bits after
 
 -- ---- by the symbol of the first token
 

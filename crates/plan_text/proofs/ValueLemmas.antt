@@ -127,10 +127,10 @@ value_small : (b : ℕ) → value_digit b < 2
 value_small b = grind (arith, nat_tests)
 
 -- after n bits these characters make m
-record BitsRead (m known value : ℕ) (bytes : List ℕ) : Type 0 where
-  known_fits : known < 2 ^ m
-  value_fits : value < 2 ^ m
-  bits : map bit_symbol (bits_below m known value) ≡ bytes
+pub record BitsRead (m known value : ℕ) (bytes : List ℕ) : Type 0 where
+  pub known_fits : known < 2 ^ m
+  pub value_fits : value < 2 ^ m
+  pub bits : map bit_symbol (bits_below m known value) ≡ bytes
 
 read_on : (bytes front : List ℕ) (n m known value : ℕ) → list_all is_bit bytes ≡ true → n + length bytes ≡ m → BitsRead n known value front → BitsRead m (binary known_digit known bytes) (binary value_digit value bytes) (front ++ bytes)
 read_on [] front n m known value all end so_far =
@@ -153,13 +153,13 @@ read_on (b ∷ bytes) front n m known value all end so_far =
     (read_on bytes (front ++ b ∷ []) (n + 1) m (known * 2 + known_digit b) (value * 2 + value_digit b) parts.1 (omega arith) more)
 
 module _ (bytes : List ℕ) where
-  abbrev known_of : ℕ
+  abbrev pub known_of : ℕ
   known_of = binary known_digit 0 bytes
 
-  abbrev value_of : ℕ
+  abbrev pub value_of : ℕ
   value_of = binary value_digit 0 bytes
 
-  whole : (n : ℕ) → length bytes ≡ n → list_all is_bit bytes ≡ true → BitsRead n known_of value_of bytes
+  pub whole : (n : ℕ) → length bytes ≡ n → list_all is_bit bytes ≡ true → BitsRead n known_of value_of bytes
   whole n len all = read_on bytes [] 0 n 0 0 all (omega arith) (record { known_fits = lit< tt; value_fits = lit< tt; bits = refl })
 
   address_made : is_pattern 7 bytes ≡ true → address_word (address_by known_of value_of) ≡ bytes

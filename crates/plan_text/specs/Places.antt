@@ -11,7 +11,7 @@ use Rattle.plan_text.specs.declared.errors.PlanError.TheVariants.{TooLong, NoMem
 use Rattle.plan_text.specs.declared.items.Reader.{Reader}
 use Rattle.plan_text.specs.declared.sources.Source.{Source}
 use Rattle.plan_text.specs.declared.symbols.Token.{Token}
-use Rattle.plan_text.specs.Reader.{Place, Reads, ◌>>=◌, token_as, address_in, count_at, payload_from}
+use Rattle.plan_text.specs.Reader.{Place, Reads, ◌>>=◌, token_as, address_in, count_at, else_at, payload_from}
 use Rattle.plan_text.specs.Reader.{tail_by, answers_by, tails_by, frame_in, byte_in}
 use Rattle.plan_text.specs.Reading.{left, with_token}
 
@@ -59,6 +59,12 @@ node_at room line at =
 
 abbrev pub tail_at : ℕ → Place → Reads TailTree
 tail_at room = tail_by (frame_in room 0)
+
+-- `else` and a tail
+abbrev pub refusal_at : ℕ → Place → Reads TailTree
+refusal_at room at = do
+  middle ← else_at at
+  tail_at room middle
 
 abbrev pub payload_at : ℕ → Place → Reads PayloadTree
 payload_at room at = payload_from (frame_in room 0) (byte_in room) at.tokens at.nodes

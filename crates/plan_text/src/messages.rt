@@ -15,7 +15,7 @@ use plan_core::limits::{MOST_BYTES, MOST_NODES};
 
 impl Source<'_> {
     ghost use Rattle.plan_text.specs.Places.{place, before, Passes, Gives, Finds, node_at, tail_at, payload_at};
-    ghost use Rattle.plan_text.specs.Places.{write_at, read_at, byte_at};
+    ghost use Rattle.plan_text.specs.Places.{write_at, read_at, byte_at, refusal_at};
 
     /// The frame of a whole message.
     pub(crate) fn message_frame(&mut self) -> Result<Frame, PlanError>
@@ -47,8 +47,7 @@ impl Source<'_> {
         let header = self.header()?;
         let below = self.node(room, header.line)?;
         let acked = self.payload(below)?;
-        self.else_word()?;
-        let refused = self.tail(below)?;
+        let refused = self.refusal(below)?;
         Ok(Frame::Write {
             address: header.address,
             acked: Box::new(self.alloc, acked)?,
@@ -65,8 +64,7 @@ impl Source<'_> {
         let below = self.node(room, header.line)?;
         let count = self.count(below)?;
         let after = self.tail(below - count.greatest() as u32)?;
-        self.else_word()?;
-        let refused = self.tail(below)?;
+        let refused = self.refusal(below)?;
         Ok(Frame::Read {
             address: header.address,
             count,
@@ -78,6 +76,18 @@ impl Source<'_> {
     // PAT8 payload else tail | tail
     #[cycle(message)]
     fn payload(&mut self, room: u32) -> Result<Payload, PlanError>
+        ensures { Gives payload_tree result (payload_at room (place self.old)) (place self.new) }
+    {
+        match self.tokens.data_byte() {
+            Some(byte) => self.byte(byte.bits, byte.line, room),
+            None => self.payload_by_token(room),
+        }
+    }
+
+    // The same, by its first token.
+    #[cycle(message)]
+    #[inline(never)]
+    fn payload_by_token(&mut self, room: u32) -> Result<Payload, PlanError>
         ensures { Gives payload_tree result (payload_at room (place self.old)) (place self.new) }
     {
         let token = self.next();
@@ -94,18 +104,30 @@ impl Source<'_> {
 
     // The payload that begins with this data byte on this line.
     #[cycle(message)]
+    #[inline(always)]
     fn byte(&mut self, bits: Pattern, line: u64, room: u32) -> Result<Payload, PlanError>
         ensures { Gives payload_tree result (byte_at room bits line (place self.old)) (place self.new) }
     {
         let below = self.node(room, line)?;
         let acked = self.payload(below)?;
-        self.else_word()?;
-        let refused = self.tail(below)?;
+        let refused = self.refusal(below)?;
         Ok(Payload::Byte {
             bits,
             acked: Box::new(self.alloc, acked)?,
             refused,
         })
+    }
+
+    // else tail
+    #[cycle(message)]
+    fn refusal(&mut self, room: u32) -> Result<Tail, PlanError>
+        ensures { Gives tail_tree result (refusal_at room (place self.old)) (place self.new) }
+    {
+        if self.tokens.else_stop() {
+            return Ok(Tail::Stop);
+        }
+        self.else_word()?;
+        self.tail(room)
     }
 
     // stop | again frame

@@ -1,11 +1,24 @@
 // The tokens of a plan text, one at a time, each with its line.
 
-ghost use Rattle.std.specs.Prelude.{◌≡◌, ℕ, ◌<◌, ◌≤◌, ◌+◌, ◌^◌, length, true, false, not, ◌&&◌, ◌==◌};
+ghost use Rattle.std.specs.Prelude.{◌≡◌, ℕ, ◌<◌, ◌≤◌, ◌+◌, ◌^◌, length, true, false, not, ◌&&◌, ◌==◌, MatchOption};
 ghost use Rattle.std.specs.Char.{is_ascii};
 ghost use Rattle.std.specs.List.{prefix_len};
+ghost use Rattle.plan_text.specs.Canonical.{pattern_word};
+ghost use Rattle.plan_text.specs.Grammar.{one, ◌▸◌};
 ghost use Rattle.plan_text.specs.Tokens.{Dots, tokens_of, dots_now, one_later, is_word_part, raw_tokens, in_comment};
+ghost use Rattle.plan_text.specs.Tokens.{next, word, keyword};
+ghost use Rattle.plan_text.specs.declared.symbols.Keyword.TheVariants as keywords;
 
 use crate::symbols::{Symbol, Token, word_symbol};
+use crate::words::pattern;
+use message_tree::Pattern;
+
+/// A data byte, with the line of its token.
+#[derive(Clone, Copy)]
+pub(crate) struct DataByte {
+    pub(crate) bits: Pattern,
+    pub(crate) line: u64,
+}
 
 /// What is left of a plan text.
 #[derive(Drop)]
@@ -67,6 +80,42 @@ impl<'a> Tokens<'a> {
             }
         };
         Token { symbol, line }
+    }
+
+    /// The data byte that comes next, where one blank stands before it and one after it; else nothing is taken.
+    pub(crate) fn data_byte(&mut self) -> Option<DataByte>
+        ensures { MatchOption result (left self.new ≡ left self.old)
+            (λ it. left self.old ≡ next (word (pattern_word it.bits)) it.line (left self.new)) }
+    {
+        let [b' ', rest @ ..] = self.rest else {
+            return None;
+        };
+        let (word, rest) = rest.split_at_checked(8)?;
+        let [b' ', ..] = rest else {
+            return None;
+        };
+        let bits = pattern(word)?;
+        self.rest = rest;
+        Some(DataByte {
+            bits,
+            line: self.line,
+        })
+    }
+
+    /// Whether `else stop` came next, each after one blank and with a blank behind them; else nothing is taken.
+    pub(crate) fn else_stop(&mut self) -> bool
+        ensures taken { result ≡ true →
+            (one (keyword keywords.Else) ▸ one (keyword keywords.Stop)) (left self.old) (left self.new) }
+        ensures same { result ≡ false → left self.new ≡ left self.old }
+    {
+        let Some(rest) = self.rest.strip_prefix(b" else stop".as_slice()) else {
+            return false;
+        };
+        let [b' ', ..] = rest else {
+            return false;
+        };
+        self.rest = rest;
+        true
     }
 
     // Skips white space and comments. It stops before a foreign byte also inside a comment.

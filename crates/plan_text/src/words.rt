@@ -8,6 +8,7 @@ ghost use Rattle.plan_text.specs.Words.{is_bit, is_pattern, is_known_address, is
 ghost use Rattle.plan_text.specs.Words.{count_ends};
 
 use message_tree::{Address, Count, Pattern};
+use std::simd::prelude::*;
 
 /// The eight bits of a data byte: `0`, `1` or `x`.
 pub fn pattern(word: &[u8]) -> Option<Pattern>
@@ -17,7 +18,7 @@ pub fn pattern(word: &[u8]) -> Option<Pattern>
     if word.len() != 8 {
         return None;
     }
-    let bits = bits(word)?;
+    let bits = eight_bits(word)?;
     Some(Pattern::new(bits.known, bits.value))
 }
 
@@ -114,6 +115,27 @@ fn bits(word: &[u8]) -> Option<Mask>
         };
     }
     Some(bits)
+}
+
+// The same of eight characters, which are looked at all at once.
+#[inline(always)]
+fn eight_bits(word: &[u8]) -> Option<Mask>
+    requires { length word.now ≡ 8 }
+    ensures form { is_some result ≡ list_all is_bit word.now }
+    ensures bits { IfSome result (λ m. map bit_symbol (bits_below 8 m.known m.value) ≡ word.now) }
+{
+    let lowest_first = u8x8::from_slice(word).reverse();
+    let ones = lowest_first.simd_eq(u8x8::splat(b'1'));
+    let known = ones | lowest_first.simd_eq(u8x8::splat(b'0'));
+    let bits = known | lowest_first.simd_eq(u8x8::splat(b'x'));
+    if bits.to_bitmask() == 0xff {
+        Some(Mask {
+            known: known.to_bitmask() as u8,
+            value: ones.to_bitmask() as u8,
+        })
+    } else {
+        None
+    }
 }
 
 // The bit of a single character.
