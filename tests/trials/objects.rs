@@ -84,7 +84,7 @@ fn alone(kind: &str, fields: &mut Fields) -> Result<String, String> {
         "signals" => format!("{} signals, {} buses", fields.number("signals")?, fields.number("buses")?),
         "won" => format!("won {}", fields.texts("participants")?.join(" ")),
         "refusal" => refusal(fields)?,
-        "hint" => format!("hint: {}", fields.text("text")?).trim_end().to_owned(),
+        "hint" => format!("hint: {}", fields.text("text")?),
         _ => return Err(format!("there is no kind {kind}")),
     })
 }
