@@ -10,7 +10,10 @@ use std::alloc::{AllocError, Global};
 #[derive(Debug, Drop)]
 pub enum Asked<'a> {
     /// A run, and how what it says is written.
-    Run { request: Request<'a>, manner: Manner },
+    Run {
+        request: Request<'a>,
+        manner: Manner,
+    },
     /// The help or the version, for standard output.
     Show(String),
     /// Why the line does not parse, for standard error.
@@ -205,10 +208,7 @@ struct Found<'a> {
 }
 
 // There is no request where a word is missing, which clap refuses by itself, or one too many stands beside `--certify`.
-fn parse<'a>(
-    alloc: Global,
-    words: &'a [String],
-) -> Result<Option<(Request<'a>, Manner)>, Error> {
+fn parse<'a>(alloc: Global, words: &'a [String]) -> Result<Option<(Request<'a>, Manner)>, Error> {
     let matches = program(alloc)?.try_get_matches_from(words)?;
     let Some((name, matches)) = matches.subcommand() else {
         return Ok(None);

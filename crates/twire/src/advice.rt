@@ -10,8 +10,8 @@ use report::{RunError, Status};
 use std::io::{self, Read, Seek};
 
 /// How a run ended, and the file that it read last. Where a file failed there is the error of the system. `output` is the
-/// file that was to be written in place of standard output, and `report` the beginning of what was written. Hints are written by this
-/// voice.
+/// file that was to be written in place of standard output, and `report` the beginning of what was written. Hints are
+/// written by this voice.
 #[derive(Drop)]
 pub struct Outcome<'a> {
     pub read: Named<'a>,
@@ -59,11 +59,7 @@ fn advise_on_plan<R: Eprint + AllocGlobal, F: Read + Seek + Drop>(
     outcome: Outcome<'_>,
 ) {
     match outcome.ended {
-        Err(RunError::Plan(refusal)) => say(
-            rt,
-            on_plan(rt.alloc(), plan, refusal),
-            outcome.voice,
-        ),
+        Err(RunError::Plan(refusal)) => say(rt, on_plan(rt.alloc(), plan, refusal), outcome.voice),
         Ok(Status::Good) if says_safe(outcome.report.as_str()) => {
             say(rt, on_safe(rt.alloc(), plan), outcome.voice);
         }

@@ -57,12 +57,7 @@ pub fn open<'a, R: Files + Input + Eprint + Clock + AllocGlobal>(
 }
 
 // The line of the refusal of a file that cannot be opened.
-fn unopened<R: Eprint + AllocGlobal>(
-    rt: &R,
-    file: Named<'_>,
-    error: &io::Error,
-    extras: Extras,
-) {
+fn unopened<R: Eprint + AllocGlobal>(rt: &R, file: Named<'_>, error: &io::Error, extras: Extras) {
     let voice = extras.voice();
     if error.kind() == io::ErrorKind::OutOfMemory {
         refused(rt, RunError::NoMemory, voice);

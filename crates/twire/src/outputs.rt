@@ -9,11 +9,10 @@ use report::{RunError, Status};
 use std::alloc::Global;
 use std::fs::{self, Metadata, OpenFile, OpenOptions, Permissions};
 use std::io::{self, ErrorKind, Write};
-use std::mem;
 use std::os::unix::fs::MetadataExt;
 use std::rt::Files;
-use std::str;
 use std::time::Clock;
+use std::{mem, str};
 
 // How much of a report is kept to look at.
 const KEPT: usize = 64;
