@@ -1,7 +1,7 @@
 #!/usr/bin/env bash
-# Runs twire with --format json. Other suites, which compare lines, are run over a program that asks twire for objects and writes the
-# lines that they stand for (tests/objects); then some objects are compared as they are written. The last line is 'N passed, M
-# failed', and the exit status is 1 where a case fails.
+# Runs twire with --format json. Other suites, which compare lines, are run over a program that asks twire for objects and
+# writes the lines that they stand for (tests/objects); then some objects are compared as they are written. The last line is
+# 'N passed, M failed', and the exit status is 1 where a case fails.
 #
 # It runs the launcher at the top of the repository, or the program that TWIRE names.
 set -u
@@ -28,10 +28,11 @@ rustc -O --edition 2021 -D warnings -o objects "$tests/objects/main.rs" >log 2>&
 
 # ---- Objects as lines.
 
-# Cases of streams that are closed, full or broken. The program between takes twire's and hands on its own; twire itself has them below.
+# Cases of streams that are closed, full or broken. The program between takes twire's and hands on its own; twire itself has
+# some of them below.
 streams() {
-    printf '%s\n' "closed standard input" "closed standard input before a number of workers" "closed standard output: "{safe.plan,unsafe.plan,help} \
-        "full device" "broken pipe" "hints on closed standard input" "hints on a full device"
+    printf '%s\n' "closed standard input" "closed standard input before a number of workers" \
+        "closed standard output: "{safe.plan,unsafe.plan,help} "full device" "broken pipe" "hints on closed standard input" "hints on a full device"
 }
 
 # suite NAME: all cases of a suite.

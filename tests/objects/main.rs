@@ -1,5 +1,5 @@
-//! Stands in the place of twire: runs the program that TWIRE_OF_OBJECTS names with `--format json`, and writes the lines that its
-//! objects stand for. So a suite that compares lines compares objects too. tests/json.sh builds it and uses it.
+//! Stands in the place of twire: runs the program that TWIRE_OF_OBJECTS names with `--format json`, and writes the lines that
+//! its objects stand for. So a suite that compares lines compares objects too. tests/json.sh builds it and uses it.
 
 #[path = "../trials/json.rs"]
 mod json;

@@ -115,7 +115,8 @@ fn refuse_in_turn(
     Ok(())
 }
 
-// The run with memory, of which only what the calls on lists write is not known before. Objects are compared in a way of their own.
+// The run with memory, of which only what the calls on lists write is not known before. Objects are compared in a way of
+// their own.
 fn judge_ample(task: &Task<'_>, ample: &Said) -> Option<Disagreement> {
     let wanted = match task.deed {
         Deed::Lists | Deed::Objects { .. } => ample.answer.clone(),
