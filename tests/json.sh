@@ -28,9 +28,9 @@ rustc -O --edition 2021 -D warnings -o objects "$tests/objects/main.rs" >log 2>&
 
 # ---- Objects as lines.
 
-# Cases of streams that are closed, full or broken are left out: the program between takes twire's and hands on its own. twire
-# itself has some of them below.
-streams='^FAILED: .*(closed standard (in|out)put|full device|broken pipe)'
+# Cases of streams that are closed, full, broken or a terminal are left out: the program between takes twire's and hands on its
+# own. twire itself has some of them below.
+streams='^FAILED: .*(closed standard (in|out)put|full device|broken pipe|on a terminal)'
 
 # suite NAME: all cases of a suite.
 suite() {
