@@ -27,7 +27,7 @@ want() {
 "$tests/../tools/manual" "$twire" "$work"
 want "the status of tools/manual" 0 $?
 mapfile -t commands < <("$twire" help | sed -n '/^Commands:/,/^$/s/^  \([a-z]*\) .*/\1/p' | grep -v '^help$')
-want "that there are commands" "check certify verify capture" "${commands[*]:0:4}"
+want "that there are commands" "check certify verify" "${commands[*]:0:3}"
 
 # ---- the page
 
@@ -72,9 +72,10 @@ mkdir folder && touch folder/a.plan
 want "bash: a command that begins so" "certify" "$(complete_after ce)"
 want "bash: all commands" "$(printf '%s\n' "${commands[@]}" help | LC_ALL=C sort | paste -sd ' ')" "$(complete_after "")"
 want "bash: a command after help" "verify" "$(complete_after help ver)"
-want "bash: an option" "--workers" "$(complete_after check --w)"
+want "bash: an option" "--workers" "$(complete_after check --wo)"
 want "bash: words for --hints" "always auto never" "$(complete_after check --hints "")"
 want "bash: words for --color that begin so" "always auto" "$(complete_after --color a)"
+want "bash: words for --format" "json text" "$(complete_after signals --format "")"
 want "bash: bits for --rest" "0 1" "$(complete_after bench --rest "")"
 want "bash: nothing for a number" "" "$(complete_after check --workers "")"
 want "bash: a file for a plan" "folder/a.plan" "$(complete_after check folder/a)"

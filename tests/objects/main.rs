@@ -1,5 +1,5 @@
-//! Stands in the place of twire: runs the program that TWIRE_OF_OBJECTS names with `--format json`, and writes the lines that its
-//! objects stand for. So a suite that compares lines compares objects too. tests/json.sh builds it and uses it.
+//! Stands in the place of twire: runs the program that TWIRE_OF_OBJECTS names with `--format json`, and writes the lines that
+//! its objects stand for. So a suite that compares lines compares objects too. tests/json.sh builds it and uses it.
 
 #[path = "../trials/json.rs"]
 mod json;
@@ -29,7 +29,12 @@ fn main() -> ExitCode {
 fn run() -> Result<u8, Box<dyn Error>> {
     let words: Vec<OsString> = env::args_os().skip(1).collect();
     let program = env::var_os("TWIRE_OF_OBJECTS").ok_or("TWIRE_OF_OBJECTS names no program")?;
-    let output = Command::new(program).arg("--format=json").args(&words).stdin(Stdio::inherit()).output()?;
+    let mut command = Command::new(program);
+    // (with no word at all there is help)
+    if !words.is_empty() {
+        command.arg("--format=json");
+    }
+    let output = command.args(&words).stdin(Stdio::inherit()).output()?;
     let status = output.status.code().and_then(|code| u8::try_from(code).ok()).ok_or("a signal ended the program")?;
     let reports = words.iter().find_map(|word| word.to_str().filter(|it| !it.starts_with('-')));
     let reports = reports.is_some_and(|name| REPORTING.contains(&name));

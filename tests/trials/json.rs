@@ -1,4 +1,4 @@
-//! JSON as RFC 8259 has it, in the compact form in which twire writes it: no white space between the tokens, and no key twice.
+//! JSON (RFC 8259) in the compact form in which twire writes it: no white space between the tokens, and no key twice.
 
 /// A value. A number is kept as its digits.
 #[derive(Clone, Debug, PartialEq, Eq)]

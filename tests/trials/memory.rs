@@ -38,12 +38,20 @@ struct Task<'a> {
 // Where a thread is refused, the players that have one wait for the others, so more starters would take minutes.
 const MOST_STARTERS: usize = 4;
 
+const OBJECTS: Deed = Deed::Objects { hints: false };
+
+// The line of the refusal, or its object.
+fn is_memory(refusal: &str) -> bool {
+    refusal == "memory" || refusal == "on standard error: {\"kind\":\"refusal\",\"code\":\"memory\"}\n"
+}
+
 // What is done for a case.
 fn deeds_of(command: &Command) -> Vec<Deed> {
     let mut deeds = match command {
         Command::Bench { starters, .. } if starters.split(',').count() > MOST_STARTERS => return Vec::new(),
         Command::Check { workers: 1 } => vec![Deed::Command, Deed::By(2)],
-        Command::Capture { .. } => vec![Deed::Command, Deed::Lists],
+        Command::Capture { .. } => vec![Deed::Command, OBJECTS, Deed::Lists],
+        Command::Order | Command::Verify => vec![Deed::Command, OBJECTS],
         _ => vec![Deed::Command],
     };
     deeds.extend(calls_of(command).iter().map(|call| Deed::Call(*call)));
@@ -100,20 +108,21 @@ fn refuse_in_turn(
             return Ok(());
         }
         tried.refused += 1;
-        tried.out_of_memory += usize::from(said.answer.refusal == "memory");
+        tried.out_of_memory += usize::from(is_memory(&said.answer.refusal));
         number = next_refused(number);
     }
     tried.runs.push(told(task, false, "the allocations have no end"));
     Ok(())
 }
 
-// The run with memory, of which only what the calls on lists write is not known before.
+// The run with memory, of which only what the calls on lists write is not known before. Objects are compared in a way of
+// their own.
 fn judge_ample(task: &Task<'_>, ample: &Said) -> Option<Disagreement> {
     let wanted = match task.deed {
-        Deed::Lists => ample.answer.clone(),
+        Deed::Lists | Deed::Objects { .. } => ample.answer.clone(),
         _ => task.case.wanted.clone(),
     };
-    let is_right = ample.answer.refusal != "memory" && !ample.told.refused && ample.told.is_sound();
+    let is_right = !is_memory(&ample.answer.refusal) && !ample.told.refused && ample.told.is_sound();
     let fault = (!is_right).then_some("something was wrong while there was memory");
     Disagreement::of(task.case, "ample memory", wanted, &ample.answer, fault)
 }
@@ -121,7 +130,7 @@ fn judge_ample(task: &Task<'_>, ample: &Said) -> Option<Disagreement> {
 // The answer is the one with memory; or want of memory, where an allocation was refused, and then nothing is written.
 fn judge(case: &Case, ample: &Answer, said: &Said) -> Option<Disagreement> {
     let found = &said.answer;
-    let is_want = found.refusal == "memory" && found.status == 2 && found.out.is_empty();
+    let is_want = is_memory(&found.refusal) && found.status == 2 && found.out.is_empty();
     if said.told.refused && is_want {
         return None;
     }

@@ -1,5 +1,5 @@
-//! The lines that the objects of `--format json` stand for, by the schema in docs/FORMATS.md: each field in its place and none
-//! besides. What an object has beside the notes of `--explain` is compared with the notes.
+//! The lines that the objects of `--format json` stand for, by the schema in docs/FORMATS.md: each field in its place, and
+//! none besides. What an object has beside the notes of `--explain` is compared with the notes.
 
 use crate::json::{read, Value};
 
@@ -84,7 +84,7 @@ fn alone(kind: &str, fields: &mut Fields) -> Result<String, String> {
         "signals" => format!("{} signals, {} buses", fields.number("signals")?, fields.number("buses")?),
         "won" => format!("won {}", fields.texts("participants")?.join(" ")),
         "refusal" => refusal(fields)?,
-        "hint" => format!("hint: {}", fields.text("text")?).trim_end().to_owned(),
+        "hint" => format!("hint: {}", fields.text("text")?),
         _ => return Err(format!("there is no kind {kind}")),
     })
 }

@@ -26,7 +26,7 @@ pub enum Way {
     Calls,
     /// The command with hints, where the case says which there are.
     Hints,
-    /// The command with objects in place of lines, and with hints too, where the case says which there are.
+    /// The command with objects in place of lines, and with hints, where the case says which there are.
     Objects,
 }
 

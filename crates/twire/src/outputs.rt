@@ -20,7 +20,7 @@ const KEPT: usize = 64;
 // How many names are tried for the file that is written first.
 const NAMES: u32 = 1_000;
 
-/// Where a report goes: to standard output, there perhaps with its words in colours or as objects, or into the file of a path.
+/// Where a report goes: to standard output, there perhaps with its words in colours or as objects, or into a path's file.
 #[derive(Clone, Copy)]
 pub enum Form<'a> {
     Plain,
@@ -103,8 +103,8 @@ impl<'a, R: Files + Print + Eprint + Clock + AllocGlobal> Sheet<'a, R> {
         Sheet { count, ..self }
     }
 
-    /// Writes the objects, or gives the file its name, once the run has ended with its report, and answers how the run ends by
-    /// that. After a run that has not, nothing is left of it. A file that was read is not replaced.
+    /// Writes the objects, or gives the file its name, once the run has ended with its report, and answers how the run ends
+    /// by that. After a run that has not, nothing is left of it. A file that was read is not replaced.
     pub fn settle(
         &mut self,
         read: FilesRead,

@@ -26,8 +26,8 @@ use std::sync::Wait;
 use std::thread::Threads;
 use std::time::Clock;
 
-/// What people get beside the exact report: hints, colours in the report and in hints, and how far a long run is; or that reports,
-/// refusals and hints are objects, for programs.
+/// What people get beside the exact report: hints, colours in the report and in hints, and how far a long run is; or that
+/// reports, refusals and hints are objects, for programs.
 #[derive(Clone, Copy)]
 pub struct Extras {
     pub hints: bool,
