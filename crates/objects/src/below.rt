@@ -96,8 +96,8 @@ enum Awaited<'a> {
     Second(&'a str),
 }
 
-/// What those below a transaction say, put together where they were broken: the bytes on the first line, and then what is said of
-/// a STOP, and of each participant that goes along with it furthest, on a line of its own.
+/// What those below a transaction say, put together where they were broken: the bytes on the first line, and then what is said
+/// of a STOP, and of each participant that goes along with it furthest, on a line of its own.
 pub(crate) fn unbroken(alloc: Global, notes: &[&str]) -> Result<String, AllocError> {
     let mut text = String::new(alloc);
     for (k, line) in notes.iter().enumerate() {

@@ -1,5 +1,5 @@
-// The objects as they are written: the fields in this order, and those left out that a line has not. Words of a report live for
-// `'a`, and what was gathered for one object for `'s`.
+// The objects as they are written: the fields in this order, and those left out that a line has not. Words of a report live
+// for `'a`, and what was gathered for one object for `'s`.
 
 use serde::Serialize;
 

@@ -1,8 +1,9 @@
-//! Reports, refusals and hints as JSON, one object a line, for programs. Who has made a report hands over its lines, those for
-//! people below them too; what an object says is what its line says.
+//! Reports, refusals and hints as JSON, one object a line, for programs. Who has made a report hands over its lines, those
+//! for people below them too; what an object says is what its line says.
 //!
-//! `kinds` has the objects, `lines` finds the one of a line, `checks`, `orders`, `captures`, `signals` and `benches` take lines
-//! apart, `below` the lines for people, and `pages` makes the objects of a whole report. `refusals` has what goes to standard error.
+//! `kinds` has the objects, `lines` finds the one of a line, `checks`, `orders`, `captures`, `signals` and `benches` take
+//! lines apart, `below` the lines for people, and `pages` makes the objects of a whole report. `refusals` has what goes to
+//! standard error.
 #![tactic(auto)]
 
 mod below;

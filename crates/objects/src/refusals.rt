@@ -4,8 +4,8 @@ use crate::kinds::Object;
 use crate::words::{number, push};
 use std::alloc::{AllocError, Global};
 
-/// The object of a refusal, of the words that stand after `refused` in its line: the code, and its place where it has one, as
-/// `P3 line 2` or `V1 scl`.
+/// The object of a refusal, of the words that stand after `refused` in its line: the code, and its place where it has one,
+/// as `P3 line 2` or `V1 scl`.
 pub fn refusal_object(alloc: Global, words: &str) -> Result<String, AllocError> {
     let mut text = String::new(alloc);
     push(alloc, &mut text, &refusal(words))?;
