@@ -1,0 +1,3 @@
+pub mod Pulses
+pub mod Wires
+pub mod Filtering

@@ -1,0 +1,12 @@
+//! Captures without short pulses: a level that a line has for less than a least time is as if it had not been.
+//!
+//! `filtering` takes samples, block by block, and hands out samples. It keeps the two lines as they are and as they go on
+//! (`wires`), and nothing else.
+#![tactic(auto)]
+
+pub mod filtering;
+pub mod quieting;
+mod wires;
+
+pub use filtering::Filter;
+pub use quieting::quiet;
