@@ -71,6 +71,20 @@ impl Filter {
         Ok(())
     }
 
+    /// Takes the last samples, and puts all that are left behind the ones in `quiet`.
+    pub fn feed_to_end(
+        mut self,
+        samples: &[Sample],
+        quiet: &mut Vec<Sample>,
+    ) -> Result<(), AllocError>
+        ensures { OnOk result (quiet.new.items ≡ quiet.old.items ++ behind self samples.now) }
+    {
+        self.feed(samples, quiet)?;
+        self.end(quiet)?;
+        Ok(())
+    }
+
+    // The next sample.
     #[inline(always)]
     fn next(&mut self, sample: &Sample, quiet: &mut Vec<Sample>) -> Result<(), AllocError>
         ensures { OnOk result ((more : List Sample) →

@@ -11,9 +11,7 @@ use vcd_read::Sample;
 pub fn quiet(alloc: Global, least: u64, samples: &[Sample]) -> Result<Vec<Sample>, AllocError>
     ensures { IfOk result (λ left. left.items ≡ quiet least samples.now) }
 {
-    let mut filter = Filter::new(least);
     let mut left = Vec::new(alloc);
-    filter.feed(samples, &mut left)?;
-    filter.end(&mut left)?;
+    Filter::new(least).feed_to_end(samples, &mut left)?;
     Ok(left)
 }
