@@ -8,6 +8,7 @@ mod explaining;
 mod inputs;
 mod outputs;
 mod progress;
+mod quieting;
 mod recordings;
 mod rehearsals;
 mod runs;

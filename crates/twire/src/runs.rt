@@ -185,10 +185,11 @@ fn do_request<R: Files + Input + Print + Eprint + AllocGlobal + Threads + Wait +
             plan,
             vcd,
             lines,
+            min_pulse,
             view,
             explain,
         } => {
-            let asked = asked_of(lines, view, explain);
+            let asked = asked_of(lines, min_pulse, view, explain);
             capture(rt, the_plan(plan), the_capture(vcd), asked, extras)
         }
         Request::Order { plan } => tell_order(rt, the_plan(plan), extras),

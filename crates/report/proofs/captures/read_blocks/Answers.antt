@@ -30,7 +30,7 @@ returns-in_err-feed-in-Ok-clause-stops g c = λ least scl sda f.
     let reader = g.J.Input.reader in
     let some : 0 < c.in-Ok.count = omega (arith, c.in-Ok.count-test) in
     on_error c.from_residual.result c.in_err-feed-in-Ok.field-0.0 (λ e. HaltsAtDump reader scl sda c.args.vcd.now e c.read.new.self) c.from_residual.ensures.1
-    (feed_halts reader c.args.vcd.now (plan_contents c.args.plan.now) c.args.capture c.loop.counter c.in-Ok.count c.read.new.buf c.loop.vcd c.read.new.self c.loop.capture c.in_err-feed-in-Ok.field-0.0 c.loop.invariant.reads c.loop-test.true c.in-Ok.ensures.call some c.in-Ok.ensures.bound.0 c.in-Ok.ensures.failed c.in_err-feed-in-Ok.ensures.refused scl sda f)
+    (feed_halts reader c.args.vcd.now (plan_contents c.args.plan.now) c.args.capture c.loop.counter c.in-Ok.count c.read.new.buf c.loop.vcd c.read.new.self c.loop.capture c.in_err-feed-in-Ok.field-0.0 c.loop.invariant.reads c.loop-test.true c.in-Ok.ensures.call some c.in-Ok.ensures.bound.0 c.in-Ok.ensures.failed c.in_err-feed-in-Ok.ensures.refused least scl sda f)
 
 pub returns-in-Err-clause-stops : goal.returns-in-Err-clause-stops
 returns-in-Err-clause-stops g c = λ least scl sda f.
