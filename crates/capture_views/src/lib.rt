@@ -8,4 +8,4 @@ mod lines;
 mod tallies;
 mod views;
 
-pub use views::{View, shown};
+pub use views::{View, has_unit, shown, steps};

@@ -57,7 +57,30 @@ impl View {
     }
 }
 
-fn has_unit(time: Option<Time>) -> bool {
+/// The least number of steps of a dump that are at least this time, where the dump says what they count or the time counts
+/// steps; at most 2 to the power 64, less one.
+pub fn steps(scale: Option<Scale>, time: Time) -> Option<u64> {
+    if time.unit.is_none() {
+        return Some(time.number);
+    }
+    let scale = scale?;
+    let mut below = 0u64;
+    let mut enough = u64::MAX;
+    // halved 64 times, one number is left
+    for _ in 0..64 {
+        let half = enough.saturating_sub(below) / 2;
+        let middle = below.saturating_add(half);
+        if scale.compare(middle, time) == Ordering::Less {
+            below = middle.saturating_add(1);
+        } else {
+            enough = middle;
+        }
+    }
+    Some(enough)
+}
+
+/// Whether it has a unit.
+pub fn has_unit(time: Option<Time>) -> bool {
     match time {
         Some(time) => time.unit.is_some(),
         None => false,

@@ -4,6 +4,7 @@ use crate::building::program;
 use crate::capturing::{Lines, Options, View};
 use clap::error::ErrorKind;
 use clap::{ArgMatches, Error};
+use dump_times::Time;
 use std::alloc::{AllocError, Global};
 
 /// What a command line comes to.
@@ -61,6 +62,8 @@ pub enum Request<'a> {
         plan: &'a str,
         vcd: &'a str,
         lines: Lines<'a>,
+        /// A level that lasts less is as if it had not been.
+        min_pulse: Option<Time>,
         view: View,
         explain: bool,
     },
@@ -298,6 +301,7 @@ fn request_of<'a>(name: &str, found: Found<'a>) -> Option<Request<'a>> {
             plan: found.plan?,
             vcd: found.vcd?,
             lines: found.capture.lines(),
+            min_pulse: found.capture.min_pulse(),
             view: found.capture.view(),
             explain: found.explain,
         },

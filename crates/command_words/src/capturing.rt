@@ -42,6 +42,7 @@ pub(crate) struct Options<'a> {
     scl_code: Option<&'a str>,
     sda_code: Option<&'a str>,
     scope: Option<&'a str>,
+    min_pulse: Option<&'a str>,
     at_least: Option<u32>,
     from: Option<&'a str>,
     to: Option<&'a str>,
@@ -59,6 +60,7 @@ impl<'a> Options<'a> {
             scl_code: matches.get_str("scl-code"),
             sda_code: matches.get_str("sda-code"),
             scope: matches.get_str("scope"),
+            min_pulse: matches.get_str("min-pulse"),
             at_least: matches.get_one::<u32>("at-least"),
             from: matches.get_str("from"),
             to: matches.get_str("to"),
@@ -75,6 +77,11 @@ impl<'a> Options<'a> {
             sda: line_of(self.sda, self.sda_code, "sda"),
             scope: self.scope,
         }
+    }
+
+    /// What a level has to last for to count.
+    pub(crate) fn min_pulse(&self) -> Option<Time> {
+        time_of(self.min_pulse)
     }
 
     /// What they say of the report.
@@ -98,6 +105,9 @@ impl<'a> Options<'a> {
         }
         if self.scope.is_some() && self.scl_code.is_some() && self.sda_code.is_some() {
             return Some("'--scope' is where names are looked for, and codes need none");
+        }
+        if is_no_time(self.min_pulse) {
+            return Some("the value for '--min-pulse <T>' is no time as 15 or 15us");
         }
         if is_no_time(self.from) {
             return Some("the value for '--from <TIME>' is no time as 15 or 15us");

@@ -148,7 +148,8 @@ const CAPTURE: Entry = Entry {
     usage: None,
     after_help: AFTER_CAPTURE_HELP,
     arguments: &[
-        PLAN, VCD, SCL, SDA, SCOPE, SCL_CODE, SDA_CODE, FROM, TO, AT_LEAST, TIMES, SUMMARY, EXPLAIN,
+        PLAN, VCD, SCL, SDA, SCOPE, SCL_CODE, SDA_CODE, MIN_PULSE, FROM, TO, AT_LEAST, TIMES,
+        SUMMARY, EXPLAIN,
     ],
 };
 
@@ -328,6 +329,12 @@ const SDA_CODE: Argument = Argument::Option {
 const MERGE: Argument = Argument::Flag {
     id: "merge",
     help: "Put messages of one shape together, with open bits",
+};
+
+const MIN_PULSE: Argument = Argument::Option {
+    id: "min-pulse",
+    value_name: "T",
+    help: "Leave out what a line does for less than T, as 2us",
 };
 
 const FROM: Argument = Argument::Option {

@@ -1,5 +1,6 @@
 // The transactions of a dump, noted as it is read.
 
+use crate::pulsing::Pulses;
 use capture_check::{Listener, Transaction, Until, Watch, What};
 use std::alloc::{AllocError, Global};
 use vcd_read::{Probe, Reader, Sample};
@@ -21,11 +22,23 @@ pub struct Notes {
     listener: Listener,
     heard: Vec<Heard>,
     is_free: bool,
+    // where short levels are left out
+    pulses: Option<Pulses>,
 }
 
 impl Notes {
-    /// Nothing of the dump has been read.
-    pub fn new(alloc: Global, scl: Probe<'_>, sda: Probe<'_>) -> Result<Notes, AllocError> {
+    /// Nothing of the dump has been read. Levels that last less than `least` are left out.
+    pub fn new(
+        alloc: Global,
+        scl: Probe<'_>,
+        sda: Probe<'_>,
+        least: u64,
+    ) -> Result<Notes, AllocError> {
+        let pulses = if least == 0 {
+            None
+        } else {
+            Some(Pulses::new(alloc, least))
+        };
         Ok(Notes {
             alloc,
             dump: Some(Reader::of(alloc, scl, sda)?),
@@ -33,6 +46,7 @@ impl Notes {
             listener: Listener::new(),
             heard: Vec::new(alloc),
             is_free: false,
+            pulses,
         })
     }
 
@@ -44,11 +58,36 @@ impl Notes {
         if dump.feed(piece).is_err() {
             return Ok(());
         }
-        for sample in dump.samples() {
-            self.sample(sample)?;
-        }
+        self.hear(dump.samples())?;
         dump.clear_samples();
         self.dump = Some(dump);
+        Ok(())
+    }
+
+    fn hear(&mut self, samples: &[Sample]) -> Result<(), AllocError> {
+        let Some(mut pulses) = self.pulses.take() else {
+            return self.each(samples);
+        };
+        let left = pulses.feed(samples)?;
+        self.pulses = Some(pulses);
+        self.each(left.as_slice())
+    }
+
+    // The last samples. It answers how many levels were left out.
+    fn hear_last(&mut self, samples: &[Sample]) -> Result<u64, AllocError> {
+        let Some(pulses) = self.pulses.take() else {
+            self.each(samples)?;
+            return Ok(0);
+        };
+        let (left, short) = pulses.end(samples)?;
+        self.each(left.as_slice())?;
+        Ok(short)
+    }
+
+    fn each(&mut self, samples: &[Sample]) -> Result<(), AllocError> {
+        for sample in samples {
+            self.sample(sample)?;
+        }
         Ok(())
     }
 
@@ -82,13 +121,12 @@ impl Notes {
         Ok(())
     }
 
-    /// The transactions of the whole dump, in order.
-    pub fn finish(mut self) -> Result<Vec<Heard>, AllocError> {
+    /// The transactions of the whole dump, in order, and how many levels were left out.
+    pub fn finish(mut self) -> Result<(Vec<Heard>, u64), AllocError> {
+        let mut short = 0;
         if let Some(dump) = self.dump.take() {
             if let Ok(samples) = dump.end() {
-                for sample in samples.iter() {
-                    self.sample(sample)?;
-                }
+                short = self.hear_last(samples.as_slice())?;
             }
         }
         let Notes {
@@ -102,6 +140,6 @@ impl Notes {
                 following: 0,
             })?;
         }
-        Ok(heard)
+        Ok((heard, short))
     }
 }

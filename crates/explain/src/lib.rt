@@ -17,6 +17,7 @@ pub mod faults;
 pub mod hearing;
 mod meeting;
 pub mod plans;
+mod pulsing;
 mod sending;
 mod wires;
 mod words;

@@ -8,7 +8,7 @@ use run_parts::{Output, RunError};
 use std::alloc::{AllocError, Global};
 
 /// Passes on the report of a capture, whose transactions are these, and writes below each of them its bytes, and below one
-/// that nobody explains who of the plan goes along with it furthest.
+/// that nobody explains who of the plan goes along with it furthest. `above` stands above the report.
 ///
 /// # Errors
 ///
@@ -18,9 +18,11 @@ pub fn explain_transactions<O: Output>(
     plan: &Plan,
     heard: &[Heard],
     report: &[u8],
+    above: Result<String, AllocError>,
     out: &mut O,
 ) -> Result<(), RunError> {
     let mut page = Page::new(alloc);
+    page.below(out, above)?;
     pass_on(alloc, plan, heard, text_of(report), &mut page, out)
 }
 

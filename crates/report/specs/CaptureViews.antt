@@ -4,9 +4,8 @@ use Rattle.plan_core.specs.Contents.{Contents}
 use Rattle.vcd_read.specs.declared.samples.Sample.{Sample}
 use Rattle.vcd_read.specs.Probes.{Finder}
 use Rattle.vcd_read.specs.Readers.{Fed, reading_of}
-use Rattle.capture_check.specs.Following.{transactions_behind, transactions_in}
+use Rattle.pulses.specs.Following.{quiet_behind, quiet_transactions}
 use Rattle.capture_check.specs.Transactions.{Recorded}
-use Rattle.capture_check.specs.Views.{place_of}
 use Rattle.report.specs.declared.following.Capture.{Capture}
 use Rattle.report.specs.declared.telling.Telling.{Telling}
 use Rattle.report.specs.CaptureLines.{Tally, Tells}
@@ -19,10 +18,10 @@ tally_of telling = record {
 }
 
 -- this text of a dump was read, and what its samples say is told, but for what goes on
-pub record Follows (scl sda : Finder) (plan : Contents) (text : List ℕ) (c : Capture) : Type 0 where
+pub record Follows (least : ℕ) (scl sda : Finder) (plan : Contents) (text : List ℕ) (c : Capture) : Type 0 where
   pub cleared : List Sample
   pub fed : Fed scl sda text cleared (reading_of c.reader)
   pub done : List Recorded
   pub told : Tells plan done (tally_of c.telling)
   pub left : (more : List Sample) →
-      done ++ transactions_behind (place_of c.follower) more ≡ transactions_in (cleared ++ more)
+      done ++ quiet_behind c.follower more ≡ quiet_transactions least (cleared ++ more)

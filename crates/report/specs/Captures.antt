@@ -7,7 +7,7 @@ use Rattle.vcd_read.specs.declared.samples.Sample.{Sample}
 use Rattle.vcd_read.specs.Dumps.{samples_of, said_so_far}
 use Rattle.vcd_read.specs.Probes.{Finder}
 use Rattle.vcd_read.specs.Refusals.{error_of}
-use Rattle.capture_check.specs.Following.{transactions_in}
+use Rattle.pulses.specs.Following.{quiet_transactions}
 use Rattle.report.specs.CaptureLines.{Tally, Tells, capture_report}
 use Rattle.run_parts.specs.PlanTexts.{RefusesPlan, SpellsPlan}
 use Rattle.run_parts.specs.Devices.{Reader, HasGiven}
@@ -23,20 +23,21 @@ Explained Good tally = tally.unexplained ≡ 0
 Explained Bad tally = tally.unexplained ≢ 0
 Explained Refused tally = ⊥
 
--- the dump has samples, the report tells of the transactions in them, and the status of what is unexplained
-pub record CaptureOf (scl sda : Finder) (plan : Contents) (dump report : List ℕ) (status : Status) : Type 0 where
+-- the dump has samples, the report tells of the transactions in them without the levels that last less than this time, and
+-- the status of what is unexplained
+pub record CaptureOf (least : ℕ) (scl sda : Finder) (plan : Contents) (dump report : List ℕ) (status : Status) : Type 0 where
   pub samples : List Sample
   pub read : samples_of scl sda dump ≡ Ok samples
   pub tally : Tally
-  pub told : Tells plan (transactions_in samples) tally
+  pub told : Tells plan (quiet_transactions least samples) tally
   pub lines : report ≡ capture_report tally
   pub judged : Explained status tally
 
 -- the first text spells a plan, and the report is that of the dump under it
-pub record Captured (scl sda : Finder) (texts : List ℕ × List ℕ) (report : List ℕ) (status : Status) : Type 0 where
+pub record Captured (least : ℕ) (scl sda : Finder) (texts : List ℕ × List ℕ) (report : List ℕ) (status : Status) : Type 0 where
   pub plan : Contents
   pub spelled : Spells texts.0 plan
-  pub capture : CaptureOf scl sda plan texts.1 report status
+  pub capture : CaptureOf least scl sda plan texts.1 report status
 
 -- nothing is refused in what was read of a dump
 abbrev pub PassesSoFar : Finder → Finder → List ℕ → Type 0

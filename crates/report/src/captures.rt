@@ -39,10 +39,10 @@ pub fn run_capture<I: Input, J: Input, O: Output>(
     sda: &str,
 ) -> Result<Status, RunError>
     ensures report { IfOk result (λ status.
-        Reports (ReadsBoth I.reader J.reader) (Captured (by_name scl.now) (by_name sda.now)) O.writer
+        Reports (ReadsBoth I.reader J.reader) (Captured 0 (by_name scl.now) (by_name sda.now)) O.writer
         (plan.old, vcd.old) out.old status (plan.new, vcd.new) out.new) }
     ensures stops { IfErr result (λ error.
-        Stops (ReadsBoth I.reader J.reader) (Captured (by_name scl.now) (by_name sda.now)) O.writer
+        Stops (ReadsBoth I.reader J.reader) (Captured 0 (by_name scl.now) (by_name sda.now)) O.writer
         (HaltsAtCapture I.reader J.reader (by_name scl.now) (by_name sda.now))
         (plan.old, vcd.old) out.old error (plan.new, vcd.new) out.new) }
 {
@@ -54,10 +54,13 @@ pub fn run_capture<I: Input, J: Input, O: Output>(
         out,
         Probe::Named(scl),
         Probe::Named(sda),
+        0,
     )
 }
 
-/// The same, where each of the two lines is found in the definitions of the dump by its name or by its code.
+/// The same, where each of the two lines is found in the definitions of the dump by its name or by its code, and where a
+/// level that a line has for less than `least`, in the unit of the dump, is as if it had not been. No level lasts less
+/// than 0.
 ///
 /// # Errors
 ///
@@ -70,18 +73,19 @@ pub fn run_capture_of<I: Input, J: Input, O: Output>(
     out: &mut O,
     scl: Probe<'_>,
     sda: Probe<'_>,
+    least: u64,
 ) -> Result<Status, RunError>
     ensures report { IfOk result (λ status.
-        Reports (ReadsBoth I.reader J.reader) (Captured (asked scl.entry) (asked sda.entry)) O.writer
+        Reports (ReadsBoth I.reader J.reader) (Captured least (asked scl.entry) (asked sda.entry)) O.writer
         (plan.old, vcd.old) out.old status (plan.new, vcd.new) out.new) }
     ensures stops { IfErr result (λ error.
-        Stops (ReadsBoth I.reader J.reader) (Captured (asked scl.entry) (asked sda.entry)) O.writer
+        Stops (ReadsBoth I.reader J.reader) (Captured least (asked scl.entry) (asked sda.entry)) O.writer
         (HaltsAtCapture I.reader J.reader (asked scl.entry) (asked sda.entry))
         (plan.old, vcd.old) out.old error (plan.new, vcd.new) out.new) }
 {
     let text = read_within(alloc, plan, READS)?;
     let plan = read_plan(alloc, text.as_slice())?;
-    let (report, status) = read_capture(rt, alloc, &plan, vcd, scl, sda)?;
+    let (report, status) = read_capture(rt, alloc, &plan, vcd, scl, sda, least)?;
     write_lines(out, report.as_bytes(), status)
 }
 
@@ -93,13 +97,14 @@ fn read_capture<J: Input>(
     vcd: &mut J,
     scl: Probe<'_>,
     sda: Probe<'_>,
+    least: u64,
 ) -> Result<(String, Status), RunError>
     ensures all { IfOk result (λ it. (dump : List ℕ) × ReadsText J.reader vcd.old dump vcd.new
-        × CaptureOf (asked scl.entry) (asked sda.entry) (plan_contents plan.now) dump (string_bytes it.0) it.1) }
+        × CaptureOf least (asked scl.entry) (asked sda.entry) (plan_contents plan.now) dump (string_bytes it.0) it.1) }
     ensures stops { IfErr result (λ error. HaltsAtDump J.reader (asked scl.entry) (asked sda.entry) vcd.old error vcd.new) }
 {
     let mut block = vec![in alloc; 0u8; BLOCK]?;
-    let capture = Capture::new(alloc, scl, sda)?;
+    let capture = Capture::new(alloc, scl, sda, least)?;
     read_blocks(rt, alloc, plan, vcd, block.as_mut_slice(), capture)
 }
 
@@ -113,10 +118,10 @@ fn read_blocks<J: Input>(
     mut capture: Capture,
 ) -> Result<(String, Status), RunError>
     requires { 0 < length block.old }
-    ensures all { (scl sda : Finder) → Follows scl sda (plan_contents plan.now) [] capture →
+    ensures all { (least : ℕ) (scl sda : Finder) → Follows least scl sda (plan_contents plan.now) [] capture →
         IfOk result (λ it. (dump : List ℕ) × ReadsText J.reader vcd.old dump vcd.new
-        × CaptureOf scl sda (plan_contents plan.now) dump (string_bytes it.0) it.1) }
-    ensures stops { (scl sda : Finder) → Follows scl sda (plan_contents plan.now) [] capture →
+        × CaptureOf least scl sda (plan_contents plan.now) dump (string_bytes it.0) it.1) }
+    ensures stops { (least : ℕ) (scl sda : Finder) → Follows least scl sda (plan_contents plan.now) [] capture →
         IfErr result (λ error. HaltsAtDump J.reader scl sda vcd.old error vcd.new) }
 {
     for _ in 0..READS {

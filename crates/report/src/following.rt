@@ -1,8 +1,8 @@
 // A dump that comes in pieces, from its bytes to the lines of a report.
 
 use crate::telling::Telling;
-use capture_check::Follower;
 use plan_core::Plan;
+use pulses::QuietFollower;
 use run_parts::{RunError, Status};
 use std::alloc::{AllocError, Global};
 use std::thread::Threads;
@@ -12,7 +12,7 @@ use vcd_read::{Probe, Reader};
 #[derive(Drop)]
 pub(crate) struct Capture {
     pub(crate) reader: Reader,
-    pub(crate) follower: Follower,
+    pub(crate) follower: QuietFollower,
     pub(crate) telling: Telling,
 }
 
@@ -27,13 +27,19 @@ impl Capture {
     ghost use Rattle.report.specs.Captures.{CaptureOf, PassesSoFar, RefusesBeginning, RefusesDump};
     ghost use Rattle.report.specs.CaptureViews.{Follows};
 
-    /// Nothing of the dump has been read.
-    pub(crate) fn new(alloc: Global, scl: Probe<'_>, sda: Probe<'_>) -> Result<Capture, AllocError>
-        ensures { IfOk result (λ capture. (plan : Contents) → Follows (asked scl.entry) (asked sda.entry) plan [] capture) }
+    /// Nothing of the dump has been read. Levels that last less than this time are left out.
+    pub(crate) fn new(
+        alloc: Global,
+        scl: Probe<'_>,
+        sda: Probe<'_>,
+        least: u64,
+    ) -> Result<Capture, AllocError>
+        ensures { IfOk result (λ capture. (plan : Contents) →
+            Follows least (asked scl.entry) (asked sda.entry) plan [] capture) }
     {
         Ok(Capture {
             reader: Reader::of(alloc, scl, sda)?,
-            follower: Follower::new(),
+            follower: QuietFollower::new(alloc, least),
             telling: Telling::new(alloc),
         })
     }
@@ -46,13 +52,13 @@ impl Capture {
         plan: &Plan,
         piece: &[u8],
     ) -> Result<(), RunError>
-        ensures fed { OnOk result ((scl sda : Finder) (text : List ℕ) →
-            Follows scl sda (plan_contents plan.now) text self.old →
-            Follows scl sda (plan_contents plan.now) (text ++ piece.now) self.new) }
-        ensures passed { OnOk result ((scl sda : Finder) (text : List ℕ) →
-            Follows scl sda (plan_contents plan.now) text self.old → PassesSoFar scl sda (text ++ piece.now)) }
-        ensures refused { IfErr result (λ error. (scl sda : Finder) (text : List ℕ) →
-            Follows scl sda (plan_contents plan.now) text self.old →
+        ensures fed { OnOk result ((least : ℕ) (scl sda : Finder) (text : List ℕ) →
+            Follows least scl sda (plan_contents plan.now) text self.old →
+            Follows least scl sda (plan_contents plan.now) (text ++ piece.now) self.new) }
+        ensures passed { OnOk result ((least : ℕ) (scl sda : Finder) (text : List ℕ) →
+            Follows least scl sda (plan_contents plan.now) text self.old → PassesSoFar scl sda (text ++ piece.now)) }
+        ensures refused { IfErr result (λ error. (least : ℕ) (scl sda : Finder) (text : List ℕ) →
+            Follows least scl sda (plan_contents plan.now) text self.old →
             RefusesBeginning scl sda (text ++ piece.now) error) }
     {
         self.reader.feed(piece)?;
@@ -69,11 +75,11 @@ impl Capture {
         alloc: Global,
         plan: &Plan,
     ) -> Result<(String, Status), RunError>
-        ensures read { IfOk result (λ it. (scl sda : Finder) (text : List ℕ) →
-            Follows scl sda (plan_contents plan.now) text self →
-            CaptureOf scl sda (plan_contents plan.now) text (string_bytes it.0) it.1) }
-        ensures refused { IfErr result (λ error. (scl sda : Finder) (text : List ℕ) →
-            Follows scl sda (plan_contents plan.now) text self →
+        ensures read { IfOk result (λ it. (least : ℕ) (scl sda : Finder) (text : List ℕ) →
+            Follows least scl sda (plan_contents plan.now) text self →
+            CaptureOf least scl sda (plan_contents plan.now) text (string_bytes it.0) it.1) }
+        ensures refused { IfErr result (λ error. (least : ℕ) (scl sda : Finder) (text : List ℕ) →
+            Follows least scl sda (plan_contents plan.now) text self →
             RefusesDump scl sda text error) }
     {
         let Capture {

@@ -154,7 +154,8 @@ fn tell_answer<O: Output>(
 
 // ---- a capture
 
-/// Explains the capture that the second reader gives, as `run_capture_of` does, and what the transactions are.
+/// Explains the capture that the second reader gives, as `run_capture_of` does, and what the transactions are. Where levels
+/// are left out, a line above says how many.
 ///
 /// # Errors
 ///
@@ -167,17 +168,19 @@ pub fn explain_capture<I: Input, J: Input, O: Output>(
     out: &mut O,
     scl: Probe<'_>,
     sda: Probe<'_>,
+    quiet: Quiet,
 ) -> Result<Status, RunError> {
     let text = read_within(alloc, plan, READS)?;
-    let notes = Notes::new(alloc, scl, sda)?;
+    let notes = Notes::new(alloc, scl, sda, quiet.least)?;
     let mut dump = Watched::new(Overheard::new(vcd, notes));
-    let (report, status) = captured(rt, alloc, text.as_slice(), &mut dump, scl, sda)?;
-    let heard = dump.into_inner().into_notes().finish()?;
+    let (report, status) = captured(rt, alloc, text.as_slice(), &mut dump, scl, sda, quiet.least)?;
+    let (heard, short) = dump.into_inner().into_notes().finish()?;
     tell_transactions(
         alloc,
         text.as_slice(),
         heard.as_slice(),
         report.as_slice(),
+        quiet.told(alloc, short),
         status,
         out,
     )
@@ -190,10 +193,11 @@ fn captured<J: Input>(
     dump: &mut J,
     scl: Probe<'_>,
     sda: Probe<'_>,
+    least: u64,
 ) -> Result<(Vec<u8>, Status), RunError> {
     let mut read = Watched::new(text);
     let mut written = Watched::new(Vec::new(alloc));
-    match run_capture_of(rt, alloc, &mut read, dump, &mut written, scl, sda) {
+    match run_capture_of(rt, alloc, &mut read, dump, &mut written, scl, sda, least) {
         Ok(status) => Ok((written.into_inner(), status)),
         Err(error) => Err(error),
     }
@@ -204,11 +208,12 @@ fn tell_transactions<O: Output>(
     text: &[u8],
     heard: &[Heard],
     report: &[u8],
+    above: Result<String, AllocError>,
     status: Status,
     out: &mut O,
 ) -> Result<Status, RunError> {
     let plan = read_plan(alloc, text)?;
-    match explain_transactions(alloc, &plan, heard, report, out) {
+    match explain_transactions(alloc, &plan, heard, report, above, out) {
         Ok(()) => Ok(status),
         Err(error) => Err(error),
     }

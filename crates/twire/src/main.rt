@@ -9,6 +9,7 @@ mod inputs;
 mod outputs;
 mod pages;
 mod progress;
+mod quieting;
 mod recordings;
 mod rehearsals;
 mod runs;

@@ -1,18 +1,19 @@
 // The runs over recorded buses.
 
 use crate::advice::{Outcome, advise_on_capture, advise_on_text};
-use crate::explaining::explain_capture;
 use crate::inputs::{file_of, metadata_of, open, open_both, reading_error};
 use crate::outputs::{FilesRead, Sheet};
+use crate::quieting::Quiet;
 use crate::runs::{Extras, form_of, last_read, outcome, status_of};
-use crate::viewing::{Asked, Halt, view_capture};
+use crate::viewing::{Asked, Halt, report_capture, view_capture};
 use crate::voices::{refused_timescale, say};
 use capture_views::View;
 use command_words::{self, Line, Lines};
 use dump_hints::Names;
+use dump_times::Time;
 use hints::Named;
 use learn::{Lesson, run_learn};
-use report::{Input as _, Output, Probe, RunError, Status, Watched, run_capture_of};
+use report::{Input as _, Output, Probe, RunError, Status, Watched};
 use signals::run_signals;
 use std::alloc::{AllocError, Global};
 use std::io::{Read, Seek};
@@ -21,11 +22,17 @@ use std::thread::Threads;
 use std::time::Clock;
 
 /// What the options of a capture ask for.
-pub fn asked_of<'a>(lines: Lines<'a>, view: command_words::View, explain: bool) -> Asked<'a> {
+pub fn asked_of<'a>(
+    lines: Lines<'a>,
+    min_pulse: Option<Time>,
+    view: command_words::View,
+    explain: bool,
+) -> Asked<'a> {
     Asked {
         scl: probe_of(lines.scl),
         sda: probe_of(lines.sda),
         scope: lines.scope,
+        min_pulse,
         view: View {
             at_least: view.at_least,
             from: view.from,
@@ -43,6 +50,7 @@ pub fn whole_of(lines: Lines<'_>) -> Asked<'_> {
         scl: probe_of(lines.scl),
         sda: probe_of(lines.sda),
         scope: lines.scope,
+        min_pulse: None,
         view: View {
             at_least: None,
             from: None,
@@ -111,21 +119,11 @@ pub fn explained<R: AllocGlobal + Threads + Sync, I: report::Input, J: report::I
     asked: Asked<'_>,
 ) -> Result<Status, Halt> {
     let alloc = rt.alloc();
-    let Asked {
-        scl,
-        sda,
-        explain,
-        ..
-    } = asked;
     if !asked.is_plain() {
         return view_capture(rt, alloc, plan, vcd, out, asked);
     }
-    let ended = if explain {
-        explain_capture(rt, alloc, plan, vcd, out, scl, sda)
-    } else {
-        run_capture_of(rt, alloc, plan, vcd, out, scl, sda)
-    };
-    Ok(ended?)
+    let quiet = Quiet::of(asked.min_pulse, None);
+    Ok(report_capture(rt, alloc, plan, vcd, out, asked, quiet)?)
 }
 
 // What is said where times have no unit.

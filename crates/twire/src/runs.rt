@@ -191,10 +191,11 @@ fn do_request<R: Files + Input + Print + Eprint + AllocGlobal + Threads + Wait +
             plan,
             vcd,
             lines,
+            min_pulse,
             view,
             explain,
         } => {
-            let asked = asked_of(lines, view, explain);
+            let asked = asked_of(lines, min_pulse, view, explain);
             capture(rt, the_plan(plan), the_capture(vcd), asked, extras)
         }
         Request::Page {

@@ -2,8 +2,9 @@
 
 use crate::explaining::explain_capture;
 use crate::inputs::READS;
-use capture_views::{View, shown};
-use dump_times::Scale;
+use crate::quieting::Quiet;
+use capture_views::{View, has_unit, shown};
+use dump_times::{Scale, Time};
 use plan_core::Plan;
 use plan_text::read_plan;
 use report::{
@@ -21,6 +22,8 @@ pub struct Asked<'a> {
     pub sda: Probe<'a>,
     /// Where names are looked for: the names of scopes, joined by points.
     pub scope: Option<&'a str>,
+    /// A level that lasts less is as if it had not been.
+    pub min_pulse: Option<Time>,
     pub view: View,
     /// Whether lines for people stand below those of the report.
     pub explain: bool,
@@ -29,7 +32,9 @@ pub struct Asked<'a> {
 impl Asked<'_> {
     /// Whether this is a report that the run of `report` makes alone, or one that is explained as it comes.
     pub fn is_plain(&self) -> bool {
-        self.view.is_whole() && !needs_picking(self.scl, self.sda, self.scope)
+        self.view.is_whole()
+            && !needs_picking(self.scl, self.sda, self.scope)
+            && !has_unit(self.min_pulse)
     }
 }
 
@@ -76,9 +81,11 @@ pub fn view_capture<I: Input, J: Input, O: Output>(
         sda,
         scope,
         view,
+        min_pulse,
         ..
     } = asked;
-    let scale = if view.needs_scale() || needs_picking(scl, sda, scope) {
+    let is_timed = view.has_units() || has_unit(min_pulse);
+    let scale = if is_timed || view.needs_scale() || needs_picking(scl, sda, scope) {
         let (again, picked) = pick(alloc, vcd, scl, sda, scope)?;
         let mut again = Watched::new(again);
         let asked = Asked {
@@ -86,13 +93,23 @@ pub fn view_capture<I: Input, J: Input, O: Output>(
             sda: picked.sda(),
             ..asked
         };
-        make(rt, alloc, text.as_slice(), &mut again, &mut made, asked)?;
+        let quiet = Quiet::of(min_pulse, picked.scale);
+        make(
+            rt,
+            alloc,
+            text.as_slice(),
+            &mut again,
+            &mut made,
+            asked,
+            quiet,
+        )?;
         picked.scale
     } else {
-        make(rt, alloc, text.as_slice(), vcd, &mut made, asked)?;
+        let quiet = Quiet::of(min_pulse, None);
+        make(rt, alloc, text.as_slice(), vcd, &mut made, asked, quiet)?;
         None
     };
-    if view.has_units() && scale.is_none() {
+    if is_timed && scale.is_none() {
         return Err(Halt::NoTimescale);
     }
     write_shown(
@@ -117,12 +134,36 @@ fn make<J: Input, O: Output>(
     vcd: &mut J,
     made: &mut O,
     asked: Asked<'_>,
+    quiet: Quiet,
 ) -> Result<Status, RunError> {
     let mut plan = Watched::new(plan);
-    if asked.explain {
-        explain_capture(rt, alloc, &mut plan, vcd, made, asked.scl, asked.sda)
+    report_capture(rt, alloc, &mut plan, vcd, made, asked, quiet)
+}
+
+/// Makes the exact report, or the one with lines for people.
+///
+/// # Errors
+///
+/// Those of `run_capture_of`, in the same order.
+pub fn report_capture<I: Input, J: Input, O: Output>(
+    rt: &(impl Threads + Sync),
+    alloc: Global,
+    plan: &mut I,
+    vcd: &mut J,
+    out: &mut O,
+    asked: Asked<'_>,
+    quiet: Quiet,
+) -> Result<Status, RunError> {
+    let Asked {
+        scl,
+        sda,
+        explain,
+        ..
+    } = asked;
+    if explain {
+        explain_capture(rt, alloc, plan, vcd, out, scl, sda, quiet)
     } else {
-        run_capture_of(rt, alloc, &mut plan, vcd, made, asked.scl, asked.sda)
+        run_capture_of(rt, alloc, plan, vcd, out, scl, sda, quiet.least)
     }
 }
 

@@ -1,0 +1,12 @@
+use Rattle.std.proofs.Common.{◌∙◌, ◌++◌, suc, List, ap, sym, drop, drop-cons, add-one}
+use Rattle.vcd_read.specs.declared.samples.Sample.{Sample}
+use Rattle.pulses.specs.Filtering.{behind}
+use Rattle.pulses.proofs.filtering.Filter.feed.Goals as goal
+
+pub loop-sample-preserved : goal.loop-sample-preserved
+loop-sample-preserved c = λ more.
+    rw (add-one c.loop-sample.sample-index)
+    (c.in_ok-next.ensures (drop (suc c.loop-sample.sample-index) c.args.samples.now ++ more)
+    ∙ (ap (λ (left : List Sample). c.loop-sample.quiet.items ++ behind c.loop-sample.self (left ++ more))
+    (sym (drop-cons c.args.samples.now c.loop-sample.sample-index _ c.loop-sample-test.true))
+    ∙ c.loop-sample.invariant more))

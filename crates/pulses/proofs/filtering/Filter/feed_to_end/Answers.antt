@@ -1,0 +1,11 @@
+use Rattle.std.proofs.Common.{◌∙◌, ◌++◌, [], List, ap, append-nil}
+use Rattle.vcd_read.specs.declared.samples.Sample.{Sample}
+use Rattle.pulses.specs.Filtering.{behind}
+use Rattle.pulses.proofs.filtering.Filter.feed_to_end.Goals as goal
+
+pub returns : goal.returns
+returns c =
+    c.in_ok-end.ensures
+    ∙ (c.in_ok-feed.ensures []
+    ∙ ap (λ (samples : List Sample). c.args.quiet.now.items ++ behind c.args.self samples)
+    (append-nil c.args.samples.now))

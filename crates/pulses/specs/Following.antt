@@ -1,0 +1,23 @@
+-- The transactions of a capture whose short pulses are left out.
+use Rattle.std.specs.Prelude.{ℕ, List, Option, Some, None}
+use Rattle.vcd_read.specs.declared.samples.Sample.{Sample}
+use Rattle.capture_check.specs.Following.{transactions_behind, transactions_in}
+use Rattle.capture_check.specs.Transactions.{Recorded}
+use Rattle.capture_check.specs.Views.{place_of}
+use Rattle.pulses.specs.declared.filtering.Filter.{Filter}
+use Rattle.pulses.specs.declared.following.QuietFollower.{QuietFollower}
+use Rattle.pulses.specs.Filtering.{behind}
+use Rattle.pulses.specs.Pulses.{quiet}
+
+-- the transactions of a capture without the runs that last less than this time
+abbrev pub quiet_transactions : ℕ → List Sample → List Recorded
+quiet_transactions least samples = transactions_in (quiet least samples)
+
+-- the samples that are handed on where these come, and then the end
+abbrev pub handed_on : Option Filter → List Sample → List Sample
+handed_on None samples = samples
+handed_on (Some filter) samples = behind filter samples
+
+-- the transactions that end in these samples, and the one that goes on then
+abbrev pub quiet_behind : QuietFollower → List Sample → List Recorded
+quiet_behind f samples = transactions_behind (place_of f.follower) (handed_on f.filter samples)

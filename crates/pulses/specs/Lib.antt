@@ -1,0 +1,4 @@
+pub mod Pulses
+pub mod Wires
+pub mod Filtering
+pub mod Following

@@ -1,0 +1,78 @@
+// A capture that comes in parts, from its samples to its transactions, without short pulses.
+
+use crate::filtering::Filter;
+use capture_check::{Follower, Transaction};
+use std::alloc::{AllocError, Global};
+use vcd_read::Sample;
+
+/// The bus, followed from sample to sample as if the short pulses of its lines had not been.
+#[derive(Debug, Drop)]
+pub struct QuietFollower {
+    // none where each level counts
+    pub(crate) filter: Option<Filter>,
+    pub(crate) follower: Follower,
+    // the samples that are left of those that came last
+    left: Vec<Sample>,
+}
+
+impl QuietFollower {
+    ghost use Rattle.std.specs.Prelude.{◌≡◌, ◌++◌, List, IfOk, map};
+    ghost use Rattle.vcd_read.specs.declared.samples.Sample.{Sample};
+    ghost use Rattle.capture_check.specs.Views.{recorded};
+    ghost use Rattle.pulses.specs.Following.{quiet_behind, quiet_transactions};
+
+    /// Nothing is known of the bus. Levels that last less than this time are left out, in the unit of the capture; no level
+    /// lasts less than 0.
+    pub fn new(alloc: Global, least: u64) -> QuietFollower
+        ensures { (samples : List Sample) → quiet_behind result samples ≡ quiet_transactions least samples }
+    {
+        let filter = if least == 0 {
+            None
+        } else {
+            Some(Filter::new(least))
+        };
+        QuietFollower {
+            filter,
+            follower: Follower::new(),
+            left: Vec::new(alloc),
+        }
+    }
+
+    /// The transactions that are known to have ended, of these samples and those before, in order. Where memory is refused,
+    /// what was followed so far is lost.
+    pub fn follow(
+        &mut self,
+        alloc: Global,
+        samples: &[Sample],
+    ) -> Result<Vec<Transaction>, AllocError>
+        ensures { IfOk result (λ found. (more : List Sample) →
+            map recorded found.items ++ quiet_behind self.new more ≡ quiet_behind self.old (samples.now ++ more)) }
+    {
+        match &mut self.filter {
+            None => self.follower.follow(alloc, samples),
+            Some(filter) => {
+                self.left.clear();
+                filter.feed(samples, &mut self.left)?;
+                self.follower.follow(alloc, self.left.as_slice())
+            }
+        }
+    }
+
+    /// The transactions that are left, with these last samples, and the one that goes on at the end of the capture, if any.
+    pub fn follow_to_end(
+        mut self,
+        alloc: Global,
+        samples: &[Sample],
+    ) -> Result<Vec<Transaction>, AllocError>
+        ensures { IfOk result (λ found. map recorded found.items ≡ quiet_behind self samples.now) }
+    {
+        match self.filter {
+            None => self.follower.follow_to_end(alloc, samples),
+            Some(filter) => {
+                self.left.clear();
+                filter.feed_to_end(samples, &mut self.left)?;
+                self.follower.follow_to_end(alloc, self.left.as_slice())
+            }
+        }
+    }
+}
