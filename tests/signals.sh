@@ -309,6 +309,48 @@ unfinished 0
 1 transactions, 1 unexplained
 too few: 1 of 2' "" capture plan two --scope top.i2c1 --summary --at-least 2
 
+# ---- short pulses
+
+# glitch CHANGES: the first of the two buses, with these changes of SDA in its first bit, in which SCL is HIGH from 20 to 25
+# and SDA from 15 to 30.
+glitch() {
+    awk -v changes="$1" '{ print } $0 == "#20 1!" {
+        count = split(changes, change, " ")
+        for (i = 1; i <= count; i++) { print "#" 20 + i " " change[i] "\"" }
+    }' two
+}
+glitch '0 1' >glitch
+glitch '0 1 0 1' >chatter
+glitch 'x 1' >lost
+sed '/timescale/d' glitch >glitch_no_scale
+torn=$'5-22 unexplained\n1 transactions, 1 unexplained'
+expect "a glitch" 1 "$torn" "" capture plan glitch
+expect "a glitch that is left out" 0 "$first" "" capture plan glitch --min-pulse 2
+expect "one that lasts just so long" 1 "$torn" "" capture plan glitch --min-pulse 1
+expect "each level counts" 1 "$torn" "" capture plan glitch --min-pulse 0
+expect "a glitch by a unit" 0 "$first" "" capture plan glitch --min-pulse 2us
+expect "one that lasts just so long by a unit" 1 "$torn" "" capture plan glitch --min-pulse 1us
+expect "a part of a step more" 0 "$first" "" capture plan glitch --min-pulse 1000001ps
+expect "a unit without a scale for pulses" 2 "" "refused timescale" capture plan glitch_no_scale --min-pulse 2us
+expect "steps without a scale" 0 "$first" "" capture plan glitch_no_scale --min-pulse 2
+expect "a line that chatters" 0 "$first" "" capture plan chatter --min-pulse 2
+expect "a level that is not known for a while" 0 $'5-21 cut\n0 transactions, 0 unexplained' "" capture plan lost
+expect "the same, left out" 0 "$first" "" capture plan lost --min-pulse 2
+expect "no level lasts so long" 0 "$none" "" capture plan glitch --min-pulse 1ms
+expect "nothing to leave out" 0 "$first" "" capture plan two --min-pulse 5
+expect "pulses in one of two scopes" 0 "$first" "" capture plan glitch --min-pulse 2us --scope top.i2c0
+expect "pulses and times" 0 $'5 us-160 us a/m\n1 transactions, 0 unexplained' "" \
+    capture plan glitch --min-pulse 2us --times si
+expect "a pulse is counted" 0 '    1 pulse shorter than 2 us was left out
+5-160 a/m
+    S 48 Wr A P
+1 transactions, 0 unexplained' "" capture plan glitch --min-pulse 2us --explain
+expect "pulses are counted" 0 '    3 pulses shorter than 2 were left out
+5-160 a/m
+    S 48 Wr A P
+1 transactions, 0 unexplained' "" capture plan chatter --min-pulse 2 --explain
+refuses "a pulse of no time" "the value for '--min-pulse <T>' is no time as 15 or 15us" capture plan two --min-pulse 1.5us
+
 # ---- command lines
 
 refuses "both ways for SCL" "'--scl' and '--scl-code' both say which signal is SCL: give one" \
