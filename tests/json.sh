@@ -30,7 +30,7 @@ rustc -O --edition 2021 -D warnings -o objects "$tests/objects/main.rs" >log 2>&
 
 # Cases of streams that are closed, full, broken or a terminal are left out: the program between takes twire's and hands on its
 # own. twire itself has some of them below.
-streams='^FAILED: .*(closed standard (in|out)put|full device|broken pipe|on a terminal)'
+streams='^FAILED: .*(closed standard (in|out)put|full device|broken pipe|first part is taken|on a terminal)'
 
 # suite NAME: all cases of a suite.
 suite() {
@@ -50,6 +50,36 @@ suite() {
 
 for name in check certificates briefs captures signals bench explain; do
     suite "$name"
+done
+
+# alike ARG..: objects and lines of one run.
+alike() {
+    "$twire" "$@" >want_out 2>want_err
+    echo "$?" >want_status
+    TWIRE_OF_OBJECTS=$twire OBJECTS_LOG=$work/kinds ./objects "$@" >out 2>err
+    echo "$?" >status
+    compare "objects and lines: $*"
+}
+
+# compare NAME: counts a case by what stands in the files status, out and err and in those that are wanted.
+compare() {
+    if cmp -s want_status status && cmp -s want_out out && cmp -s want_err err; then
+        passed=$((passed + 1))
+        return
+    fi
+    failed=$((failed + 1))
+    echo "FAILED: $1"
+    diff -u --label "wanted status" --label status want_status status
+    diff -u --label "wanted output" --label output want_out out
+    diff -u --label "wanted error" --label error want_err err
+}
+
+for plan in "$examples"/*.plan; do
+    alike order "$plan"
+    for dump in "$examples"/*.vcd; do
+        alike capture "$plan" "$dump" --times si --explain --hints always
+        alike capture "$plan" "$dump" --summary --at-least 2
+    done
 done
 
 # Each kind of object has been met, and with the notes of --explain each that has some.
@@ -74,15 +104,7 @@ run() {
     shift 4
     "$twire" "$@" >out 2>err
     echo "$?" >status
-    if cmp -s want_status status && cmp -s want_out out && cmp -s want_err err; then
-        passed=$((passed + 1))
-        return
-    fi
-    failed=$((failed + 1))
-    echo "FAILED: $name"
-    diff -u --label "wanted status" --label status want_status status
-    diff -u --label "wanted output" --label output want_out out
-    diff -u --label "wanted error" --label error want_err err
+    compare "$name"
 }
 
 stop=$examples/stop_meets_data.plan
@@ -96,7 +118,7 @@ run "an unsafe plan, explained" 1 '{"kind":"pair","pair":0,"participants":["main
     "" --format json check --explain "$stop"
 run "a safe plan" 0 '{"kind":"plan","safe":true,"pairs":2,"unsafe_pairs":0}' "" check --format=json "$two"
 run "a certificate" 0 '{"kind":"certificate","accepted":true,"safe":true}' "" verify --format json "$two" "${two%.plan}.cert"
-printf 'cert 1\npairs 2\nB\n' >wrong.cert
+printf 'cert 1\npairs 2\n.\n' >wrong.cert
 run "a certificate that is wrong" 2 '{"kind":"certificate","accepted":false,"code":"C2"}' "" verify --format json "$two" wrong.cert
 printf 'cert 2\n' >wrong.cert
 run "a certificate of another form" 2 '{"kind":"certificate","accepted":false,"code":"C1","line":1}' "" \
@@ -144,7 +166,7 @@ run "refusals: a code" 2 "" '{"kind":"refusal","code":"B2"}' bench --format json
 run "refusals: a word" 2 "" '{"kind":"refusal","code":"workers"}' check --format json --workers 9 "$two"
 run "refusals: two words" 2 "" '{"kind":"refusal","code":"brief name"}' brief --format json - <<<'plan 1 controller brief ;'
 run "refusals and hints" 2 "" '{"kind":"refusal","code":"workers"}
-{"kind":"hint","text":"a check has 1 to 8 workers: --workers N"}' check --format json --hints always --workers 9 "$two"
+{"kind":"hint","text":"'"'"'--workers'"'"' takes 1 to 8"}' check --format json --hints always --workers 9 "$two"
 run "a file in place of a report stays" 0 "plan 1" "" print --format json - <<<'plan 2'
 run "no third form" 2 "" "error: invalid value 'xml' for '--format <HOW>'
   [possible values: text, json]
