@@ -2,6 +2,7 @@
 // and plan has a function that owns it, and others borrow it: so no function has much to give back at an early end.
 
 use crate::inputs::READS;
+use crate::quieting::Quiet;
 use bench_run::run_bench;
 use explain::{Heard, Notes};
 use explained::{
@@ -12,7 +13,7 @@ use report::{
     Input, NoGate, Output, Probe, RunError, Status, Watched, read_within, run_capture_of,
     run_check, run_verify,
 };
-use std::alloc::Global;
+use std::alloc::{AllocError, Global};
 use std::sync::Wait;
 use std::thread::Threads;
 use std::time::Clock;
