@@ -165,8 +165,8 @@ unsafe: 2 of 3 pairs
 run "none is explained where --most is 0" check --explain --most 0 p.plan
 printf 'never a b ; never a c ;\n' >>p.plan
 want 0 "safe: 1 pairs
-    where targets acknowledge: 0 part in a header, 0 later, 0 at a read's end, 1
-    end alike
+    where targets acknowledge: 0 must part in a header, 0 later, 0 at a read's
+    end; 1 may end alike
     2 pairs were not checked: 'never' keeps their controllers apart" ""
 run "the never items that are named make the plan safe" check --explain p.plan
 
@@ -209,21 +209,21 @@ run "with these items the pair with the interrupt is left" check --explain --mos
 # ---- Safe plans.
 
 want 0 "safe: 2 pairs
-    where targets acknowledge: 0 part in a header, 1 later, 0 at a read's end, 1
-    end alike" ""
+    where targets acknowledge: 0 must part in a header, 1 later, 0 at a read's
+    end; 1 may end alike" ""
 run "two writers: one pair ends alike, one parts in a data byte" check --explain "$examples/two_writers.plan"
 plan 'plan 1' 'message short read 1001000 1 stop else stop ;' 'message long read 1001000 2 stop else stop ;' \
     'message other read 1001001 2 stop else stop ;' 'message spare write 1001000 stop else stop ;' \
     'controller a short ;' 'controller b long ;' 'controller c other ;'
 want 0 "safe: 3 pairs
-    where targets acknowledge: 2 part in a header, 0 later, 1 at a read's end, 0
-    end alike
+    where targets acknowledge: 2 must part in a header, 0 later, 1 at a read's
+    end; 0 may end alike
     nobody sends spare" ""
 run "a read's end, headers, and a message that nobody sends" check --explain p.plan
 plan 'plan 1'
 want 0 "safe: 0 pairs
-    where targets acknowledge: 0 part in a header, 0 later, 0 at a read's end, 0
-    end alike
+    where targets acknowledge: 0 must part in a header, 0 later, 0 at a read's
+    end; 0 may end alike
     no two participants may start together, so nothing was checked" ""
 run "a plan without pairs" check --explain p.plan
 

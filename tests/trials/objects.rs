@@ -85,6 +85,7 @@ fn alone(kind: &str, fields: &mut Fields) -> Result<String, String> {
         "won" => format!("won {}", fields.texts("participants")?.join(" ")),
         "refusal" => refusal(fields)?,
         "hint" => format!("hint: {}", fields.text("text")?),
+        "line" => fields.text("text")?,
         _ => return Err(format!("there is no kind {kind}")),
     })
 }

@@ -141,6 +141,8 @@ const TOO_MANY_WORDS: &str = "'--certify' stands for CERT: give PLAN and STARTER
 
 const NOT_BITS: &str = "the value for '--answers <BITS>' is not of 0 and 1";
 
+const NO_FILE: &str = "'--wave' wants a file, since the report goes to standard output";
+
 const INPUT_TWICE: &str = "standard input can be one of the files, and not two";
 
 fn refusal<'a>(alloc: Global, fault: &str) -> Result<Asked<'a>, AllocError> {
@@ -179,6 +181,14 @@ fn fault_of(request: Request<'_>) -> Option<&'static str> {
             cert: Some(cert),
             ..
         } if are_input(plan, cert) => Some(INPUT_TWICE),
+        Request::Check {
+            wave: Some("-"),
+            ..
+        } => Some(NO_FILE),
+        Request::Bench {
+            wave: Some("-"),
+            ..
+        } => Some(NO_FILE),
         Request::Bench { answers, .. } if !are_bits(answers) => Some(NOT_BITS),
         _ => None,
     }

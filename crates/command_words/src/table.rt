@@ -334,7 +334,7 @@ const MERGE: Argument = Argument::Flag {
 const MIN_PULSE: Argument = Argument::Option {
     id: "min-pulse",
     value_name: "T",
-    help: "Leave out what a line does for less than T, as 2us",
+    help: "Leave out what a line does for less than T, as 50ns",
 };
 
 const FROM: Argument = Argument::Option {

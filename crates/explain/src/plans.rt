@@ -15,7 +15,7 @@ pub fn below_safe(alloc: Global, plan: &Plan, endings: Endings) -> Result<String
 
 fn push_endings(alloc: Global, below: &mut Below, endings: Endings) -> Result<(), AllocError> {
     let words = format!(in alloc;
-        "where targets acknowledge: {} part in a header, {} later, {} at a read's end, {} end alike",
+        "where targets acknowledge: {} must part in a header, {} later, {} at a read's end; {} may end alike",
         endings.header, endings.later, endings.read, endings.alike
     )?;
     below.say(words.as_str())

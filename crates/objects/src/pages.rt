@@ -34,9 +34,9 @@ impl<'a> Page<'a> {
     }
 
     fn line(&mut self, alloc: Global, line: &'a str) -> Result<(), AllocError> {
-        match line.strip_prefix(MARGIN) {
-            Some(note) => Ok(self.notes.push(note)?),
-            None => {
+        match (self.line, line.strip_prefix(MARGIN)) {
+            (Some(above), Some(note)) if !above.starts_with(MARGIN) => Ok(self.notes.push(note)?),
+            _ => {
                 self.end_object(alloc)?;
                 self.line = Some(line);
                 Ok(())

@@ -183,11 +183,19 @@ function drawingOf(pair, one, other) {
   return { svg, run };
 }
 
+// What makes a pair safe. An interrupt cannot be kept away by a never.
+function mendingText(pair) {
+  const controllers = [pair.first, pair.second].map(label => label.split('/')[0]);
+  const never = controllers.some(name => name.startsWith('!')) ? '' : '; or say never ' + controllers.join(' ') + ' ;';
+  return 'To mend it: let a bit before that slot be known in both and different, so that one of them loses first; or let both do '
+    + 'the same from that slot on' + never + '.';
+}
+
 function meetingText(pair, run) {
   const slot = run.slots[run.end];
   if (pair.way === 'unsafe') {
     return 'Slot ' + run.end + ', UM10204 3.1.8: ' + pair.kinds[0] + ' meets ' + pair.kinds[1]
-      + '. Both send alike until here, so neither has lost, and what follows is undefined.';
+      + '. Both send alike until here, so neither has lost, and what follows is undefined. ' + mendingText(pair);
   }
   if (!slot.parts) return 'Both send the same to the end, and neither loses.';
   const winner = run.lost === 0 ? pair.second : pair.first;

@@ -56,7 +56,12 @@ const AFTER_TITLE: &str = "\
 ";
 
 fn push_texts(page: &mut String, texts: &Texts<'_>) -> Result<(), AllocError> {
-    push_text(page, "plan", "The plan, in its canonical spelling", texts.plan)?;
+    push_text(
+        page,
+        "plan",
+        "The plan, in its canonical spelling",
+        texts.plan,
+    )?;
     push_text(page, "check", "The report of check", texts.check)?;
     push_text(page, "order", "The report of order", texts.order)?;
     match texts.capture {
@@ -67,7 +72,10 @@ fn push_texts(page: &mut String, texts: &Texts<'_>) -> Result<(), AllocError> {
 
 // A text that can be read where the script is not run.
 fn push_text(page: &mut String, id: &str, summary: &str, text: &str) -> Result<(), AllocError> {
-    write!(page, "<details><summary>{summary}</summary><pre id=\"{id}\">")?;
+    write!(
+        page,
+        "<details><summary>{summary}</summary><pre id=\"{id}\">"
+    )?;
     push_escaped(page, text)?;
     page.push_str("</pre></details>\n")
 }

@@ -5,8 +5,8 @@ pub(crate) const PAIRS: &str = r#"
 
 const WAYS = {
   unsafe: ['!', 'unsafe: the two meet in a state that the standard leaves undefined'],
-  header: ['H', 'they part in the header'],
-  later: ['L', 'they part later'],
+  header: ['H', 'only one can win, in the header'],
+  later: ['L', 'only one can win, perhaps later'],
   either: ['E', 'either may win'],
   alike: ['=', 'they end alike'],
   apart: ['-', 'never together: one controller, or kept apart by never'],
@@ -61,9 +61,10 @@ function saidOf(pair) {
       + pair.wire.length;
   }
   const parts = [];
-  if (pair.both) parts.push('both may end together in slot ' + pair.both.text);
+  const slots = some => (some.earliest === some.latest ? 'slot ' : 'slots ') + some.text;
+  if (pair.both) parts.push('both may end together in ' + slots(pair.both));
   [pair.first, pair.second].forEach((label, k) => {
-    if (pair.wins[k]) parts.push(label + ' may win in slot ' + pair.wins[k].text);
+    if (pair.wins[k]) parts.push(label + (pair.way === 'either' ? ' may win in ' : ' wins in ') + slots(pair.wins[k]));
   });
   return pair.first + ' and ' + pair.second + ': ' + parts.join('; ');
 }

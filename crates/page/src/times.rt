@@ -104,8 +104,8 @@ function sendersOf(plan) {
   }
   const nevers = plan.nevers.map(([one, other]) => one + ' and ' + other + ' never start together');
   return [element('h2', {}, 'What is sent'),
-    element('p', {}, 'Bytes as documents of the bus write them; any is a byte with eight open bits, x one open bit. What is done '
-      + 'after a refusal stands below, where it is more than a STOP.'),
+    element('p', {}, 'S is START, Sr a repeated START, P STOP, A an acknowledge and NA none; 48 Wr is a write to address 0x48; '
+      + 'any is a byte with eight open bits, x one open bit. What is done after an NA stands below, where it is more than a STOP.'),
     element('div', { class: 'wide' }, element('table', { class: 'lines' }, element('tbody', {}, ...rows))),
     ...nevers.map(said => element('p', {}, said + '.'))];
 }
@@ -118,7 +118,8 @@ function choiceOf(participants, pairs, show) {
   const byNames = new Map(pairs.flatMap(pair => [[pair.first + ' ' + pair.second, pair], [pair.second + ' ' + pair.first, pair]]));
   const select = name => element('select', { 'aria-label': name }, ...participants.map(p => element('option', {}, p.label)));
   const one = select('one participant'), other = select('the other participant');
-  if (participants.length > 1) other.selectedIndex = 1;
+  one.value = pairs[0].first;
+  other.value = pairs[0].second;
   const said = element('span', { role: 'status' });
   const form = element('form', {}, 'Draw ', one, ' and ', other, element('button', {}, 'Draw'), said);
   form.addEventListener('submit', event => {
@@ -150,7 +151,9 @@ function page() {
     for (const link of document.querySelectorAll('a[data-pair="' + number + '"]')) link.setAttribute('aria-current', 'true');
     chosen.scrollIntoView({ block: 'nearest' });
   };
-  if (pairs.length > 0) {
+  if (pairs.length === 0) {
+    main.append(element('p', {}, 'No two participants may start together, so nothing was checked.'));
+  } else {
     const grid = gridOf(participants, pairs);
     main.append(element('h2', {}, 'The pairs'), keyOf(pairs));
     if (grid.many) {

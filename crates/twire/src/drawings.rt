@@ -6,7 +6,7 @@ use crate::rehearsals::{Play, rehearse};
 use crate::runs::{Extras, Look, look_over};
 use crate::voices::say;
 use report::{Input, Output, RunError, Status, Watched, read_within, write_report};
-use std::io::Cursor;
+use std::io::{self, Cursor};
 use std::rt::Files;
 use std::sync::Wait;
 use std::thread::Threads;
@@ -48,11 +48,24 @@ pub fn check_drawn<
     look: Look<'_>,
     file: &str,
     extras: Extras,
+    unwritten: &mut Option<io::Error>,
 ) -> Result<Status, RunError> {
     let text = read_within(rt.alloc(), reader, READS)?;
     let mut again = Watched::new(Cursor::new(text.as_slice()));
     match look_over(rt, &mut again, out, look, extras) {
-        Ok(status) => draw_fault(rt, path, text.as_slice(), look.pair, status, file, extras),
+        Ok(status) => {
+            let pair = look.pair;
+            draw_fault(
+                rt,
+                path,
+                text.as_slice(),
+                pair,
+                status,
+                file,
+                extras,
+                unwritten,
+            )
+        }
         Err(error) => Err(error),
     }
 }
@@ -65,9 +78,10 @@ fn draw_fault<R: Files + Print + Eprint + Clock + AllocGlobal>(
     status: Status,
     file: &str,
     extras: Extras,
+    unwritten: &mut Option<io::Error>,
 ) -> Result<Status, RunError> {
     let wave = wave_of_check(rt.alloc(), text, pair)?;
-    draw(rt, Paths::one(path), wave, status, file, extras)
+    draw(rt, Paths::one(path), wave, status, file, extras, unwritten)
 }
 
 /// Rehearses a plan, and draws the run.
@@ -85,6 +99,7 @@ pub fn bench_drawn<
     play: Play<'_>,
     file: &str,
     extras: Extras,
+    unwritten: &mut Option<io::Error>,
 ) -> Result<Status, RunError> {
     let text = read_within(rt.alloc(), reader, READS)?;
     let (report, status) = made(rt, text.as_slice(), cert, play)?;
@@ -98,6 +113,7 @@ pub fn bench_drawn<
         status,
         file,
         extras,
+        unwritten,
     )
 }
 
@@ -126,11 +142,12 @@ fn draw_run<R: Files + Print + Eprint + Clock + AllocGlobal, O: Output>(
     status: Status,
     file: &str,
     extras: Extras,
+    unwritten: &mut Option<io::Error>,
 ) -> Result<Status, RunError> {
     write_report(out, report)?;
     let lines = str::from_utf8(report).unwrap_or("");
     let wave = wave_of_bench(rt.alloc(), text, play.starters, play.fill, lines)?;
-    draw(rt, paths, wave, status, file, extras)
+    draw(rt, paths, wave, status, file, extras, unwritten)
 }
 
 // Writes the waves into this file, whole or not at all. Where there are none, the file is left as it is. The status is that of
@@ -142,6 +159,7 @@ fn draw<R: Files + Print + Eprint + Clock + AllocGlobal>(
     status: Status,
     file: &str,
     extras: Extras,
+    unwritten: &mut Option<io::Error>,
 ) -> Result<Status, RunError> {
     match wave {
         Some(wave) => {
@@ -150,7 +168,11 @@ fn draw<R: Files + Print + Eprint + Clock + AllocGlobal>(
                 Ok(()) => Ok(status),
                 Err(error) => Err(error),
             };
-            sheet.into_inner().settle(paths.files(rt), ended)
+            let mut sheet = sheet.into_inner();
+            let ended = sheet.settle(paths.files(rt), ended);
+            let (_, error) = sheet.into_parts();
+            *unwritten = error;
+            ended
         }
         None => {
             if extras.hints {

@@ -154,6 +154,13 @@ impl<'a, R: Files + Print + Eprint + Clock + AllocGlobal> Sheet<'a, R> {
         }
     }
 
+    /// Another file of the run could not be written, for this reason.
+    pub fn blame(&mut self, error: Option<io::Error>) {
+        if error.is_some() {
+            self.error = error;
+        }
+    }
+
     /// The beginning of the report, and the last error, if there was one.
     pub fn into_parts(self) -> (String, Option<io::Error>) {
         let Sheet {

@@ -44,6 +44,7 @@ pub fn bench<R: Files + HasInput + Print + Eprint + AllocGlobal + Threads + Wait
         return 2;
     };
     let mut out = Watched::new(Sheet::new(rt, extras.form(), extras.watcher));
+    let mut unwritten = None;
     let ended = match play.wave {
         Some(file) => {
             bench_drawn(
@@ -58,16 +59,19 @@ pub fn bench<R: Files + HasInput + Print + Eprint + AllocGlobal + Threads + Wait
                 play,
                 file,
                 extras,
+                &mut unwritten,
             )
         }
         None => rehearse(rt, &mut reader, &mut second, &mut out, play),
     };
     let (read, error) = last_read(plan, &mut reader, cert, &mut second);
+    let output = play.wave.filter(|_| unwritten.is_some());
     let mut out = out.into_inner();
+    out.blame(unwritten);
     let ended = out.settle(FilesRead::one(None), ended);
     let status = status_of(rt, ended, extras);
     if extras.hints {
-        let outcome = outcome(read, error, out, None, ended, extras);
+        let outcome = outcome(read, error, out, output, ended, extras);
         advise_on_certified(rt, file_of(reader), file_of(second), play.starters, outcome);
     }
     status
@@ -81,13 +85,25 @@ pub fn bench_alone<
         return 2;
     };
     let mut out = Watched::new(Sheet::new(rt, extras.form(), extras.watcher));
-    let ended = rehearse_alone(rt, plan.path, &mut reader, &mut out, play, extras);
+    let mut unwritten = None;
+    let path = plan.path;
+    let ended = rehearse_alone(
+        rt,
+        path,
+        &mut reader,
+        &mut out,
+        play,
+        extras,
+        &mut unwritten,
+    );
     let error = reading_error(&mut reader);
+    let output = play.wave.filter(|_| unwritten.is_some());
     let mut out = out.into_inner();
+    out.blame(unwritten);
     let ended = out.settle(FilesRead::one(None), ended);
     let status = status_of(rt, ended, extras);
     if extras.hints {
-        let outcome = outcome(plan, error, out, None, ended, extras);
+        let outcome = outcome(plan, error, out, output, ended, extras);
         advise_on_certified(rt, file_of(reader), None, play.starters, outcome);
     }
     status
@@ -150,6 +166,7 @@ fn rehearse_alone<
     out: &mut O,
     play: Play<'_>,
     extras: Extras,
+    unwritten: &mut Option<io::Error>,
 ) -> Result<Status, RunError> {
     let text = read_within(rt.alloc(), plan, READS)?;
     let cert = certificate_of(rt.alloc(), text.as_slice())?;
@@ -158,7 +175,9 @@ fn rehearse_alone<
     match play.wave {
         Some(file) => {
             let paths = Paths::one(path);
-            bench_drawn(rt, paths, &mut plan, &mut cert, out, play, file, extras)
+            bench_drawn(
+                rt, paths, &mut plan, &mut cert, out, play, file, extras, unwritten,
+            )
         }
         None => rehearse(rt, &mut plan, &mut cert, out, play),
     }

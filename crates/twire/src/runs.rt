@@ -309,11 +309,26 @@ fn check<R: Files + Input + Print + Eprint + Clock + AllocGlobal + Threads + Syn
         return 2;
     };
     let mut out = Watched::new(Sheet::new(rt, extras.form(), extras.watcher));
+    let mut unwritten = None;
     let ended = match look.wave {
-        Some(file) => check_drawn(rt, plan.path, &mut reader, &mut out, look, file, extras),
+        Some(file) => {
+            check_drawn(
+                rt,
+                plan.path,
+                &mut reader,
+                &mut out,
+                look,
+                file,
+                extras,
+                &mut unwritten,
+            )
+        }
         None => look_over(rt, &mut reader, &mut out, look, extras),
     };
-    finish(rt, plan, reader, out.into_inner(), None, ended, extras)
+    let output = look.wave.filter(|_| unwritten.is_some());
+    let mut out = out.into_inner();
+    out.blame(unwritten);
+    finish(rt, plan, reader, out, output, ended, extras)
 }
 
 /// Checks the plan that the reader gives.
