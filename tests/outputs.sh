@@ -112,7 +112,7 @@ ln plan other_name
 for name in plan ./plan link other_name "$work/plan"; do
     ran 2 "refused write
 hint: the output \"$name\" was not written:
-hint: it is the file that was read" certify plan -o "$name" --hints always
+hint: it is a file that was read" certify plan -o "$name" --hints always
     has plan "$plan"
     judge "the plan itself as the certificate, by the name ${name##*/}"
 done
@@ -135,6 +135,41 @@ for name in folder folder/ missing/new.cert plan/new.cert "" /; do
 done
 [[ -z $(ls -A folder) ]] || echo "something is left in the folder" >>wrong
 judge "nothing is left in the folder"
+# The waves of a check and of a rehearsal: a file that cannot be written is named, and no file that was read is written over.
+# drew STATUS HINT ARG..: a run with this status, of whose hints these are the first two lines after that of a refusal.
+drew() {
+    local status=$1 hint=$2
+    shift 2
+    "$twire" "$@" --hints always >out 2>err
+    local found=$?
+    [[ $found == "$status" ]] || echo "$*: status $found" >>wrong
+    [[ $(head -n 3 err) == "refused write
+$hint" ]] || { echo "$*: on standard error" && cat err; } >>wrong
+}
+
+"$twire" certify plan -o plan.cert
+cp unsafe unsafe_kept && cp plan.cert cert_kept
+for name in folder missing/w.vcd; do
+    "$twire" check unsafe --wave "$name" --hints always >out 2>err
+    [[ $? == 2 ]] || echo "another status" >>wrong
+    [[ $(head -n 2 err) == "refused write
+hint: the output \"$name\" was not written:" ]] || cat err >>wrong
+    judge "waves in the place of '$name'"
+done
+drew 2 'hint: the output "unsafe" was not written:
+hint: it is a file that was read' check unsafe --wave unsafe
+has unsafe "$(cat unsafe_kept)"
+judge "waves over the plan"
+drew 2 'hint: the output "plan.cert" was not written:
+hint: it is a file that was read' bench plan plan.cert a/m,b/n --wave plan.cert
+has plan.cert "$(cat cert_kept)"
+judge "waves over the certificate"
+"$twire" check unsafe --wave - >out 2>err
+[[ $? == 2 && ! -e ./- ]] || echo "another status, or a file -" >>wrong
+grep -q "'--wave' wants a file" err || cat err >>wrong
+judge "waves on standard output"
+rm -f plan.cert cert_kept unsafe_kept
+
 if [[ -c /dev/full ]]; then
     ran 2 "refused write
 hint: the output \"/dev/full\" was not written:
