@@ -127,10 +127,22 @@ $(hint "line 9 of the capture:" '  $comment' "  ^^^^^^^^" \
 expect "hints on a refused plan" 2 "" "refused P3 line 1
 $(hint "line 1 of the plan:" "  plan 1 ;" "         ^" "expected here: 'message', 'controller' or 'interrupt'")" \
     bad_plan stray --hints always
-expect "hints on a report without a transaction" 0 "$silent" \
-    "$(hint "the capture has 3 samples of the two lines, and no START on a free bus" \
-        "with the two names exchanged there would be transactions: 1" \
-        "the names of the two lines are given with --scl NAME and --sda NAME")" plan quiet --hints always
+nothing_seen=$(hint "the capture has 3 samples of the two lines, and no START on a free bus" \
+    "with the two names exchanged there would be transactions: 1" \
+    "the names of the two lines are given with --scl NAME and --sda NAME")
+expect "hints on a report without a transaction" 0 "$silent" "$nothing_seen" plan quiet --hints always
+expect "hints on a summary without a transaction" 0 "a/m 0 alone, 0 with others
+b/n 0 alone, 0 with others
+unexplained 0
+cut 0
+unfinished 0
+$silent" "$nothing_seen" plan quiet --summary --hints always
+expect "hints below pulses that were left out" 0 "    0 pulses shorter than 2 were left out
+$silent" "$nothing_seen" plan quiet --explain --min-pulse 2 --hints always
+"$tests/../tools/dump" 100000000 >one_start
+exchanged=$(hint "0 of the transactions have whole bytes; with the two lines exchanged 1" "would: are SCL and SDA exchanged?")
+expect "hints on a report on exchanged lines of which none ended" 0 "25- unfinished
+$silent" "$exchanged" plan one_start --scl sda --sda scl --hints always
 expect "no hints on a report with a transaction" 0 $'5-160 a/m\n1 transactions, 0 unexplained' "" plan acknowledged --hints always
 expect "no hints on one that goes on" 0 $'5- unfinished\n0 transactions, 0 unexplained' "" plan cut --hints always
 expect "hints on a missing file" 2 "" "refused read"$'\n'"$(hint "VCD, the capture \"missing\", cannot be opened:" \

@@ -381,6 +381,9 @@ hint: git leaves certificates as they are by this line in .gitattributes:
 hint:   *.cert -text"
 sed 's/$/\r/' safe.cert >returns.cert
 run "hints on a certificate with CR LF" verify safe.plan returns.cert --hints always
+want 2 "wrong C1 line 1
+    a plan that was changed wants a new certificate: twire certify PLAN" "$(cat want_err)"
+run "hints on a certificate with CR LF, explained" verify safe.plan returns.cert --explain --hints always
 want 2 "wrong C1 line 1" "hint: line 1 of the certificate is no line of a certificate in this place"
 run "hints on a certificate from standard input" verify safe.plan - --hints always <returns.cert
 want 2 "wrong C3 line 3" "hint: line 3 of the certificate has a proof that is more than 512 nodes deep"

@@ -114,6 +114,10 @@ hint:   in scope top.i2c0, code \"
 hint:   in scope top.i2c1, code \$
 hint: choose with --scope PATH, or by codes with --scl-code and --sda-code;
 hint: 'twire signals two' shows what each does" capture plan two --hints always
+expect "a hint on a scope that is not the whole path" 2 "" "refused V1 scl
+hint: no signal of one bit has the name 'scl' in the scope 'i2c1'
+hint: scl is in these scopes: top.i2c0, top.i2c1; the whole path has to be given" \
+    capture plan two --scope i2c1 --hints always
 expect "no hint where a scope was given" 0 "$first" "" capture plan two --scope top.i2c0 --hints always
 expect "no hint where codes were given" 0 "$first" "" capture plan two --scl-code ! --sda-code '"' --hints always
 
@@ -230,7 +234,7 @@ hint: give the name that the line has in the file with --scl NAME
 hint: this lists the signals: twire signals long_names" capture plan long_names --hints always
 expect "a hint on exchanged lines" 1 $'25-65 unexplained\n70- unfinished\n1 transactions, 1 unexplained' \
     "hint: 0 of the transactions have whole bytes; with the two lines exchanged 1
-hint: would: are they?" capture plan bits --scl "i2c [0]" --sda "i2c [1]" --hints always
+hint: would: are SCL and SDA exchanged?" capture plan bits --scl "i2c [0]" --sda "i2c [1]" --hints always
 expect "a hint on one signal for both" 0 "0 transactions, 0 unexplained" "hint: the capture has 21 samples of the two lines, and no START on a free bus
 hint: SCL and SDA are to be one and the same signal: each line is to be one of
 hint: its own

@@ -22,7 +22,7 @@ pub fn on_unexplained<F: Read + Seek + Drop>(
         if let Ok(Some((whole, exchanged))) = look(alloc, &mut file, names) {
             if exchanged > whole {
                 lines.say_made(format!(in alloc;
-                    "{whole} of the transactions have whole bytes; with the two lines exchanged {exchanged} would: are they?"
+                    "{whole} of the transactions have whole bytes; with the two lines exchanged {exchanged} would: are SCL and SDA exchanged?"
                 )?)?;
             }
         }

@@ -2,9 +2,10 @@
 //! stands, and what would stand there instead.
 //!
 //! Nothing here decides anything. A refusal is the caller's, and the file is read once more, in blocks, to find its place:
-//! `dumps` follows it token by token (`judging`), and `naming` lists the signals that it declares. After a report `silence`
-//! counts what was seen of the bus, `exchanging` looks at it with the two lines exchanged, and `choosing` at names that
-//! several signals have. Where the file cannot be read once more, or has changed, only the words are left (`wording`).
+//! `dumps` follows it token by token (`judging`), and `naming` lists the signals that it declares, or `scoping` the scopes
+//! of a name. After a report `silence` counts what was seen of the bus, `exchanging` looks at it with the two lines
+//! exchanged, and `choosing` at names that several signals have. Where the file cannot be read once more, or has changed,
+//! only the words are left (`wording`).
 #![tactic(auto)]
 
 mod choosing;
@@ -12,6 +13,7 @@ mod dumps;
 mod exchanging;
 mod judging;
 mod naming;
+mod scoping;
 mod silence;
 mod wording;
 

@@ -1,6 +1,7 @@
 // The names of the signals of a dump, for those who gave one that is not there.
 
 use crate::judging::{Judge, Said};
+use crate::scoping::push_scopes;
 use dump_tokens::reading::read_again;
 use dump_tokens::tokens::{Cutter, Place, Sink};
 use hint_lines::likeness::Nearest;
@@ -11,6 +12,10 @@ use signals::{Picked, bus_options, needs_picking, pick};
 use std::alloc::{AllocError, Global};
 use std::io::{self, Read, Seek, SeekFrom};
 use vcd_read::{Probe, Reader, Signal};
+
+/// What to say of a dump whose definitions have no end.
+pub(crate) const BREAKS_OFF: &str =
+    "the file ends, or breaks off, among its definitions: it has no '$enddefinitions $end'";
 
 /// How the two lines of the bus are to be found in a dump, and what was asked of it.
 #[derive(Clone, Copy)]
@@ -27,7 +32,7 @@ pub struct Names<'a> {
 
 impl<'a> Names<'a> {
     /// How one of the two lines is to be found.
-    fn of(&self, signal: Signal) -> Probe<'a> {
+    pub(crate) fn of(&self, signal: Signal) -> Probe<'a> {
         match signal {
             Signal::Scl => self.scl,
             Signal::Sda => self.sda,
@@ -164,24 +169,33 @@ pub(crate) fn push_names<F: Read + Seek + Drop>(
         push_missing(alloc, lines, names, signal, None)?;
         return push_how(alloc, lines, names, signal, None);
     };
-    push_read(alloc, lines, &mut file, names, signal)?;
+    if push_read(alloc, lines, &mut file, names, signal)? {
+        return Ok(());
+    }
     push_command(alloc, lines, file, names)
 }
 
-// The same of a file that can be read once more, without the command.
+// The same of a file that can be read once more, without the command. Whether the scope alone was wrong.
 fn push_read<F: Read + Seek + Drop>(
     alloc: Global,
     lines: &mut Lines,
     file: &mut F,
     names: Names<'_>,
     signal: Signal,
-) -> Result<(), AllocError> {
+) -> Result<bool, AllocError> {
     let declared = read_declared(alloc, file, names, signal).ok();
     push_missing(alloc, lines, names, signal, declared.as_ref())?;
     if let Some(declared) = &declared {
+        push_unended(lines, declared)?;
+    }
+    if push_scopes(alloc, lines, file, names, signal)? {
+        return Ok(true);
+    }
+    if let Some(declared) = &declared {
         push_declared(lines, alloc, declared, signal)?;
     }
-    push_how(alloc, lines, names, signal, declared.as_ref())
+    push_how(alloc, lines, names, signal, declared.as_ref())?;
+    Ok(false)
 }
 
 fn read_declared<F: Read + Seek + Drop>(
@@ -194,6 +208,18 @@ fn read_declared<F: Read + Seek + Drop>(
     read_again(alloc, file, &mut cutter)?;
     let (declared, _) = cutter.finish()?;
     Ok(declared)
+}
+
+/// Whether the definitions of a dump have no end, where it can be read once more.
+pub(crate) fn breaks_off<F: Read + Seek + Drop>(
+    alloc: Global,
+    file: &mut F,
+    names: Names<'_>,
+) -> bool {
+    match read_declared(alloc, file, names, Signal::Scl) {
+        Ok(declared) => !declared.have_ended,
+        Err(_) => false,
+    }
 }
 
 // Whether SDA is missing too, where SCL is.
@@ -242,17 +268,19 @@ fn push_word(line: &mut String, word: &str) -> Result<(), AllocError> {
     line.push('\'')
 }
 
+fn push_unended(lines: &mut Lines, declared: &Declared) -> Result<(), AllocError> {
+    if declared.have_ended {
+        return Ok(());
+    }
+    lines.say(BREAKS_OFF)
+}
+
 fn push_declared(
     lines: &mut Lines,
     alloc: Global,
     declared: &Declared,
     signal: Signal,
 ) -> Result<(), AllocError> {
-    if !declared.have_ended {
-        lines.say(
-            "the file ends, or breaks off, among its definitions: it has no '$enddefinitions $end'",
-        )?;
-    }
     if declared.wanted(signal).is_wide {
         lines.say(
             "a signal of this name is there, and has another size: each line is to be a signal of its own",

@@ -2,7 +2,7 @@
 
 use crate::choosing::push_twins;
 use crate::exchanging::exchanged;
-use crate::naming::{Names, reader_of};
+use crate::naming::{BREAKS_OFF, Names, breaks_off, reader_of};
 use capture_check::Follower;
 use dump_tokens::reading::{Reading, read_again};
 use hint_lines::lines::Lines;
@@ -73,6 +73,9 @@ fn push_seen<F: Read + Seek + Drop>(
         )?)?;
     }
     push_one_for_both(lines, names)?;
+    if seen.samples == 0 && breaks_off(alloc, file, names) {
+        return lines.say(BREAKS_OFF);
+    }
     if let Some(words) = cause(seen) {
         lines.say(words)?;
     }

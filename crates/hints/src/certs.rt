@@ -4,7 +4,7 @@ use crate::finding::LineFinder;
 use crate::pieces::Piece;
 use crate::proof_lines::{Flaw, flaw_in};
 use dump_tokens::reading::read_again;
-use hint_lines::kinds::{Kind, kind_of, push_kind};
+use hint_lines::kinds::{Kind, kind_of_file, push_kind};
 use hint_lines::lines::Lines;
 use hint_lines::marking::push_marked;
 use std::alloc::{AllocError, Global};
@@ -24,9 +24,9 @@ pub enum Wrong {
     Plan,
 }
 
-/// What a report says of a certificate that is wrong, if it does.
+/// What the first line of a report says of a certificate that is wrong, if it does. Lines for people may stand below it.
 pub fn wrong_of(report: &str) -> Option<Wrong> {
-    let words = report.strip_prefix("wrong ")?.trim_end();
+    let words = report.lines().next()?.strip_prefix("wrong ")?.trim_end();
     if let Some(line) = words.strip_prefix("C1 line ") {
         line.parse().ok().map(Wrong::Form)
     } else if let Some(line) = words.strip_prefix("C3 line ") {
@@ -55,14 +55,16 @@ pub fn on_certificate<F: Read + Seek + Drop>(
 fn push_line<F: Read + Seek + Drop>(
     alloc: Global,
     lines: &mut Lines,
-    file: Option<F>,
+    mut file: Option<F>,
     wrong: Wrong,
     line: u64,
 ) -> Result<(), AllocError> {
+    // what a file is may be told by a line below the one that is wrong
+    let kind = kind_of_file(alloc, &mut file);
     if let Some(mut file) = file {
         let mut finder = LineFinder::new(alloc, line);
         if read_again(alloc, &mut file, &mut finder).is_ok() && finder.is_found() {
-            return push_found(alloc, lines, &finder, wrong, line);
+            return push_found(alloc, lines, &finder, kind, wrong, line);
         }
     }
     push_words(alloc, lines, wrong, line)
@@ -82,10 +84,10 @@ fn push_found(
     alloc: Global,
     lines: &mut Lines,
     found: &LineFinder,
+    kind: Option<Kind>,
     wrong: Wrong,
     line: u64,
 ) -> Result<(), AllocError> {
-    let kind = kind_of(found.head());
     if kind.is_some_and(Kind::is_binary) {
         return push_kind(lines, kind, Kind::Certificate);
     }

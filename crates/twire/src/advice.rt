@@ -10,8 +10,8 @@ use report::{RunError, Status};
 use std::io::{self, Read, Seek};
 
 /// How a run ended, and the file that it read last. Where a file failed there is the error of the system. `output` is the
-/// file that was to be written in place of standard output, and `report` the beginning of what was written. Hints are
-/// written by this voice.
+/// file that was to be written in place of standard output, and `report` the beginning of what was written with its last
+/// lines. Hints are written by this voice.
 #[derive(Drop)]
 pub struct Outcome<'a> {
     pub read: Named<'a>,
@@ -112,12 +112,10 @@ pub fn advise_on_capture<R: Eprint + AllocGlobal, F: Read + Seek + Drop>(
         ),
         Ok(status) => {
             let alloc = rt.alloc();
-            let hints = if outcome
-                .report
-                .starts_with("0 transactions, 0 unexplained\n")
-            {
+            let report = outcome.report.as_str();
+            let hints = if is_silent(report) {
                 on_silence(alloc, vcd, names)
-            } else if status == Status::Bad && explains_nothing(outcome.report.as_str()) {
+            } else if ends_none(report) || status == Status::Bad && explains_nothing(report) {
                 on_unexplained(alloc, vcd, names)
             } else {
                 on_choice(alloc, vcd, names)
@@ -126,6 +124,23 @@ pub fn advise_on_capture<R: Eprint + AllocGlobal, F: Read + Seek + Drop>(
         }
         _ => advise_on_plan(rt, plan, outcome),
     }
+}
+
+// The line of a report of which no transaction ended.
+const NONE: &str = "0 transactions, 0 unexplained";
+
+// The same below the numbers of a summary, where none was cut or is unfinished.
+const SILENT_SUMMARY: &str = "\ncut 0\nunfinished 0\n0 transactions, 0 unexplained\n";
+
+// Whether a report has no transaction: nothing but lines for people, or a summary of nothing, stands before its last line.
+fn is_silent(report: &str) -> bool {
+    let mut lines = report.lines().filter(|line| !line.starts_with("    "));
+    lines.next().is_some_and(|line| line == NONE) || report.contains(SILENT_SUMMARY)
+}
+
+// Whether no transaction of a report ended: each was cut or is unfinished.
+fn ends_none(report: &str) -> bool {
+    report.lines().any(|line| line == NONE)
 }
 
 // Whether the beginning of a report has a transaction that nobody explains, and none that somebody does.

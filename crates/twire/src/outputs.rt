@@ -6,7 +6,7 @@ use crate::colors::colored_report;
 use crate::progress::{Count, Watcher};
 use objects::report_objects;
 use report::{RunError, Status};
-use std::alloc::Global;
+use std::alloc::{AllocError, Global};
 use std::fs::{self, Metadata, OpenFile, OpenOptions, Permissions};
 use std::io::{self, ErrorKind, Write};
 use std::os::unix::fs::MetadataExt;
@@ -16,6 +16,9 @@ use std::{mem, str};
 
 // How much of a report is kept to look at.
 const KEPT: usize = 64;
+
+// And how much of its end, in which the last lines stand.
+const ENDING: usize = 96;
 
 // How many names are tried for the file that is written first.
 const NAMES: u32 = 1_000;
@@ -46,13 +49,14 @@ impl FilesRead {
     }
 }
 
-/// What takes a report. It keeps the beginning of the report, and the last error.
+/// What takes a report. It keeps the beginning and the end of the report, and the last error.
 #[derive(Drop)]
 pub struct Sheet<'a, R: Files> {
     rt: &'a R,
     form: Form<'a>,
     target: Target<R::File>,
     beginning: String,
+    ending: Vec<u8>,
     // the whole report, of which objects are made at its end
     gathered: Vec<u8>,
     // whether the next byte begins a line
@@ -88,6 +92,7 @@ impl<'a, R: Files + Print + Eprint + Clock + AllocGlobal> Sheet<'a, R> {
             form,
             target: Target::None,
             beginning: String::new(rt.alloc()),
+            ending: Vec::new(rt.alloc()),
             gathered: Vec::new(rt.alloc()),
             is_at_line: true,
             error: None,
@@ -161,17 +166,25 @@ impl<'a, R: Files + Print + Eprint + Clock + AllocGlobal> Sheet<'a, R> {
         }
     }
 
-    /// The beginning of the report, and the last error, if there was one.
+    /// The beginning of the report, below it the last lines of a longer one, and the last error, if there was one.
     pub fn into_parts(self) -> (String, Option<io::Error>) {
         let Sheet {
-            beginning,
+            mut beginning,
+            ending,
             error,
             ..
         } = self;
+        if ending.len() > KEPT {
+            let ending = str::from_utf8(ending.as_slice()).unwrap_or("");
+            if let Some((_, lines)) = ending.split_once('\n') {
+                let _ = beginning.push('\n');
+                let _ = beginning.push_str(lines);
+            }
+        }
         (beginning, error)
     }
 
-    // Keeps what is the beginning of the report. Without memory there is less of it.
+    // Keeps what is the beginning of the report, and its end. Without memory there is less of them.
     fn look_at(&mut self, taken: &[u8]) {
         let left = KEPT.saturating_sub(self.beginning.len());
         for byte in taken.iter().take(left) {
@@ -179,6 +192,10 @@ impl<'a, R: Files + Print + Eprint + Clock + AllocGlobal> Sheet<'a, R> {
         }
         if let Some(last) = taken.last() {
             self.is_at_line = *last == b'\n';
+        }
+        match end_of(self.rt.alloc(), self.ending.as_slice(), taken) {
+            Ok(ending) => self.ending = ending,
+            Err(_) => self.ending.clear(),
         }
     }
 
@@ -247,6 +264,17 @@ impl<R: Files + Print + Eprint + Clock + AllocGlobal> Write for Sheet<'_, R> {
     fn flush(&mut self) -> io::Result<()> {
         Ok(())
     }
+}
+
+// The end of a report, of which this was the end before, and these bytes follow.
+fn end_of(alloc: Global, before: &[u8], taken: &[u8]) -> Result<Vec<u8>, AllocError> {
+    let from = taken.len().saturating_sub(ENDING);
+    let taken = taken.get(from..).unwrap_or(taken);
+    let room = ENDING.saturating_sub(taken.len());
+    let from = before.len().saturating_sub(room);
+    let mut end = before.get(from..).unwrap_or(&[]).to_vec(alloc)?;
+    end.extend_from_slice(taken)?;
+    Ok(end)
 }
 
 // Writes all of a part of a report, with its words in colours.
