@@ -137,6 +137,8 @@ unexplained 0
 cut 0
 unfinished 0
 $silent" "$nothing_seen" plan quiet --summary --hints always
+"$tests/../tools/dump" 100000000 >one_start
+exchanged=$(hint "0 of the transactions have whole bytes; with the two lines exchanged 1" "would: are SCL and SDA exchanged?")
 expect "hints on a report on exchanged lines of which none ended" 0 "25- unfinished
 $silent" "$exchanged" plan one_start --scl sda --sda scl --hints always
 expect "no hints on a report with a transaction" 0 $'5-160 a/m\n1 transactions, 0 unexplained' "" plan acknowledged --hints always
