@@ -204,7 +204,7 @@ fn do_request<R: Files + Input + Print + Eprint + AllocGlobal + Threads + Wait +
             lines,
             output,
         } => {
-            let recorded = capture.map(|vcd| the_recorded(vcd, lines));
+            let recorded = recorded_of(capture, lines);
             page(rt, the_plan(plan), recorded, output, extras)
         }
         Request::Order { plan } => tell_order(rt, the_plan(plan), extras),
@@ -262,10 +262,15 @@ fn the_certificate(path: &str) -> Named<'_> {
     named("CERT", "certificate", path)
 }
 
-fn the_recorded<'a>(path: &'a str, lines: Lines<'a>) -> Recorded<'a> {
-    Recorded {
-        vcd: the_capture(path),
-        asked: whole_of(lines),
+fn recorded_of<'a>(path: Option<&'a str>, lines: Lines<'a>) -> Option<Recorded<'a>> {
+    match path {
+        Some(path) => {
+            Some(Recorded {
+                vcd: the_capture(path),
+                asked: whole_of(lines),
+            })
+        }
+        None => None,
     }
 }
 
