@@ -71,7 +71,7 @@ const CHANGED: u64 = 20_000;
 // Of plans that are made up, to be expanded from their briefs, there is one for so many changed cases.
 const EACH: u64 = 10;
 
-const SEED: u64 = 20_261_123;
+const SEED: u64 = 20_261_125;
 
 // A trial build takes many times as long, and the gate does not run it: so many runs are left out for one that is made.
 const THINNED: usize = 40;
