@@ -84,7 +84,7 @@ done
 
 # Each kind of object has been met, and with the notes of --explain each that has some.
 sort -u kinds >met
-printf '%s\n' bus certificate "certificate explained" count hint order pair "pair explained" participant plan "plan explained" \
+printf '%s\n' bus certificate "certificate explained" count hint line order pair "pair explained" participant plan "plan explained" \
     refusal signal signals too_few total transaction "transaction explained" transactions wire "wire explained" won >wanted
 if diff -u --label wanted --label met wanted met; then
     passed=$((passed + 1))

@@ -40,8 +40,9 @@ fn run() -> Result<u8, Box<dyn Error>> {
     let reports = reports.is_some_and(|name| REPORTING.contains(&name));
     let (out, err) = in_lines(&output, reports)?;
     log(&output)?;
-    io::stderr().write_all(&err)?;
+    // (as twire writes them: hints come after the report)
     io::stdout().write_all(&out)?;
+    io::stderr().write_all(&err)?;
     Ok(status)
 }
 
