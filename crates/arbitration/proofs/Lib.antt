@@ -1,3 +1,5 @@
+pub mod LaidLemmas
+pub mod CommonBytes
 pub mod BitPlaces
 pub mod Meetings
 pub mod Nodes

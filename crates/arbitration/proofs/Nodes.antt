@@ -168,7 +168,7 @@ last_meets_byte a x r t way k g =
 no_address : Address
 no_address = record { known = 0; value = 0; known_is_address = lit< tt; open_bits_are_zero = refl }
 
-length_of_header : (a : Address) (z : Bit) → length (address_bits a ++ z ∷ []) ≡ 8
+pub length_of_header : (a : Address) (z : Bit) → length (address_bits a ++ z ∷ []) ≡ 8
 unfolding address_bits
 length_of_header a z = refl
 
@@ -286,8 +286,8 @@ module _ (v w : FrameTree) (a b : Address) (bs cs : List Bit) (o : Outcomes) whe
       rw (e, f) (parted (read_header a) (write_header b) (AnswerThen (ReadThen c (TailText x)) (TailText r)) (AnswerThen (PayloadText y) (TailText s)) o (length_of_header a One ∙ sym (length_of_header b Zero)) (7, read_splits_write a b) (some_answer (ReadThen c (TailText x)) (TailText r) (some_read c x)) (some_answer (PayloadText y) (TailText s) (lawful_payload y).some) (rw (g, h) at k))
 
 module _ (v w : PayloadTree) (o : Outcomes) where
-  pub bytes_are : (a b : Pattern) (x y : PayloadTree) (r s : TailTree) (bs cs : List Bit) → v ≡ byte a x r → w ≡ byte b y s → bs ≡ pattern_bits a → cs ≡ pattern_bits b → AreOutcomes (SentThen bs (AnswerThen (PayloadText x) (TailText r))) (SentThen cs (AnswerThen (PayloadText y) (TailText s))) o → AreOutcomes (PayloadText v) (PayloadText w) o
-  bytes_are a b x y r s bs cs e f g h k = rw (e, f) (rw (g, h) at k)
+  pub bytes_are : (a b : Pattern) (x y : PayloadTree) (r s : TailTree) → v ≡ byte a x r → w ≡ byte b y s → AreOutcomes (SentThen (pattern_bits a) (AnswerThen (PayloadText x) (TailText r))) (SentThen (pattern_bits b) (AnswerThen (PayloadText y) (TailText s))) o → AreOutcomes (PayloadText v) (PayloadText w) o
+  bytes_are a b x y r s e f k = rw (e, f) k
 
   pub lasts_are : (r s : TailTree) → v ≡ last r → w ≡ last s → AreOutcomes (TailText r) (TailText s) o → AreOutcomes (PayloadText v) (PayloadText w) o
   lasts_are r s e f k = rw (e, f) k

@@ -1,14 +1,16 @@
 -- The three ways in which two go apart or end, by one description. Only private contracts and proofs use this.
-use Rattle.std.specs.Prelude.{◌≡◌, ℕ, ◌+◌, ◌*◌, ◌<◌, ◌⊎◌, true, false, Option, Some, List, length, slice_get}
+use Rattle.std.specs.Prelude.{◌≡◌, ℕ, ◌+◌, ◌*◌, ◌<◌, ◌⊎◌, true, false, zero, suc, Option, Some, List, [], ◌∷◌, length, slice_get}
 use Rattle.message_tree.specs.declared.bits.Bit.{Bit}
-use Rattle.message_tree.specs.declared.bits.Bit.TheVariants.{Zero, One}
+use Rattle.message_tree.specs.declared.bits.Pattern.{Pattern}
+use Rattle.message_tree.specs.declared.bits.Bit.TheVariants.{Zero, One, Either}
 use Rattle.message_tree.specs.declared.counts.Count.{Count}
 use Rattle.message_tree.specs.declared.items.Item.{Item}
 use Rattle.message_tree.specs.declared.items.Item.TheVariants.{Sent, Stop}
 use Rattle.message_tree.specs.Bits.{SplitAt}
 use Rattle.message_tree.specs.Counts.{InRange, greatest_of}
 use Rattle.message_tree.specs.Texts.{Language, Allows, write_header, read_header}
-use Rattle.message_tree.specs.Trees.{FrameTree, write, read}
+use Rattle.message_tree.specs.Patterns.{pattern_bits}
+use Rattle.message_tree.specs.Trees.{FrameTree, write, read, PayloadTree, byte, stop}
 use Rattle.arbitration.specs.declared.spans.Slots.{Slots}
 use Rattle.arbitration.specs.declared.spans.Outcomes.{Outcomes}
 use Rattle.arbitration.specs.Arbitration.{GoesOn}
@@ -53,6 +55,10 @@ AllHaveRoom n outcomes = (way : Way) → HasRoom n (span_of way outcomes)
 abbrev pub Differ : Bit → Bit → Type 0
 Differ b c = ((b ≡ Zero) × (c ≡ One)) ⊎ ((b ≡ One) × (c ≡ Zero))
 
+-- no bit is open
+abbrev pub NoneOpen : List Bit → Type 0
+NoneOpen bs = (k : ℕ) → slice_get bs k ≡ Some Either → ⊥
+
 -- at place k one may send 0 and the other 1, and no earlier bit is known in both and different
 pub record WinsAt (bs cs : List Bit) (k : ℕ) : Type 0 where
   pub zero : (b : Bit) × (slice_get bs k ≡ Some b) × Allows b false
@@ -91,3 +97,19 @@ Answered parted acked refused result = result ≡ union_of (union_of parted (aft
 abbrev pub header_of : FrameTree → List Bit
 header_of (write address acked refused) = write_header address
 header_of (read address count after refused) = read_header address
+
+-- x begins with these bytes, no bit of which is open, and ends after a refusal of each; x' follows them
+abbrev pub Begins : List Pattern → PayloadTree → PayloadTree → Type 0
+Begins [] x x' = x ≡ x'
+Begins (b ∷ bs) x x' = (t : PayloadTree) × (x ≡ byte b t stop) × NoneOpen (pattern_bits b) × Begins bs t x'
+
+-- both begin with the same n such bytes, and these two follow
+abbrev pub BeginAlike : ℕ → PayloadTree → PayloadTree → PayloadTree → PayloadTree → Type 0
+BeginAlike n x y x' y' = (bs : List Pattern) × (length bs ≡ n) × Begins bs x x' × Begins bs y y'
+
+-- n such bytes before: both may end after each of them, and what follows comes 9 n slots later
+abbrev pub skipped_of : Way → ℕ → Option Slots → Option Slots
+skipped_of way zero span = span
+skipped_of both_end (suc n) span = union_of (Some (record { earliest = 9; latest = 9 * suc n })) (after_of (9 * suc n) span)
+skipped_of first_wins (suc n) span = after_of (9 * suc n) span
+skipped_of second_wins (suc n) span = after_of (9 * suc n) span

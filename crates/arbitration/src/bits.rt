@@ -1,11 +1,13 @@
 // Where two headers or two data bytes may part.
 
-ghost use Rattle.std.specs.Prelude.{◌≡◌, ℕ, [], ◌∷◌, ◌++◌, ◌↔◌, IsTrue};
+ghost use Rattle.std.specs.Prelude.{◌≡◌, ℕ, true, [], ◌∷◌, ◌++◌, ◌↔◌, IsTrue};
+ghost use Rattle.message_tree.specs.declared.bits.Bit.TheVariants.{Either};
 ghost use Rattle.message_tree.specs.Bits.{SplitAt};
 ghost use Rattle.message_tree.specs.Patterns.{address_bits, pattern_bits};
 ghost use Rattle.message_tree.specs.Texts.{Allows};
+ghost use Rattle.arbitration.specs.Laid.{is_open};
 ghost use Rattle.arbitration.specs.Spans.{IsSpan};
-ghost use Rattle.arbitration.specs.Ways.{Differ, WinsBit, WinsAt, ArePartings};
+ghost use Rattle.arbitration.specs.Ways.{Differ, NoneOpen, WinsBit, WinsAt, ArePartings};
 
 use crate::spans::{Outcomes, Slots, union};
 use message_tree::{Address, Bit, Pattern};
@@ -40,6 +42,37 @@ pub(crate) fn data(p: &Pattern) -> [Bit; 8]
         p.bit(6),
         p.bit(7),
     ]
+}
+
+// Whether two data bytes are the same, and no bit of them is open. Most bytes that two messages have in common are such, so
+// this is asked before anything else.
+#[inline(always)]
+pub(crate) fn are_same_and_known(a: &Pattern, b: &Pattern) -> bool
+    ensures { result ≡ true → (a.now ≡ b.now) × NoneOpen (pattern_bits a.now) }
+{
+    a == b && is_known(a)
+}
+
+// Whether no bit is open.
+#[inline(always)]
+fn is_known(p: &Pattern) -> bool
+    ensures { result ≡ true → NoneOpen (pattern_bits p.now) }
+{
+    let mut known = true;
+    for k in 0..8 {
+        // no branch, so that all eight are one comparison
+        known &= !is_open(p.bit(k));
+    }
+    known
+}
+
+/// Whether the bit is open.
+#[inline(always)]
+pub(crate) fn is_open(bit: Bit) -> bool
+    ensures open { result ≡ true ↔ (bit ≡ Either) }
+    ensures value { result ≡ is_open bit }
+{
+    matches!(bit, Bit::Either)
 }
 
 // Whether the bit may be sent so.

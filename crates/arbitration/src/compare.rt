@@ -4,9 +4,10 @@ ghost use Rattle.std.specs.Prelude.{◌<◌, ◌^◌, ◌+◌, ◌*◌, max};
 ghost use Rattle.message_tree.specs.Counts.{greatest_of};
 ghost use Rattle.message_tree.specs.Sizes.{frame_slots, payload_slots, tail_slots};
 ghost use Rattle.message_tree.specs.Texts.{SentThen, AnswerThen, ReadThen, FrameText, PayloadText, TailText};
-ghost use Rattle.message_tree.specs.Trees.{frame_tree, payload_tree, tail_tree, read};
-ghost use Rattle.arbitration.specs.Ways.{AreOutcomes, Way, span_of, AllHaveRoom, Answered};
+ghost use Rattle.message_tree.specs.Trees.{frame_tree, payload_tree, tail_tree, PayloadTree, read};
+ghost use Rattle.arbitration.specs.Ways.{AreOutcomes, BeginAlike, Way, span_of, AllHaveRoom, Answered};
 
+use crate::alike::{Alike, common_bytes};
 use crate::bits::{always_part, data, header, partings};
 use crate::reads::reads_apart;
 use crate::spans::Outcomes;
@@ -102,7 +103,7 @@ fn two_reads(
 }
 
 // Eight bits may part two, and slot 8 is the answer to them.
-fn answered(parted: Outcomes, acked: Outcomes, refused: Outcomes) -> Outcomes
+pub(crate) fn answered(parted: Outcomes, acked: Outcomes, refused: Outcomes) -> Outcomes
     requires acked { AllHaveRoom 9 acked }
     requires refused { AllHaveRoom 9 refused }
     ensures { (way : Way) → Answered (span_of way parted) (span_of way acked) (span_of way refused)
@@ -129,9 +130,29 @@ fn reads(c: &Count, d: &Count, x: &Tail, y: &Tail) -> Outcomes
     apart.union(ends)
 }
 
-// What is written after an acknowledge.
+// What is written after an acknowledge. Most messages have known bytes in common, and end where one is refused.
 #[cycle(compare)]
 fn payloads(x: &Payload, y: &Payload) -> Outcomes
+    requires { payload_slots (payload_tree x.now) < 2 ^ 32 }
+    ensures { AreOutcomes (PayloadText (payload_tree x.now)) (PayloadText (payload_tree y.now)) result }
+{
+    after_alike(common_bytes(x, y, 0))
+}
+
+/// What is written after an acknowledge, by what two have in common of it.
+#[cycle(compare)]
+pub(crate) fn after_alike(alike: Alike<'_>) -> Outcomes
+    requires { 9 * alike.bytes + payload_slots (payload_tree alike.first.now) < 2 ^ 32 }
+    ensures { (x y : PayloadTree) →
+        BeginAlike alike.entry.bytes x y (payload_tree alike.entry.first.now) (payload_tree alike.entry.second.now) →
+        AreOutcomes (PayloadText x) (PayloadText y) result }
+{
+    apart(alike.first, alike.second).after_bytes(alike.bytes)
+}
+
+// The same from there on.
+#[cycle(compare)]
+fn apart(x: &Payload, y: &Payload) -> Outcomes
     requires { payload_slots (payload_tree x.now) < 2 ^ 32 }
     ensures { AreOutcomes (PayloadText (payload_tree x.now)) (PayloadText (payload_tree y.now)) result }
 {
@@ -157,7 +178,7 @@ fn payloads(x: &Payload, y: &Payload) -> Outcomes
 
 // How two messages go on after their last byte, or after a refusal.
 #[cycle(compare)]
-fn tails(r: &Tail, s: &Tail) -> Outcomes
+pub(crate) fn tails(r: &Tail, s: &Tail) -> Outcomes
     requires { tail_slots (tail_tree r.now) < 2 ^ 32 }
     ensures { AreOutcomes (TailText (tail_tree r.now)) (TailText (tail_tree s.now)) result }
 {

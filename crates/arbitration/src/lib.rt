@@ -2,14 +2,16 @@
 //! the other has lost, over all runs of the two alone.
 #![tactic(auto)]
 
+mod alike;
 mod bits;
 mod compare;
+mod laid;
 pub mod laws;
 pub mod pairs;
 mod reads;
-pub mod senders;
+mod senders;
 pub mod spans;
 
-pub use pairs::of_pair;
-pub use senders::outcomes;
+pub use laid::Laid;
+pub use pairs::{laid_out, of_pair};
 pub use spans::{Outcomes, Slots};

@@ -1,20 +1,39 @@
 // The outcomes of two participants of a plan.
 
-ghost use Rattle.std.specs.Prelude.{◌<◌, ◌≢◌};
+ghost use Rattle.std.specs.Prelude.{◌<◌, ◌≢◌, IfOk};
 ghost use Rattle.plan_core.specs.PlanContents.{plan_contents};
 ghost use Rattle.plan_core.specs.Lawful.{pair};
 ghost use Rattle.plan_core.specs.Participants.{participant_count, Text};
 ghost use Rattle.arbitration.specs.Arbitration.{EndTogether, Wins};
 ghost use Rattle.arbitration.specs.Laws.{EndsAt, BeatsAt};
+ghost use Rattle.arbitration.specs.Plans.{AreLaid};
 ghost use Rattle.arbitration.specs.Spans.{IsSpan};
 
+use crate::laid::Laid;
 use crate::senders::outcomes;
 use crate::spans::Outcomes;
 use plan_core::Plan;
+use std::alloc::{AllocError, Global};
+
+/// What the participants of a plan send, as `of_pair` needs it: 16 bytes for each byte that a message begins with.
+///
+/// # Errors
+///
+/// Where memory is refused.
+pub fn laid_out(alloc: Global, plan: &Plan) -> Result<Vec<Laid<'_>>, AllocError>
+    ensures { IfOk result (λ laid. AreLaid (plan_contents plan.now) laid.items) }
+{
+    let mut laid = Vec::new(alloc);
+    for p in 0..plan.participants() {
+        laid.push(Laid::of(alloc, plan.sends(p))?)?;
+    }
+    Ok(laid)
+}
 
 /// What two participants of a plan may come to when they start together and alone, `x` the first of them: by their
 /// texts, and for two different participants by their runs.
-pub fn of_pair(plan: &Plan, x: u32, y: u32) -> Outcomes
+pub fn of_pair(plan: &Plan, laid: &[Laid<'_>], x: u32, y: u32) -> Outcomes
+    requires laid { AreLaid (plan_contents plan.now) laid.now }
     requires x_within { x < participant_count (plan_contents plan.now) }
     requires y_within { y < participant_count (plan_contents plan.now) }
     ensures both { IsSpan (EndTogether (Text (plan_contents plan.now) x) (Text (plan_contents plan.now) y)) result.both }
@@ -24,5 +43,5 @@ pub fn of_pair(plan: &Plan, x: u32, y: u32) -> Outcomes
     ensures first_in_runs { x ≢ y → IsSpan (BeatsAt (plan_contents plan.now) (pair x y) x y) result.first }
     ensures second_in_runs { x ≢ y → IsSpan (BeatsAt (plan_contents plan.now) (pair x y) y x) result.second }
 {
-    outcomes(&plan.sends(x), &plan.sends(y))
+    outcomes(&laid[x as usize], &laid[y as usize])
 }

@@ -1,48 +1,104 @@
 // The outcomes of two participants, by what they send.
 
-ghost use Rattle.std.specs.Prelude.{◌≡◌, ◌<◌, ◌^◌};
-ghost use Rattle.message_tree.specs.Texts.{SenderText};
-ghost use Rattle.message_tree.specs.Trees.{frame_tree};
+ghost use Rattle.std.specs.Prelude.{◌≡◌, ◌+◌, ◌<◌, ◌^◌, map, max};
+ghost use Rattle.message_tree.specs.Sizes.{frame_slots, payload_slots, tail_slots};
+ghost use Rattle.message_tree.specs.Texts.{SenderText, FrameText};
+ghost use Rattle.message_tree.specs.Trees.{frame_tree, payload_tree, tail_tree, write};
 ghost use Rattle.plan_core.specs.Senders.{what_is_sent};
-ghost use Rattle.arbitration.specs.Arbitration.{EndTogether, Wins, sender_slots};
+ghost use Rattle.arbitration.specs.Arbitration.{EndTogether, Wins};
+ghost use Rattle.arbitration.specs.Laid.{known_bytes, known_rests, frame_bytes, frame_rests, shown};
 ghost use Rattle.arbitration.specs.Spans.{IsSpan};
 ghost use Rattle.arbitration.specs.Ways.{AreOutcomes, header_of};
 
-use crate::bits::{header, partings};
-use crate::compare::frames;
+use crate::bits::{always_part, header, partings};
+use crate::compare::{after_alike, answered, frames, tails};
+use crate::laid::{Laid, common_laid};
 use crate::spans::Outcomes;
-use message_tree::{Bit, Frame};
+use message_tree::{Address, Bit, Frame, Payload, Tail};
 use plan_core::Sends;
 
 /// What two participants who send this may come to when they start together and alone. An interrupt never ends by a STOP,
-/// and loses or wins in its header. The first has less than 2 ^ 32 slots on each path; what a plan's participants send has
-/// at most 2,560. Each level of the messages is a call.
-pub fn outcomes(first: &Sends<'_>, second: &Sends<'_>) -> Outcomes
-    requires { sender_slots (what_is_sent first.now) < 2 ^ 32 }
-    ensures both { IsSpan (EndTogether (SenderText (what_is_sent first.now)) (SenderText (what_is_sent second.now)))
+/// and loses or wins in its header. Each level of the messages is a call, but for the known bytes that both begin with.
+pub(crate) fn outcomes(first: &Laid<'_>, second: &Laid<'_>) -> Outcomes
+    ensures both { IsSpan (EndTogether (SenderText (what_is_sent first.now.sends)) (SenderText (what_is_sent second.now.sends)))
         result.both }
-    ensures first { IsSpan (Wins (SenderText (what_is_sent first.now)) (SenderText (what_is_sent second.now)))
+    ensures first { IsSpan (Wins (SenderText (what_is_sent first.now.sends)) (SenderText (what_is_sent second.now.sends)))
         result.first }
-    ensures second { IsSpan (Wins (SenderText (what_is_sent second.now)) (SenderText (what_is_sent first.now)))
+    ensures second { IsSpan (Wins (SenderText (what_is_sent second.now.sends)) (SenderText (what_is_sent first.now.sends)))
         result.second }
 {
     starts(first, second)
 }
 
 // The same, from their first headers on.
-fn starts(first: &Sends<'_>, second: &Sends<'_>) -> Outcomes
-    requires { sender_slots (what_is_sent first.now) < 2 ^ 32 }
-    ensures { AreOutcomes (SenderText (what_is_sent first.now)) (SenderText (what_is_sent second.now)) result }
+fn starts(first: &Laid<'_>, second: &Laid<'_>) -> Outcomes
+    ensures { AreOutcomes (SenderText (what_is_sent first.now.sends)) (SenderText (what_is_sent second.now.sends)) result }
 {
-    match first {
-        Sends::Message(f) => match second {
-            Sends::Message(g) => frames(f, g),
+    match &first.sends {
+        Sends::Message(f) => match &second.sends {
+            Sends::Message(g) => messages(f, g, first, second),
             Sends::Interrupt(b) => partings(&first_header(f), &header(b, Bit::One)),
         },
-        Sends::Interrupt(a) => match second {
+        Sends::Interrupt(a) => match &second.sends {
             Sends::Message(g) => partings(&header(a, Bit::One), &first_header(g)),
             Sends::Interrupt(b) => partings(&header(a, Bit::One), &header(b, Bit::One)),
         },
+    }
+}
+
+// Two messages whose first bytes stand side by side.
+fn messages(f: &Frame, g: &Frame, first: &Laid<'_>, second: &Laid<'_>) -> Outcomes
+    requires slots { frame_slots (frame_tree f.now) < 2 ^ 32 }
+    requires first_bytes { first.now.bytes.items ≡ frame_bytes f.now }
+    requires first_rests { map shown first.now.rests.items ≡ frame_rests f.now }
+    requires second_bytes { second.now.bytes.items ≡ frame_bytes g.now }
+    requires second_rests { map shown second.now.rests.items ≡ frame_rests g.now }
+    ensures { AreOutcomes (FrameText (frame_tree f.now)) (FrameText (frame_tree g.now)) result }
+{
+    match f {
+        Frame::Write {
+            address: a,
+            acked: x,
+            refused: r,
+        } => match g {
+            Frame::Write {
+                address: b,
+                acked: y,
+                refused: s,
+            } => writes(a, b, x, y, r, s, first, second),
+            Frame::Read { .. } => frames(f, g),
+        },
+        Frame::Read { .. } => frames(f, g),
+    }
+}
+
+// Two writes, and what follows each answer to their headers.
+fn writes(
+    a: &Address,
+    b: &Address,
+    x: &Payload,
+    y: &Payload,
+    r: &Tail,
+    s: &Tail,
+    first: &Laid<'_>,
+    second: &Laid<'_>,
+) -> Outcomes
+    requires slots { max (payload_slots (payload_tree x.now)) (tail_slots (tail_tree r.now)) + 9 < 2 ^ 32 }
+    requires first_bytes { first.now.bytes.items ≡ known_bytes x.now }
+    requires first_rests { map shown first.now.rests.items ≡ known_rests x.now }
+    requires second_bytes { second.now.bytes.items ≡ known_bytes y.now }
+    requires second_rests { map shown second.now.rests.items ≡ known_rests y.now }
+    ensures { AreOutcomes (FrameText (write a.now (payload_tree x.now) (tail_tree r.now)))
+        (FrameText (write b.now (payload_tree y.now) (tail_tree s.now))) result }
+{
+    let first_bits = header(a, Bit::Zero);
+    let second_bits = header(b, Bit::Zero);
+    let parted = partings(&first_bits, &second_bits);
+    if always_part(&first_bits, &second_bits) {
+        parted
+    } else {
+        let alike = common_laid(x, y, first, second);
+        answered(parted, after_alike(alike), tails(r, s))
     }
 }
 

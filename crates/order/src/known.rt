@@ -1,14 +1,17 @@
 // What is known of each two senders. It depends on what the two send alone, so it is found once, however many controllers
 // send the same.
 
-use arbitration::{Outcomes, of_pair};
+ghost use Rattle.plan_core.specs.PlanContents.{plan_contents};
+ghost use Rattle.arbitration.specs.Plans.{AreLaid};
+
+use arbitration::{Laid, Outcomes, of_pair};
 use plan_core::{Participant, Plan};
 use std::alloc::{AllocError, Global};
 
 /// The outcomes of each two senders of a plan that have been asked for.
 #[derive(Drop)]
 pub(crate) struct Known {
-    // By the number of the first sender and then by that of the second.
+    // By the number of the first sender and then by that of the second, which is the same or a greater one.
     found: Vec<Option<Outcomes>>,
     senders: usize,
 }
@@ -24,19 +27,52 @@ impl Known {
     }
 
     /// The outcomes of these two participants.
-    pub(crate) fn of(&mut self, plan: &Plan, x: u32, y: u32) -> Option<Outcomes> {
-        let place = self.place(plan, x, y)?;
+    pub(crate) fn of(&mut self, plan: &Plan, laid: &[Laid<'_>], x: u32, y: u32) -> Option<Outcomes>
+        requires { AreLaid (plan_contents plan.now) laid.now }
+    {
+        let first = sender(plan, x)?;
+        let second = sender(plan, y)?;
+        if first <= second {
+            self.at(plan, laid, (first, second), (x, y))
+        } else {
+            let found = self.at(plan, laid, (second, first), (y, x))?;
+            Some(exchanged(found))
+        }
+    }
+
+    // The outcomes of these two senders, by two participants that send so.
+    fn at(
+        &mut self,
+        plan: &Plan,
+        laid: &[Laid<'_>],
+        senders: (usize, usize),
+        by: (u32, u32),
+    ) -> Option<Outcomes>
+        requires { AreLaid (plan_contents plan.now) laid.now }
+    {
+        let place = senders
+            .0
+            .saturating_mul(self.senders)
+            .saturating_add(senders.1);
         let known = self.found.get_mut(place)?;
         if known.is_none() {
-            *known = found(plan, x, y);
+            *known = found(plan, laid, by.0, by.1);
         }
         *known
     }
+}
 
-    fn place(&self, plan: &Plan, x: u32, y: u32) -> Option<usize> {
-        let first = sender(plan, x)?;
-        let second = sender(plan, y)?;
-        Some(first.saturating_mul(self.senders).saturating_add(second))
+// The outcomes of the same two, the second of them named first.
+fn exchanged(outcomes: Outcomes) -> Outcomes {
+    let Outcomes {
+        both,
+        first,
+        second,
+    } = outcomes;
+    Outcomes {
+        both,
+        first: second,
+        second: first,
     }
 }
 
@@ -51,9 +87,11 @@ fn sender(plan: &Plan, p: u32) -> Option<usize> {
     })
 }
 
-fn found(plan: &Plan, x: u32, y: u32) -> Option<Outcomes> {
+fn found(plan: &Plan, laid: &[Laid<'_>], x: u32, y: u32) -> Option<Outcomes>
+    requires { AreLaid (plan_contents plan.now) laid.now }
+{
     if plan.participants() <= x || plan.participants() <= y {
         return None;
     }
-    Some(of_pair(plan, x, y))
+    Some(of_pair(plan, laid, x, y))
 }

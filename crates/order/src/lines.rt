@@ -2,7 +2,7 @@
 
 use crate::known::Known;
 use crate::totals::{Total, Totals};
-use arbitration::{Outcomes, Slots};
+use arbitration::{Outcomes, Slots, laid_out};
 use plan_core::Plan;
 use std::alloc::{AllocError, Global};
 use verdicts::Faults;
@@ -14,6 +14,8 @@ pub(crate) fn order_report(
     faults: &Faults,
 ) -> Result<String, AllocError> {
     let labels = labels_of(alloc, plan)?;
+    let laid = laid_out(alloc, plan)?;
+    let laid = laid.as_slice();
     let mut known = Known::new(alloc, plan)?;
     let mut totals = Totals::new(alloc, plan.participants())?;
     let mut report = String::new(alloc);
@@ -28,7 +30,7 @@ pub(crate) fn order_report(
         if is_next(faults, met, i) {
             met = met.saturating_add(1);
             push_unsafe(&mut report, names)?;
-        } else if let Some(outcomes) = known.of(plan, x, y) {
+        } else if let Some(outcomes) = known.of(plan, laid, x, y) {
             totals.count(x, y, &outcomes);
             push_outcomes(&mut report, names, &outcomes)?;
         }

@@ -1,4 +1,4 @@
-use Rattle.std.proofs.Common.{◌+◌, ◌*◌, ap, sym, ◌∙◌, arith}
+use Rattle.std.proofs.Common.{◌≡◌, ◌+◌, ◌*◌, ℕ, ap, sym, ◌∙◌, subst, arith}
 use Rattle.message_tree.specs.Counts.{greatest_of}
 use Rattle.message_tree.specs.Sizes.{frame_slots, payload_slots, tail_slots}
 use Rattle.message_tree.specs.Texts.{FrameText, PayloadText, TailText, ReadThen}
@@ -6,6 +6,8 @@ use Rattle.message_tree.specs.Trees.{frame_tree, payload_tree, tail_tree, write,
 use Rattle.message_tree.specs.declared.tree.Frame.{Frame}
 use Rattle.message_tree.specs.declared.tree.Payload.{Payload}
 use Rattle.message_tree.proofs.TextLaws.{lawful_tail}
+use Rattle.arbitration.specs.Ways.{BeginAlike}
+use Rattle.arbitration.proofs.CommonBytes.{bytes_skipped, slots_left, weight_left}
 use Rattle.arbitration.proofs.Nodes.{all_room, payload_bound, tail_bound, frame_bound, read_bound, bytes_part, bytes_answered, reads_parted, reads_answered, reads_part, reads_end, writes_are, write_meets_read, read_meets_write, bytes_are, lasts_are, byte_and_last, last_and_byte, stops_are, stop_and_again, again_and_stop, agains_are}
 use Rattle.arbitration.proofs.compare.+compare.Goals as goal
 
@@ -55,27 +57,27 @@ frames-returns-in-Read-g-2 t c =
     let f = ap frame_tree c.in-Read-g-2.is in
     rw (e, f) c.two_reads.ensures
 
-pub payloads-returns-in-Byte-y : goal.payloads-returns-in-Byte-y
-payloads-returns-in-Byte-y t c =
+pub apart-returns-in-Byte-y : goal.apart-returns-in-Byte-y
+apart-returns-in-Byte-y t c =
     let i = c.in-Byte in
     let j = c.in-Byte-y in
     let x = payload_tree c.deref.result.now in
     let y = payload_tree c.deref-in-Byte-y.result.now in
     let e = ap payload_tree i.is ∙ ap (λ (p : Payload). byte i.a (payload_tree p) (tail_tree i.r)) (sym c.deref.ensures) in
     let f = ap payload_tree j.is ∙ ap (λ (p : Payload). byte j.b (payload_tree p) (tail_tree j.s)) (sym c.deref-in-Byte-y.ensures) in
-    bytes_are (payload_tree c.args.x.now) (payload_tree c.args.y.now) c.bytes.result i.a j.b x y (tail_tree i.r) (tail_tree j.s) c.data.result c.data-in-Byte-y.result e f c.data.ensures c.data-in-Byte-y.ensures c.bytes.ensures
+    bytes_are (payload_tree c.args.x.now) (payload_tree c.args.y.now) c.bytes.result i.a j.b x y (tail_tree i.r) (tail_tree j.s) e f (rw (c.data.ensures, c.data-in-Byte-y.ensures) at c.bytes.ensures)
 
-pub payloads-returns-in-Last-y : goal.payloads-returns-in-Last-y
-payloads-returns-in-Last-y t c =
+pub apart-returns-in-Last-y : goal.apart-returns-in-Last-y
+apart-returns-in-Last-y t c =
     byte_and_last (payload_tree c.args.x.now) (payload_tree c.args.y.now) c.none.result c.in-Byte.a (payload_tree c.in-Byte.x.value) (tail_tree c.in-Byte.r) (tail_tree c.in-Last-y.field-0) (ap payload_tree c.in-Byte.is) (ap payload_tree c.in-Last-y.is) c.none.ensures
 
-pub payloads-returns-in-Byte-y-2 : goal.payloads-returns-in-Byte-y-2
-payloads-returns-in-Byte-y-2 t c =
+pub apart-returns-in-Byte-y-2 : goal.apart-returns-in-Byte-y-2
+apart-returns-in-Byte-y-2 t c =
     let j = c.in-Byte-y-2 in
     last_and_byte (payload_tree c.args.x.now) (payload_tree c.args.y.now) c.none-in-Byte-y-2.result j.bits (payload_tree j.acked.value) (tail_tree j.refused) (tail_tree c.in-Last.r) (ap payload_tree c.in-Last.is) (ap payload_tree j.is) c.none-in-Byte-y-2.ensures
 
-pub payloads-returns-in-Last-y-2 : goal.payloads-returns-in-Last-y-2
-payloads-returns-in-Last-y-2 t c =
+pub apart-returns-in-Last-y-2 : goal.apart-returns-in-Last-y-2
+apart-returns-in-Last-y-2 t c =
     lasts_are (payload_tree c.args.x.now) (payload_tree c.args.y.now) c.tails.result (tail_tree c.in-Last.r) (tail_tree c.in-Last-y-2.s) (ap payload_tree c.in-Last.is) (ap payload_tree c.in-Last-y-2.is) c.tails.ensures
 
 pub reads-returns-then-not-meets : goal.reads-returns-then-not-meets
@@ -146,3 +148,29 @@ pub two_reads-returns-else-always_part : goal.two_reads-returns-else-always_part
 two_reads-returns-else-always_part t c =
     let a = c.args in
     reads_answered a.a.now a.b.now a.c.now a.d.now (tail_tree a.x.now) (tail_tree a.y.now) (tail_tree a.r.now) (tail_tree a.s.now) c.header-first.result c.header-second.result c.header-first.ensures c.header-second.ensures c.partings-parted.result c.answered.result c.reads.result c.tails.result (λ k i. let e = c.always_part.ensures.1 (k, i) in cc) c.partings-parted.ensures c.reads.ensures c.tails.ensures c.answered.ensures
+
+pub payloads-after_alike-requires : goal.payloads-after_alike-requires
+payloads-after_alike-requires t c =
+    let m = c.common_bytes.ensures in
+    let x = payload_tree c.args.x.now in
+    let x' = payload_tree c.common_bytes.result.first.now in
+    let w = weight_left m.2.0 x x' m.2.2 in
+    let s = slots_left m.2.0 x x' m.2.2 in
+    (omega (arith, w), omega (arith, m.1, m.2.1, s, c.requires))
+
+pub payloads-returns : goal.payloads-returns
+payloads-returns t c =
+    let m = c.common_bytes.ensures in
+    let x = payload_tree c.args.x.now in
+    let y = payload_tree c.args.y.now in
+    let n : m.0 ≡ c.common_bytes.result.bytes = omega (arith, m.1) in
+    c.after_alike.ensures x y (subst (λ (k : ℕ). BeginAlike k x y (payload_tree c.common_bytes.result.first.now) (payload_tree c.common_bytes.result.second.now)) n m.2)
+
+pub after_alike-after_bytes-requires-clause-room : goal.after_alike-after_bytes-requires-clause-room
+after_alike-after_bytes-requires-clause-room t c =
+    let x' = payload_tree c.args.alike.first.now in
+    all_room (PayloadText x') (PayloadText (payload_tree c.args.alike.second.now)) c.apart.result (payload_slots x') (9 * c.args.alike.bytes) c.apart.ensures (payload_bound x') (omega (arith, c.requires))
+
+pub after_alike-returns : goal.after_alike-returns
+after_alike-returns t c =
+    λ x y m. bytes_skipped c.args.alike.bytes m.0 x y (payload_tree c.args.alike.first.now) (payload_tree c.args.alike.second.now) c.apart.result c.after_bytes.result m.1 m.2 m.3 c.apart.ensures c.after_bytes.ensures

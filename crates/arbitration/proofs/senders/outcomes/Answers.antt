@@ -4,12 +4,12 @@ use Rattle.arbitration.proofs.senders.outcomes.Goals as goal
 
 pub returns-clause-both : goal.returns-clause-both
 returns-clause-both c =
-    both_span (what_is_sent c.args.first.now) (what_is_sent c.args.second.now) c.starts.result c.starts.ensures
+    both_span (what_is_sent c.args.first.now.sends) (what_is_sent c.args.second.now.sends) c.starts.result c.starts.ensures
 
 pub returns-clause-first : goal.returns-clause-first
 returns-clause-first c =
-    first_span (what_is_sent c.args.first.now) (what_is_sent c.args.second.now) c.starts.result c.starts.ensures
+    first_span (what_is_sent c.args.first.now.sends) (what_is_sent c.args.second.now.sends) c.starts.result c.starts.ensures
 
 pub returns-clause-second : goal.returns-clause-second
 returns-clause-second c =
-    second_span (what_is_sent c.args.first.now) (what_is_sent c.args.second.now) c.starts.result c.starts.ensures
+    second_span (what_is_sent c.args.first.now.sends) (what_is_sent c.args.second.now.sends) c.starts.result c.starts.ensures
