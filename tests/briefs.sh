@@ -388,6 +388,28 @@ hint: something stands here that cannot stand in its place"
 run "hints on a brief from standard input" expand - --hints always <here.brief
 want 2 "" "refused P3 line 2"
 run "no hints on a brief" expand here.brief --hints never
+
+# An address with its direction bit, as many data sheets print it.
+lines eight.brief "brief 1" "message m write 0x91 0x05 ;"
+want 2 "" "refused P3 line 2
+hint: line 2 of the brief:
+hint:   message m write 0x91 0x05 ;
+hint:                   ^^^^
+hint: an address has seven bits; without the direction bit this is 0x48
+hint: expected here: a name (a letter, then letters, digits and '_', 32 at most)
+hint: or an address ('0x' and two digits, at most 0x7F, or '0b' and seven of
+hint: '0', '1' and 'x')"
+run "an address of eight bits in a brief" expand eight.brief --hints always
+lines bits.brief "brief 1" "message m write 0b10100010 0x05 ;"
+want 2 "" "refused P3 line 2
+hint: line 2 of the brief:
+hint:   message m write 0b10100010 0x05 ;
+hint:                   ^^^^^^^^^^
+hint: an address has seven bits; without the direction bit this is 0b1010001
+hint: expected here: a name (a letter, then letters, digits and '_', 32 at most)
+hint: or an address ('0x' and two digits, at most 0x7F, or '0b' and seven of
+hint: '0', '1' and 'x')"
+run "an address of eight bits in a brief, in bits" expand bits.brief --hints always
 want 2 "" "refused P2 line 1
 hint: line 1 of the plan:
 hint:   brief 1

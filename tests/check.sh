@@ -354,6 +354,14 @@ run "hints on a plan" check again.plan --hints always
 run "hints before the command" --hints always check again.plan
 run "hints by certify" certify again.plan --hints=always
 run "hints by verify" verify --hints always again.plan safe.cert
+write_plan eight.plan "plan 1" "message m write 10010000 00000001 stop else stop else stop ;"
+want 2 "" "refused P3 line 2
+hint: line 2 of the plan:
+hint:   message m write 10010000 00000001 stop else stop else stop ;
+hint:                   ^^^^^^^^
+hint: an address has seven bits; without the direction bit this is 1001000
+hint: expected here: an address (seven of '0', '1' and 'x')"
+run "an address of eight bits" check eight.plan --hints always
 want 2 "" "refused P3 line 2
 hint: something stands here that cannot stand in its place"
 run "hints on a plan from standard input" check /dev/stdin --hints always <again.plan
