@@ -2,6 +2,7 @@ pub mod WordLemmas
 pub mod CodeLemmas
 pub mod ScanLemmas
 pub mod MaskLemmas
+pub mod EightLemmas
 pub mod TokenLemmas
 pub mod PieceLemmas
 pub mod FedLemmas

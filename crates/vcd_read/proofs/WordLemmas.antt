@@ -1,8 +1,8 @@
 -- Codes and times, from byte to byte.
-use Rattle.std.proofs.Common.{◌≡◌, ◌<◌, ◌≤◌, ◌+◌, ◌-◌, ◌*◌, ◌^◌, ℕ, Bool, true, false, ◌&&◌, List, [], ◌∷◌, ◌++◌, is_some, length, drop, get_or, Option, Some, None, refl, ap, sym, ◌∙◌, arith, ◌==◌, nat_le, drop-cons, add-one}
-use Rattle.std.specs.Prelude.{if◌then◌else◌}
+use Rattle.std.proofs.Common.{◌≡◌, ◌<◌, ◌≤◌, ◌+◌, ◌-◌, ◌*◌, ◌^◌, ℕ, suc, Bool, true, false, ◌&&◌, List, [], ◌∷◌, ◌++◌, is_some, length, drop, get_or, Option, Some, None, refl, ap, sym, ◌∙◌, arith, ◌==◌, nat_le, drop-cons, add-one}
+use Rattle.std.specs.Prelude.{if◌then◌else◌, IfSome}
 use Rattle.std.specs.List.{list_all}
-use Rattle.std.proofs.Math.Nat.{pow-le-pow_right}
+use Rattle.std.proofs.Math.Nat.{pow-le-pow_right, pow-suc}
 use Rattle.std.proofs.lemmas.Bool.{le-leb, leb-true, and_from, lt-ltb}
 use Rattle.std.proofs.lemmas.Bool.Decides.{nat_tests}
 use Rattle.vcd_read.specs.Tokens.{is_white, has_white}
@@ -52,6 +52,11 @@ number_next digits number i within low high =
     let test : is_digit (get_or digits i 0) ≡ true = and_from _ _ (le-leb 48 (get_or digits i 0) low) (le-leb (get_or digits i 0) 57 high) in
     rw (drop-cons digits i 0 within, test, add-one) refl
 
+pub one_more : (number i digit : ℕ) → number < 10 ^ (8 + i) → digit < 10 → number * 10 + digit < 10 ^ (8 + (i + 1))
+one_more number i digit small one =
+    let power : 10 ^ (8 + (i + 1)) ≡ 10 ^ (8 + i) * 10 = ap (λ k. 10 ^ k) {x = 8 + (i + 1)} {y = suc (8 + i)} (omega arith) ∙ pow-suc 10 (8 + i) in
+    omega arith
+
 -- fewer than 20 digits, and one more
 pub few_digits : (time i n : ℕ) → time < 10 ^ i → i < n → n < 20 → time * 10 + 9 < 2 ^ 64
 few_digits time i n small before few =
@@ -78,6 +83,13 @@ time_too_large digits rest number some large same =
 pub time_is : (digits : List ℕ) (number : ℕ) → (length digits == 0) ≡ false → number < 2 ^ 64 → Some number ≡ number_from 0 digits → Some number ≡ time_of digits
 time_is digits number some small same =
     rw (some_bytes digits some, ← same, lt-ltb number (2 ^ 64) small) refl
+
+-- a number of eight digits is the time
+pub time_from_eight : (digits : List ℕ) (number : Option ℕ) → (length digits == 0) ≡ false → number ≡ number_from 0 digits → IfSome number (λ n. n < 10 ^ 8) → number ≡ time_of digits
+time_from_eight digits None some same fits = rw (some_bytes digits some, ← same) refl
+time_from_eight digits (Some number) some same fits =
+    let small : number < 10 ^ 8 = fits in
+    time_is digits number some (omega arith) same
 
 -- ---- a time is a code
 

@@ -11,7 +11,7 @@ use crate::dumps::{Context, Dump};
 use crate::errors::Refusal;
 use crate::samples::{Level, Sample};
 use crate::words::{
-    Command, binary_level_of, code_number, command_of, is_code, level_of, time_of, vector_level,
+    Command, binary_level_of, code_number, command_of, is_code, level_of, stamp_time, vector_level,
 };
 
 impl Dump {
@@ -62,7 +62,7 @@ impl Dump {
         };
         match *first {
             b'#' => {
-                let time = time_of(rest).ok_or(bad)?;
+                let time = stamp_time(token).ok_or(bad)?;
                 return self.reach(time, line);
             }
             b'$' => self.command(command_of(token), line)?,

@@ -1,10 +1,14 @@
 // What a single token says.
 
-ghost use Rattle.std.specs.Prelude.{◌≡◌, ◌<◌, length, is_some};
+ghost use Rattle.std.specs.Int.Digits.{number_from_digits, AllBelowBase};
+ghost use Rattle.std.specs.Prelude.{◌≡◌, ◌==◌, ◌<◌, ◌^◌, List, ◌∷◌, ℕ, length, is_some, IfSome};
+ghost use Rattle.std.specs.List.{list_all};
+ghost use Rattle.std.specs.Simd.Lanes.{number_l};
 ghost use Rattle.vcd_read.specs.Words.{command_of, named_command, is_end, level_of, vector_level};
-ghost use Rattle.vcd_read.specs.Words.{is_code, is_code_byte, code_number, binary_level_of, time_of};
+ghost use Rattle.vcd_read.specs.Words.{is_code, is_code_byte, code_number, binary_level_of, is_digit, number_from, time_of};
 
 use crate::samples::Level;
+use std::simd::prelude::*;
 
 /// What a token that begins with `$` is.
 #[derive(Clone, Copy, Debug, PartialEq, Eq)]
@@ -134,9 +138,23 @@ pub(crate) fn code_number(code: &[u8]) -> u32
     }
 }
 
-/// The time that the digits write.
+/// The time of a token that is `#` and digits.
 #[inline(always)]
-pub(crate) fn time_of(digits: &[u8]) -> Option<u64>
+pub(crate) fn stamp_time(token: &[u8]) -> Option<u64>
+    ensures { (digits : List ℕ) → token.now ≡ 35 ∷ digits → result ≡ time_of digits }
+{
+    if token.len() == 8 {
+        // seven digits, with a zero in the place of `#`
+        let zero_first = u8x8::from_array([b'0' - b'#', 0, 0, 0, 0, 0, 0, 0]);
+        return eight_digits(u8x8::from_slice(token) + zero_first);
+    }
+    let (_, digits) = token.split_first()?;
+    time_of(digits)
+}
+
+// The time that the digits write.
+#[inline(always)]
+fn time_of(digits: &[u8]) -> Option<u64>
     ensures { result ≡ time_of digits.now }
 {
     if digits.len() < 20 {
@@ -155,14 +173,63 @@ fn short_time_of(digits: &[u8]) -> Option<u64>
     if digits.is_empty() {
         return None;
     }
-    let mut time = 0u64;
+    if digits.len() < 8 {
+        return number_from(0, digits);
+    }
+    let first = eight_digits(u8x8::from_slice(digits))?;
+    number_from(first, &digits[8..])
+}
+
+// The number that the digits write after a number.
+#[inline(always)]
+fn number_from(number: u64, digits: &[u8]) -> Option<u64>
+    requires eight { number < 10 ^ 8 }
+    requires few { length digits.now < 12 }
+    ensures number { result ≡ number_from number digits.now }
+    ensures fits { IfSome result (λ n. n < 2 ^ 64) }
+{
+    let mut number = number;
     for digit in digits {
         if *digit < b'0' || b'9' < *digit {
             return None;
         }
-        time = time * 10 + u64::from(*digit - b'0');
+        number = number * 10 + u64::from(*digit - b'0');
     }
-    Some(time)
+    Some(number)
+}
+
+// The number that eight digits write.
+#[inline(always)]
+fn eight_digits(bytes: u8x8) -> Option<u64>
+    ensures number { result ≡ number_from 0 bytes }
+    ensures fits { IfSome result (λ n. n < 10 ^ 8) }
+{
+    if others_than_digits(bytes) != 0 {
+        return None;
+    }
+    let values = bytes - u8x8::splat(b'0');
+    let [word] = u64x1::from_le_bytes(values).to_array();
+    Some(value_of_eight(word))
+}
+
+// A mask of eight bytes that is 0 where all are digits.
+#[inline(always)]
+fn others_than_digits(bytes: u8x8) -> u64
+    ensures { (result == 0) ≡ list_all is_digit bytes }
+{
+    let values = bytes - u8x8::splat(b'0');
+    values.simd_gt(u8x8::splat(9)).to_bitmask()
+}
+
+// The number that eight digits write, each a byte, the lowest first.
+#[inline(always)]
+fn value_of_eight(word: u64) -> u64
+    ensures { (digits : List ℕ) → length digits ≡ 8 → AllBelowBase 10 digits → word ≡ number_l 256 digits → result ≡ number_from_digits 10 digits }
+{
+    let pairs = word.wrapping_mul(10).wrapping_add(word >> 8);
+    let odd = (pairs & 0x0000_00ff_0000_00ff).wrapping_mul(100 + (1_000_000 << 32));
+    let even = ((pairs >> 16) & 0x0000_00ff_0000_00ff).wrapping_mul(1 + (10_000 << 32));
+    odd.wrapping_add(even) >> 32
 }
 
 // The same of any digits.
