@@ -12,13 +12,22 @@ pub(crate) fn fault_of<'s, 'a>(
     if notes.is_empty() {
         return None;
     }
-    let rows = rows_of(participants, notes);
-    Some(Fault {
-        slot: slot_in(notes),
-        bus: rows.map(|it| it.bus),
-        bytes: rows.map(|it| it.bytes),
-        next: rows.map(|it| it.next),
-        notes,
+    let slot = slot_in(notes);
+    Some(match rows_of(participants, notes) {
+        Some(rows) => Fault {
+            slot,
+            bus: Some(rows.bus),
+            bytes: Some(rows.bytes),
+            next: Some(rows.next),
+            notes,
+        },
+        None => Fault {
+            slot,
+            bus: None,
+            bytes: None,
+            next: None,
+            notes,
+        },
     })
 }
 

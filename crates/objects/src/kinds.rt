@@ -1,11 +1,8 @@
-// The objects as they are written: the fields in this order, and those left out that a line has not. Words of a report live
-// for `'a`, and what was gathered for one object for `'s`.
+// The objects: the fields in their order, where `None` is one that a line has not. Words of a report live for `'a`, and what
+// was gathered for one object for `'s`.
 
-use serde::Serialize;
-
-/// The object of a line, which is named by its field `kind`.
-#[derive(Clone, Copy, Serialize)]
-#[serde(tag = "kind", rename_all = "snake_case")]
+/// The object of a line.
+#[derive(Clone, Copy)]
 pub(crate) enum Object<'s, 'a> {
     /// An unsafe pair.
     Pair {
@@ -13,7 +10,6 @@ pub(crate) enum Object<'s, 'a> {
         participants: (&'a str, &'a str),
         meet: (&'a str, &'a str),
         after: &'a str,
-        #[serde(skip_serializing_if = "Option::is_none")]
         explain: Option<Fault<'s, 'a>>,
     },
     /// Whether a plan is safe.
@@ -21,34 +17,24 @@ pub(crate) enum Object<'s, 'a> {
         safe: bool,
         pairs: u64,
         unsafe_pairs: u64,
-        #[serde(skip_serializing_if = "Option::is_none")]
         explain: Option<Mending<'s, 'a>>,
     },
     /// What a certificate comes to.
     Certificate {
         accepted: bool,
-        #[serde(skip_serializing_if = "Option::is_none")]
         safe: Option<bool>,
-        #[serde(skip_serializing_if = "Option::is_none")]
         code: Option<&'a str>,
-        #[serde(skip_serializing_if = "Option::is_none")]
         line: Option<u64>,
-        #[serde(skip_serializing_if = "Option::is_none")]
         pair: Option<u64>,
-        #[serde(skip_serializing_if = "Option::is_none")]
         explain: Option<Notes<'s, 'a>>,
     },
     /// Who wins in a pair, and in which slots, from the earliest to the latest.
     Order {
         pair: u64,
         participants: (&'a str, &'a str),
-        #[serde(rename = "unsafe", skip_serializing_if = "Option::is_none")]
         is_unsafe: Option<bool>,
-        #[serde(skip_serializing_if = "Option::is_none")]
         both: Option<(u64, u64)>,
-        #[serde(skip_serializing_if = "Option::is_none")]
         first: Option<(u64, u64)>,
-        #[serde(skip_serializing_if = "Option::is_none")]
         second: Option<(u64, u64)>,
     },
     /// In how many pairs a participant can win.
@@ -61,11 +47,9 @@ pub(crate) enum Object<'s, 'a> {
     /// A transaction, and who explains it.
     Transaction {
         from: Time<'a>,
-        #[serde(skip_serializing_if = "Option::is_none")]
         to: Option<Time<'a>>,
         end: &'a str,
         participants: &'s [&'a str],
-        #[serde(skip_serializing_if = "Option::is_none")]
         explain: Option<Heard<'s, 'a>>,
     },
     /// How many transactions a STOP ended.
@@ -93,7 +77,6 @@ pub(crate) enum Object<'s, 'a> {
     Signal {
         code: &'a str,
         changes: u64,
-        #[serde(skip_serializing_if = "Option::is_none")]
         scope: Option<&'a str>,
         name: &'a str,
     },
@@ -111,7 +94,6 @@ pub(crate) enum Object<'s, 'a> {
     /// What the bus shows in a rehearsal.
     Wire {
         wire: &'a str,
-        #[serde(skip_serializing_if = "Option::is_none")]
         explain: Option<Played<'s, 'a>>,
     },
     /// Who is left at its end.
@@ -121,9 +103,7 @@ pub(crate) enum Object<'s, 'a> {
     /// Why a run ends without its report.
     Refusal {
         code: &'a str,
-        #[serde(skip_serializing_if = "Option::is_none")]
         line: Option<u64>,
-        #[serde(skip_serializing_if = "Option::is_none")]
         signal: Option<&'a str>,
     },
     /// A line for people on standard error.
@@ -137,42 +117,37 @@ pub(crate) enum Object<'s, 'a> {
 }
 
 /// A time as it stands in a dump, or in parts of a second.
-#[derive(Clone, Copy, Serialize)]
-#[serde(untagged)]
+#[derive(Clone, Copy)]
 pub(crate) enum Time<'a> {
     Number(u64),
     Text(&'a str),
 }
 
 /// Lines for people.
-#[derive(Clone, Copy, Serialize)]
+#[derive(Clone, Copy)]
 pub(crate) struct Notes<'s, 'a> {
     pub(crate) notes: &'s [&'a str],
 }
 
 /// Those below an unsafe pair: the bytes on the bus and those of the two, what each does next, and in which slot.
-#[derive(Clone, Copy, Serialize)]
+#[derive(Clone, Copy)]
 pub(crate) struct Fault<'s, 'a> {
-    #[serde(skip_serializing_if = "Option::is_none")]
     pub(crate) slot: Option<u64>,
-    #[serde(skip_serializing_if = "Option::is_none")]
     pub(crate) bus: Option<&'a str>,
-    #[serde(skip_serializing_if = "Option::is_none")]
     pub(crate) bytes: Option<(&'a str, &'a str)>,
-    #[serde(skip_serializing_if = "Option::is_none")]
     pub(crate) next: Option<(&'a str, &'a str)>,
     pub(crate) notes: &'s [&'a str],
 }
 
 /// Those below what is said of a plan: the `never` items that mend it.
-#[derive(Clone, Copy, Serialize)]
+#[derive(Clone, Copy)]
 pub(crate) struct Mending<'s, 'a> {
     pub(crate) never: &'s [(&'a str, &'a str)],
     pub(crate) notes: &'s [&'a str],
 }
 
 /// Those below a transaction: its bytes, and who goes along with it furthest.
-#[derive(Clone, Copy, Serialize)]
+#[derive(Clone, Copy)]
 pub(crate) struct Heard<'s, 'a> {
     pub(crate) bytes: &'s str,
     pub(crate) nearest: &'s [Near],
@@ -180,7 +155,7 @@ pub(crate) struct Heard<'s, 'a> {
 }
 
 /// Where a participant leaves a transaction, what it does there, and what the wire has.
-#[derive(Drop, Serialize)]
+#[derive(Drop)]
 pub(crate) struct Near {
     pub(crate) participant: String,
     pub(crate) slot: u64,
@@ -189,7 +164,7 @@ pub(crate) struct Near {
 }
 
 /// Those below the wire of a rehearsal: its bytes.
-#[derive(Clone, Copy, Serialize)]
+#[derive(Clone, Copy)]
 pub(crate) struct Played<'s, 'a> {
     pub(crate) bytes: &'s str,
     pub(crate) notes: &'s [&'a str],

@@ -12,7 +12,7 @@ pub(crate) fn signal<'s, 'a>(rest: &'a str) -> Option<Object<'s, 'a>> {
     Some(Object::Signal {
         code,
         changes: number(changes)?,
-        scope: Some(scope).filter(|it| *it != "-"),
+        scope: if scope == "-" { None } else { Some(scope) },
         name,
     })
 }

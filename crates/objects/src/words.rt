@@ -1,5 +1,6 @@
 // Words and numbers of lines, and how an object is added.
 
+use crate::fields::Fields;
 use crate::kinds::{Notes, Object};
 use std::alloc::{AllocError, Global};
 
@@ -9,11 +10,10 @@ pub(crate) fn push(
     text: &mut String,
     object: &Object<'_, '_>,
 ) -> Result<(), AllocError> {
-    let Ok(written) = serde_json::to_string(alloc, object) else {
-        // an object has no number or key that JSON refuses
-        return Err(AllocError);
-    };
-    text.push_str(written.as_str())?;
+    let mut fields = Fields::of(alloc, text);
+    fields.open()?;
+    object.write(&mut fields)?;
+    fields.close()?;
     text.push('\n')
 }
 
