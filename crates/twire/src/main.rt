@@ -12,6 +12,7 @@ mod progress;
 mod quieting;
 mod recordings;
 mod rehearsals;
+mod rewriting;
 mod runs;
 mod viewing;
 mod voices;

@@ -32,6 +32,16 @@ pub enum Form<'a> {
     File(&'a str),
 }
 
+impl<'a> Form<'a> {
+    /// The file that is written, where one is.
+    pub fn path(self) -> Option<&'a str> {
+        match self {
+            Form::File(path) => Some(path),
+            _ => None,
+        }
+    }
+}
+
 /// What the system knows of the files that a run has read, as far as it does.
 #[derive(Drop)]
 pub struct FilesRead {
@@ -87,6 +97,16 @@ struct Part<F> {
 impl<'a, R: Files + Print + Eprint + Clock + AllocGlobal> Sheet<'a, R> {
     /// Nothing has been written yet.
     pub fn new(rt: &'a R, form: Form<'a>, watcher: Watcher) -> Sheet<'a, R> {
+        Sheet::telling(rt, form, watcher, None)
+    }
+
+    /// The same, and of a long text of this name it is told how much was written, unless it is seen itself.
+    pub fn telling(
+        rt: &'a R,
+        form: Form<'a>,
+        watcher: Watcher,
+        what: Option<&'static str>,
+    ) -> Sheet<'a, R> {
         Sheet {
             rt,
             form,
@@ -97,15 +117,8 @@ impl<'a, R: Files + Print + Eprint + Clock + AllocGlobal> Sheet<'a, R> {
             is_at_line: true,
             error: None,
             watcher,
-            count: None,
+            count: count_of(form, watcher, what),
         }
-    }
-
-    /// Of this long text it is told how much was written, unless it is seen itself.
-    pub fn telling(self, what: &'static str) -> Sheet<'a, R> {
-        let is_seen = self.watcher.sees_report && matches!(self.form, Form::Plain);
-        let count = (!is_seen).then_some(Count::new(self.watcher, what, None));
-        Sheet { count, ..self }
     }
 
     /// Writes the objects, or gives the file its name, once the run has ended with its report, and answers how the run ends
@@ -263,6 +276,14 @@ impl<R: Files + Print + Eprint + Clock + AllocGlobal> Write for Sheet<'_, R> {
 
     fn flush(&mut self) -> io::Result<()> {
         Ok(())
+    }
+}
+
+fn count_of(form: Form<'_>, watcher: Watcher, what: Option<&'static str>) -> Option<Count> {
+    match (what, form) {
+        (Some(_), Form::Plain) if watcher.sees_report => None,
+        (Some(what), _) => Some(Count::new(watcher, what, None)),
+        (None, _) => None,
     }
 }
 

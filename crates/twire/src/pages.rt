@@ -4,15 +4,13 @@ use crate::advice::{Outcome, advise_on_text};
 use crate::inputs::{READS, file_of, metadata_of, open, open_both};
 use crate::outputs::{FilesRead, Sheet};
 use crate::recordings::{advise_on_recording, command_of, explained};
+use crate::rewriting::{Rewriting, rewritten};
 use crate::runs::{Extras, finish, form_of, last_read, outcome, status_of};
 use crate::viewing::{Asked, Halt};
 use dump_hints::Names;
 use hints::Named;
-use order::run_order;
 use page::{Texts, page_of};
-use report::{
-    NoGate, Output, RunError, Status, Watched, read_within, run_check, run_print, write_report,
-};
+use report::{NoGate, Output, RunError, Status, Watched, read_within, run_check, write_report};
 use std::alloc::Global;
 use std::io::{Input as HasInput, Read, Seek};
 use std::rt::Files;
@@ -176,7 +174,7 @@ fn write_page<R: AllocGlobal + Threads + Sync, O: Output>(
     capture: Option<&str>,
     out: &mut O,
 ) -> Result<Status, RunError> {
-    let plan = printed(rt.alloc(), text)?;
+    let plan = rewritten(rt.alloc(), Rewriting::Print, text)?;
     let texts = Texts {
         title,
         plan: text_of(plan.as_slice()),
@@ -208,7 +206,7 @@ fn with_order<O: Output>(
     texts: Texts<'_>,
     out: &mut O,
 ) -> Result<(), RunError> {
-    let order = ordered(alloc, text)?;
+    let order = rewritten(alloc, Rewriting::Order, text)?;
     let texts = Texts {
         order: text_of(order.as_slice()),
         ..texts
@@ -221,16 +219,6 @@ fn write_texts<O: Output>(alloc: Global, texts: &Texts<'_>, out: &mut O) -> Resu
     write_report(out, page.as_bytes())
 }
 
-// The canonical spelling of the plan.
-fn printed(alloc: Global, text: &[u8]) -> Result<Vec<u8>, RunError> {
-    let mut read = Watched::new(text);
-    let mut written = Watched::new(Vec::new(alloc));
-    match run_print(alloc, &mut read, &mut written) {
-        Ok(_) => Ok(written.into_inner()),
-        Err(error) => Err(error),
-    }
-}
-
 fn checked<R: AllocGlobal + Threads + Sync>(
     rt: &R,
     text: &[u8],
@@ -239,15 +227,6 @@ fn checked<R: AllocGlobal + Threads + Sync>(
     let mut written = Watched::new(Vec::new(rt.alloc()));
     match run_check(rt, rt.alloc(), &mut read, &mut written, 1, &NoGate) {
         Ok(status) => Ok((written.into_inner(), status)),
-        Err(error) => Err(error),
-    }
-}
-
-fn ordered(alloc: Global, text: &[u8]) -> Result<Vec<u8>, RunError> {
-    let mut read = Watched::new(text);
-    let mut written = Watched::new(Vec::new(alloc));
-    match run_order(alloc, &mut read, &mut written) {
-        Ok(_) => Ok(written.into_inner()),
         Err(error) => Err(error),
     }
 }

@@ -1,14 +1,14 @@
 // The runs of a bench.
 
-use crate::advice::advise_on_certified;
 use crate::drawings::{Paths, bench_drawn};
 use crate::explaining::{Starting, explain_bench};
-use crate::inputs::{READS, file_of, open, open_both, reading_error};
-use crate::outputs::{FilesRead, Sheet};
-use crate::runs::{Extras, last_read, outcome, status_of};
+use crate::inputs::{READS, open, open_both};
+use crate::outputs::Sheet;
+use crate::rewriting::{Rewriting, rewritten};
+use crate::runs::{End, Extras, finish_certified};
 use bench_run::{NoGate, run_bench};
 use hints::Named;
-use report::{Input, Output, RunError, Status, Watched, read_within, run_certify};
+use report::{Input, Output, RunError, Status, Watched, read_within};
 use std::alloc::{AllocError, Global};
 use std::io::{self, Cursor, Input as HasInput};
 use std::rt::Files;
@@ -64,17 +64,14 @@ pub fn bench<R: Files + HasInput + Print + Eprint + AllocGlobal + Threads + Wait
         }
         None => rehearse(rt, &mut reader, &mut second, &mut out, play),
     };
-    let (read, error) = last_read(plan, &mut reader, cert, &mut second);
-    let output = play.wave.filter(|_| unwritten.is_some());
+    let end = End {
+        ended,
+        output: play.wave.filter(|_| unwritten.is_some()),
+        starters: play.starters,
+    };
     let mut out = out.into_inner();
     out.blame(unwritten);
-    let ended = out.settle(FilesRead::one(None), ended);
-    let status = status_of(rt, ended, extras);
-    if extras.hints {
-        let outcome = outcome(read, error, out, output, ended, extras);
-        advise_on_certified(rt, file_of(reader), file_of(second), play.starters, outcome);
-    }
-    status
+    finish_certified(rt, (plan, reader), Some((cert, second)), out, end, extras)
 }
 
 /// Rehearses a plan by the certificate that is made of it here.
@@ -96,17 +93,14 @@ pub fn bench_alone<
         extras,
         &mut unwritten,
     );
-    let error = reading_error(&mut reader);
-    let output = play.wave.filter(|_| unwritten.is_some());
+    let end = End {
+        ended,
+        output: play.wave.filter(|_| unwritten.is_some()),
+        starters: play.starters,
+    };
     let mut out = out.into_inner();
     out.blame(unwritten);
-    let ended = out.settle(FilesRead::one(None), ended);
-    let status = status_of(rt, ended, extras);
-    if extras.hints {
-        let outcome = outcome(plan, error, out, output, ended, extras);
-        advise_on_certified(rt, file_of(reader), None, play.starters, outcome);
-    }
-    status
+    finish_certified(rt, (plan, reader), None, out, end, extras)
 }
 
 /// Rehearses the plan of the first reader, with the certificate of the second.
@@ -169,7 +163,7 @@ fn rehearse_alone<
     unwritten: &mut Option<io::Error>,
 ) -> Result<Status, RunError> {
     let text = read_within(rt.alloc(), plan, READS)?;
-    let cert = certificate_of(rt.alloc(), text.as_slice())?;
+    let cert = rewritten(rt.alloc(), Rewriting::Certify, text.as_slice())?;
     let mut plan = Watched::new(Cursor::new(text.as_slice()));
     let mut cert = Watched::new(Cursor::new(cert.as_slice()));
     match play.wave {
@@ -180,18 +174,6 @@ fn rehearse_alone<
             )
         }
         None => rehearse(rt, &mut plan, &mut cert, out, play),
-    }
-}
-
-// The certificate of a plan text.
-fn certificate_of(alloc: Global, text: &[u8]) -> Result<Vec<u8>, RunError> {
-    let mut plan = Watched::new(Cursor::new(text));
-    let mut cert = Watched::new(Vec::new(alloc));
-    match run_certify(alloc, &mut plan, &mut cert) {
-        Ok(_) => Ok(cert.into_inner()),
-        // memory takes everything, as long as there is some
-        Err(RunError::Write) => Err(RunError::NoMemory),
-        Err(error) => Err(error),
     }
 }
 

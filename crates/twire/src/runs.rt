@@ -11,14 +11,11 @@ use crate::pages::{Recorded, page};
 use crate::progress::{Comparing, Watcher};
 use crate::recordings::{asked_of, capture, learn, lesson_of, list_signals, whole_of};
 use crate::rehearsals::{Play, bench, bench_alone};
+use crate::rewriting::Rewriting;
 use crate::voices::{Voice, refused};
 use command_words::{Asked, Lines, Manner, Request, When, read_words};
 use hints::Named;
-use order::run_order;
-use report::{
-    Input as _, Output, RunError, Status, Watched, run_brief, run_certify, run_check, run_expand,
-    run_print, run_verify,
-};
+use report::{Input as _, Output, RunError, Status, Watched, run_check, run_verify};
 use std::env;
 use std::io::{self, Read};
 use std::rt::{Env, Files};
@@ -181,7 +178,15 @@ fn do_request<R: Files + Input + Print + Eprint + AllocGlobal + Threads + Wait +
             };
             check(rt, the_plan(plan), look, extras)
         }
-        Request::Certify { plan, output } => certify(rt, the_plan(plan), output, extras),
+        Request::Certify { plan, output } => {
+            rewrite(
+                rt,
+                Rewriting::Certify,
+                the_plan(plan),
+                form_of(output),
+                extras,
+            )
+        }
         Request::Verify {
             plan,
             cert,
@@ -207,7 +212,9 @@ fn do_request<R: Files + Input + Print + Eprint + AllocGlobal + Threads + Wait +
             let recorded = recorded_of(capture, lines);
             page(rt, the_plan(plan), recorded, output, extras)
         }
-        Request::Order { plan } => tell_order(rt, the_plan(plan), extras),
+        Request::Order { plan } => {
+            rewrite(rt, Rewriting::Order, the_plan(plan), extras.form(), extras)
+        }
         Request::Signals { vcd } => list_signals(rt, the_capture(vcd), extras),
         Request::Learn {
             vcd,
@@ -244,9 +251,33 @@ fn do_request<R: Files + Input + Print + Eprint + AllocGlobal + Threads + Wait +
                 None => bench_alone(rt, the_plan(plan), play, extras),
             }
         }
-        Request::Expand { brief, output } => expand(rt, the_brief(brief), output, extras),
-        Request::Print { plan, output } => spell(rt, the_plan(plan), output, extras),
-        Request::Brief { plan, output } => abbreviate(rt, the_plan(plan), output, extras),
+        Request::Expand { brief, output } => {
+            rewrite(
+                rt,
+                Rewriting::Expand,
+                the_brief(brief),
+                form_of(output),
+                extras,
+            )
+        }
+        Request::Print { plan, output } => {
+            rewrite(
+                rt,
+                Rewriting::Print,
+                the_plan(plan),
+                form_of(output),
+                extras,
+            )
+        }
+        Request::Brief { plan, output } => {
+            rewrite(
+                rt,
+                Rewriting::Brief,
+                the_plan(plan),
+                form_of(output),
+                extras,
+            )
+        }
     }
 }
 
@@ -353,21 +384,6 @@ pub fn look_over<R: Eprint + Clock + AllocGlobal + Threads + Sync, I: report::In
     }
 }
 
-fn certify<R: Files + Input + Print + Eprint + Clock + AllocGlobal>(
-    rt: &R,
-    plan: Named<'_>,
-    output: Option<&str>,
-    extras: Extras,
-) -> u8 {
-    let Some(mut reader) = open(rt, plan, extras) else {
-        return 2;
-    };
-    let sheet = Sheet::new(rt, form_of(output), extras.watcher).telling("certificate written");
-    let mut out = Watched::new(sheet);
-    let ended = run_certify(rt.alloc(), &mut reader, &mut out);
-    finish(rt, plan, reader, out.into_inner(), output, ended, extras)
-}
-
 fn verify<R: Files + Input + Print + Eprint + Clock + AllocGlobal>(
     rt: &R,
     plan: Named<'_>,
@@ -384,70 +400,44 @@ fn verify<R: Files + Input + Print + Eprint + Clock + AllocGlobal>(
     } else {
         run_verify(rt.alloc(), &mut reader, &mut second, &mut out)
     };
-    let (read, error) = last_read(plan, &mut reader, cert, &mut second);
-    let mut out = out.into_inner();
-    let ended = out.settle(FilesRead::one(None), ended);
-    let status = status_of(rt, ended, extras);
-    if extras.hints {
-        let outcome = outcome(read, error, out, None, ended, extras);
-        advise_on_certified(rt, file_of(reader), file_of(second), "", outcome);
-    }
-    status
+    let end = End {
+        ended,
+        output: None,
+        starters: "",
+    };
+    finish_certified(
+        rt,
+        (plan, reader),
+        Some((cert, second)),
+        out.into_inner(),
+        end,
+        extras,
+    )
 }
 
-fn tell_order<R: Files + Input + Print + Eprint + Clock + AllocGlobal>(
+// Writes what the run makes of a text, into the file that it is to write or to standard output.
+fn rewrite<R: Files + Input + Print + Eprint + Clock + AllocGlobal>(
     rt: &R,
-    plan: Named<'_>,
+    rewriting: Rewriting,
+    text: Named<'_>,
+    form: Form<'_>,
     extras: Extras,
 ) -> u8 {
-    let Some(mut reader) = open(rt, plan, extras) else {
+    let Some(mut reader) = open(rt, text, extras) else {
         return 2;
     };
-    let mut out = Watched::new(Sheet::new(rt, extras.form(), extras.watcher));
-    let ended = run_order(rt.alloc(), &mut reader, &mut out);
-    finish(rt, plan, reader, out.into_inner(), None, ended, extras)
-}
-
-fn spell<R: Files + Input + Print + Eprint + Clock + AllocGlobal>(
-    rt: &R,
-    plan: Named<'_>,
-    output: Option<&str>,
-    extras: Extras,
-) -> u8 {
-    let Some(mut reader) = open(rt, plan, extras) else {
-        return 2;
-    };
-    let mut out = Watched::new(Sheet::new(rt, form_of(output), extras.watcher));
-    let ended = run_print(rt.alloc(), &mut reader, &mut out);
-    finish(rt, plan, reader, out.into_inner(), output, ended, extras)
-}
-
-fn abbreviate<R: Files + Input + Print + Eprint + Clock + AllocGlobal>(
-    rt: &R,
-    plan: Named<'_>,
-    output: Option<&str>,
-    extras: Extras,
-) -> u8 {
-    let Some(mut reader) = open(rt, plan, extras) else {
-        return 2;
-    };
-    let mut out = Watched::new(Sheet::new(rt, form_of(output), extras.watcher));
-    let ended = run_brief(rt.alloc(), &mut reader, &mut out);
-    finish(rt, plan, reader, out.into_inner(), output, ended, extras)
-}
-
-fn expand<R: Files + Input + Print + Eprint + Clock + AllocGlobal>(
-    rt: &R,
-    brief: Named<'_>,
-    output: Option<&str>,
-    extras: Extras,
-) -> u8 {
-    let Some(mut reader) = open(rt, brief, extras) else {
-        return 2;
-    };
-    let mut out = Watched::new(Sheet::new(rt, form_of(output), extras.watcher));
-    let ended = run_expand(rt.alloc(), &mut reader, &mut out);
-    finish(rt, brief, reader, out.into_inner(), output, ended, extras)
+    let sheet = Sheet::telling(rt, form, extras.watcher, rewriting.writes_long());
+    let mut out = Watched::new(sheet);
+    let ended = rewriting.run(rt.alloc(), &mut reader, &mut out);
+    finish(
+        rt,
+        text,
+        reader,
+        out.into_inner(),
+        form.path(),
+        ended,
+        extras,
+    )
 }
 
 /// Writes the file of a run that is to write one, and answers the status of a run over one text, with the line of a
@@ -490,6 +480,49 @@ pub fn outcome<'a, R: Files + Print + Eprint + Clock + AllocGlobal>(
         report,
         voice: extras.voice(),
     }
+}
+
+/// How a run over a plan and perhaps its certificate ended, the file that it was to write, and who started on its bench.
+#[derive(Clone, Copy)]
+pub struct End<'a> {
+    pub ended: Result<Status, RunError>,
+    pub output: Option<&'a str>,
+    pub starters: &'a str,
+}
+
+/// A file that is read, and its reader.
+pub type Reading<'a, 'b, R, F, S> = (Named<'a>, Source<'b, R, F, S>);
+
+/// Answers the status of a run over a plan and perhaps its certificate, with the line of a refusal, and hints where they are
+/// wanted.
+pub fn finish_certified<R: Files + Input + Print + Eprint + Clock + AllocGlobal>(
+    rt: &R,
+    plan: Reading<'_, '_, R, R::File, R::Reader>,
+    cert: Option<Reading<'_, '_, R, R::File, R::Reader>>,
+    mut out: Sheet<'_, R>,
+    end: End<'_>,
+    extras: Extras,
+) -> u8 {
+    let (named, mut reader) = plan;
+    let ended = out.settle(FilesRead::one(None), end.ended);
+    let status = status_of(rt, ended, extras);
+    match cert {
+        Some((other, mut second)) => {
+            let (read, error) = last_read(named, &mut reader, other, &mut second);
+            if extras.hints {
+                let outcome = outcome(read, error, out, end.output, ended, extras);
+                advise_on_certified(rt, file_of(reader), file_of(second), end.starters, outcome);
+            }
+        }
+        None => {
+            let error = reading_error(&mut reader);
+            if extras.hints {
+                let outcome = outcome(named, error, out, end.output, ended, extras);
+                advise_on_certified(rt, file_of(reader), None, end.starters, outcome);
+            }
+        }
+    }
+    status
 }
 
 /// The file that was read last of two, and the words of the system if it failed.

@@ -36,6 +36,16 @@ impl Asked<'_> {
             && !needs_picking(self.scl, self.sda, self.scope)
             && !has_unit(self.min_pulse)
     }
+
+    // Whether a time has a unit.
+    fn is_timed(&self) -> bool {
+        self.view.has_units() || has_unit(self.min_pulse)
+    }
+
+    // Whether the definitions of the dump have to be known first.
+    fn reads_ahead(&self) -> bool {
+        self.is_timed() || self.view.needs_scale() || needs_picking(self.scl, self.sda, self.scope)
+    }
 }
 
 /// Why a run ends without its report.
@@ -74,70 +84,81 @@ pub fn view_capture<I: Input, J: Input, O: Output>(
     asked: Asked<'_>,
 ) -> Result<Status, Halt> {
     let text = read_within(alloc, plan, READS)?;
-    let plan = plan_of(alloc, text.as_slice())?;
-    let mut made = Watched::new(Vec::new(alloc));
-    let Asked {
-        scl,
-        sda,
-        scope,
-        view,
-        min_pulse,
-        ..
-    } = asked;
-    let is_timed = view.has_units() || has_unit(min_pulse);
-    let scale = if is_timed || view.needs_scale() || needs_picking(scl, sda, scope) {
-        let (again, picked) = pick(alloc, vcd, scl, sda, scope)?;
-        let mut again = Watched::new(again);
-        let asked = Asked {
-            scl: picked.scl(),
-            sda: picked.sda(),
-            ..asked
-        };
-        let quiet = Quiet::of(min_pulse, picked.scale);
-        make(
-            rt,
-            alloc,
-            text.as_slice(),
-            &mut again,
-            &mut made,
-            asked,
-            quiet,
-        )?;
-        picked.scale
-    } else {
-        let quiet = Quiet::of(min_pulse, None);
-        make(rt, alloc, text.as_slice(), vcd, &mut made, asked, quiet)?;
-        None
-    };
-    if is_timed && scale.is_none() {
-        return Err(Halt::NoTimescale);
-    }
-    write_shown(
-        alloc,
-        &plan,
-        made.into_inner().as_slice(),
-        &view,
-        scale,
-        out,
-    )
+    view_text(rt, alloc, text.as_slice(), vcd, out, asked)
 }
 
-fn plan_of(alloc: Global, text: &[u8]) -> Result<Plan, RunError> {
-    Ok(read_plan(alloc, text)?)
-}
-
-// The exact report, or the one with lines for people.
-fn make<J: Input, O: Output>(
+fn view_text<J: Input, O: Output>(
     rt: &(impl Threads + Sync),
     alloc: Global,
-    plan: &[u8],
+    text: &[u8],
     vcd: &mut J,
-    made: &mut O,
+    out: &mut O,
+    asked: Asked<'_>,
+) -> Result<Status, Halt> {
+    let plan = read_plan(alloc, text).map_err(RunError::from)?;
+    let (report, scale) = viewed(rt, alloc, text, vcd, asked)?;
+    if asked.is_timed() && scale.is_none() {
+        return Err(Halt::NoTimescale);
+    }
+    write_shown(alloc, &plan, report.as_slice(), &asked.view, scale, out)
+}
+
+// The report, and what the dump says that its times count, where that has to be known.
+fn viewed<J: Input>(
+    rt: &(impl Threads + Sync),
+    alloc: Global,
+    text: &[u8],
+    vcd: &mut J,
+    asked: Asked<'_>,
+) -> Result<(Vec<u8>, Option<Scale>), RunError> {
+    if asked.reads_ahead() {
+        return picked(rt, alloc, text, vcd, asked);
+    }
+    let quiet = Quiet::of(asked.min_pulse, None);
+    match made(rt, alloc, text, vcd, asked, quiet) {
+        Ok(report) => Ok((report, None)),
+        Err(error) => Err(error),
+    }
+}
+
+// The same where the definitions of the dump are read ahead.
+fn picked<J: Input>(
+    rt: &(impl Threads + Sync),
+    alloc: Global,
+    text: &[u8],
+    vcd: &mut J,
+    asked: Asked<'_>,
+) -> Result<(Vec<u8>, Option<Scale>), RunError> {
+    let (again, picked) = pick(alloc, vcd, asked.scl, asked.sda, asked.scope)?;
+    let mut again = Watched::new(again);
+    let quiet = Quiet::of(asked.min_pulse, picked.scale);
+    let asked = Asked {
+        scl: picked.scl(),
+        sda: picked.sda(),
+        ..asked
+    };
+    let scale = picked.scale;
+    match made(rt, alloc, text, &mut again, asked, quiet) {
+        Ok(report) => Ok((report, scale)),
+        Err(error) => Err(error),
+    }
+}
+
+// The exact report, or the one with lines for people, in memory.
+fn made<J: Input>(
+    rt: &(impl Threads + Sync),
+    alloc: Global,
+    text: &[u8],
+    vcd: &mut J,
     asked: Asked<'_>,
     quiet: Quiet,
-) -> Result<Status, RunError> {
-    let mut plan = Watched::new(plan);
-    report_capture(rt, alloc, &mut plan, vcd, made, asked, quiet)
+) -> Result<Vec<u8>, RunError> {
+    let mut plan = Watched::new(text);
+    let mut made = Watched::new(Vec::new(alloc));
+    match report_capture(rt, alloc, &mut plan, vcd, &mut made, asked, quiet) {
+        Ok(_) => Ok(made.into_inner()),
+        Err(error) => Err(error),
+    }
 }
 
 /// Makes the exact report, or the one with lines for people.
