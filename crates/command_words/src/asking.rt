@@ -4,7 +4,7 @@ use crate::building::program;
 use crate::capturing::{Lines, Options, View};
 use clap::error::ErrorKind;
 use clap::{ArgMatches, Error};
-use dump_times::Time;
+use dump_tokens::Time;
 use std::alloc::{AllocError, Global};
 
 /// What a command line comes to.

@@ -1,7 +1,7 @@
 // What the options of a capture ask for.
 
 use clap::ArgMatches;
-use dump_times::Time;
+use dump_tokens::Time;
 
 /// Which signals of a dump are the two lines of the bus: those of these names, in this scope where there is one, or those
 /// of these codes.

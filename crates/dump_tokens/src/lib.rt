@@ -1,6 +1,17 @@
-//! A dump that is read for people: block by block, cut into tokens, each with its place. The reader of `vcd_read` decides
-//! what a dump says; here its tokens are shown, named and counted.
+//! A dump that is read for people: block by block (`reading`), cut into `tokens`, each with its place. The reader of
+//! `vcd_read` decides what a dump says; here its tokens are shown, named and counted.
+//!
+//! Times of a dump (IEEE 1364-2005, 18.2.3.6) are numbers in the unit that its `$timescale` names; people also write them
+//! with a unit of their own. `units` has the parts of a second, `times` reads what people write, and `scales` what stands in
+//! a `$timescale`, and writes times of that scale.
 #![tactic(auto)]
 
 pub mod reading;
+mod scales;
+mod times;
 pub mod tokens;
+mod units;
+
+pub use scales::Scale;
+pub use times::Time;
+pub use units::Unit;

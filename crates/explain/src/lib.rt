@@ -2,29 +2,33 @@
 //! lines begins with four spaces and has at most 80 columns, however long the names are. The reports themselves are made
 //! elsewhere, and are what they are without these lines.
 //!
+//! `reports` passes a report on with these lines between its own. `views` makes of the report on a capture what was asked for:
+//! some of its transactions, with times in parts of a second, or counted for each participant.
+//!
 //! Bytes are written as the Linux kernel's documents of the bus write them: `S 48 Wr A 01 A Sr 48 Rd A d4 NA P`. `S` is
 //! START, `Sr` a repeated START, `P` a STOP, `A` an acknowledge and `NA` none; an address has seven bits, `Wr` and `Rd` are
 //! the direction bit. A byte with open bits, and one that is cut short, is written in bits.
 #![tactic(auto)]
 
 mod below;
-pub mod benches;
+mod benches;
 mod breaks;
-pub mod captures;
+mod captures;
 mod cells;
-pub mod certificates;
-pub mod faults;
-pub mod hearing;
+mod certificates;
+mod faults;
+mod hearing;
 mod meeting;
-pub mod plans;
+mod plans;
 mod pulsing;
+mod reports;
 mod sending;
+mod views;
 mod wires;
 mod words;
 
-pub use benches::below_wire;
-pub use captures::below_transaction;
-pub use certificates::below_answer;
-pub use faults::{below_pair, below_unsafe};
 pub use hearing::{Heard, Notes};
-pub use plans::{Endings, below_safe};
+pub use reports::{
+    Overheard, Rehearsed, explain_answer, explain_pairs, explain_rehearsal, explain_transactions,
+};
+pub use views::{View, has_unit, shown, steps};

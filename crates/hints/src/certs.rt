@@ -1,12 +1,12 @@
 // After a certificate that is wrong.
 
 use crate::finding::LineFinder;
+use crate::kinds::{Kind, kind_of_file, push_kind};
+use crate::lines::Lines;
+use crate::marking::push_marked;
 use crate::pieces::Piece;
 use crate::proof_lines::{Flaw, flaw_in};
 use dump_tokens::reading::read_again;
-use hint_lines::kinds::{Kind, kind_of_file, push_kind};
-use hint_lines::lines::Lines;
-use hint_lines::marking::push_marked;
 use std::alloc::{AllocError, Global};
 use std::io::{Read, Seek};
 

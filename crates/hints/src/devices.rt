@@ -1,6 +1,6 @@
 // After a file that cannot be read or written, and after other refusals that have no place in a text.
 
-use hint_lines::lines::Lines;
+use crate::lines::Lines;
 use std::alloc::{AllocError, Global};
 use std::io::Error;
 

@@ -1,7 +1,7 @@
 // One line of a file, which is read until its end.
 
+use crate::kinds::LOOKED_AT;
 use dump_tokens::reading::Reading;
-use hint_lines::kinds::LOOKED_AT;
 use std::alloc::Global;
 use std::io;
 

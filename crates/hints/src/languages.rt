@@ -1,7 +1,7 @@
 // The two languages in which people write plans.
 
+use crate::kinds::Kind;
 use brief_text::expand_brief;
-use hint_lines::kinds::Kind;
 use plan_text::{PlanError, read_plan};
 use std::alloc::{AllocError, Global};
 

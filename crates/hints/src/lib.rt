@@ -1,18 +1,27 @@
 //! What is said to people after a refusal, or after a report that tells of nothing: where the cause stands, and what would
-//! stand there instead. What is said of dumps stands in `dump_hints`.
+//! stand there instead.
 //!
 //! Nothing here decides anything. A refusal is the caller's, and the file is read once more, in blocks, to find its place:
 //! `plans` asks the reader of plans or of briefs (`languages`) about beginnings of the text (`expecting`, `words`), `certs`
 //! follows one line of a certificate (`finding`, `proof_lines`), and `starters` looks for labels in the plan. `safety` says
 //! what a safe plan leaves out, and `devices` which file failed. Where the file cannot be read once more, or has changed,
-//! only the words are left (`wording`).
+//! only the words are left (`wording`). What is said of dumps stands in `captures`.
+//!
+//! `lines` puts the word `hint:` before each line, and breaks sentences for 80 columns. `marking` shows a place in its line.
+//! `kinds` tells by its first bytes what a file is that stands in the place of another, and `likeness` which names are nearest
+//! to one that is not there.
 #![tactic(auto)]
 
+mod captures;
 mod certs;
 mod devices;
 mod expecting;
 mod finding;
+mod kinds;
 mod languages;
+mod likeness;
+mod lines;
+mod marking;
 mod pieces;
 mod plans;
 mod proof_lines;
@@ -21,6 +30,7 @@ mod starters;
 mod wording;
 mod words;
 
+pub use captures::{Names, on_choice, on_dump, on_silence, on_unexplained};
 pub use certs::{Wrong, on_certificate, wrong_of};
 pub use devices::{
     Named, on_closed_input, on_memory, on_opening, on_reading, on_workers, on_writing,

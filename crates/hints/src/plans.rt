@@ -1,15 +1,15 @@
 // After the refusal of a plan or of a brief, and after a plan that has no brief.
 
 use crate::expecting::expected;
+use crate::kinds::{Kind, kind_of_file, push_kind};
 use crate::languages::Language;
+use crate::lines::Lines;
+use crate::marking::{first_line, last_line, push_marked};
 use crate::pieces::{Piece, last_line_number, line_start, pieces};
 use crate::wording::of_text;
 use crate::words::push_word;
 use brief_text::brief_word;
 use dump_tokens::reading::part;
-use hint_lines::kinds::{Kind, kind_of_file, push_kind};
-use hint_lines::lines::Lines;
-use hint_lines::marking::{first_line, last_line, push_marked};
 use plan_core::Plan;
 use plan_text::{PlanError, read_plan};
 use std::alloc::{AllocError, Global};

@@ -1,7 +1,7 @@
 // After a plan that is safe: what was not looked at.
 
+use crate::lines::Lines;
 use crate::plans::plan_of;
-use hint_lines::lines::Lines;
 use plan_core::Plan;
 use std::alloc::{AllocError, Global};
 use std::io::{Read, Seek};

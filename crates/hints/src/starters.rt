@@ -1,9 +1,9 @@
 // After starters of a bench that are refused.
 
+use crate::likeness::Nearest;
+use crate::lines::Lines;
+use crate::marking::quoted;
 use crate::plans::plan_of;
-use hint_lines::likeness::Nearest;
-use hint_lines::lines::Lines;
-use hint_lines::marking::quoted;
 use plan_core::{Participant, Plan};
 use plays::OpenError;
 use std::alloc::{AllocError, Global};

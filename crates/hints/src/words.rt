@@ -2,7 +2,7 @@
 
 use crate::expecting::allows;
 use crate::languages::Language;
-use hint_lines::lines::Lines;
+use crate::lines::Lines;
 use std::alloc::{AllocError, Global};
 
 /// Says why this word cannot stand after this beginning of a text, where it is a word of the language in the place of a

@@ -1,7 +1,7 @@
 // The definitions of a dump, read ahead of it.
 
 use crate::definitions::{Definitions, Listing};
-use dump_times::Scale;
+use dump_tokens::Scale;
 use dump_tokens::reading::{BLOCK, Reading};
 use dump_tokens::tokens::Cutter;
 use run_parts::devices::reading::READS;
@@ -49,38 +49,66 @@ pub fn read_beginning<'a, J: Input, L: Listing + Drop>(
     vcd: &'a mut J,
     listing: L,
 ) -> Result<(Again<'a, J>, L, Option<Scale>), RunError> {
-    let mut block = vec![in alloc; 0u8; BLOCK]?;
-    let mut text = Vec::new(alloc);
-    let mut cutter = Cutter::new(alloc, Definitions::new(alloc, listing));
-    let mut is_whole = false;
-    for _ in 0..READS {
-        let Ok(count) = vcd.read(block.as_mut_slice()) else {
-            return Err(RunError::Read);
-        };
-        is_whole = count == 0;
-        let piece = block.as_slice().get(..count).unwrap_or(&[]);
-        text.extend_from_slice(piece)?;
-        if is_whole || !wants_more(&mut cutter, piece)? {
-            break;
-        }
-    }
-    let (definitions, _) = cutter.finish()?;
-    let scale = definitions.scale();
+    let mut beginning = Beginning {
+        text: Vec::new(alloc),
+        is_whole: false,
+        cutter: Cutter::new(alloc, Definitions::new(alloc, listing)),
+    };
+    read_on(alloc, vcd, &mut beginning)?;
+    let Beginning {
+        text,
+        is_whole,
+        cutter,
+    } = beginning;
     let again = Again {
         text,
         at: 0,
         is_whole,
         rest: vcd,
     };
-    Ok((again, definitions.into_listing(), scale))
+    match cutter.finish() {
+        Ok((definitions, _)) => {
+            let scale = definitions.scale();
+            Ok((again, definitions.into_listing(), scale))
+        }
+        Err(_) => Err(RunError::NoMemory),
+    }
 }
 
-fn wants_more<L: Listing>(
-    cutter: &mut Cutter<Definitions<L>>,
-    piece: &[u8],
-) -> Result<bool, RunError> {
-    match cutter.block(piece) {
-        Ok(more) => Ok(more),
-        Err(_) => Err(RunError::NoMemory),
+// What was read so far, and its definitions.
+#[derive(Drop)]
+struct Beginning<L> {
+    text: Vec<u8>,
+    // whether the text is the whole dump
+    is_whole: bool,
+    cutter: Cutter<Definitions<L>>,
+}
+
+fn read_on<J: Input, L: Listing>(
+    alloc: Global,
+    vcd: &mut J,
+    beginning: &mut Beginning<L>,
+) -> Result<(), RunError> {
+    let mut block = vec![in alloc; 0u8; BLOCK]?;
+    for _ in 0..READS {
+        let Ok(count) = vcd.read(block.as_mut_slice()) else {
+            return Err(RunError::Read);
+        };
+        if !beginning.block(block.as_slice().get(..count).unwrap_or(&[]))? {
+            return Ok(());
+        }
+    }
+    Ok(())
+}
+
+impl<L: Listing> Beginning<L> {
+    // The next block, which is empty at the end of the dump. Whether more are wanted.
+    fn block(&mut self, piece: &[u8]) -> Result<bool, RunError> {
+        self.is_whole = piece.is_empty();
+        self.text.extend_from_slice(piece)?;
+        match self.cutter.block(piece) {
+            Ok(more) => Ok(more && !self.is_whole),
+            Err(_) => Err(RunError::NoMemory),
+        }
     }
 }

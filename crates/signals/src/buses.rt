@@ -39,6 +39,16 @@ const UNSEEN: Pair = Pair {
     broken: 0,
 };
 
+// One signal: as SDA, those that may be its SCL, and those with which the bus is free, and busy.
+#[derive(Clone, Copy)]
+struct Signal {
+    likely: Mask,
+    free: Mask,
+    busy: Mask,
+    // how often it has risen
+    rises: u64,
+}
+
 // So many broken ones, and no more whole ones, and a pair is no bus.
 const PATIENCE: u32 = 8;
 
@@ -49,12 +59,7 @@ pub(crate) struct Buses {
     // the levels before the time stamp
     known: Mask,
     high: Mask,
-    // for each signal as SDA: those that may be its SCL, and those with which the bus is free, and busy
-    likely: Vec<Mask>,
-    free: Vec<Mask>,
-    busy: Vec<Mask>,
-    // how often each has risen
-    rises: Vec<u64>,
+    signals: Vec<Signal>,
     // for each signal as SDA, each other as SCL
     pairs: Vec<Pair>,
 }
@@ -67,14 +72,17 @@ impl Buses {
         for number in 0..count {
             all.set(number, true);
         }
+        let signal = Signal {
+            likely: all,
+            free: Mask::empty(),
+            busy: Mask::empty(),
+            rises: 0,
+        };
         Ok(Buses {
             count,
             known: Mask::empty(),
             high: Mask::empty(),
-            likely: vec![in alloc; all; count]?,
-            free: vec![in alloc; Mask::empty(); count]?,
-            busy: vec![in alloc; Mask::empty(); count]?,
-            rises: vec![in alloc; 0u64; count]?,
+            signals: vec![in alloc; signal; count]?,
             pairs: vec![in alloc; UNSEEN; count.saturating_mul(count)]?,
         })
     }
@@ -100,8 +108,8 @@ impl Buses {
             (Level::High, Level::Low) => self.falls(signal, stays_high),
             (Level::Low, Level::High) => {
                 self.stops(signal, stays_high);
-                if let Some(rises) = self.rises.get_mut(signal) {
-                    *rises = rises.saturating_add(1);
+                if let Some(own) = self.signals.get_mut(signal) {
+                    own.rises = own.rises.saturating_add(1);
                 }
             }
             (_, Level::Unknown) => self.unknown(signal),
@@ -112,18 +120,15 @@ impl Buses {
 
     // SDA falls: a START on a free bus, and a repeated START on a busy one.
     fn falls(&mut self, sda: usize, stays_high: &Mask) {
-        let (Some(likely), Some(free), Some(busy)) = (
-            self.likely.get(sda).copied(),
-            self.free.get(sda).copied(),
-            self.busy.get(sda).copied(),
-        ) else {
+        let Some(own) = self.signals.get_mut(sda) else {
             return;
         };
-        let scls = stays_high.and(&likely);
+        let Signal { free, busy, .. } = *own;
+        let scls = stays_high.and(&own.likely);
         let mut again = scls.and(&busy);
         let begun = scls.and(&free);
-        put(&mut self.free, sda, free.without(&begun));
-        put(&mut self.busy, sda, busy.or(&begun));
+        own.free = free.without(&begun);
+        own.busy = busy.or(&begun);
         for _ in 0..MOST {
             let Some(scl) = again.take_least() else {
                 break;
@@ -141,16 +146,13 @@ impl Buses {
 
     // SDA rises: a STOP.
     fn stops(&mut self, sda: usize, stays_high: &Mask) {
-        let (Some(likely), Some(free), Some(busy)) = (
-            self.likely.get(sda).copied(),
-            self.free.get(sda).copied(),
-            self.busy.get(sda).copied(),
-        ) else {
+        let Some(own) = self.signals.get_mut(sda) else {
             return;
         };
-        let scls = stays_high.and(&likely);
-        put(&mut self.free, sda, free.or(&scls));
-        put(&mut self.busy, sda, busy.without(&scls));
+        let Signal { free, busy, .. } = *own;
+        let scls = stays_high.and(&own.likely);
+        own.free = free.or(&scls);
+        own.busy = busy.without(&scls);
         let mut ended = scls.and(&busy);
         for _ in 0..MOST {
             let Some(scl) = ended.take_least() else {
@@ -164,7 +166,7 @@ impl Buses {
     }
 
     fn part_begins(&mut self, scl: usize, sda: usize) {
-        let rises = self.rises.get(scl).copied().unwrap_or(0);
+        let rises = self.rises(scl).unwrap_or(0);
         if let Some(pair) = self.pair(scl, sda) {
             pair.rises = rises;
         }
@@ -172,7 +174,7 @@ impl Buses {
 
     // Whole bytes, each with its acknowledge, are nine bits each; then SCL rises once more.
     fn part_ends(&mut self, scl: usize, sda: usize) {
-        let rises = self.rises.get(scl).copied().unwrap_or(0);
+        let rises = self.rises(scl).unwrap_or(0);
         let Some(pair) = self.pair(scl, sda) else {
             return;
         };
@@ -183,8 +185,8 @@ impl Buses {
             pair.broken = pair.broken.saturating_add(1);
         }
         if pair.broken >= PATIENCE && pair.broken >= pair.whole {
-            if let Some(likely) = self.likely.get_mut(sda) {
-                likely.set(scl, false);
+            if let Some(own) = self.signals.get_mut(sda) {
+                own.likely.set(scl, false);
             }
         }
     }
@@ -194,31 +196,38 @@ impl Buses {
             .get_mut(sda.saturating_mul(self.count).saturating_add(scl))
     }
 
-    fn unknown(&mut self, signal: usize) {
-        put(&mut self.free, signal, Mask::empty());
-        put(&mut self.busy, signal, Mask::empty());
-        for mask in self.free.iter_mut() {
-            mask.set(signal, false);
+    // As SDA, with no other signal it is a bus.
+    fn forget(&mut self, signal: usize) {
+        if let Some(own) = self.signals.get_mut(signal) {
+            own.free = Mask::empty();
+            own.busy = Mask::empty();
         }
-        for mask in self.busy.iter_mut() {
-            mask.set(signal, false);
+    }
+
+    fn rises(&self, signal: usize) -> Option<u64> {
+        Some(self.signals.get(signal)?.rises)
+    }
+
+    fn unknown(&mut self, signal: usize) {
+        self.forget(signal);
+        for other in self.signals.iter_mut() {
+            other.free.set(signal, false);
+            other.busy.set(signal, false);
         }
     }
 
     // With each other signal that is known: the bus is free where both are HIGH.
     fn becomes_known(&mut self, signal: usize, is_high: bool) {
         let high = self.high;
-        put(
-            &mut self.free,
-            signal,
-            if is_high { high } else { Mask::empty() },
-        );
-        put(&mut self.busy, signal, Mask::empty());
-        for mask in self.busy.iter_mut() {
-            mask.set(signal, false);
+        self.forget(signal);
+        for (number, other) in self.signals.iter_mut().enumerate() {
+            other.busy.set(signal, false);
+            other.free.set(signal, is_high && high.has(number));
         }
-        for (other, mask) in self.free.iter_mut().enumerate() {
-            mask.set(signal, is_high && high.has(other));
+        if let Some(own) = self.signals.get_mut(signal)
+            && is_high
+        {
+            own.free = high;
         }
     }
 
@@ -241,18 +250,12 @@ impl Buses {
     // How many transactions of the two were ended by a STOP, where they look like a bus. For each bit SCL rises once, and
     // SDA once at most.
     fn stopped(&self, scl: usize, sda: usize) -> Option<u32> {
-        if self.rises.get(sda)? > self.rises.get(scl)? {
+        if self.rises(sda)? > self.rises(scl)? {
             return None;
         }
         let pair = self
             .pairs
             .get(sda.saturating_mul(self.count).saturating_add(scl))?;
         (pair.stopped > 0 && pair.whole > pair.broken).then_some(pair.stopped)
-    }
-}
-
-fn put(masks: &mut Vec<Mask>, signal: usize, mask: Mask) {
-    if let Some(place) = masks.get_mut(signal) {
-        *place = mask;
     }
 }

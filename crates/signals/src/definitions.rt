@@ -1,6 +1,6 @@
 // The definitions of a dump, followed token by token (IEEE 1364-2005, 18.2.3).
 
-use dump_times::Scale;
+use dump_tokens::Scale;
 use dump_tokens::tokens::{KEPT, Place, Sink};
 use std::alloc::{AllocError, Global};
 use std::str;
@@ -96,14 +96,7 @@ impl<L: Listing> Definitions<L> {
         if !token.starts_with(b"$") || token == b"$end".as_slice() {
             return false;
         }
-        self.doing = match token {
-            b"$scope" => Doing::Scope(0),
-            b"$upscope" => Doing::Upscope,
-            b"$var" => Doing::Var(0, false),
-            b"$timescale" => Doing::Timescale,
-            b"$enddefinitions" => Doing::EndDefinitions,
-            _ => Doing::Skipping,
-        };
+        self.doing = doing_after(token);
         true
     }
 
@@ -205,6 +198,23 @@ impl<L: Listing> Definitions<L> {
         }
         self.name.push(b' ')?;
         self.name.extend_from_slice(token)
+    }
+}
+
+// What the tokens after this keyword belong to.
+fn doing_after(keyword: &[u8]) -> Doing {
+    if keyword == b"$scope".as_slice() {
+        Doing::Scope(0)
+    } else if keyword == b"$upscope".as_slice() {
+        Doing::Upscope
+    } else if keyword == b"$var".as_slice() {
+        Doing::Var(0, false)
+    } else if keyword == b"$timescale".as_slice() {
+        Doing::Timescale
+    } else if keyword == b"$enddefinitions".as_slice() {
+        Doing::EndDefinitions
+    } else {
+        Doing::Skipping
     }
 }
 

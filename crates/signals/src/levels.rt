@@ -141,10 +141,11 @@ impl Levels {
 }
 
 fn is_mark(token: &[u8]) -> bool {
-    matches!(
-        token,
-        b"$end" | b"$dumpvars" | b"$dumpall" | b"$dumpoff" | b"$dumpon"
-    )
+    token == b"$end".as_slice()
+        || token == b"$dumpvars".as_slice()
+        || token == b"$dumpall".as_slice()
+        || token == b"$dumpoff".as_slice()
+        || token == b"$dumpon".as_slice()
 }
 
 fn level_of(value: u8) -> Option<Level> {
@@ -160,10 +161,7 @@ impl Sink for Levels {
     fn token(&mut self, token: &[u8], _place: Place) -> Result<bool, AllocError> {
         match self.doing {
             Doing::Defining(false) => {
-                self.doing = match token {
-                    b"$enddefinitions" => Doing::Defining(true),
-                    _ => Doing::Defining(false),
-                };
+                self.doing = Doing::Defining(token == b"$enddefinitions".as_slice());
             }
             Doing::Defining(true) => {
                 if token == b"$end".as_slice() {

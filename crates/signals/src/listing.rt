@@ -28,9 +28,7 @@ struct Entry {
 
 // The signals that the definitions declare.
 #[derive(Drop)]
-struct Entries {
-    alloc: Global,
-    codes: Codes,
+struct Declared {
     // the end of the path of each scope that has signals
     scopes: Vec<Vec<u8>>,
     entries: Vec<Entry>,
@@ -38,164 +36,68 @@ struct Entries {
     by_number: Vec<usize>,
 }
 
+// The same, and their codes.
+#[derive(Drop)]
+struct Entries {
+    alloc: Global,
+    codes: Codes,
+    declared: Declared,
+}
+
+impl Entries {
+    fn new(alloc: Global) -> Result<Entries, AllocError> {
+        Ok(Entries {
+            alloc,
+            codes: Codes::new(alloc)?,
+            declared: Declared {
+                scopes: Vec::new(alloc),
+                entries: Vec::new(alloc),
+                by_number: Vec::new(alloc),
+            },
+        })
+    }
+}
+
 impl Listing for Entries {
     fn signal(&mut self, found: Found<'_>) -> Result<(), AllocError> {
-        let scope = end_of(found.scope);
-        let is_new = match self.scopes.last() {
-            Some(last) => last.as_slice() != scope,
-            None => true,
-        };
-        if is_new {
-            self.scopes.push(scope.to_vec(self.alloc)?)?;
-        }
         let number = self.codes.add(self.alloc, found.code)?;
+        self.declared.enter(self.alloc, end_of(found.scope))?;
+        self.declared.add(self.alloc, number, found)
+    }
+}
+
+impl Declared {
+    // The scope of the next signals.
+    fn enter(&mut self, alloc: Global, scope: &[u8]) -> Result<(), AllocError> {
+        let is_same = match self.scopes.last() {
+            Some(last) => last.as_slice() == scope,
+            None => false,
+        };
+        if !is_same {
+            self.scopes.push(scope.to_vec(alloc)?)?;
+        }
+        Ok(())
+    }
+
+    fn add(&mut self, alloc: Global, number: u32, found: Found<'_>) -> Result<(), AllocError> {
         if number as usize == self.by_number.len() {
             self.by_number.push(self.entries.len())?;
         }
         self.entries.push(Entry {
             number,
             scope: self.scopes.len().saturating_sub(1),
-            code: found.code.to_vec(self.alloc)?,
-            name: found.name.to_vec(self.alloc)?,
+            code: found.code.to_vec(alloc)?,
+            name: found.name.to_vec(alloc)?,
         })?;
         Ok(())
     }
-}
 
-// The last scopes of a path, as many as are shown.
-fn end_of(path: &[u8]) -> &[u8] {
-    let end = path.get(path.len().saturating_sub(SHOWN)..).unwrap_or(path);
-    if end.len() == path.len() {
-        return path;
-    }
-    let point = end.iter().position(|byte| *byte == b'.').unwrap_or(0);
-    end.get(point..).unwrap_or(end)
-}
-
-// A dump that was read to its end.
-#[derive(Drop)]
-struct Listed {
-    entries: Vec<Entry>,
-    scopes: Vec<Vec<u8>>,
-    by_number: Vec<usize>,
-    levels: Levels,
-    buses: Vec<Bus>,
-}
-
-fn list<J: Input>(alloc: Global, vcd: &mut J) -> Result<Listed, RunError> {
-    let entries = Entries {
-        alloc,
-        codes: Codes::new(alloc)?,
-        scopes: Vec::new(alloc),
-        entries: Vec::new(alloc),
-        by_number: Vec::new(alloc),
-    };
-    let (mut again, entries, _) = read_beginning(alloc, vcd, entries)?;
-    let Entries {
-        codes,
-        scopes,
-        entries,
-        by_number,
-        ..
-    } = entries;
-    let code = match entries.first() {
-        Some(entry) => str::from_utf8(entry.code.as_slice()).unwrap_or(""),
-        None => "",
-    };
-    let reader = Reader::of(alloc, Probe::Coded(code), Probe::Coded(code))?;
-    let levels = read_levels(alloc, &mut again, reader, Levels::new(alloc, codes)?)?;
-    let buses = levels.buses().found(alloc)?;
-    Ok(Listed {
-        entries,
-        scopes,
-        by_number,
-        levels,
-        buses,
-    })
-}
-
-/// Lists the signals of one bit of the dump that the reader gives, in its order: for each its code, how often it changes,
-/// its scope and its name; and then the pairs of signals that look like the two lines of a bus.
-///
-/// # Errors
-///
-/// `Read` where the reader failed or gave no end, `Vcd` with the first refusal of the dump, where V1 says that it has no
-/// signal of one bit, and `Write` where the writer failed or took no bytes. `NoMemory` where memory is refused.
-pub fn run_signals<J: Input, O: Output>(
-    alloc: Global,
-    vcd: &mut J,
-    out: &mut O,
-) -> Result<Status, RunError> {
-    let listed = list(alloc, vcd)?;
-    let mut text = String::new(alloc);
-    for entry in listed.entries.iter() {
-        listed.push_signal(alloc, &mut text, entry)?;
-    }
-    for bus in listed.buses.iter() {
-        let stopped = bus.stopped;
-        let begin = format!(in alloc; "bus {stopped} transactions ")?;
-        text.push_str(begin.as_str())?;
-        listed.push_codes(alloc, &mut text, bus)?;
-        text.push('\n')?;
-    }
-    let signals = listed.entries.len();
-    let buses = listed.buses.len();
-    let last = format!(in alloc; "{signals} signals, {buses} buses\n")?;
-    text.push_str(last.as_str())?;
-    write_report(out, text.as_bytes())?;
-    Ok(Status::Good)
-}
-
-/// The options that choose the first pair of signals of a dump that looks like a bus: by names where these are plain and no
-/// other signal of one bit has them, and else by codes.
-///
-/// # Errors
-///
-/// Those of `run_signals`, without `Write`.
-pub fn bus_options<J: Input>(alloc: Global, vcd: &mut J) -> Result<Option<String>, RunError> {
-    let listed = list(alloc, vcd)?;
-    let Some(bus) = listed.buses.first() else {
-        return Ok(None);
-    };
-    let mut text = String::new(alloc);
-    match (listed.plain_name(bus.scl), listed.plain_name(bus.sda)) {
-        (Some(scl), Some(sda)) => {
-            text.push_str("--scl ")?;
-            push_bytes(alloc, &mut text, scl)?;
-            text.push_str(" --sda ")?;
-            push_bytes(alloc, &mut text, sda)?;
+    // The code of the first of them.
+    fn first_code(&self) -> &str {
+        match self.entries.first() {
+            Some(entry) => str::from_utf8(entry.code.as_slice()).unwrap_or(""),
+            None => "",
         }
-        _ => listed.push_codes(alloc, &mut text, bus)?,
-    }
-    Ok(Some(text))
-}
-
-impl Listed {
-    fn push_signal(
-        &self,
-        alloc: Global,
-        text: &mut String,
-        entry: &Entry,
-    ) -> Result<(), AllocError> {
-        text.push_str("signal ")?;
-        push_bytes(alloc, text, entry.code.as_slice())?;
-        let changes = self.levels.changes(entry.number);
-        let changes = format!(in alloc; " {changes} ")?;
-        text.push_str(changes.as_str())?;
-        match self.scopes.get(entry.scope) {
-            Some(scope) if !scope.is_empty() => push_scope(alloc, text, scope.as_slice())?,
-            _ => text.push('-')?,
-        }
-        text.push(' ')?;
-        push_bytes(alloc, text, entry.name.as_slice())?;
-        text.push('\n')
-    }
-
-    fn push_codes(&self, alloc: Global, text: &mut String, bus: &Bus) -> Result<(), AllocError> {
-        text.push_str("--scl-code ")?;
-        push_quoted(alloc, text, self.code(bus.scl))?;
-        text.push_str(" --sda-code ")?;
-        push_quoted(alloc, text, self.code(bus.sda))
     }
 
     // The first signal with the code that has this number.
@@ -221,6 +123,206 @@ impl Listed {
     }
 }
 
+// The last scopes of a path, as many as are shown.
+fn end_of(path: &[u8]) -> &[u8] {
+    let end = path.get(path.len().saturating_sub(SHOWN)..).unwrap_or(path);
+    if end.len() == path.len() {
+        return path;
+    }
+    let point = end.iter().position(|byte| *byte == b'.').unwrap_or(0);
+    end.get(point..).unwrap_or(end)
+}
+
+// A dump that was read to its end.
+#[derive(Drop)]
+struct Listed {
+    declared: Declared,
+    levels: Levels,
+    buses: Vec<Bus>,
+}
+
+fn list<J: Input>(alloc: Global, vcd: &mut J) -> Result<Listed, RunError> {
+    let entries = Entries::new(alloc)?;
+    let (mut again, entries, _) = read_beginning(alloc, vcd, entries)?;
+    let Entries {
+        codes,
+        declared,
+        ..
+    } = entries;
+    let code = declared.first_code();
+    match levels_of(alloc, &mut again, codes, code) {
+        Ok((levels, buses)) => Ok(Listed {
+            declared,
+            levels,
+            buses,
+        }),
+        Err(error) => Err(error),
+    }
+}
+
+// The levels of the signals with these codes, of which this is one, and the buses.
+fn levels_of(
+    alloc: Global,
+    vcd: &mut impl Read,
+    codes: Codes,
+    code: &str,
+) -> Result<(Levels, Vec<Bus>), RunError> {
+    let levels = Levels::new(alloc, codes)?;
+    let reader = Reader::of(alloc, Probe::Coded(code), Probe::Coded(code))?;
+    let mut changes = Changes {
+        reader,
+        cutter: Cutter::new(alloc, levels),
+    };
+    read_changes(alloc, vcd, &mut changes)?;
+    let levels = changes.finish()?;
+    match levels.buses().found(alloc) {
+        Ok(buses) => Ok((levels, buses)),
+        Err(error) => Err(RunError::from(error)),
+    }
+}
+
+// A dump that is read, and its levels.
+#[derive(Drop)]
+struct Changes {
+    reader: Reader,
+    cutter: Cutter<Levels>,
+}
+
+impl Changes {
+    fn block(&mut self, piece: &[u8]) -> Result<(), RunError> {
+        self.reader.feed(piece)?;
+        self.reader.clear_samples();
+        match self.cutter.block(piece) {
+            Ok(_) => Ok(()),
+            Err(_) => Err(RunError::NoMemory),
+        }
+    }
+
+    // The levels of a dump that its reader does not refuse.
+    fn finish(self) -> Result<Levels, RunError> {
+        let Changes { reader, cutter } = self;
+        reader.end()?;
+        let (mut levels, _) = cutter.finish()?;
+        levels.settle()?;
+        Ok(levels)
+    }
+}
+
+fn read_changes(alloc: Global, vcd: &mut impl Read, changes: &mut Changes) -> Result<(), RunError> {
+    let mut block = vec![in alloc; 0u8; BLOCK]?;
+    for _ in 0..READS {
+        let Ok(count) = vcd.read(block.as_mut_slice()) else {
+            return Err(RunError::Read);
+        };
+        if count == 0 {
+            return Ok(());
+        }
+        changes.block(block.as_slice().get(..count).unwrap_or(&[]))?;
+    }
+    Err(RunError::Read)
+}
+
+/// Lists the signals of one bit of the dump that the reader gives, in its order: for each its code, how often it changes,
+/// its scope and its name; and then the pairs of signals that look like the two lines of a bus.
+///
+/// # Errors
+///
+/// `Read` where the reader failed or gave no end, `Vcd` with the first refusal of the dump, where V1 says that it has no
+/// signal of one bit, and `Write` where the writer failed or took no bytes. `NoMemory` where memory is refused.
+pub fn run_signals<J: Input, O: Output>(
+    alloc: Global,
+    vcd: &mut J,
+    out: &mut O,
+) -> Result<Status, RunError> {
+    let listed = list(alloc, vcd)?;
+    let text = listed.text(alloc)?;
+    write_report(out, text.as_bytes())?;
+    Ok(Status::Good)
+}
+
+/// The options that choose the first pair of signals of a dump that looks like a bus: by names where these are plain and no
+/// other signal of one bit has them, and else by codes.
+///
+/// # Errors
+///
+/// Those of `run_signals`, without `Write`.
+pub fn bus_options<J: Input>(alloc: Global, vcd: &mut J) -> Result<Option<String>, RunError> {
+    let listed = list(alloc, vcd)?;
+    Ok(listed.options(alloc)?)
+}
+
+impl Listed {
+    fn text(&self, alloc: Global) -> Result<String, AllocError> {
+        let mut text = String::new(alloc);
+        self.push_lines(alloc, &mut text)?;
+        Ok(text)
+    }
+
+    fn push_lines(&self, alloc: Global, text: &mut String) -> Result<(), AllocError> {
+        for entry in self.declared.entries.iter() {
+            self.push_signal(alloc, text, entry)?;
+        }
+        for bus in self.buses.iter() {
+            let stopped = bus.stopped;
+            write!(text, "bus {stopped} transactions ")?;
+            self.push_codes(alloc, text, bus)?;
+            text.push('\n')?;
+        }
+        let signals = self.declared.entries.len();
+        let buses = self.buses.len();
+        write!(text, "{signals} signals, {buses} buses\n")
+    }
+
+    fn options(&self, alloc: Global) -> Result<Option<String>, AllocError> {
+        let Some(bus) = self.buses.first() else {
+            return Ok(None);
+        };
+        let mut text = String::new(alloc);
+        self.push_options(alloc, &mut text, bus)?;
+        Ok(Some(text))
+    }
+
+    fn push_options(&self, alloc: Global, text: &mut String, bus: &Bus) -> Result<(), AllocError> {
+        let names = (
+            self.declared.plain_name(bus.scl),
+            self.declared.plain_name(bus.sda),
+        );
+        let (Some(scl), Some(sda)) = names else {
+            return self.push_codes(alloc, text, bus);
+        };
+        text.push_str("--scl ")?;
+        push_bytes(alloc, text, scl)?;
+        text.push_str(" --sda ")?;
+        push_bytes(alloc, text, sda)
+    }
+
+    fn push_signal(
+        &self,
+        alloc: Global,
+        text: &mut String,
+        entry: &Entry,
+    ) -> Result<(), AllocError> {
+        text.push_str("signal ")?;
+        push_bytes(alloc, text, entry.code.as_slice())?;
+        let changes = self.levels.changes(entry.number);
+        write!(text, " {changes} ")?;
+        match self.declared.scopes.get(entry.scope) {
+            Some(scope) if !scope.is_empty() => push_scope(alloc, text, scope.as_slice())?,
+            _ => text.push('-')?,
+        }
+        text.push(' ')?;
+        push_bytes(alloc, text, entry.name.as_slice())?;
+        text.push('\n')
+    }
+
+    fn push_codes(&self, alloc: Global, text: &mut String, bus: &Bus) -> Result<(), AllocError> {
+        text.push_str("--scl-code ")?;
+        push_quoted(alloc, text, self.declared.code(bus.scl))?;
+        text.push_str(" --sda-code ")?;
+        push_quoted(alloc, text, self.declared.code(bus.sda))
+    }
+}
+
 // Whether the reference of the signal is this name.
 fn is_called(entry: &Entry, name: &[u8]) -> bool {
     match entry.name.as_slice().strip_prefix(name) {
@@ -234,35 +336,6 @@ fn push_scope(alloc: Global, text: &mut String, scope: &[u8]) -> Result<(), Allo
         text.push('.')?;
     }
     push_bytes(alloc, text, scope)
-}
-
-// The levels of a dump that its reader does not refuse.
-fn read_levels(
-    alloc: Global,
-    vcd: &mut impl Read,
-    mut reader: Reader,
-    levels: Levels,
-) -> Result<Levels, RunError> {
-    let mut block = vec![in alloc; 0u8; BLOCK]?;
-    let mut cutter = Cutter::new(alloc, levels);
-    for _ in 0..READS {
-        let Ok(count) = vcd.read(block.as_mut_slice()) else {
-            return Err(RunError::Read);
-        };
-        if count == 0 {
-            reader.end()?;
-            let (mut levels, _) = cutter.finish()?;
-            levels.settle()?;
-            return Ok(levels);
-        }
-        let piece = block.as_slice().get(..count).unwrap_or(&[]);
-        reader.feed(piece)?;
-        reader.clear_samples();
-        if cutter.block(piece).is_err() {
-            return Err(RunError::NoMemory);
-        }
-    }
-    Err(RunError::Read)
 }
 
 // A code as a shell takes it.
@@ -284,8 +357,7 @@ fn push_bytes(alloc: Global, text: &mut String, bytes: &[u8]) -> Result<(), Allo
         if matches!(*byte, b' '..=b'~') {
             text.push(char::from(*byte))?;
         } else {
-            let hex = format!(in alloc; "\\x{byte:02x}")?;
-            text.push_str(hex.as_str())?;
+            write!(text, "\\x{byte:02x}")?;
         }
     }
     Ok(())

@@ -2,7 +2,7 @@
 
 use crate::beginning::{Again, read_beginning};
 use crate::definitions::{Found, Listing};
-use dump_times::Scale;
+use dump_tokens::Scale;
 use run_parts::{Input, RunError};
 use std::alloc::{AllocError, Global};
 use vcd_read::Probe;
@@ -63,13 +63,7 @@ pub fn pick<'a, J: Input>(
 ) -> Result<(Again<'a, J>, Picked), RunError> {
     let picker = Picker::new(alloc, scl, sda, scope)?;
     let (again, picker, scale) = read_beginning(alloc, vcd, picker)?;
-    let Picker { scl, sda, .. } = picker;
-    let picked = Picked {
-        scl: scl.into_code()?,
-        sda: sda.into_code()?,
-        scale,
-    };
-    Ok((again, picked))
+    Ok((again, picker.into_picked(scale)))
 }
 
 /// What is looked for among the signals.
@@ -108,6 +102,15 @@ impl Picker {
             scope,
         })
     }
+
+    fn into_picked(self, scale: Option<Scale>) -> Picked {
+        let Picker { scl, sda, .. } = self;
+        Picked {
+            scl: scl.into_code(),
+            sda: sda.into_code(),
+            scale,
+        }
+    }
 }
 
 impl Sought {
@@ -141,12 +144,9 @@ impl Sought {
     }
 
     // A code has printing characters alone; with any other no change names the signal.
-    fn into_code(self) -> Result<Option<String>, AllocError> {
+    fn into_code(self) -> Option<String> {
         let Sought { code, .. } = self;
-        match code {
-            Some(code) => Ok(String::from_utf8(code).ok()),
-            None => Ok(None),
-        }
+        String::from_utf8(code?).ok()
     }
 }
 

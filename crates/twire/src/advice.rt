@@ -1,10 +1,10 @@
 // Further lines for people on standard error, after a refusal or a report.
 
 use crate::voices::{Voice, say};
-use dump_hints::{Names, on_choice, on_dump, on_silence, on_unexplained};
 use hints::{
-    Named, on_brief, on_certificate, on_closed_input, on_memory, on_no_brief, on_opening, on_plan,
-    on_reading, on_safe, on_starters, on_workers, on_writing, wrong_of,
+    Named, Names, on_brief, on_certificate, on_choice, on_closed_input, on_dump, on_memory,
+    on_no_brief, on_opening, on_plan, on_reading, on_safe, on_silence, on_starters, on_unexplained,
+    on_workers, on_writing, wrong_of,
 };
 use report::{RunError, Status};
 use std::io::{self, Read, Seek};

@@ -4,9 +4,9 @@
 use crate::inputs::READS;
 use crate::quieting::Quiet;
 use bench_run::run_bench;
-use explain::{Heard, Notes};
-use explained::{
-    Overheard, Rehearsed, explain_answer, explain_pairs, explain_rehearsal, explain_transactions,
+use explain::{
+    Heard, Notes, Overheard, Rehearsed, explain_answer, explain_pairs, explain_rehearsal,
+    explain_transactions,
 };
 use plan_text::read_plan;
 use report::{

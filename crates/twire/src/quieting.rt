@@ -1,7 +1,7 @@
 // Levels of a capture that are too short to count.
 
-use capture_views::steps;
-use dump_times::{Scale, Time};
+use dump_tokens::{Scale, Time};
+use explain::steps;
 use std::alloc::{AllocError, Global};
 
 /// How long a level has to last, in steps of the dump, and as it was given.

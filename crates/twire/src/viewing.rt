@@ -3,8 +3,8 @@
 use crate::explaining::explain_capture;
 use crate::inputs::READS;
 use crate::quieting::Quiet;
-use capture_views::{View, has_unit, shown};
-use dump_times::{Scale, Time};
+use dump_tokens::{Scale, Time};
+use explain::{View, has_unit, shown};
 use plan_core::Plan;
 use plan_text::read_plan;
 use report::{

@@ -1,8 +1,12 @@
-// What is passed on of a report on a capture.
+// What is passed on of a report on a capture: some of its transactions, with times in parts of a second, or counted for each
+// participant. `lines` reads the report line by line, and `tallies` counts.
 
-use crate::lines::{Told, What, read_line};
-use crate::tallies::Tallies;
-use dump_times::{Scale, Time};
+mod lines;
+mod tallies;
+
+use crate::views::lines::{Told, What, read_line};
+use crate::views::tallies::Tallies;
+use dump_tokens::{Scale, Time};
 use plan_core::Plan;
 use run_parts::Status;
 use std::alloc::{AllocError, Global};

@@ -1,11 +1,11 @@
 // After a report on a capture of which nobody explains a transaction.
 
-use crate::choosing::push_twins;
-use crate::naming::{Names, reader_of};
-use crate::silence::push_one_for_both;
+use crate::captures::choosing::push_twins;
+use crate::captures::naming::{Names, reader_of};
+use crate::captures::silence::push_one_for_both;
+use crate::lines::Lines;
 use capture_check::{Follower, Mark, Transaction, Until};
 use dump_tokens::reading::{Reading, read_again};
-use hint_lines::lines::Lines;
 use std::alloc::{AllocError, Global};
 use std::io::{self, Read, Seek};
 use vcd_read::{Reader, Sample};

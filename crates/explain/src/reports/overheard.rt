@@ -1,6 +1,6 @@
 // A dump whose transactions are noted as it is read.
 
-use explain::Notes;
+use crate::hearing::Notes;
 use run_parts::Input;
 use std::io::{self, Read};
 

@@ -3,9 +3,10 @@
 ghost use Rattle.plan_core.specs.PlanContents.{plan_contents};
 ghost use Rattle.verdicts.specs.Faults.{AreFaults, fault_list};
 
-use crate::pages::Page;
-use crate::texts::text_of;
-use explain::{Endings, below_pair, below_safe, below_unsafe};
+use crate::faults::{below_pair, below_unsafe};
+use crate::plans::{Endings, below_safe};
+use crate::reports::pages::Page;
+use crate::reports::texts::text_of;
 use mending::nevers_that_mend;
 use plan_core::Plan;
 use run_parts::{Output, RunError};

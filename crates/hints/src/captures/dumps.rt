@@ -1,13 +1,13 @@
 // After the refusal of a dump.
 
-use crate::judging::{Judge, Said, Wrong};
-use crate::naming::{Names, push_names};
-use crate::wording::{of_dump, of_token};
+use crate::captures::judging::{Judge, Said, Wrong};
+use crate::captures::naming::{Names, push_names};
+use crate::captures::wording::{of_dump, of_token};
+use crate::kinds::{Kind, kind_of_file, push_kind};
+use crate::lines::Lines;
+use crate::marking::{MARGIN, first_line, last_line, push_marked};
 use dump_tokens::reading::{part, read_again};
 use dump_tokens::tokens::{Cutter, Place, Sink, is_white};
-use hint_lines::kinds::{Kind, kind_of_file, push_kind};
-use hint_lines::lines::Lines;
-use hint_lines::marking::{MARGIN, first_line, last_line, push_marked};
 use std::alloc::{AllocError, Global};
 use std::io::{self, Read, Seek};
 use vcd_read::VcdError;

@@ -1,8 +1,8 @@
 // Names that several signals of a dump have, and how one of them is chosen.
 
-use crate::naming::{Names, word_of};
-use hint_lines::lines::Lines;
-use hint_lines::marking::{push_name, quoted};
+use crate::captures::naming::{Names, word_of};
+use crate::lines::Lines;
+use crate::marking::{push_name, quoted};
 use run_parts::Watched;
 use signals::{Found, Listing, read_beginning};
 use std::alloc::{AllocError, Global};

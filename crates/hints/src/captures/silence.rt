@@ -1,11 +1,11 @@
 // After a report on a capture that has no transaction.
 
-use crate::choosing::push_twins;
-use crate::exchanging::exchanged;
-use crate::naming::{BREAKS_OFF, Names, breaks_off, reader_of};
+use crate::captures::choosing::push_twins;
+use crate::captures::exchanging::exchanged;
+use crate::captures::naming::{BREAKS_OFF, Names, breaks_off, reader_of};
+use crate::lines::Lines;
 use capture_check::Follower;
 use dump_tokens::reading::{Reading, read_again};
-use hint_lines::lines::Lines;
 use std::alloc::{AllocError, Global};
 use std::io::{self, Read, Seek};
 use vcd_read::{Level, Reader, Sample};

@@ -1,12 +1,12 @@
 // The names of the signals of a dump, for those who gave one that is not there.
 
-use crate::judging::{Judge, Said};
-use crate::scoping::push_scopes;
+use crate::captures::judging::{Judge, Said};
+use crate::captures::scoping::push_scopes;
+use crate::likeness::Nearest;
+use crate::lines::Lines;
+use crate::marking::push_name;
 use dump_tokens::reading::read_again;
 use dump_tokens::tokens::{Cutter, Place, Sink};
-use hint_lines::likeness::Nearest;
-use hint_lines::lines::Lines;
-use hint_lines::marking::push_name;
 use run_parts::Watched;
 use signals::{Picked, bus_options, needs_picking, pick};
 use std::alloc::{AllocError, Global};

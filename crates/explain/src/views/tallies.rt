@@ -1,6 +1,6 @@
 // How often each participant explains a transaction.
 
-use crate::lines::What;
+use crate::views::lines::What;
 use plan_core::Plan;
 use std::alloc::{AllocError, Global};
 use std::collections::BTreeMap;

@@ -1,8 +1,9 @@
 // The report of a capture, explained.
 
-use crate::pages::Page;
-use crate::texts::text_of;
-use explain::{Heard, below_transaction};
+use crate::captures::below_transaction;
+use crate::hearing::Heard;
+use crate::reports::pages::Page;
+use crate::reports::texts::text_of;
 use plan_core::Plan;
 use run_parts::{Output, RunError};
 use std::alloc::{AllocError, Global};

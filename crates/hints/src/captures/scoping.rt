@@ -1,8 +1,8 @@
 // The scopes in which the name of a line stands, for those who gave another.
 
-use crate::naming::{Names, word_of};
-use hint_lines::lines::Lines;
-use hint_lines::marking::push_name;
+use crate::captures::naming::{Names, word_of};
+use crate::lines::Lines;
+use crate::marking::push_name;
 use run_parts::Watched;
 use signals::{Found, Listing, read_beginning};
 use std::alloc::{AllocError, Global};

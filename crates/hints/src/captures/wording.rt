@@ -1,6 +1,6 @@
 // What is wrong, in words.
 
-use crate::judging::{Opened, Wrong};
+use crate::captures::judging::{Opened, Wrong};
 use std::alloc::{AllocError, Global};
 use vcd_read::VcdError;
 

@@ -1,8 +1,9 @@
 // The report of a rehearsal, explained.
 
-use crate::pages::Page;
-use crate::texts::text_of;
-use explain::{below_answer, below_wire};
+use crate::benches::below_wire;
+use crate::certificates::below_answer;
+use crate::reports::pages::Page;
+use crate::reports::texts::text_of;
 use plan_core::Plan;
 use run_parts::{Output, RunError};
 use std::alloc::{AllocError, Global};

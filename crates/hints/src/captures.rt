@@ -1,0 +1,23 @@
+// What is said to people after the refusal of a dump, or after a report on a capture that tells of nothing: where the cause
+// stands, and what would stand there instead.
+//
+// Nothing here decides anything. A refusal is the caller's, and the file is read once more, in blocks, to find its place:
+// `dumps` follows it token by token (`judging`), and `naming` lists the signals that it declares, or `scoping` the scopes
+// of a name. After a report `silence` counts what was seen of the bus, `exchanging` looks at it with the two lines
+// exchanged, and `choosing` at names that several signals have. Where the file cannot be read once more, or has changed,
+// only the words are left (`wording`).
+
+mod choosing;
+mod dumps;
+mod exchanging;
+mod judging;
+mod naming;
+mod scoping;
+mod silence;
+mod wording;
+
+pub use choosing::on_choice;
+pub use dumps::on_dump;
+pub use exchanging::on_unexplained;
+pub use naming::Names;
+pub use silence::on_silence;
