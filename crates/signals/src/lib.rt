@@ -4,13 +4,15 @@
 //! them back before the rest. `picking` finds the codes of the two lines of a bus there, by names and a scope. `listing` is
 //! the run of `twire signals`: it lists the signals (`codes` finds them again by their codes), counts their changes
 //! (`levels`), and looks for pairs that are the two lines of a bus (`buses`, with `masks` for sets of signals). What a dump
-//! says, and why it is refused, is decided by the reader of `vcd_read` alone.
+//! says, and why it is refused, is decided by the reader of `vcd_read` alone. `lessons` is the run of `twire learn`, which
+//! writes a brief of what the bus has shown.
 #![tactic(auto)]
 
 mod beginning;
 mod buses;
 mod codes;
 mod definitions;
+mod lessons;
 mod levels;
 mod listing;
 mod masks;
@@ -18,5 +20,6 @@ mod picking;
 
 pub use beginning::{Again, read_beginning};
 pub use definitions::{Found, Listing};
+pub use lessons::{Lesson, run_learn};
 pub use listing::{bus_options, run_signals};
 pub use picking::{Picked, Picker, needs_picking, pick};

@@ -1,6 +1,6 @@
 // Paths put together into messages.
 
-use crate::paths::{Sent, Step};
+use crate::lessons::paths::{Sent, Step};
 use std::alloc::{AllocError, Global};
 
 /// What was done after an acknowledge, or after a refusal.

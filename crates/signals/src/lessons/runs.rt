@@ -1,13 +1,13 @@
 // The run that learns a brief from a dump.
 
-use crate::paths::NoPath;
-use crate::seen::{Sight, Sights};
-use crate::trees::Tree;
-use crate::writing::written;
+use crate::lessons::paths::NoPath;
+use crate::lessons::seen::{Sight, Sights};
+use crate::lessons::trees::Tree;
+use crate::lessons::writing::written;
+use crate::picking::{needs_picking, pick};
 use capture_check::Follower;
 use run_parts::devices::reading::{BLOCK, READS};
 use run_parts::{Input, Output, RunError, Status, Watched, write_report};
-use signals::{needs_picking, pick};
 use std::alloc::{AllocError, Global};
 use vcd_read::{Probe, Reader};
 
@@ -36,22 +36,8 @@ pub fn run_learn<J: Input, O: Output>(
     out: &mut O,
     lesson: Lesson<'_>,
 ) -> Result<Status, RunError> {
-    let Lesson {
-        scl,
-        sda,
-        scope,
-        merge,
-    } = lesson;
-    let mut seen = if needs_picking(scl, sda, scope) {
-        let (again, picked) = pick(alloc, vcd, scl, sda, scope)?;
-        let mut again = Watched::new(again);
-        let reader = Reader::of(alloc, picked.scl(), picked.sda())?;
-        listen(alloc, &mut again, reader)?
-    } else {
-        listen(alloc, vcd, Reader::of(alloc, scl, sda)?)?
-    };
-    let trees = put_together(alloc, &mut seen, merge)?;
-    let text = written(alloc, &seen, &trees)?;
+    let mut seen = seen_in(alloc, vcd, lesson)?;
+    let text = told(alloc, &mut seen, lesson.merge)?;
     write_report(out, text.as_bytes())?;
     Ok(if seen.odd.is_empty() {
         Status::Good
@@ -60,31 +46,85 @@ pub fn run_learn<J: Input, O: Output>(
     })
 }
 
+fn told(alloc: Global, seen: &mut Sights, merge: bool) -> Result<String, AllocError> {
+    let trees = put_together(alloc, seen, merge)?;
+    written(alloc, seen, &trees)
+}
+
 // What a dump shows.
-fn listen<J: Input>(alloc: Global, vcd: &mut J, mut reader: Reader) -> Result<Sights, RunError> {
+fn seen_in<J: Input>(alloc: Global, vcd: &mut J, lesson: Lesson<'_>) -> Result<Sights, RunError> {
+    let Lesson {
+        scl,
+        sda,
+        scope,
+        ..
+    } = lesson;
+    if needs_picking(scl, sda, scope) {
+        let (again, picked) = pick(alloc, vcd, scl, sda, scope)?;
+        let mut again = Watched::new(again);
+        listen(alloc, &mut again, picked.scl(), picked.sda())
+    } else {
+        listen(alloc, vcd, scl, sda)
+    }
+}
+
+fn listen<J: Input>(
+    alloc: Global,
+    vcd: &mut J,
+    scl: Probe<'_>,
+    sda: Probe<'_>,
+) -> Result<Sights, RunError> {
+    let mut hearing = Hearing {
+        reader: Reader::of(alloc, scl, sda)?,
+        follower: Follower::new(),
+        seen: Sights::new(alloc),
+    };
+    hear(alloc, vcd, &mut hearing)?;
+    hearing.finish(alloc)
+}
+
+fn hear<J: Input>(alloc: Global, vcd: &mut J, hearing: &mut Hearing) -> Result<(), RunError> {
     let mut block = vec![in alloc; 0u8; BLOCK]?;
-    let mut follower = Follower::new();
-    let mut seen = Sights::new(alloc);
     for _ in 0..READS {
         let Ok(count) = vcd.read(block.as_mut_slice()) else {
             return Err(RunError::Read);
         };
         if count == 0 {
-            let samples = reader.end()?;
-            let found = follower.follow_to_end(alloc, samples.as_slice())?;
-            for transaction in found.iter() {
-                seen.see(transaction)?;
-            }
-            return Ok(seen);
+            return Ok(());
         }
-        reader.feed(block.as_slice().get(..count).unwrap_or(&[]))?;
-        let found = follower.follow(alloc, reader.samples())?;
-        for transaction in found.iter() {
-            seen.see(transaction)?;
-        }
-        reader.clear_samples();
+        hearing.block(alloc, block.as_slice().get(..count).unwrap_or(&[]))?;
     }
     Err(RunError::Read)
+}
+
+// A dump that is listened to, and what was seen so far.
+#[derive(Drop)]
+struct Hearing {
+    reader: Reader,
+    follower: Follower,
+    seen: Sights,
+}
+
+impl Hearing {
+    fn block(&mut self, alloc: Global, piece: &[u8]) -> Result<(), RunError> {
+        self.reader.feed(piece)?;
+        let found = self.follower.follow(alloc, self.reader.samples())?;
+        self.seen.see_all(found.as_slice())?;
+        self.reader.clear_samples();
+        Ok(())
+    }
+
+    fn finish(self, alloc: Global) -> Result<Sights, RunError> {
+        let Hearing {
+            reader,
+            follower,
+            mut seen,
+        } = self;
+        let samples = reader.end()?;
+        let found = follower.follow_to_end(alloc, samples.as_slice())?;
+        seen.see_all(found.as_slice())?;
+        Ok(seen)
+    }
 }
 
 // Each path goes into the first message that takes it, or into a new one.

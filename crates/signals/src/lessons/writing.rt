@@ -1,9 +1,9 @@
 // Messages, written as a brief.
 
-use crate::paths::Sent;
-use crate::seen::{Sight, Sights};
-use crate::trees::{After, Node, Tree};
-use crate::words::{Line, data_word, push_path, push_unseen, why};
+use crate::lessons::paths::Sent;
+use crate::lessons::seen::{Sight, Sights};
+use crate::lessons::trees::{After, Node, Tree};
+use crate::lessons::words::{Line, data_word, push_path, push_unseen, why};
 use std::alloc::{AllocError, Global};
 
 // How many paths are told above a message.

@@ -1,7 +1,7 @@
 // Paths and messages in words.
 
-use crate::paths::{NoPath, Sent, Step};
-use crate::trees::{After, Node, Tree};
+use crate::lessons::paths::{NoPath, Sent, Step};
+use crate::lessons::trees::{After, Node, Tree};
 use std::alloc::{AllocError, Global};
 
 // How many columns a line has.

@@ -1,6 +1,6 @@
 // The different paths that a capture has shown.
 
-use crate::paths::{NoPath, Step, key_of, path_of};
+use crate::lessons::paths::{NoPath, Step, key_of, path_of};
 use capture_check::{Transaction, Until};
 use std::alloc::{AllocError, Global};
 use std::collections::BTreeMap;
@@ -44,8 +44,15 @@ impl Sights {
         }
     }
 
-    /// One more transaction. One that no STOP ended does not count.
-    pub(crate) fn see(&mut self, transaction: &Transaction) -> Result<(), AllocError> {
+    /// Further transactions. One that no STOP ended does not count.
+    pub(crate) fn see_all(&mut self, transactions: &[Transaction]) -> Result<(), AllocError> {
+        for transaction in transactions {
+            self.see(transaction)?;
+        }
+        Ok(())
+    }
+
+    fn see(&mut self, transaction: &Transaction) -> Result<(), AllocError> {
         let Until::Stopped(_) = transaction.until else {
             return Ok(());
         };

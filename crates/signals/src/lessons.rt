@@ -1,0 +1,15 @@
+// A brief of what a recorded bus has shown: a message for each sequence of bytes that was seen, with what was done after
+// refusals, and one controller that has them all.
+//
+// `paths` reads the marks of a transaction as a path through a message, `seen` keeps each path once, `trees` puts paths
+// together into messages, and `writing` writes these. `runs` goes from the dump to the brief. What a brief means is decided
+// by `brief_text`, and what explains a capture by `capture_check`: nothing here is proved but that it is safe.
+
+mod paths;
+mod runs;
+mod seen;
+mod trees;
+mod words;
+mod writing;
+
+pub use runs::{Lesson, run_learn};
