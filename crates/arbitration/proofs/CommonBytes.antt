@@ -1,94 +1,134 @@
 -- Bytes that two messages have in common.
-use Rattle.std.proofs.Common.{◌≡◌, ℕ, zero, suc, ◌+◌, ◌*◌, ◌≤◌, Option, Some, None, List, [], ◌∷◌, length, refl, ap, sym, ◌∙◌, subst, arith}
+use Rattle.std.proofs.Common.{◌≡◌, ℕ, ◌+◌, ◌*◌, ◌<◌, ◌≤◌, ◌^◌, None, List, [], ◌∷◌, ◌++◌, length, length-append, refl, ap, sym, subst, arith, inl, inr, ◌⊎◌}
+use Rattle.message_tree.specs.declared.bits.Bit.{Bit}
 use Rattle.message_tree.specs.declared.bits.Pattern.{Pattern}
 use Rattle.message_tree.specs.Drops.{payload_weight}
 use Rattle.message_tree.specs.Patterns.{pattern_bits}
 use Rattle.message_tree.specs.Sizes.{payload_slots}
-use Rattle.message_tree.specs.Texts.{PayloadText}
+use Rattle.message_tree.specs.Texts.{PayloadText, TailText}
 use Rattle.message_tree.specs.Trees.{PayloadTree, byte, stop}
-use Rattle.arbitration.specs.declared.spans.Slots.{Slots}
+use Rattle.message_tree.proofs.TextLaws.{lawful_payload}
+use Rattle.arbitration.specs.declared.beginnings.Beginning.{Beginning}
 use Rattle.arbitration.specs.declared.spans.Outcomes.{Outcomes}
-use Rattle.arbitration.specs.Spans.{IsSpan, union_of, after_of}
-use Rattle.arbitration.specs.Ways.{Way, both_end, first_wins, second_wins, span_of, AreOutcomes, Goes, NoneOpen, Begins, BeginAlike, skipped_of}
-use Rattle.arbitration.proofs.BitPlaces.{same_never_part, same_partings}
-use Rattle.arbitration.proofs.Nodes.{bytes_answered, length_of_data, two_stops}
+use Rattle.arbitration.specs.Spans.{IsSpan, union_of, after_of, After}
+use Rattle.arbitration.specs.Ways.{Way, both_end, first_wins, second_wins, span_of, AreOutcomes, AllHaveRoom, ArePartings, PartsAt, Goes, Step, stopped, Begins, GoesInByte, GoesWithin, IsBeginning}
+use Rattle.arbitration.proofs.BitPlaces.{same_never_part, is_within}
+use Rattle.arbitration.proofs.Nodes.{node_out, node_in, length_of_data, stops_only}
+use Rattle.arbitration.proofs.SpanLemmas.{span_union, span_after, span_same, room}
 
-abbrev none : Outcomes
-none = record { both = None; first = None; second = None }
+-- ---- one byte that both send
 
-abbrev at_once : Outcomes
-at_once = record { both = Some (record { earliest = 0; latest = 0 }); first = None; second = None }
+step_out : (s : Step) (t u : PayloadTree) (way : Way) (k : ℕ) → Goes way (PayloadText (byte s.bits t s.refused)) (PayloadText (byte s.bits u s.refused)) k → GoesInByte way s k ⊎ After 9 (Goes way (PayloadText t) (PayloadText u)) k
+step_out s t u way k g =
+    let bits = pattern_bits s.bits in
+    let r = TailText s.refused in
+    elim (node_out bits bits (PayloadText t) (PayloadText u) r r (length_of_data s.bits) (length_of_data s.bits) way k g) [
+      | inl h ↦ elim h [ inl p ↦ inl (inl p) | inr a ↦ inr a ]
+      | inr a ↦ inl (inr a)
+    ]
 
-abbrev made : ((way : Way) → Option Slots) → Outcomes
-made f = record { both = f both_end; first = f first_wins; second = f second_wins }
+step_in : (s : Step) (t u : PayloadTree) (way : Way) (k : ℕ) → GoesInByte way s k ⊎ After 9 (Goes way (PayloadText t) (PayloadText u)) k → Goes way (PayloadText (byte s.bits t s.refused)) (PayloadText (byte s.bits u s.refused)) k
+step_in s t u way k g =
+    let bits = pattern_bits s.bits in
+    let r = TailText s.refused in
+    node_in bits bits (PayloadText t) (PayloadText u) r r (length_of_data s.bits) (length_of_data s.bits) way k (same_never_part bits bits refl) (lawful_payload t).some (lawful_payload u).some (elim g [
+      | inl h ↦ elim h [ inl p ↦ inl (inl p) | inr a ↦ inr a ]
+      | inr a ↦ inl (inr a)
+    ])
 
-made_span : (f : (way : Way) → Option Slots) (way : Way) → span_of way (made f) ≡ f way
-made_span f both_end = refl
-made_span f first_wins = refl
-made_span f second_wins = refl
+pub in_byte : (b : Pattern) (bits ends all : Outcomes) → ArePartings (pattern_bits b) (pattern_bits b) bits → AreOutcomes (TailText stop) (TailText stop) ends → (way : Way) → span_of way all ≡ union_of (span_of way bits) (after_of 9 (span_of way ends)) → IsSpan (GoesInByte way (stopped b)) (span_of way all)
+in_byte b bits ends all p h way e =
+    subst (IsSpan (GoesInByte way (stopped b))) (sym e) (span_union (PartsAt way (pattern_bits b) (pattern_bits b)) (After 9 (Goes way (TailText stop) (TailText stop))) (span_of way bits) (after_of 9 (span_of way ends)) (p way) (span_after (Goes way (TailText stop) (TailText stop)) 9 (span_of way ends) (h way)))
 
-none_span : (way : Way) → span_of way none ≡ None
-none_span both_end = refl
-none_span first_wins = refl
-none_span second_wins = refl
+parts_within : (way : Way) (bs cs : List Bit) (k : ℕ) → length bs ≡ 8 → length cs ≡ 8 → PartsAt way bs cs k → k < 8
+parts_within both_end bs cs k l m p = absurd p
+parts_within first_wins bs cs k l m p = omega (arith, is_within bs k p.zero.0 p.zero.1, l)
+parts_within second_wins bs cs k l m p = omega (arith, is_within cs k p.zero.0 p.zero.1, m)
 
-abbrev slots : ℕ → ℕ → Option Slots
-slots a b = Some (record { earliest = a; latest = b })
+byte_slots : (way : Way) (b : Pattern) (k : ℕ) → GoesInByte way (stopped b) k → k ≤ 9
+byte_slots way b k (inl p) = omega (arith, parts_within way (pattern_bits b) (pattern_bits b) k (length_of_data b) (length_of_data b) p)
+byte_slots way b k (inr (j, e, g)) = omega (arith, e, (stops_only way j g).1)
 
-slots_same : (a b c d : ℕ) → a ≡ c → b ≡ d → slots a b ≡ slots c d
-slots_same a b c d e f = rw (e, f) refl
+pub byte_room : (b : Pattern) (o : Outcomes) (n : ℕ) → ((way : Way) → IsSpan (GoesInByte way (stopped b)) (span_of way o)) → n + 9 < 2 ^ 32 → AllHaveRoom n o
+byte_room b o n h lt way =
+    room (GoesInByte way (stopped b)) n (span_of way o) (h way) (λ k g. omega (arith, byte_slots way b k g, lt))
 
-after_after : (m n : ℕ) (s : Option Slots) → after_of m (after_of n s) ≡ after_of (n + m) s
-after_after m n None = refl
-after_after m n (Some s) = slots_same _ _ _ _ (omega arith) (omega arith)
+pub at_once_room : (o : Outcomes) → AreOutcomes (TailText stop) (TailText stop) o → AllHaveRoom 9 o
+at_once_room o h way = room (Goes way (TailText stop) (TailText stop)) 9 (span_of way o) (h way) (λ k g. omega (arith, (stops_only way k g).1))
 
--- one more byte before
-one_more : (way : Way) (n : ℕ) (s : Option Slots) → union_of (union_of None (after_of 9 (skipped_of way n s))) (after_of 9 (span_of way at_once)) ≡ skipped_of way (suc n) s
-one_more both_end zero None = refl
-one_more both_end zero (Some s) = slots_same _ _ _ _ (omega arith) (omega arith)
-one_more both_end (suc n) None = slots_same _ _ _ _ (omega arith) (omega arith)
-one_more both_end (suc n) (Some s) = slots_same _ _ _ _ (omega arith) (omega arith)
-one_more first_wins zero None = refl
-one_more first_wins zero (Some s) = refl
-one_more first_wins (suc n) None = refl
-one_more first_wins (suc n) (Some s) = slots_same _ _ _ _ (omega arith) (omega arith)
-one_more second_wins zero None = refl
-one_more second_wins zero (Some s) = refl
-one_more second_wins (suc n) None = refl
-one_more second_wins (suc n) (Some s) = slots_same _ _ _ _ (omega arith) (omega arith)
+-- ---- bytes that both begin with
 
--- what follows the bytes in common tells all
-skipped : (bs : List Pattern) (x y x' y' : PayloadTree) (o : Outcomes) → Begins bs x x' → Begins bs y y' → AreOutcomes (PayloadText x') (PayloadText y') o → (way : Way) → IsSpan (Goes way (PayloadText x) (PayloadText y)) (skipped_of way (length bs) (span_of way o))
-skipped [] x y x' y' o b c h way = rw (b, c) (h way)
-skipped (p ∷ bs) x y x' y' o b c h way =
-    let rest = made (λ w. skipped_of w (length bs) (span_of w o)) in
-    let inner : AreOutcomes (PayloadText b.0) (PayloadText c.0) rest =
-    λ w. subst (IsSpan (Goes w (PayloadText b.0) (PayloadText c.0))) (sym (made_span (λ v. skipped_of v (length bs) (span_of v o)) w)) (skipped bs b.0 c.0 x' y' o b.3 c.3 h w) in
-    let all = made (λ w. skipped_of w (suc (length bs)) (span_of w o)) in
-    let bits = pattern_bits p in
-    let whole = bytes_answered bits bits b.0 c.0 stop stop (length_of_data p) (length_of_data p) none all rest at_once (same_never_part bits bits refl) (same_partings bits bits none refl b.2 none_span) inner (two_stops at_once refl refl refl) (λ w. rw (none_span w, made_span (λ v. skipped_of v (length bs) (span_of v o)) w) (made_span (λ v. skipped_of v (suc (length bs)) (span_of v o)) w ∙ sym (one_more w (length bs) (span_of w o)))) in
-    rw (b.1, c.1) (subst (IsSpan (Goes way (PayloadText (byte p b.0 stop)) (PayloadText (byte p c.0 stop)))) (made_span (λ v. skipped_of v (suc (length bs)) (span_of v o)) way) (whole way))
+within_out : (ss : List Step) (x y x' y' : PayloadTree) → Begins ss x x' → Begins ss y y' → (way : Way) (k : ℕ) → Goes way (PayloadText x) (PayloadText y) k → GoesWithin way ss k ⊎ After (9 * length ss) (Goes way (PayloadText x') (PayloadText y')) k
+within_out [] x y x' y' b c way k g = inr (k, omega arith, rw (b, c) at g)
+within_out (s ∷ ss) x y x' y' b c way k g =
+    elim (step_out s b.0 c.0 way k (rw (b.1, c.1) at g)) [
+      | inl h ↦ inl (inl h)
+      | inr a ↦ elim (within_out ss b.0 c.0 x' y' b.2 c.2 way a.0 a.2) [
+        | inl h ↦ inl (inr (a.0, a.1, h))
+        | inr d ↦ inr (d.0, omega (arith, a.1, d.1), d.2)
+      ]
+    ]
 
-pub bytes_skipped : (n : ℕ) (bs : List Pattern) (x y x' y' : PayloadTree) (o all : Outcomes) → length bs ≡ n → Begins bs x x' → Begins bs y y' → AreOutcomes (PayloadText x') (PayloadText y') o → ((way : Way) → span_of way all ≡ skipped_of way n (span_of way o)) → AreOutcomes (PayloadText x) (PayloadText y) all
-bytes_skipped n bs x y x' y' o all l b c h e way =
-    let f : skipped_of way (length bs) (span_of way o) ≡ span_of way all = ap (λ (m : ℕ). skipped_of way m (span_of way o)) l ∙ sym (e way) in
-    subst (IsSpan (Goes way (PayloadText x) (PayloadText y))) f (skipped bs x y x' y' o b c h way)
+within_in : (ss : List Step) (x y x' y' : PayloadTree) → Begins ss x x' → Begins ss y y' → (way : Way) (k : ℕ) → GoesWithin way ss k ⊎ After (9 * length ss) (Goes way (PayloadText x') (PayloadText y')) k → Goes way (PayloadText x) (PayloadText y) k
+within_in [] x y x' y' b c way k (inl h) = absurd h
+within_in [] x y x' y' b c way k (inr (j, e, g)) =
+    rw (b, c) (let f : j ≡ k = omega (arith, e) in subst (Goes way (PayloadText x') (PayloadText y')) f g)
+within_in (s ∷ ss) x y x' y' b c way k (inl (inl h)) = rw (b.1, c.1) (step_in s b.0 c.0 way k (inl h))
+within_in (s ∷ ss) x y x' y' b c way k (inl (inr (j, e, h))) =
+    rw (b.1, c.1) (step_in s b.0 c.0 way k (inr (j, e, within_in ss b.0 c.0 x' y' b.2 c.2 way j (inl h))))
+within_in (s ∷ ss) x y x' y' b c way k (inr (j, e, g)) =
+    let i = j + 9 * length ss in
+    rw (b.1, c.1) (step_in s b.0 c.0 way k (inr (i, omega (arith, e), within_in ss b.0 c.0 x' y' b.2 c.2 way i (inr (j, refl, g)))))
 
--- each byte takes nine slots
-pub slots_left : (bs : List Pattern) (x x' : PayloadTree) → Begins bs x x' → 9 * length bs + payload_slots x' ≤ payload_slots x
+-- what is within the bytes in common, and what follows them, is all
+pub alike_outcomes : (ss : List Step) (beginning : Beginning) (x y x' y' : PayloadTree) (rest all : Outcomes) → IsBeginning ss beginning → Begins ss x x' → Begins ss y y' → AreOutcomes (PayloadText x') (PayloadText y') rest → ((way : Way) → span_of way all ≡ union_of (span_of way beginning.outcomes) (after_of (9 * beginning.bytes) (span_of way rest))) → AreOutcomes (PayloadText x) (PayloadText y) all
+alike_outcomes ss beginning x y x' y' rest all w b c h e way =
+    let n = 9 * beginning.bytes in
+    let L = Goes way (PayloadText x') (PayloadText y') in
+    let l = w.0 in
+    subst (IsSpan (Goes way (PayloadText x) (PayloadText y))) (sym (e way)) (span_same (λ k. GoesWithin way ss k ⊎ After n L k) (Goes way (PayloadText x) (PayloadText y)) (union_of (span_of way beginning.outcomes) (after_of n (span_of way rest))) (λ k g. within_in ss x y x' y' b c way k (elim g [ inl a ↦ inl a | inr a ↦ inr (a.0, omega (arith, a.1, l), a.2) ])) (λ k g. elim (within_out ss x y x' y' b c way k g) [ inl a ↦ inl a | inr a ↦ inr (a.0, omega (arith, a.1, l), a.2) ]) (span_union (GoesWithin way ss) (After n L) (span_of way beginning.outcomes) (after_of n (span_of way rest)) (w.1 way) (span_after L n (span_of way rest) (h way))))
+
+-- ---- one byte more
+
+more_out : (ss : List Step) (s : Step) (way : Way) (k : ℕ) → GoesWithin way (ss ++ s ∷ []) k → GoesWithin way ss k ⊎ After (9 * length ss) (GoesInByte way s) k
+more_out [] s way k (inl h) = inr (k, omega arith, h)
+more_out [] s way k (inr h) = absurd h.2
+more_out (t ∷ ss) s way k (inl h) = inl (inl h)
+more_out (t ∷ ss) s way k (inr (j, e, h)) =
+    elim (more_out ss s way j h) [ inl g ↦ inl (inr (j, e, g)) | inr d ↦ inr (d.0, omega (arith, e, d.1), d.2) ]
+
+more_in : (ss : List Step) (s : Step) (way : Way) (k : ℕ) → GoesWithin way ss k ⊎ After (9 * length ss) (GoesInByte way s) k → GoesWithin way (ss ++ s ∷ []) k
+more_in [] s way k (inl h) = absurd h
+more_in [] s way k (inr (j, e, h)) = inl (let f : j ≡ k = omega (arith, e) in subst (GoesInByte way s) f h)
+more_in (t ∷ ss) s way k (inl (inl h)) = inl h
+more_in (t ∷ ss) s way k (inl (inr (j, e, h))) = inr (j, e, more_in ss s way j (inl h))
+more_in (t ∷ ss) s way k (inr (j, e, h)) =
+    let i = j + 9 * length ss in
+    inr (i, omega (arith, e), more_in ss s way i (inr (j, refl, h)))
+
+pub no_beginning : (beginning : Beginning) → beginning.bytes ≡ 0 → ((way : Way) → span_of way beginning.outcomes ≡ None) → IsBeginning [] beginning
+no_beginning beginning e n = (sym e, λ way. subst (IsSpan (GoesWithin way [])) (sym (n way)) (λ k h. h))
+
+pub longer_beginning : (ss : List Step) (s : Step) (old new : Beginning) (here : Outcomes) → IsBeginning ss old → ((way : Way) → IsSpan (GoesInByte way s) (span_of way here)) → new.bytes ≡ old.bytes + 1 → ((way : Way) → span_of way new.outcomes ≡ union_of (span_of way old.outcomes) (after_of (9 * old.bytes) (span_of way here))) → IsBeginning (ss ++ s ∷ []) new
+longer_beginning ss s old new here w h e f =
+    let n = 9 * old.bytes in
+    let l = w.0 in (
+      omega (arith, length-append ss (s ∷ []), e, l),
+      λ way. subst (IsSpan (GoesWithin way (ss ++ s ∷ []))) (sym (f way)) (span_same (λ k. GoesWithin way ss k ⊎ After n (GoesInByte way s) k) (GoesWithin way (ss ++ s ∷ [])) (union_of (span_of way old.outcomes) (after_of n (span_of way here))) (λ k g. more_in ss s way k (elim g [ inl a ↦ inl a | inr a ↦ inr (a.0, omega (arith, a.1, l), a.2) ])) (λ k g. elim (more_out ss s way k g) [ inl a ↦ inl a | inr a ↦ inr (a.0, omega (arith, a.1, l), a.2) ]) (span_union (GoesWithin way ss) (After n (GoesInByte way s)) (span_of way old.outcomes) (after_of n (span_of way here)) (w.1 way) (span_after (GoesInByte way s) n (span_of way here) (h way)))),
+    )
+
+-- ---- each byte takes nine slots
+
+pub slots_left : (ss : List Step) (x x' : PayloadTree) → Begins ss x x' → 9 * length ss + payload_slots x' ≤ payload_slots x
 slots_left [] x x' b = let e = ap payload_slots b in omega (arith, e)
-slots_left (p ∷ bs) x x' b =
+slots_left (s ∷ ss) x x' b =
     let e = ap payload_slots b.1 in
-    let h = slots_left bs b.0 x' b.3 in
+    let h = slots_left ss b.0 x' b.2 in
     omega (arith, e, h)
 
-pub weight_left : (bs : List Pattern) (x x' : PayloadTree) → Begins bs x x' → payload_weight x' ≤ payload_weight x
+pub weight_left : (ss : List Step) (x x' : PayloadTree) → Begins ss x x' → payload_weight x' ≤ payload_weight x
 weight_left [] x x' b = let e = ap payload_weight b in omega (arith, e)
-weight_left (p ∷ bs) x x' b =
+weight_left (s ∷ ss) x x' b =
     let e = ap payload_weight b.1 in
-    let h = weight_left bs b.0 x' b.3 in
+    let h = weight_left ss b.0 x' b.2 in
     omega (arith, e, h)
-
-pub one_more_alike : (n : ℕ) (a b : Pattern) (x y t u x' y' : PayloadTree) → x ≡ byte a t stop → y ≡ byte b u stop → a ≡ b → NoneOpen (pattern_bits a) → BeginAlike n t u x' y' → BeginAlike (n + 1) x y x' y'
-one_more_alike n a b x y t u x' y' e f g h m =
-    (a ∷ m.0, omega (arith, m.1), (t, e, h, m.2), (u, f ∙ ap (λ (p : Pattern). byte p u stop) (sym g), h, m.3))

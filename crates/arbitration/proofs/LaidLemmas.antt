@@ -1,55 +1,40 @@
 -- What stands side by side.
-use Rattle.std.proofs.Common.{◌≡◌, ℕ, zero, suc, ◌+◌, ◌<◌, ◌≤◌, Bool, true, false, not, ◌&&◌, Some, slice_get, get_or, List, [], ◌∷◌, ◌++◌, map, length, length-append, Bor, refl, ap, sym, ◌∙◌, subst, arith, inl, inr, ◌⊎◌}
-use Rattle.std.proofs.lemmas.Bool.{cases_lt, and_parts}
-use Rattle.std.proofs.lemmas.List.{length-map}
+use Rattle.std.proofs.Common.{◌≡◌, ℕ, zero, suc, ◌+◌, ◌*◌, ◌<◌, ◌≤◌, Bool, true, false, Some, slice_get, get_or, List, [], ◌∷◌, ◌++◌, map, take, length, length-append, Bor, refl, ap, sym, ◌∙◌, subst, arith, inl, inr, ◌⊎◌}
+use Rattle.std.proofs.lemmas.Bool.{cases_lt}
+use Rattle.std.proofs.lemmas.List.{length-map, take_more_same, get_or_append_left, get_or_push}
 use Rattle.message_tree.specs.declared.bits.Pattern.{Pattern}
 use Rattle.message_tree.specs.declared.tree.Payload.{Payload}
-use Rattle.message_tree.specs.declared.bits.Bit.{Bit}
-use Rattle.message_tree.specs.declared.bits.Bit.TheVariants.{Zero, One, Either}
 use Rattle.message_tree.specs.declared.tree.Payload.TheVariants.{Byte', Last}
+use Rattle.message_tree.specs.declared.tree.Frame.{Frame}
+use Rattle.message_tree.specs.declared.tree.Frame.TheVariants.{Write', Read}
 use Rattle.message_tree.specs.declared.tree.Tail.{Tail}
 use Rattle.message_tree.specs.declared.tree.Tail.TheVariants.{Stop, Again'}
-use Rattle.message_tree.specs.Patterns.{pattern_bits}
-use Rattle.message_tree.specs.Trees.{PayloadTree, byte, stop, payload_tree, tail_tree}
+use Rattle.message_tree.specs.Sizes.{frame_slots, payload_slots}
+use Rattle.message_tree.specs.Trees.{PayloadTree, byte, stop, frame_tree, payload_tree, tail_tree}
 use Rattle.message_tree.specs.Texts.{Sender}
 use Rattle.plan_core.specs.Contents.{Contents}
 use Rattle.plan_core.specs.Participants.{participant_count, sender_at}
 use Rattle.plan_core.specs.Senders.{what_is_sent}
+use Rattle.plan_core.specs.declared.senders.Sends.{Sends}
+use Rattle.plan_core.specs.declared.senders.Sends.TheVariants.{Message, Interrupt}
+use Rattle.arbitration.specs.declared.beginnings.Beginning.{Beginning}
 use Rattle.arbitration.specs.declared.laid.Laid.{Laid}
-use Rattle.arbitration.specs.Plans.{AreLaid}
-use Rattle.arbitration.specs.Laid.{SameBytes, rest_of, shown, is_open, all_known, ends, is_kept, kept_byte, kept_rest, known_bytes, known_rests}
-use Rattle.arbitration.specs.Ways.{NoneOpen, BeginAlike}
-use Rattle.arbitration.proofs.CommonBytes.{one_more_alike}
-
-got : (ps : List Pattern) (k : ℕ) (a d : Pattern) → slice_get ps k ≡ Some a → get_or ps k d ≡ a
-got [] k a d h = cc
-got (p ∷ ps) zero a d h = cc
-got (p ∷ ps) (suc k) a d h = got ps k a d h
+use Rattle.arbitration.specs.Arbitration.{sender_slots}
+use Rattle.arbitration.specs.Plans.{AreLaid, IsBegun}
+use Rattle.arbitration.specs.Laid.{AreBeginnings, rest_of, shown, ends, kept_byte, kept_rest, payload_bytes, payload_rests, frame_bytes, first_bytes}
+use Rattle.arbitration.specs.Ways.{Step, stopped, Begins, IsBeginning}
 
 -- one more byte is the same
-pub same_more : (n : ℕ) (ps qs : List Pattern) (d e : Pattern) → SameBytes n ps qs → get_or ps n d ≡ get_or qs n e → SameBytes (n + 1) ps qs
-same_more n ps qs d e h f k a b lt g i =
-    elim (cases_lt k n) [
-      | inl less ↦ h k a b less g i
-      | inr ge ↦ (let m : k ≡ n = omega (arith, lt, ge) in sym (got ps n a d (rw (sym m) g)) ∙ (f ∙ got qs n b e (rw (sym m) i)))
-    ]
+pub same_more : (ps qs : List Pattern) (k : ℕ) (a b : Pattern) → k < length ps → k < length qs → take k ps ≡ take k qs → a ≡ get_or ps k a → b ≡ get_or qs k b → a ≡ b → take (k + 1) ps ≡ take (k + 1) qs
+same_more ps qs k a b l m e f g h =
+    take_more_same ps qs k a l m e (sym f ∙ (h ∙ subst (λ (d : Pattern). b ≡ get_or qs k d) (sym h) g))
 
 pub rest_at : (n : ℕ) (x : Payload) (rs : List (Bor Payload)) (r : Bor Payload) → n < length rs → shown (get_or rs n r) ≡ rest_of (suc n) x (map shown rs)
 rest_at n x [] r lt = absurd (omega arith)
 rest_at zero x (q ∷ rs) r lt = refl
 rest_at (suc n) x (q ∷ rs) r lt = rest_at n (shown q) rs r (omega arith)
 
--- ---- what two have in common
-
-open_first : (b : Bit) (v : Bool) → (not (is_open b) && v) ≡ true → b ≡ Either → ⊥
-open_first Either v h e = cc
-open_first Zero v h e = cc
-open_first One v h e = cc
-
-none_open : (bits : List Bit) → all_known bits ≡ true → NoneOpen bits
-none_open [] h k e = cc
-none_open (b ∷ bs) h zero e = open_first b (all_known bs) h (let f = e in cc)
-none_open (b ∷ bs) h (suc k) e = none_open bs (and_parts (not (is_open b)) (all_known bs) h).1 k e
+-- ---- what a message begins with
 
 ends_in_stop : (r : Tail) → ends r ≡ true → tail_tree r ≡ stop
 ends_in_stop Stop h = refl
@@ -59,37 +44,81 @@ kept_length : (v : Bool) (b : Pattern) (t : Payload) (bs : List Pattern) (ts : L
 kept_length true b t bs ts e = omega (arith, e)
 kept_length false b t bs ts e = refl
 
-pub kept_lengths : (x : Payload) → length (known_rests x) ≡ length (known_bytes x)
-kept_lengths (Byte' b p t r) = kept_length (is_kept b r) b t (known_bytes t) (known_rests t) (kept_lengths t)
+pub kept_lengths : (x : Payload) → length (payload_rests x) ≡ length (payload_bytes x)
+kept_lengths (Byte' b p t r) = kept_length (ends r) b t (payload_bytes t) (payload_rests t) (kept_lengths t)
 kept_lengths (Last r) = refl
 
-one_more_laid : (n : ℕ) (v w : Bool) (b c : Pattern) (t u x y : Payload) (X Y : PayloadTree) → (v ≡ true → (X ≡ byte b (payload_tree t) stop) × NoneOpen (pattern_bits b)) → (w ≡ true → Y ≡ byte c (payload_tree u) stop) → suc n ≤ length (kept_byte v b (known_bytes t)) → suc n ≤ length (kept_byte w c (known_bytes u)) → SameBytes (suc n) (kept_byte v b (known_bytes t)) (kept_byte w c (known_bytes u)) → (n ≤ length (known_bytes t) → n ≤ length (known_bytes u) → SameBytes n (known_bytes t) (known_bytes u) → BeginAlike n (payload_tree t) (payload_tree u) (payload_tree (rest_of n t (known_rests t))) (payload_tree (rest_of n u (known_rests u)))) → BeginAlike (suc n) X Y (payload_tree (rest_of (suc n) x (kept_rest v t (known_rests t)))) (payload_tree (rest_of (suc n) y (kept_rest w u (known_rests u))))
-one_more_laid n true true b c t u x y X Y f g l m s h =
-    let t' = payload_tree (rest_of n t (known_rests t)) in
-    let u' = payload_tree (rest_of n u (known_rests u)) in
-    let same : SameBytes n (known_bytes t) (known_bytes u) = λ k a d lt e i. s (suc k) a d (omega (arith, lt)) e i in
-    let more = one_more_alike n b c X Y (payload_tree t) (payload_tree u) t' u' (f refl).0 (g refl) (s 0 b c (omega arith) refl refl) (f refl).1 (h (omega (arith, l)) (omega (arith, m)) same) in
-    subst (λ (k : ℕ). BeginAlike k X Y t' u') (omega arith) more
-one_more_laid n false w b c t u x y X Y f g l m s h = absurd (omega (arith, l))
-one_more_laid n true false b c t u x y X Y f g l m s h = absurd (omega (arith, m))
+one_more_begins : (n : ℕ) (v : Bool) (b : Pattern) (t x : Payload) (X : PayloadTree) → (v ≡ true → X ≡ byte b (payload_tree t) stop) → suc n ≤ length (kept_byte v b (payload_bytes t)) → (n ≤ length (payload_bytes t) → Begins (take n (map stopped (payload_bytes t))) (payload_tree t) (payload_tree (rest_of n t (payload_rests t)))) → Begins (take (suc n) (map stopped (kept_byte v b (payload_bytes t)))) X (payload_tree (rest_of (suc n) x (kept_rest v t (payload_rests t))))
+one_more_begins n true b t x X f l h = (payload_tree t, f refl, h (omega (arith, l)))
+one_more_begins n false b t x X f l h = absurd (omega (arith, l))
 
-pub laid_alike : (n : ℕ) (x y : Payload) → n ≤ length (known_bytes x) → n ≤ length (known_bytes y) → SameBytes n (known_bytes x) (known_bytes y) → BeginAlike n (payload_tree x) (payload_tree y) (payload_tree (rest_of n x (known_rests x))) (payload_tree (rest_of n y (known_rests y)))
-laid_alike zero x y l m s = ([], refl, refl, refl)
-laid_alike (suc n) (Byte' b p t r) (Byte' c q u i) l m s =
-    one_more_laid n (is_kept b r) (is_kept c i) b c t u (Byte' b p t r) (Byte' c q u i) (byte b (payload_tree t) (tail_tree r)) (byte c (payload_tree u) (tail_tree i)) (λ k. let h = and_parts (ends r) (all_known (pattern_bits b)) k in (ap (byte b (payload_tree t)) (ends_in_stop r h.0), none_open (pattern_bits b) h.1)) (λ k. let h = and_parts (ends i) (all_known (pattern_bits c)) k in ap (byte c (payload_tree u)) (ends_in_stop i h.0)) l m s (laid_alike n t u)
-laid_alike (suc n) (Byte' b p t r) (Last i) l m s = absurd (omega (arith, m))
-laid_alike (suc n) (Last r) y l m s = absurd (omega (arith, l))
+-- a message begins with its first n bytes
+begins : (n : ℕ) (x : Payload) → n ≤ length (payload_bytes x) → Begins (take n (map stopped (payload_bytes x))) (payload_tree x) (payload_tree (rest_of n x (payload_rests x)))
+begins zero x l = refl
+begins (suc n) (Byte' b p t r) l =
+    one_more_begins n (ends r) b t (Byte' b p t r) (byte b (payload_tree t) (tail_tree r)) (λ e. ap (byte b (payload_tree t)) (ends_in_stop r e)) l (begins n t)
+begins (suc n) (Last r) l = absurd (omega (arith, l))
 
 -- the same of what is held
-pub laid_as_held : (n : ℕ) (x y : Payload) (ps qs : List Pattern) (ts us : List Payload) (x' y' : PayloadTree) → ps ≡ known_bytes x → qs ≡ known_bytes y → ts ≡ known_rests x → us ≡ known_rests y → n ≤ length ps → n ≤ length qs → SameBytes n ps qs → x' ≡ payload_tree (rest_of n x ts) → y' ≡ payload_tree (rest_of n y us) → BeginAlike n (payload_tree x) (payload_tree y) x' y'
-laid_as_held n x y ps qs ts us x' y' a b c d l m s e f =
-    rw (e, f, c, d) (laid_alike n x y (rw (sym a) l) (rw (sym b) m) (rw (a, b) at s))
+pub laid_begins : (n : ℕ) (x : Payload) (ps : List Pattern) (ts : List Payload) (x' : PayloadTree) → ps ≡ payload_bytes x → ts ≡ payload_rests x → n ≤ length ps → x' ≡ payload_tree (rest_of n x ts) → Begins (take n (map stopped ps)) (payload_tree x) x'
+laid_begins n x ps ts x' a c l e = rw (e, a, c) (begins n x (rw a at l))
 
-pub enough_rests : (n : ℕ) (x : Payload) (ps : List Pattern) (rs : List (Bor Payload)) → ps ≡ known_bytes x → map shown rs ≡ known_rests x → n ≤ length ps → n ≤ length rs
+take_map : (n : ℕ) (ps : List Pattern) → take n (map stopped ps) ≡ map stopped (take n ps)
+take_map zero ps = refl
+take_map (suc n) [] = refl
+take_map (suc n) (p ∷ ps) = ap (λ ss. stopped p ∷ ss) (take_map n ps)
+
+pub same_steps : (n : ℕ) (ps qs : List Pattern) → take n ps ≡ take n qs → take n (map stopped qs) ≡ take n (map stopped ps)
+same_steps n ps qs e = take_map n qs ∙ (ap (map stopped) (sym e) ∙ sym (take_map n ps))
+
+pub enough_rests : (n : ℕ) (x : Payload) (ps : List Pattern) (rs : List (Bor Payload)) → ps ≡ payload_bytes x → map shown rs ≡ payload_rests x → n ≤ length ps → n ≤ length rs
 enough_rests n x ps rs a b l =
     let e = ap length a in
     let f = ap length b in
     omega (arith, l, e, f, kept_lengths x, length-map rs shown)
+
+-- each byte takes nine slots
+
+kept_slots : (v : Bool) (b : Pattern) (t : Payload) (m : ℕ) → 9 * length (payload_bytes t) ≤ m → 9 * length (kept_byte v b (payload_bytes t)) ≤ m + 9
+kept_slots true b t m h = omega (arith, h)
+kept_slots false b t m h = omega arith
+
+bytes_slots : (x : Payload) → 9 * length (payload_bytes x) ≤ payload_slots (payload_tree x)
+bytes_slots (Byte' b p t r) = omega (arith, kept_slots (ends r) b t (payload_slots (payload_tree t)) (bytes_slots t))
+bytes_slots (Last r) = omega arith
+
+frame_bytes_slots : (f : Frame) → 9 * length (frame_bytes f) ≤ frame_slots (frame_tree f)
+frame_bytes_slots (Write' a p x r) = omega (arith, bytes_slots x)
+frame_bytes_slots (Read a c x r) = omega arith
+
+pub first_slots : (s : Sends) → 9 * length (first_bytes s) ≤ sender_slots (what_is_sent s)
+first_slots (Message f) = frame_bytes_slots f.now
+first_slots (Interrupt a) = omega arith
+
+-- ---- the beginnings of its first bytes
+
+pub longer_beginnings : (ss : List Step) (made all : List Beginning) (new : Beginning) (k : ℕ) → length made ≡ k → ((n : ℕ) (d : Beginning) → n < length made → IsBeginning (take (suc n) ss) (get_or made n d)) → all ≡ made ++ new ∷ [] → IsBeginning (take (suc k) ss) new → (n : ℕ) (d : Beginning) → n < length all → IsBeginning (take (suc n) ss) (get_or all n d)
+longer_beginnings ss made all new k l h e w n d lt =
+    rw e (elim (cases_lt n k) [
+      | inl less ↦ (let m : n < length made = omega (arith, less, l) in rw (get_or_append_left made (new ∷ []) d n m) (h n d m))
+      | inr ge ↦ (let f = ap length e in let m : n ≡ k = omega (arith, lt, ge, f, length-append made (new ∷ []), l) in rw (m, get_or_push made new d k l) w)
+    ])
+
+pub enough_beginnings : (n : ℕ) (ps qs : List Pattern) (bs cs : List Beginning) → qs ≡ ps → cs ≡ bs → AreBeginnings (map stopped ps) bs → n ≤ length qs → n ≤ length cs
+enough_beginnings n ps qs bs cs e f a l =
+    let g = ap length e in
+    let h = ap length f in
+    omega (arith, l, g, h, a.0, length-map ps stopped)
+
+pub one_longer : (made all : List Beginning) (new : Beginning) (k : ℕ) → all ≡ made ++ new ∷ [] → length made ≡ k → length all ≡ k + 1
+one_longer made all new k e l =
+    let f = ap length e in
+    omega (arith, f, l, length-append made (new ∷ []))
+
+pub next_step : (ps : List Pattern) (k : ℕ) (d b : Pattern) → k < length ps → get_or ps k d ≡ b → take k (map stopped ps) ++ stopped b ∷ [] ≡ take (suc k) (map stopped ps)
+next_step [] k d b lt e = absurd (omega arith)
+next_step (p ∷ ps) zero d b lt e = ap (λ q. stopped q ∷ []) (sym e)
+next_step (p ∷ ps) (suc k) d b lt e = ap (λ ss. stopped p ∷ ss) (next_step ps k d b (omega arith) e)
 
 -- ---- of the participants of a plan
 
@@ -121,3 +150,10 @@ one_more_long ls ms l n m e =
 
 pub sent_there : (plan : Contents) (ls : List Laid) (n : ℕ) (s : Sender) → length ls ≡ n → sender_at plan n ≡ Some s → sender_at plan (length ls) ≡ Some s
 sent_there plan ls n s e h = ap (sender_at plan) e ∙ h
+
+pub begun_at : (plan : Contents) (ls : List Laid) (k : ℕ) (l : Laid) → AreLaid plan ls → k < participant_count plan → l ≡ get_or ls k l → IsBegun l
+begun_at plan ls k l a h e = a.begun k l (laid_at ls k l (omega (arith, a.all)) e)
+
+pub one_more_begun : (ls ms : List Laid) (l : Laid) → ms ≡ ls ++ l ∷ [] → ((k : ℕ) (q : Laid) → slice_get ls k ≡ Some q → IsBegun q) → IsBegun l → (k : ℕ) (q : Laid) → slice_get ms k ≡ Some q → IsBegun q
+one_more_begun ls ms l m h e k q g =
+    elim (pushed_at ls l q k (rw m at g)) [ inl old ↦ h k q old | inr new ↦ subst IsBegun (sym new.1) e ]

@@ -9,7 +9,7 @@ use Rattle.message_tree.specs.Laws.{HasText}
 use Rattle.message_tree.specs.Texts.{Language, Allows, SentThen, HeardThen, AnswerThen, AgainThen}
 use Rattle.arbitration.specs.Arbitration.{GoesOn}
 use Rattle.arbitration.specs.Ways.{Way, both_end, first_wins, second_wins, put_first, put_second, Goes, Differ, WinsAt, PartsAt}
-use Rattle.arbitration.proofs.SpanLemmas.{After}
+use Rattle.arbitration.specs.Spans.{After}
 
 -- what both put before, and how each goes on
 pub record Meet (way : Way) (P Q : Language) (u : List Item) : Type 0 where

@@ -18,9 +18,9 @@ use Rattle.message_tree.specs.Trees.{FrameTree, write, read, PayloadTree, byte, 
 use Rattle.message_tree.proofs.TextLaws.{lawful_payload, lawful_tail}
 use Rattle.message_tree.proofs.TextLengths.{longest_frame}
 use Rattle.arbitration.specs.declared.spans.Outcomes.{Outcomes}
-use Rattle.arbitration.specs.Spans.{IsSpan, union_of, after_of}
+use Rattle.arbitration.specs.Spans.{IsSpan, union_of, after_of, After}
 use Rattle.arbitration.specs.Ways.{Way, both_end, first_wins, second_wins, put_first, put_second, Goes, span_of, AreOutcomes, AllHaveRoom, PartsAt, ArePartings, ReadsApart, AreReadsApart, Answered, header_of}
-use Rattle.arbitration.proofs.SpanLemmas.{After, span_union, span_after, span_same, span_between, room}
+use Rattle.arbitration.proofs.SpanLemmas.{span_union, span_after, span_same, span_between, room}
 use Rattle.arbitration.proofs.Meetings.{some_bit, goes_sent, parts_here, goes_after_sent, goes_answer, goes_after_acked, goes_after_refused, goes_again, goes_after_again}
 use Rattle.arbitration.proofs.ReadMeetings.{some_bytes, Common, goes_read, reads_apart, goes_after_read}
 
@@ -36,17 +36,17 @@ pub parted : (bs cs : List Bit) (P Q : Language) (o : Outcomes) → length bs �
 parted bs cs P Q o l s p q h = only_part bs cs P Q o l (λ n way k g. n s.0 s.1) p q h
 
 module _ (bs cs : List Bit) (P Q R S : Language) (l : length bs ≡ 8) (m : length cs ≡ 8) where
-  abbrev First : Language
+  abbrev pub First : Language
   First = SentThen bs (AnswerThen P R)
 
-  abbrev Second : Language
+  abbrev pub Second : Language
   Second = SentThen cs (AnswerThen Q S)
 
   -- the bits part them, or an answer comes
-  abbrev NodeGoes : Way → ℕ → Type 0
+  abbrev pub NodeGoes : Way → ℕ → Type 0
   NodeGoes way k = (PartsAt way bs cs k ⊎ After 9 (Goes way P Q) k) ⊎ After 9 (Goes way R S) k
 
-  node_out : (way : Way) (k : ℕ) → Goes way First Second k → NodeGoes way k
+  pub node_out : (way : Way) (k : ℕ) → Goes way First Second k → NodeGoes way k
   node_out way k g =
       elim (goes_sent way bs cs (AnswerThen P R) (AnswerThen Q S) k (l ∙ sym m) g) [
         | inl w ↦ inl (inl w)
@@ -61,7 +61,7 @@ module _ (bs cs : List Bit) (P Q R S : Language) (l : length bs ≡ 8) (m : leng
       let f : (j + 1) + length bs ≡ k = omega (arith, l, e) in
       subst (Goes way First Second) f (goes_after_sent way bs cs (AnswerThen P R) (AnswerThen Q S) (j + 1) (l ∙ sym m) n g)
 
-  node_in : (way : Way) (k : ℕ) → NeverSplit bs cs → HasText P → HasText Q → NodeGoes way k → Goes way First Second k
+  pub node_in : (way : Way) (k : ℕ) → NeverSplit bs cs → HasText P → HasText Q → NodeGoes way k → Goes way First Second k
   node_in way k n p q (inl (inl w)) =
       parts_here way bs cs (AnswerThen P R) (AnswerThen Q S) k w (Heard false ∷ p.0, p.1) (Heard false ∷ q.0, q.1)
   node_in way k n p q (inl (inr (j, e, g))) = after_bits way j k n e (goes_after_acked way P Q R S j g)
@@ -104,7 +104,7 @@ only_first x y [] v e = (refl, cc)
 only_first x y (z ∷ []) v e = cc
 only_first x y (z ∷ w ∷ u) v e = cc
 
-stops_only : (way : Way) (k : ℕ) → Goes way (TailText stop) (TailText stop) k → (way ≡ both_end) × (k ≡ 0)
+pub stops_only : (way : Way) (k : ℕ) → Goes way (TailText stop) (TailText stop) k → (way ≡ both_end) × (k ≡ 0)
 stops_only both_end k g = let e = only_first Stop Stop g.wire g.first.0 g.first.1 in (refl, sym g.slot ∙ ap length e.0)
 stops_only first_wins k g = let e = (only_first (Sent false) Stop g.wire g.first.0 g.first.1).1 in absurd cc
 stops_only second_wins k g = let e = (only_first (Sent true) Stop g.wire g.first.0 g.first.1).1 in absurd cc

@@ -11,7 +11,8 @@ use Rattle.message_tree.specs.Texts.{Language, Allows, SentThen, HeardThen, Byte
 use Rattle.arbitration.specs.declared.spans.Outcomes.{Outcomes}
 use Rattle.arbitration.specs.Spans.{IsSpan}
 use Rattle.arbitration.specs.Ways.{Way, both_end, first_wins, second_wins, Goes, WinsAt, PartsAt, ReadsOn, ReadsApart, AreReadsApart}
-use Rattle.arbitration.proofs.SpanLemmas.{After, Between}
+use Rattle.arbitration.specs.Spans.{After}
+use Rattle.arbitration.proofs.SpanLemmas.{Between}
 use Rattle.arbitration.proofs.Meetings.{swapped, some_sent, goes_sent, parts_here, goes_after_sent, goes_heard, goes_after_heard}
 
 -- ---- one byte

@@ -2,11 +2,7 @@
 use Rattle.std.proofs.Common.{◌≡◌, ℕ, ◌+◌, ◌*◌, ◌<◌, ◌≤◌, ◌^◌, min, max, Option, Some, None, refl, subst, arith, inl, inr, ◌⊎◌}
 use Rattle.std.proofs.lemmas.Bool.{cases_lt}
 use Rattle.arbitration.specs.declared.spans.Slots.{Slots}
-use Rattle.arbitration.specs.Spans.{IsSpan, union_of, after_of, HasRoom}
-
--- R happens so many slots later
-abbrev pub After : ℕ → (ℕ → Type 0) → ℕ → Type 0
-After n R k = (j : ℕ) × (k ≡ j + n) × R j
+use Rattle.arbitration.specs.Spans.{IsSpan, union_of, after_of, HasRoom, After}
 
 pub span_union : (R S : ℕ → Type 0) (a b : Option Slots) → IsSpan R a → IsSpan S b → IsSpan (λ k. R k ⊎ S k) (union_of a b)
 span_union R S None None f g = λ k h. elim h [ inl r ↦ f k r | inr s ↦ g k s ]

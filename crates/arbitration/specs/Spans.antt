@@ -1,5 +1,5 @@
 -- The earliest and the latest of some slots.
-use Rattle.std.specs.Prelude.{ℕ, ◌+◌, ◌≤◌, ◌<◌, ◌^◌, min, max, Option, Some, None}
+use Rattle.std.specs.Prelude.{◌≡◌, ℕ, ◌+◌, ◌≤◌, ◌<◌, ◌^◌, min, max, Option, Some, None}
 use Rattle.arbitration.specs.declared.spans.Slots.{Slots}
 
 pub record Spans (R : ℕ → Type 0) (slots : Slots) : Type 0 where
@@ -27,3 +27,7 @@ after_of n (Some s) = Some (record { earliest = s.earliest + n; latest = s.lates
 abbrev pub HasRoom : ℕ → Option Slots → Type 0
 HasRoom n None = Unit {0}
 HasRoom n (Some s) = (s.earliest + n < 2 ^ 32) × (s.latest + n < 2 ^ 32)
+
+-- R happens so many slots later
+abbrev pub After : ℕ → (ℕ → Type 0) → ℕ → Type 0
+After n R k = (j : ℕ) × (k ≡ j + n) × R j

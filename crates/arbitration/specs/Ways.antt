@@ -1,5 +1,5 @@
 -- The three ways in which two go apart or end, by one description. Only private contracts and proofs use this.
-use Rattle.std.specs.Prelude.{◌≡◌, ℕ, ◌+◌, ◌*◌, ◌<◌, ◌⊎◌, true, false, zero, suc, Option, Some, List, [], ◌∷◌, length, slice_get}
+use Rattle.std.specs.Prelude.{◌≡◌, ℕ, ◌+◌, ◌*◌, ◌<◌, ◌⊎◌, true, false, Option, Some, List, [], ◌∷◌, length, slice_get}
 use Rattle.message_tree.specs.declared.bits.Bit.{Bit}
 use Rattle.message_tree.specs.declared.bits.Pattern.{Pattern}
 use Rattle.message_tree.specs.declared.bits.Bit.TheVariants.{Zero, One, Either}
@@ -8,13 +8,14 @@ use Rattle.message_tree.specs.declared.items.Item.{Item}
 use Rattle.message_tree.specs.declared.items.Item.TheVariants.{Sent, Stop}
 use Rattle.message_tree.specs.Bits.{SplitAt}
 use Rattle.message_tree.specs.Counts.{InRange, greatest_of}
-use Rattle.message_tree.specs.Texts.{Language, Allows, write_header, read_header}
+use Rattle.message_tree.specs.Texts.{Language, Allows, TailText, write_header, read_header}
 use Rattle.message_tree.specs.Patterns.{pattern_bits}
-use Rattle.message_tree.specs.Trees.{FrameTree, write, read, PayloadTree, byte, stop}
+use Rattle.message_tree.specs.Trees.{FrameTree, write, read, PayloadTree, byte, TailTree, stop}
+use Rattle.arbitration.specs.declared.beginnings.Beginning.{Beginning}
 use Rattle.arbitration.specs.declared.spans.Slots.{Slots}
 use Rattle.arbitration.specs.declared.spans.Outcomes.{Outcomes}
 use Rattle.arbitration.specs.Arbitration.{GoesOn}
-use Rattle.arbitration.specs.Spans.{IsSpan, HasRoom, union_of, after_of}
+use Rattle.arbitration.specs.Spans.{IsSpan, HasRoom, union_of, after_of, After}
 
 pub data Way : Type 0 where
   both_end : Way
@@ -98,18 +99,35 @@ abbrev pub header_of : FrameTree → List Bit
 header_of (write address acked refused) = write_header address
 header_of (read address count after refused) = read_header address
 
--- x begins with these bytes, no bit of which is open, and ends after a refusal of each; x' follows them
-abbrev pub Begins : List Pattern → PayloadTree → PayloadTree → Type 0
+-- a byte that two messages begin with, and what both write after a refusal of it
+pub record Step : Type 0 where
+  pub bits : Pattern
+  pub refused : TailTree
+
+-- both end after a refusal
+abbrev pub stopped : Pattern → Step
+stopped b = record { bits = b; refused = stop }
+
+-- x begins with these bytes; x' follows them
+abbrev pub Begins : List Step → PayloadTree → PayloadTree → Type 0
 Begins [] x x' = x ≡ x'
-Begins (b ∷ bs) x x' = (t : PayloadTree) × (x ≡ byte b t stop) × NoneOpen (pattern_bits b) × Begins bs t x'
+Begins (s ∷ ss) x x' = (t : PayloadTree) × (x ≡ byte s.bits t s.refused) × Begins ss t x'
 
--- both begin with the same n such bytes, and these two follow
-abbrev pub BeginAlike : ℕ → PayloadTree → PayloadTree → PayloadTree → PayloadTree → Type 0
-BeginAlike n x y x' y' = (bs : List Pattern) × (length bs ≡ n) × Begins bs x x' × Begins bs y y'
+-- in slot k two who send this byte go this way: in an open bit, or after a refusal
+abbrev pub GoesInByte : Way → Step → ℕ → Type 0
+GoesInByte way s k =
+    PartsAt way (pattern_bits s.bits) (pattern_bits s.bits) k ⊎ After 9 (Goes way (TailText s.refused) (TailText s.refused)) k
 
--- n such bytes before: both may end after each of them, and what follows comes 9 n slots later
-abbrev pub skipped_of : Way → ℕ → Option Slots → Option Slots
-skipped_of way zero span = span
-skipped_of both_end (suc n) span = union_of (Some (record { earliest = 9; latest = 9 * suc n })) (after_of (9 * suc n) span)
-skipped_of first_wins (suc n) span = after_of (9 * suc n) span
-skipped_of second_wins (suc n) span = after_of (9 * suc n) span
+-- in slot k two who send these bytes go this way
+abbrev pub GoesWithin : Way → List Step → ℕ → Type 0
+GoesWithin way [] k = ⊥
+GoesWithin way (s ∷ ss) k = GoesInByte way s k ⊎ After 9 (GoesWithin way ss) k
+
+-- the beginning has these bytes, and its outcomes are those within them
+abbrev pub IsBeginning : List Step → Beginning → Type 0
+IsBeginning ss beginning =
+    (length ss ≡ beginning.bytes) × ((way : Way) → IsSpan (GoesWithin way ss) (span_of way beginning.outcomes))
+
+-- both begin with the bytes of this beginning, and these two follow
+abbrev pub BeginAlike : Beginning → PayloadTree → PayloadTree → PayloadTree → PayloadTree → Type 0
+BeginAlike beginning x y x' y' = (ss : List Step) × IsBeginning ss beginning × Begins ss x x' × Begins ss y y'

@@ -1,27 +1,29 @@
 // The bytes that two messages have in common.
 
-ghost use Rattle.std.specs.Prelude.{ℕ, true, ◌≡◌, ◌+◌, ◌<◌, ◌^◌};
+ghost use Rattle.std.specs.Prelude.{true, ◌≡◌, ◌+◌, ◌*◌, ◌<◌, ◌^◌, ◌++◌, List};
 ghost use Rattle.message_tree.specs.Sizes.{payload_slots};
 ghost use Rattle.message_tree.specs.Trees.{payload_tree, tail_tree, stop};
 ghost use Rattle.arbitration.specs.Laid.{ends};
-ghost use Rattle.arbitration.specs.Ways.{BeginAlike};
+ghost use Rattle.arbitration.specs.Ways.{Step, Begins, IsBeginning};
 
-use crate::bits::are_same_and_known;
+use crate::beginnings::Beginning;
+use crate::bits::is_same;
 use message_tree::{Payload, Tail};
 
-/// How many bytes two messages have in common, and what each writes after them.
+/// What two messages have in common, and what each writes after it.
 #[derive(Clone, Copy)]
 pub(crate) struct Alike<'a> {
-    pub(crate) bytes: u32,
+    pub(crate) beginning: Beginning,
     pub(crate) first: &'a Payload,
     pub(crate) second: &'a Payload,
 }
 
-/// So many bytes and those that both begin with, as long as no bit of them is open, and both end where they are refused.
-pub(crate) fn common_bytes<'a>(x: &'a Payload, y: &'a Payload, bytes: u32) -> Alike<'a>
-    requires { bytes + payload_slots (payload_tree x.now) < 2 ^ 32 }
-    ensures { (n : ℕ) × (result.bytes ≡ bytes + n) ×
-        BeginAlike n (payload_tree x.now) (payload_tree y.now) (payload_tree result.first.now) (payload_tree result.second.now) }
+/// This beginning and the bytes that both go on with, as long as both end where they are refused.
+pub(crate) fn common_bytes<'a>(x: &'a Payload, y: &'a Payload, beginning: Beginning) -> Alike<'a>
+    requires { 9 * beginning.bytes + payload_slots (payload_tree x.now) < 2 ^ 32 }
+    ensures { (ss : List Step) → IsBeginning ss beginning → (ts : List Step) × IsBeginning (ss ++ ts) result.beginning ×
+        Begins ts (payload_tree x.now) (payload_tree result.first.now) ×
+        Begins ts (payload_tree y.now) (payload_tree result.second.now) }
 {
     if let Payload::Byte {
         bits: a,
@@ -33,14 +35,14 @@ pub(crate) fn common_bytes<'a>(x: &'a Payload, y: &'a Payload, bytes: u32) -> Al
             acked: after_second,
             refused: s,
         } = y
-        && are_same_and_known(a, b)
+        && is_same(a, b)
         && is_stop(r)
         && is_stop(s)
     {
-        return common_bytes(after_first, after_second, bytes + 1);
+        return common_bytes(after_first, after_second, beginning.and(a));
     }
     Alike {
-        bytes,
+        beginning,
         first: x,
         second: y,
     }

@@ -5,7 +5,6 @@ ghost use Rattle.message_tree.specs.declared.bits.Bit.TheVariants.{Either};
 ghost use Rattle.message_tree.specs.Bits.{SplitAt};
 ghost use Rattle.message_tree.specs.Patterns.{address_bits, pattern_bits};
 ghost use Rattle.message_tree.specs.Texts.{Allows};
-ghost use Rattle.arbitration.specs.Laid.{is_open};
 ghost use Rattle.arbitration.specs.Spans.{IsSpan};
 ghost use Rattle.arbitration.specs.Ways.{Differ, NoneOpen, WinsBit, WinsAt, ArePartings};
 
@@ -44,13 +43,24 @@ pub(crate) fn data(p: &Pattern) -> [Bit; 8]
     ]
 }
 
-// Whether two data bytes are the same, and no bit of them is open. Most bytes that two messages have in common are such, so
-// this is asked before anything else.
+// Whether two data bytes are the same.
 #[inline(always)]
-pub(crate) fn are_same_and_known(a: &Pattern, b: &Pattern) -> bool
-    ensures { result ≡ true → (a.now ≡ b.now) × NoneOpen (pattern_bits a.now) }
+pub(crate) fn is_same(a: &Pattern, b: &Pattern) -> bool
+    ensures { result ≡ true → a.now ≡ b.now }
 {
-    a == b && is_known(a)
+    a == b
+}
+
+/// The places at which one of two may win who send the same byte: its open bits.
+pub(crate) fn open_bits(p: &Pattern) -> Outcomes
+    ensures { ArePartings (pattern_bits p.now) (pattern_bits p.now) result }
+{
+    // most bytes have none
+    if is_known(p) {
+        return Outcomes::none();
+    }
+    let bits = data(p);
+    partings(&bits, &bits)
 }
 
 // Whether no bit is open.
@@ -66,11 +76,10 @@ fn is_known(p: &Pattern) -> bool
     known
 }
 
-/// Whether the bit is open.
+// Whether the bit is open.
 #[inline(always)]
-pub(crate) fn is_open(bit: Bit) -> bool
-    ensures open { result ≡ true ↔ (bit ≡ Either) }
-    ensures value { result ≡ is_open bit }
+fn is_open(bit: Bit) -> bool
+    ensures { result ≡ true ↔ (bit ≡ Either) }
 {
     matches!(bit, Bit::Either)
 }

@@ -8,6 +8,7 @@ ghost use Rattle.message_tree.specs.Trees.{frame_tree, payload_tree, tail_tree, 
 ghost use Rattle.arbitration.specs.Ways.{AreOutcomes, BeginAlike, Way, span_of, AllHaveRoom, Answered};
 
 use crate::alike::{Alike, common_bytes};
+use crate::beginnings::Beginning;
 use crate::bits::{always_part, data, header, partings};
 use crate::reads::reads_apart;
 use crate::spans::Outcomes;
@@ -130,24 +131,26 @@ fn reads(c: &Count, d: &Count, x: &Tail, y: &Tail) -> Outcomes
     apart.union(ends)
 }
 
-// What is written after an acknowledge. Most messages have known bytes in common, and end where one is refused.
+// What is written after an acknowledge. Most messages have bytes in common, and end where one is refused.
 #[cycle(compare)]
 fn payloads(x: &Payload, y: &Payload) -> Outcomes
     requires { payload_slots (payload_tree x.now) < 2 ^ 32 }
     ensures { AreOutcomes (PayloadText (payload_tree x.now)) (PayloadText (payload_tree y.now)) result }
 {
-    after_alike(common_bytes(x, y, 0))
+    after_alike(common_bytes(x, y, Beginning::none()))
 }
 
 /// What is written after an acknowledge, by what two have in common of it.
 #[cycle(compare)]
 pub(crate) fn after_alike(alike: Alike<'_>) -> Outcomes
-    requires { 9 * alike.bytes + payload_slots (payload_tree alike.first.now) < 2 ^ 32 }
+    requires { 9 * alike.beginning.bytes + payload_slots (payload_tree alike.first.now) < 2 ^ 32 }
     ensures { (x y : PayloadTree) →
-        BeginAlike alike.entry.bytes x y (payload_tree alike.entry.first.now) (payload_tree alike.entry.second.now) →
+        BeginAlike alike.entry.beginning x y (payload_tree alike.entry.first.now) (payload_tree alike.entry.second.now) →
         AreOutcomes (PayloadText x) (PayloadText y) result }
 {
-    apart(alike.first, alike.second).after_bytes(alike.bytes)
+    let rest = apart(alike.first, alike.second);
+    let Beginning { bytes, outcomes } = alike.beginning;
+    outcomes.union(rest.after(9 * bytes))
 }
 
 // The same from there on.

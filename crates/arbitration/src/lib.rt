@@ -3,6 +3,7 @@
 #![tactic(auto)]
 
 mod alike;
+mod beginnings;
 mod bits;
 mod compare;
 mod laid;

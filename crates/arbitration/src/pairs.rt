@@ -15,7 +15,7 @@ use crate::spans::Outcomes;
 use plan_core::Plan;
 use std::alloc::{AllocError, Global};
 
-/// What the participants of a plan send, as `of_pair` needs it: 16 bytes for each byte that a message begins with.
+/// What the participants of a plan send, as `of_pair` needs it: some 50 bytes for each byte that a message begins with.
 ///
 /// # Errors
 ///

@@ -6,7 +6,8 @@ ghost use Rattle.message_tree.specs.Texts.{SenderText, FrameText};
 ghost use Rattle.message_tree.specs.Trees.{frame_tree, payload_tree, tail_tree, write};
 ghost use Rattle.plan_core.specs.Senders.{what_is_sent};
 ghost use Rattle.arbitration.specs.Arbitration.{EndTogether, Wins};
-ghost use Rattle.arbitration.specs.Laid.{known_bytes, known_rests, frame_bytes, frame_rests, shown};
+ghost use Rattle.arbitration.specs.Laid.{payload_bytes, payload_rests, frame_bytes, frame_rests, shown};
+ghost use Rattle.arbitration.specs.Plans.{IsBegun};
 ghost use Rattle.arbitration.specs.Spans.{IsSpan};
 ghost use Rattle.arbitration.specs.Ways.{AreOutcomes, header_of};
 
@@ -18,8 +19,9 @@ use message_tree::{Address, Bit, Frame, Payload, Tail};
 use plan_core::Sends;
 
 /// What two participants who send this may come to when they start together and alone. An interrupt never ends by a STOP,
-/// and loses or wins in its header. Each level of the messages is a call, but for the known bytes that both begin with.
+/// and loses or wins in its header. Each level of the messages is a call, but for the bytes that both begin with.
 pub(crate) fn outcomes(first: &Laid<'_>, second: &Laid<'_>) -> Outcomes
+    requires { IsBegun first.now }
     ensures both { IsSpan (EndTogether (SenderText (what_is_sent first.now.sends)) (SenderText (what_is_sent second.now.sends)))
         result.both }
     ensures first { IsSpan (Wins (SenderText (what_is_sent first.now.sends)) (SenderText (what_is_sent second.now.sends)))
@@ -32,6 +34,7 @@ pub(crate) fn outcomes(first: &Laid<'_>, second: &Laid<'_>) -> Outcomes
 
 // The same, from their first headers on.
 fn starts(first: &Laid<'_>, second: &Laid<'_>) -> Outcomes
+    requires { IsBegun first.now }
     ensures { AreOutcomes (SenderText (what_is_sent first.now.sends)) (SenderText (what_is_sent second.now.sends)) result }
 {
     match &first.sends {
@@ -53,6 +56,7 @@ fn messages(f: &Frame, g: &Frame, first: &Laid<'_>, second: &Laid<'_>) -> Outcom
     requires first_rests { map shown first.now.rests.items ≡ frame_rests f.now }
     requires second_bytes { second.now.bytes.items ≡ frame_bytes g.now }
     requires second_rests { map shown second.now.rests.items ≡ frame_rests g.now }
+    requires begun { IsBegun first.now }
     ensures { AreOutcomes (FrameText (frame_tree f.now)) (FrameText (frame_tree g.now)) result }
 {
     match f {
@@ -84,10 +88,11 @@ fn writes(
     second: &Laid<'_>,
 ) -> Outcomes
     requires slots { max (payload_slots (payload_tree x.now)) (tail_slots (tail_tree r.now)) + 9 < 2 ^ 32 }
-    requires first_bytes { first.now.bytes.items ≡ known_bytes x.now }
-    requires first_rests { map shown first.now.rests.items ≡ known_rests x.now }
-    requires second_bytes { second.now.bytes.items ≡ known_bytes y.now }
-    requires second_rests { map shown second.now.rests.items ≡ known_rests y.now }
+    requires first_bytes { first.now.bytes.items ≡ payload_bytes x.now }
+    requires first_rests { map shown first.now.rests.items ≡ payload_rests x.now }
+    requires second_bytes { second.now.bytes.items ≡ payload_bytes y.now }
+    requires second_rests { map shown second.now.rests.items ≡ payload_rests y.now }
+    requires begun { IsBegun first.now }
     ensures { AreOutcomes (FrameText (write a.now (payload_tree x.now) (tail_tree r.now)))
         (FrameText (write b.now (payload_tree y.now) (tail_tree s.now))) result }
 {

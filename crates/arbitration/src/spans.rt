@@ -1,8 +1,8 @@
 // Spans of slots, and the outcomes of two participants.
 
-ghost use Rattle.std.specs.Prelude.{◌≡◌, ◌*◌, ◌<◌, ◌^◌, Some, None};
+ghost use Rattle.std.specs.Prelude.{◌≡◌, Some, None};
 ghost use Rattle.arbitration.specs.Spans.{union_of, after_of, HasRoom};
-ghost use Rattle.arbitration.specs.Ways.{Way, span_of, skipped_of, AllHaveRoom};
+ghost use Rattle.arbitration.specs.Ways.{Way, span_of, AllHaveRoom};
 
 /// The earliest and the latest slot in which something may happen. Slots are counted from 0, after the START.
 #[derive(Clone, Copy, PartialEq, Eq, Debug)]
@@ -102,32 +102,6 @@ impl Outcomes {
             both: after(self.both, slots),
             first: after(self.first, slots),
             second: after(self.second, slots),
-        }
-    }
-
-    // The same after so many bytes that two have in common, no bit of them open, after a refusal of each of which both end.
-    pub(crate) fn after_bytes(self, bytes: u32) -> Outcomes
-        requires slots { 9 * bytes < 2 ^ 32 }
-        requires room { AllHaveRoom (9 * bytes) self }
-        ensures { (way : Way) → span_of way result ≡ skipped_of way bytes (span_of way self) }
-    {
-        if bytes == 0 {
-            return self;
-        }
-        let slots = 9 * bytes;
-        let refused = Slots {
-            earliest: 9,
-            latest: slots,
-        };
-        let Outcomes {
-            both,
-            first,
-            second,
-        } = self.after(slots);
-        Outcomes {
-            both: union(Some(refused), both),
-            first,
-            second,
         }
     }
 }

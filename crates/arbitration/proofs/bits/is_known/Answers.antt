@@ -15,4 +15,4 @@ loop-k-init c = λ t j lt e. absurd (omega (arith, lt))
 
 pub loop-k-preserved : goal.loop-k-preserved
 loop-k-preserved c =
-    λ t. let both = and_parts c.loop-k.known (not c.is_open.result) t in below_more _ _ (c.loop-k.invariant both.0) (one_more_known (pattern_bits c.args.p.now) c.loop-k.k c.bit.result c.is_open.result c.bit.ensures c.is_open.ensures.open.1 both.1)
+    λ t. let both = and_parts c.loop-k.known (not c.is_open.result) t in below_more _ _ (c.loop-k.invariant both.0) (one_more_known (pattern_bits c.args.p.now) c.loop-k.k c.bit.result c.is_open.result c.bit.ensures c.is_open.ensures.1 both.1)

@@ -1,4 +1,4 @@
-use Rattle.std.proofs.Common.{◌≡◌, ◌+◌, ◌*◌, ℕ, ap, sym, ◌∙◌, subst, arith}
+use Rattle.std.proofs.Common.{◌+◌, ◌*◌, [], ap, sym, ◌∙◌, arith}
 use Rattle.message_tree.specs.Counts.{greatest_of}
 use Rattle.message_tree.specs.Sizes.{frame_slots, payload_slots, tail_slots}
 use Rattle.message_tree.specs.Texts.{FrameText, PayloadText, TailText, ReadThen}
@@ -6,8 +6,7 @@ use Rattle.message_tree.specs.Trees.{frame_tree, payload_tree, tail_tree, write,
 use Rattle.message_tree.specs.declared.tree.Frame.{Frame}
 use Rattle.message_tree.specs.declared.tree.Payload.{Payload}
 use Rattle.message_tree.proofs.TextLaws.{lawful_tail}
-use Rattle.arbitration.specs.Ways.{BeginAlike}
-use Rattle.arbitration.proofs.CommonBytes.{bytes_skipped, slots_left, weight_left}
+use Rattle.arbitration.proofs.CommonBytes.{alike_outcomes, slots_left, weight_left}
 use Rattle.arbitration.proofs.Nodes.{all_room, payload_bound, tail_bound, frame_bound, read_bound, bytes_part, bytes_answered, reads_parted, reads_answered, reads_part, reads_end, writes_are, write_meets_read, read_meets_write, bytes_are, lasts_are, byte_and_last, last_and_byte, stops_are, stop_and_again, again_and_stop, agains_are}
 use Rattle.arbitration.proofs.compare.+compare.Goals as goal
 
@@ -151,26 +150,24 @@ two_reads-returns-else-always_part t c =
 
 pub payloads-after_alike-requires : goal.payloads-after_alike-requires
 payloads-after_alike-requires t c =
-    let m = c.common_bytes.ensures in
+    let m = c.common_bytes.ensures [] c.none.ensures in
     let x = payload_tree c.args.x.now in
     let x' = payload_tree c.common_bytes.result.first.now in
-    let w = weight_left m.2.0 x x' m.2.2 in
-    let s = slots_left m.2.0 x x' m.2.2 in
-    (omega (arith, w), omega (arith, m.1, m.2.1, s, c.requires))
+    let w = weight_left m.0 x x' m.2 in
+    let s = slots_left m.0 x x' m.2 in
+    (omega (arith, w), omega (arith, m.1.0, s, c.requires))
 
 pub payloads-returns : goal.payloads-returns
 payloads-returns t c =
-    let m = c.common_bytes.ensures in
-    let x = payload_tree c.args.x.now in
-    let y = payload_tree c.args.y.now in
-    let n : m.0 ≡ c.common_bytes.result.bytes = omega (arith, m.1) in
-    c.after_alike.ensures x y (subst (λ (k : ℕ). BeginAlike k x y (payload_tree c.common_bytes.result.first.now) (payload_tree c.common_bytes.result.second.now)) n m.2)
+    let m = c.common_bytes.ensures [] c.none.ensures in
+    c.after_alike.ensures (payload_tree c.args.x.now) (payload_tree c.args.y.now) m
 
-pub after_alike-after_bytes-requires-clause-room : goal.after_alike-after_bytes-requires-clause-room
-after_alike-after_bytes-requires-clause-room t c =
+pub after_alike-after-requires : goal.after_alike-after-requires
+after_alike-after-requires t c =
     let x' = payload_tree c.args.alike.first.now in
-    all_room (PayloadText x') (PayloadText (payload_tree c.args.alike.second.now)) c.apart.result (payload_slots x') (9 * c.args.alike.bytes) c.apart.ensures (payload_bound x') (omega (arith, c.requires))
+    all_room (PayloadText x') (PayloadText (payload_tree c.args.alike.second.now)) c.apart-rest.result (payload_slots x') (9 * c.args.alike.beginning.bytes) c.apart-rest.ensures (payload_bound x') (omega (arith, c.requires))
 
 pub after_alike-returns : goal.after_alike-returns
 after_alike-returns t c =
-    λ x y m. bytes_skipped c.args.alike.bytes m.0 x y (payload_tree c.args.alike.first.now) (payload_tree c.args.alike.second.now) c.apart.result c.after_bytes.result m.1 m.2 m.3 c.apart.ensures c.after_bytes.ensures
+    let alike = c.args.alike in
+    λ x y m. alike_outcomes m.0 alike.beginning x y (payload_tree alike.first.now) (payload_tree alike.second.now) c.apart-rest.result c.union.result m.1 m.2 m.3 c.apart-rest.ensures (λ way. let e = c.union.ensures way in let f = c.after.ensures way in cc)

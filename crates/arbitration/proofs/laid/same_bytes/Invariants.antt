@@ -1,5 +1,5 @@
-use Rattle.arbitration.specs.Laid.{SameBytes}
+use Rattle.std.proofs.Common.{◌≡◌, take}
 use Rattle.arbitration.proofs.laid.same_bytes.Given as goal
 
 abbrev pub invariant-loop-k : goal.invariant-loop-k
-invariant-loop-k l = SameBytes l.k l.first l.second
+invariant-loop-k l = take l.k l.first ≡ take l.k l.second

@@ -2,7 +2,7 @@ use Rattle.std.proofs.Common.{arith}
 use Rattle.plan_core.specs.PlanContents.{plan_contents}
 use Rattle.plan_core.specs.Senders.{what_is_sent}
 use Rattle.plan_core.proofs.PlanLemmas.{limits_of}
-use Rattle.arbitration.proofs.LaidLemmas.{one_more_sent, one_more_long, sent_there}
+use Rattle.arbitration.proofs.LaidLemmas.{one_more_sent, one_more_long, one_more_begun, sent_there}
 use Rattle.arbitration.proofs.Runs.{sender_fits}
 use Rattle.arbitration.proofs.pairs.laid_out.Goals as goal
 
@@ -17,5 +17,6 @@ loop-p-preserved c =
     let m = c.in_ok-push.ensures.items in
     record {
       all = one_more_long c.loop-p.laid.items c.push.new.self.items c.in_ok-of.field-0 c.loop-p.p m i.all;
-      sent = one_more_sent plan c.loop-p.laid.items c.push.new.self.items c.in_ok-of.field-0 (what_is_sent c.sends.result) m i.sent (sent_there plan c.loop-p.laid.items c.loop-p.p (what_is_sent c.sends.result) i.all c.sends.ensures) c.in_ok-of.ensures;
+      sent = one_more_sent plan c.loop-p.laid.items c.push.new.self.items c.in_ok-of.field-0 (what_is_sent c.sends.result) m i.sent (sent_there plan c.loop-p.laid.items c.loop-p.p (what_is_sent c.sends.result) i.all c.sends.ensures) c.in_ok-of.ensures.sends;
+      begun = one_more_begun c.loop-p.laid.items c.push.new.self.items c.in_ok-of.field-0 m i.begun c.in_ok-of.ensures.begun;
     }

@@ -1,10 +1,14 @@
 use Rattle.plan_core.specs.Participants.{sender_at}
 use Rattle.plan_core.specs.PlanContents.{plan_contents}
 use Rattle.plan_core.specs.Senders.{what_is_sent}
-use Rattle.arbitration.proofs.LaidLemmas.{sent_at}
+use Rattle.arbitration.proofs.LaidLemmas.{begun_at, sent_at}
 use Rattle.arbitration.proofs.SenderLemmas.{both_of_pair, first_of_pair}
 use Rattle.arbitration.proofs.Runs.{ends_span, first_span, second_span}
 use Rattle.arbitration.proofs.pairs.of_pair.Goals as goal
+
+pub outcomes-requires : goal.outcomes-requires
+outcomes-requires c =
+    begun_at (plan_contents c.args.plan.now) c.args.laid.now c.args.x c.index-laid-x.result c.requires.laid c.requires.x_within c.index-laid-x.is
 
 pub returns-clause-both : goal.returns-clause-both
 returns-clause-both c =

@@ -11,7 +11,7 @@ pub after_alike-requires : goal.after_alike-requires
 after_alike-requires c =
     let m = c.common_laid-alike.ensures in
     let s = slots_left m.0 (payload_tree c.args.x.now) (payload_tree c.common_laid-alike.result.first.now) m.2 in
-    omega (arith, m.1, s, c.requires.slots)
+    omega (arith, m.1.0, s, c.requires.slots)
 
 pub answered-requires-clause-acked : goal.answered-requires-clause-acked
 answered-requires-clause-acked c =
