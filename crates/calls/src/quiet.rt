@@ -1,19 +1,19 @@
 // Calls that take no memory, while every allocation is refused. What they need is made before. Those on the seats of a bench
 // are in `quiet_seats`.
 
-ghost use Rattle.std.specs.Prelude.{◌≡◌};
+ghost use Rattle.std.specs.Prelude.{◌≡◌, All};
 
 use crate::building::named;
-use crate::scarcity::Scarcity;
+use crate::scarcity::{be_there_again, refuse_all};
 use capture_check::{Follower, Listener, Watch};
 use cert_check::{accept_plan, check_fault, check_pair};
 use certificate::{Cert, CertText, Fault, read_cert};
 use message_tree::{Address, Bit, Count, Frame, Item, Pattern, Tail};
-use pair_queue::{SettleFault, Take, Thief, open_queue, settle};
-use plan_core::{Builder, Participant, Plan, Sends};
+use pair_queue::{Owner, SettleFault, Take, Thief, open_queue, settle};
+use plan_core::{Builder, Name, Participant, Plan, Sends};
 use plan_text::read_plan;
 use run_parts::{Input, RunError, Watched};
-use std::alloc::Global;
+use std::alloc::{AllocError, Global};
 use vcd_read::Reader;
 use verdicts::{Faults, Table, faults, table};
 
@@ -28,9 +28,9 @@ pub fn is_plan_quiet(alloc: Global, text: &[u8]) -> Result<Option<bool>, RunErro
         return Ok(None);
     };
     let wanted = sum_of(&plan);
-    let scarce = Scarcity::refusing(alloc);
+    refuse_all(alloc);
     let found = sum_of(&plan);
-    Ok(Some(scarce.was_quiet() && found == wanted))
+    Ok(Some(!be_there_again(alloc) && found == wanted))
 }
 
 // A number to which each call on a plan adds.
@@ -105,12 +105,20 @@ pub fn is_table_quiet(alloc: Global, text: &[u8]) -> Result<Option<bool>, RunErr
     let Ok(plan) = read_plan(alloc, text) else {
         return Ok(None);
     };
-    let table = table(alloc, &plan)?;
-    let faults = faults(alloc, &plan)?;
-    let wanted = listed(&table, &faults);
-    let scarce = Scarcity::refusing(alloc);
-    let found = listed(&table, &faults);
-    Ok(Some(scarce.was_quiet() && found == wanted))
+    Ok(Some(are_lists_quiet(alloc, &plan)?))
+}
+
+fn are_lists_quiet(alloc: Global, plan: &Plan) -> Result<bool, AllocError> {
+    let table = table(alloc, plan)?;
+    is_list_quiet(alloc, plan, &table)
+}
+
+fn is_list_quiet(alloc: Global, plan: &Plan, table: &Table) -> Result<bool, AllocError> {
+    let faults = faults(alloc, plan)?;
+    let wanted = listed(table, &faults);
+    refuse_all(alloc);
+    let found = listed(table, &faults);
+    Ok(!be_there_again(alloc) && found == wanted)
 }
 
 // A number to which each call on a table and on a list of faults adds.
@@ -141,14 +149,17 @@ pub fn is_cert_quiet(alloc: Global, text: &[u8], cert: &[u8]) -> Result<Option<b
 
 fn are_proofs_quiet(alloc: Global, plan: Plan, proofs: Vec<Cert>) -> bool {
     let wanted = proved(&plan, &proofs);
-    let scarce = Scarcity::refusing(alloc);
+    refuse_all(alloc);
     let found = proved(&plan, &proofs);
+    accept_and_drop(plan, proofs);
+    !be_there_again(alloc) && found == wanted
+}
+
+fn accept_and_drop(plan: Plan, proofs: Vec<Cert>) {
     if let Ok(accepted) = accept_plan(plan, proofs.as_slice()) {
         let _ = accepted.plan().pair_count();
         let _ = accepted.into_plan();
     }
-    drop(proofs);
-    scarce.was_quiet() && found == wanted
 }
 
 // A number that says which proof proves which pair.
@@ -164,9 +175,9 @@ fn proved(plan: &Plan, proofs: &[Cert]) -> u64 {
 
 fn is_fault_quiet(alloc: Global, plan: &Plan, fault: &Fault) -> bool {
     let wanted = faulty(plan, fault);
-    let scarce = Scarcity::refusing(alloc);
+    refuse_all(alloc);
     let found = faulty(plan, fault);
-    scarce.was_quiet() && found == wanted
+    !be_there_again(alloc) && found == wanted
 }
 
 // A number that says which pairs have the fault.
@@ -178,7 +189,6 @@ fn faulty(plan: &Plan, fault: &Fault) -> u64 {
     sum
 }
 
-// One reader ends with its samples, and another after they were cleared.
 /// Whether the calls on the samples of a dump take no memory.
 pub fn is_reader_quiet(
     alloc: Global,
@@ -186,22 +196,32 @@ pub fn is_reader_quiet(
     scl: &str,
     sda: &str,
 ) -> Result<Option<bool>, RunError> {
+    let reader = fed(alloc, dump, scl, sda)?;
+    let other = fed(alloc, dump, scl, sda)?;
+    Ok(Some(are_readers_quiet(alloc, dump, reader, other)))
+}
+
+fn fed(alloc: Global, dump: &[u8], scl: &str, sda: &str) -> Result<Reader, RunError> {
     let mut reader = Reader::new(alloc, scl, sda)?;
-    let mut other = Reader::new(alloc, scl, sda)?;
     let _ = reader.feed(dump);
-    let _ = other.feed(dump);
+    Ok(reader)
+}
+
+fn are_readers_quiet(alloc: Global, dump: &[u8], reader: Reader, other: Reader) -> bool {
     let wanted = heard(&reader);
-    let scarce = Scarcity::refusing(alloc);
+    refuse_all(alloc);
     let found = heard(&reader);
-    let device = Watched::new(dump);
-    let failed = device.failed();
+    let failed = Watched::new(dump).failed();
     let _ = Listener::new().end();
     let _ = Follower::new();
-    reader.clear_samples();
-    let cleared = reader.end();
-    let whole = other.end();
-    let is_same = found == wanted && !failed && cleared.is_ok() == whole.is_ok();
-    Ok(Some(scarce.was_quiet() && is_same))
+    let is_same = end_alike(reader, other);
+    !be_there_again(alloc) && found == wanted && !failed && is_same
+}
+
+// One reader ends with its samples, and another after they were cleared.
+fn end_alike(mut cleared: Reader, whole: Reader) -> bool {
+    cleared.clear_samples();
+    cleared.end().is_ok() == whole.end().is_ok()
 }
 
 // How many events the samples have.
@@ -217,7 +237,7 @@ fn heard(reader: &Reader) -> u64 {
 }
 
 fn are_bits_quiet(alloc: Global) -> bool {
-    let scarce = Scarcity::refusing(alloc);
+    refuse_all(alloc);
     let split = Pattern::new(0xff, 0xf0).first_split(&Pattern::new(0xf0, 0xc0));
     let headers = Address::new(0x7f, 0x48).first_split(&Address::new(0x7f, 0x49));
     let bits = (
@@ -236,7 +256,7 @@ fn are_bits_quiet(alloc: Global) -> bool {
     let heard = Item::Heard(true);
     let (kind, symbol) = (heard.kind(), heard.symbol());
     let word = kind.word();
-    scarce.was_quiet()
+    !be_there_again(alloc)
         && split == Some(2)
         && headers == Some(6)
         && bits.0 != bits.1
@@ -250,67 +270,102 @@ fn are_bits_quiet(alloc: Global) -> bool {
 
 // The questions to a builder that has a message, a controller and an interrupt, and its end.
 fn is_builder_quiet(alloc: Global) -> Result<bool, RunError> {
-    let (a, m, t) = (named(alloc, "a")?, named(alloc, "m")?, named(alloc, "t")?);
     let mut builder = Builder::new(alloc);
+    let is_built = has_message(alloc, &mut builder)?
+        && builder.controller(named(alloc, "a")?, &[]).is_ok()
+        && builder.interrupt(named(alloc, "t")?, 1).is_ok();
+    let names = made_names(alloc)?;
+    Ok(are_questions_quiet(alloc, builder, &names) && is_built)
+}
+
+fn has_message(alloc: Global, builder: &mut Builder) -> Result<bool, RunError> {
     let Some(count) = Count::new(1) else {
         return Ok(false);
     };
+    let name = named(alloc, "m")?;
     let frame = Frame::Read {
         address: Address::new(0x7f, 0x48),
         count,
         after: Tail::Stop,
         refused: Tail::Stop,
     };
-    let is_built = builder.message(named(alloc, "m")?, frame).is_ok()
-        && builder.controller(named(alloc, "a")?, &[]).is_ok()
-        && builder.interrupt(named(alloc, "t")?, 1).is_ok();
-    let scarce = Scarcity::refusing(alloc);
-    let refusals = [
-        builder.message_name_refusal(&m).is_some(),
-        builder.controller_name_refusal(&a).is_some(),
-        builder.has_controller(&a),
-        builder.sending_refusal(&[], &a).is_some(),
-        builder.sending_refusal(&[], &m).is_some(),
-        builder.interrupt_refusal(&t).is_some(),
-        builder.never_refusal(&a, &a).is_some(),
-    ];
+    Ok(builder.message(name, frame).is_ok())
+}
+
+// The names of the controller, the message and the interrupt.
+#[derive(Drop)]
+struct Names {
+    a: Name,
+    m: Name,
+    t: Name,
+}
+
+fn made_names(alloc: Global) -> Result<Names, RunError> {
+    Ok(Names {
+        a: named(alloc, "a")?,
+        m: named(alloc, "m")?,
+        t: named(alloc, "t")?,
+    })
+}
+
+fn are_questions_quiet(alloc: Global, builder: Builder, names: &Names) -> bool {
+    refuse_all(alloc);
+    let refusals = refusals(&builder, names);
     let participants = builder.finish().participants();
-    Ok(
-        scarce.was_quiet()
-            && is_built
-            && participants == 1
-            && refusals == [true, true, true, true, false, true, true],
-    )
+    !be_there_again(alloc)
+        && participants == 1
+        && refusals == [true, true, true, true, false, true, true]
+}
+
+fn refusals(builder: &Builder, names: &Names) -> [bool; 7] {
+    let Names { a, m, t } = names;
+    [
+        builder.message_name_refusal(m).is_some(),
+        builder.controller_name_refusal(a).is_some(),
+        builder.has_controller(a),
+        builder.sending_refusal(&[], a).is_some(),
+        builder.sending_refusal(&[], m).is_some(),
+        builder.interrupt_refusal(t).is_some(),
+        builder.never_refusal(a, a).is_some(),
+    ]
 }
 
 // The owner takes a number, a thief the second; a number is left; the owner takes it and finds the end; the thief is
 // missing; all are back.
 fn is_queue_quiet(alloc: Global) -> Result<bool, RunError> {
-    let (mut owner, mut thieves) = open_queue(alloc, 3, 1)?;
-    let none = Vec::new(alloc);
-    let Some(mut thief) = thieves.pop() else {
-        return Ok(false);
-    };
-    let scarce = Scarcity::refusing(alloc);
-    let first = owner.take();
-    let second = asked(&mut thief);
-    thieves.push(thief)?;
-    let Err(left) = settle(owner, thieves) else {
-        return Ok(false);
-    };
-    let mut owner = left.owner;
-    let third = owner.take();
-    let end = owner.take();
-    let Err(missing) = settle(owner, none) else {
-        return Ok(false);
-    };
-    let is_settled = settle(missing.owner, left.thieves).is_ok();
-    Ok(
-        scarce.was_quiet()
-            && (first, second, third, end) == (Some(0), Take::Pair(1), Some(2), None)
-            && (left.why, missing.why) == (SettleFault::Left, SettleFault::Missing)
-            && is_settled,
-    )
+    let (owner, thieves) = open_queue(alloc, 3, 1)?;
+    refuse_all(alloc);
+    let is_right = is_settled_at_last(alloc, owner, thieves);
+    Ok(!be_there_again(alloc) && is_right)
+}
+
+fn is_settled_at_last(alloc: Global, mut owner: Owner, mut thieves: Vec<Thief>) -> bool
+    requires { All (λ thief. thief.queue ≡ owner.queue) thieves.items }
+{
+    if owner.take() != Some(0) || thieves.len() != 1 || asked(&mut thieves[0]) != Take::Pair(1) {
+        return false;
+    }
+    match settle(owner, thieves) {
+        Ok(_) => false,
+        Err(left) => {
+            left.why == SettleFault::Left && is_settled_with(alloc, left.owner, left.thieves)
+        }
+    }
+}
+
+// Of the numbers one is left.
+fn is_settled_with(alloc: Global, mut owner: Owner, thieves: Vec<Thief>) -> bool
+    requires { All (λ thief. thief.queue ≡ owner.queue) thieves.items }
+{
+    if owner.take() != Some(2) || owner.take().is_some() {
+        return false;
+    }
+    match settle(owner, Vec::new(alloc)) {
+        Ok(_) => false,
+        Err(missing) => {
+            missing.why == SettleFault::Missing && settle(missing.owner, thieves).is_ok()
+        }
+    }
 }
 
 // How often a thief may answer that it is busy.

@@ -1,6 +1,6 @@
 // The seats of a bench, while every allocation is refused.
 
-use crate::scarcity::Scarcity;
+use crate::scarcity::{be_there_again, refuse_all};
 use crate::scripts::{numbers_of, opened, put_all, see_all};
 use crate::sittings::Sitting;
 use bus_bench::MOST_SLOTS;
@@ -18,9 +18,9 @@ pub fn are_seats_quiet(
     let Ok(mut sitting) = opened(alloc, accepted, &numbers, answers) else {
         return Ok(None);
     };
-    let scarce = Scarcity::refusing(alloc);
+    refuse_all(alloc);
     play(&mut sitting);
-    Ok(Some(scarce.was_quiet()))
+    Ok(Some(!be_there_again(alloc)))
 }
 
 fn play(sitting: &mut Sitting<'_>) {

@@ -5,10 +5,9 @@
 
 use std::alloc::Global;
 
-/// Which allocations of a call are refused, numbered from 1.
-#[derive(Clone, Copy, Debug, Drop, PartialEq, Eq)]
+/// Which allocations are refused, numbered from 1.
+#[derive(Clone, Copy)]
 pub enum Refused {
-    None,
     /// The one with this number.
     One(u32),
     /// The one with this number, and each one after it.
@@ -37,23 +36,35 @@ pub fn obeys(alloc: Global) -> bool {
         && given_of_three(alloc, Refused::One(4)) == 4
 }
 
-/// From here on no allocation is refused.
-pub fn be_there_again(alloc: Global) {
-    is_given(alloc, STOP);
+/// From here on these allocations are refused.
+fn refuse(alloc: Global, refused: Refused) {
+    let word = match refused {
+        Refused::One(n) => ONE + n as usize,
+        Refused::From(n) => FROM + n as usize,
+    };
+    is_given(alloc, word);
+}
+
+/// From here on every allocation is refused.
+pub fn refuse_all(alloc: Global) {
+    refuse(alloc, Refused::From(1));
+}
+
+/// From here on no allocation is refused. Says whether one was.
+pub fn be_there_again(alloc: Global) -> bool {
+    is_given(alloc, STOP)
 }
 
 // How many of three allocations are given, and one more where none is told as refused.
 fn given_of_three(alloc: Global, refused: Refused) -> u32 {
-    let mut scarce = Scarcity::new(alloc, refused);
     let mut given = 0u32;
-    scarce.begin();
+    refuse(alloc, refused);
     for _ in 0..3 {
         if is_given(alloc, 8) {
             given = given.saturating_add(1);
         }
     }
-    scarce.end();
-    if scarce.has_met() {
+    if be_there_again(alloc) {
         given
     } else {
         given.saturating_add(1)
@@ -63,60 +74,4 @@ fn given_of_three(alloc: Global, refused: Refused) -> u32 {
 // Whether a block of so many bytes is given.
 fn is_given(alloc: Global, bytes: usize) -> bool {
     Vec::<u8>::with_capacity(alloc, bytes).is_ok()
-}
-
-/// One run of a call, in which some allocations are refused.
-#[derive(Drop)]
-pub struct Scarcity {
-    alloc: Global,
-    refused: Refused,
-    met: bool,
-}
-
-impl Scarcity {
-    pub fn new(alloc: Global, refused: Refused) -> Scarcity {
-        Scarcity {
-            alloc,
-            refused,
-            met: false,
-        }
-    }
-
-    /// A run in which every allocation is refused, and which has begun.
-    pub fn refusing(alloc: Global) -> Scarcity {
-        let scarce = Scarcity::new(alloc, Refused::From(1));
-        scarce.begin();
-        scarce
-    }
-
-    /// Whether such a run, which ends here, asked for none.
-    pub fn was_quiet(mut self) -> bool {
-        self.end();
-        !self.met
-    }
-
-    /// From here on memory is scarce.
-    pub fn begin(&self) {
-        match self.refused {
-            Refused::None => {}
-            Refused::One(n) => {
-                is_given(self.alloc, ONE + n as usize);
-            }
-            Refused::From(n) => {
-                is_given(self.alloc, FROM + n as usize);
-            }
-        }
-    }
-
-    /// From here on it is there again.
-    pub fn end(&mut self) {
-        if self.refused != Refused::None {
-            self.met |= is_given(self.alloc, STOP);
-        }
-    }
-
-    /// Whether an allocation was refused.
-    pub fn has_met(&self) -> bool {
-        self.met
-    }
 }

@@ -15,8 +15,6 @@ mod limits;
 #[cfg(test)]
 mod rehearsals;
 #[cfg(test)]
-mod tables;
-#[cfg(test)]
 mod workers;
 #[cfg(test)]
 mod yields;

@@ -252,8 +252,14 @@ fn messages_of_3_000_000_levels_are_measured_refused_and_dropped(
 
 // A builder refuses the message, and then has none.
 fn is_too_long(alloc: Global, message: Frame) -> Result<bool, Fail> {
-    let name = Name::new(alloc, "m")?;
+    match Name::new(alloc, "m") {
+        Ok(name) => Ok(is_refused(alloc, name, message)),
+        Err(error) => Err(Fail::from(error)),
+    }
+}
+
+fn is_refused(alloc: Global, name: Name, message: Frame) -> bool {
     let mut builder = Builder::new(alloc);
     let refusal = builder.message(name, message).err();
-    Ok(refusal == Some(BuildError::TooLong) && builder.finish().messages() == 0)
+    refusal == Some(BuildError::TooLong) && builder.finish().messages() == 0
 }

@@ -538,14 +538,21 @@ fn wrong_in(
     script: &'static str,
 ) -> Result<Option<&'static str>, Fail> {
     let mut builder = Builder::new(alloc);
-    if let Some(line) = first_wrong(&mut builder, alloc, script)? {
-        return Ok(Some(line));
+    match first_wrong(&mut builder, alloc, script) {
+        Ok(None) => wrong_plan(alloc, number, script, &builder.finish()),
+        wrong => wrong,
     }
-    if holds(&builder.finish(), alloc, number)? {
-        Ok(None)
-    } else {
-        Ok(Some(script))
-    }
+}
+
+// The script, where its plan is wrong.
+fn wrong_plan(
+    alloc: Global,
+    number: usize,
+    script: &'static str,
+    plan: &Plan,
+) -> Result<Option<&'static str>, Fail> {
+    let is_right = holds(plan, alloc, number)?;
+    Ok(if is_right { None } else { Some(script) })
 }
 
 #[test]

@@ -1,27 +1,38 @@
 // Readers of whole dumps and of dumps in pieces, and what they answer as one line.
 
 use std::alloc::{AllocError, Global};
-use std::process::Abort;
-use std::test::Fail;
 use vcd_read::{Level, Reader, Sample, VcdError};
 
 /// What a reader answers for a dump that comes in pieces of so many bytes: a word for each sample, or the refusal. The
 /// samples are cleared after each piece. A piece for which memory was refused is fed once more.
 pub fn in_pieces(alloc: Global, dump: &[u8], bytes: usize) -> Result<String, AllocError> {
-    let mut reader = Reader::new(alloc, "scl", "sda")?;
     let mut line = String::new(alloc);
+    let mut reader = Reader::new(alloc, "scl", "sda")?;
+    match feed_pieces(&mut reader, &mut line, dump, bytes)? {
+        Some(refusal) => refused(alloc, &mut reader, refusal),
+        None => put_end(line, reader.end()),
+    }
+}
+
+// The first refusal, after the samples before it.
+fn feed_pieces(
+    reader: &mut Reader,
+    line: &mut String,
+    dump: &[u8],
+    bytes: usize,
+) -> Result<Option<VcdError>, AllocError> {
     for piece in dump.chunks(bytes.max(1)) {
         let mut answer = reader.feed(piece);
         if answer == Err(VcdError::NoMemory) {
             answer = reader.feed(piece);
         }
         if let Err(refusal) = answer {
-            return refused(alloc, &mut reader, refusal);
+            return Ok(Some(refusal));
         }
-        put_samples(&mut line, reader.samples())?;
+        put_samples(line, reader.samples())?;
         reader.clear_samples();
     }
-    put_end(line, reader.end())
+    Ok(None)
 }
 
 /// The same for a dump in two pieces, from which nothing is cleared.
@@ -36,8 +47,8 @@ fn cut_at(alloc: Global, dump: &[u8], at: usize) -> Result<String, AllocError> {
     put_end(String::new(alloc), reader.end())
 }
 
-/// What a reader of lines with these names answers for a whole dump.
-pub fn named(alloc: Global, scl: &str, sda: &str, dump: &[u8]) -> Result<String, AllocError> {
+// What a reader of lines with these names answers for a whole dump.
+fn named(alloc: Global, scl: &str, sda: &str, dump: &[u8]) -> Result<String, AllocError> {
     let mut reader = Reader::new(alloc, scl, sda)?;
     if let Err(refusal) = reader.feed(dump) {
         return refused(alloc, &mut reader, refusal);
@@ -88,16 +99,29 @@ fn letter(level: Level) -> char {
     }
 }
 
-/// The dump has these samples or this refusal: read whole, byte by byte, in other pieces, and cut in two at every
+/// Whether a reader of lines with these names answers this for a whole dump.
+pub fn is_named(
+    alloc: Global,
+    scl: &str,
+    sda: &str,
+    dump: &[u8],
+    answer: &str,
+) -> Result<bool, AllocError> {
+    Ok(named(alloc, scl, sda, dump)?.as_str() == answer)
+}
+
+/// Whether the dump has these samples or this refusal: read whole, byte by byte, in other pieces, and cut in two at every
 /// place.
-pub fn expect(rt: &impl Abort, alloc: Global, dump: &[u8], answer: &str) -> Result<(), Fail> {
+pub fn is_answered(alloc: Global, dump: &[u8], answer: &str) -> Result<bool, AllocError> {
     for bytes in [dump.len(), 1, 2, 7] {
-        let found = in_pieces(alloc, dump, bytes)?;
-        assert_eq!(rt; found.as_str(), answer, "in pieces of {bytes}");
+        if in_pieces(alloc, dump, bytes)?.as_str() != answer {
+            return Ok(false);
+        }
     }
     for at in 0..dump.len() {
-        let found = cut_at(alloc, dump, at)?;
-        assert_eq!(rt; found.as_str(), answer, "cut at {at}");
+        if cut_at(alloc, dump, at)?.as_str() != answer {
+            return Ok(false);
+        }
     }
-    Ok(())
+    Ok(true)
 }

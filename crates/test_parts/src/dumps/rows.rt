@@ -1,81 +1,24 @@
 // Captures, and what they say.
 
-use super::readers::{expect, in_pieces, named};
-use super::texts::{
-    BROKEN_DEFINITIONS, CAPTURES, COMMANDS, DEFINITIONS, SCALARS, TIMES, VECTORS, WHITE_SPACE,
-    WHOLE,
-};
+use super::readers::{in_pieces, is_answered, is_named};
+use super::texts::{DEFINITIONS, KINDS, Kind};
 use std::alloc::Global;
 use std::process::Abort;
 use std::test::Fail;
 use vcd_read::{Reader, VcdError};
 
-// The dump has these changes after the definitions.
-fn expect_changes(rt: &impl Abort, alloc: Global, changes: &str, answer: &str) -> Result<(), Fail> {
-    let dump = format!(in alloc; "{DEFINITIONS}{changes}")?;
-    expect(rt, alloc, dump.as_bytes(), answer)
-}
-
-#[test]
-fn captures(rt: HostRuntime) -> Result<(), Fail> {
-    for (changes, answer) in CAPTURES {
-        expect_changes(&rt, rt.alloc(), changes, answer)?;
+fn expect_rows(rt: &impl Abort, alloc: Global, kind: Kind) -> Result<(), Fail> {
+    for (text, answer) in kind.rows() {
+        let dump = format!(in alloc; "{}{text}", kind.definitions())?;
+        assert!(rt; is_answered(alloc, dump.as_bytes(), answer)?, "{text}");
     }
     Ok(())
 }
 
 #[test]
-fn times(rt: HostRuntime) -> Result<(), Fail> {
-    for (changes, answer) in TIMES {
-        expect_changes(&rt, rt.alloc(), changes, answer)?;
-    }
-    Ok(())
-}
-
-#[test]
-fn scalar_changes(rt: HostRuntime) -> Result<(), Fail> {
-    for (changes, answer) in SCALARS {
-        expect_changes(&rt, rt.alloc(), changes, answer)?;
-    }
-    Ok(())
-}
-
-#[test]
-fn vectors_real_numbers_and_strings(rt: HostRuntime) -> Result<(), Fail> {
-    for (changes, answer) in VECTORS {
-        expect_changes(&rt, rt.alloc(), changes, answer)?;
-    }
-    Ok(())
-}
-
-#[test]
-fn blocks_and_commands(rt: HostRuntime) -> Result<(), Fail> {
-    for (changes, answer) in COMMANDS {
-        expect_changes(&rt, rt.alloc(), changes, answer)?;
-    }
-    Ok(())
-}
-
-#[test]
-fn white_space(rt: HostRuntime) -> Result<(), Fail> {
-    for (changes, answer) in WHITE_SPACE {
-        expect_changes(&rt, rt.alloc(), changes, answer)?;
-    }
-    Ok(())
-}
-
-#[test]
-fn whole_dumps(rt: HostRuntime) -> Result<(), Fail> {
-    for (dump, answer) in WHOLE {
-        expect(&rt, rt.alloc(), dump.as_bytes(), answer)?;
-    }
-    Ok(())
-}
-
-#[test]
-fn broken_definitions(rt: HostRuntime) -> Result<(), Fail> {
-    for (dump, answer) in BROKEN_DEFINITIONS {
-        expect(&rt, rt.alloc(), dump.as_bytes(), answer)?;
+fn dumps_have_their_samples_or_their_refusals(rt: HostRuntime) -> Result<(), Fail> {
+    for kind in KINDS {
+        expect_rows(&rt, rt.alloc(), kind)?;
     }
     Ok(())
 }
@@ -92,24 +35,32 @@ fn lines_of_other_names(rt: HostRuntime) -> Result<(), Fail> {
         ("clk dat", "dat", "V1 scl"),
         ("CLK", "dat", "V1 scl"),
     ] {
-        let found = named(rt.alloc(), scl, sda, dump.as_bytes())?;
-        assert_eq!(rt; found.as_str(), answer, "for {scl:?} and {sda:?}");
+        assert!(rt;
+            is_named(rt.alloc(), scl, sda, dump.as_bytes(), answer)?,
+            "{scl}, {sda}"
+        );
     }
     Ok(())
+}
+
+// A time that goes back is refused with the white space behind it, and so is all that comes after.
+fn is_refused_behind(reader: &mut Reader) -> bool {
+    let refused = Err(VcdError::TimeBack(8));
+    reader.feed(DEFINITIONS.as_bytes()).is_ok()
+        && reader.feed(b"#5 0! #").is_ok()
+        && reader.samples().is_empty()
+        && reader.feed(b"7 1! #6").is_ok()
+        && reader.samples().len() == 1
+        && reader.feed(b"").is_ok()
+        && reader.feed(b"\n") == refused
+        && reader.feed(b"0!") == refused
 }
 
 #[test]
 fn a_refusal_comes_with_the_white_space_behind_its_token(rt: HostRuntime) -> Result<(), Fail> {
     let mut reader = Reader::new(rt.alloc(), "scl", "sda")?;
-    assert_eq!(rt; reader.feed(DEFINITIONS.as_bytes()), Ok(()));
-    assert_eq!(rt; reader.feed(b"#5 0! #"), Ok(()));
-    assert_eq!(rt; reader.samples().len(), 0);
-    assert_eq!(rt; reader.feed(b"7 1! #6"), Ok(()));
-    assert_eq!(rt; reader.samples().len(), 1);
-    assert_eq!(rt; reader.feed(b""), Ok(()));
-    assert_eq!(rt; reader.feed(b"\n"), Err(VcdError::TimeBack(8)));
-    assert_eq!(rt; reader.feed(b"0!"), Err(VcdError::TimeBack(8)));
-    assert_eq!(rt; reader.end().err(), Some(VcdError::TimeBack(8)));
+    assert!(rt; is_refused_behind(&mut reader));
+    assert!(rt; reader.end().err() == Some(VcdError::TimeBack(8)));
     Ok(())
 }
 

@@ -10,8 +10,58 @@ $upscope $end
 $enddefinitions $end
 ";
 
+/// A dump, or what stands behind its definitions, and its samples or its refusal.
+pub type Row = (&'static str, &'static str);
+
+/// What rows of dumps are about.
+#[derive(Clone, Copy)]
+pub enum Kind {
+    Captures,
+    Times,
+    Scalars,
+    Vectors,
+    Commands,
+    WhiteSpace,
+    Whole,
+    BrokenDefinitions,
+}
+
+pub const KINDS: [Kind; 8] = [
+    Kind::Captures,
+    Kind::Times,
+    Kind::Scalars,
+    Kind::Vectors,
+    Kind::Commands,
+    Kind::WhiteSpace,
+    Kind::Whole,
+    Kind::BrokenDefinitions,
+];
+
+impl Kind {
+    /// What stands before the text of each row.
+    pub fn definitions(self) -> &'static str {
+        match self {
+            Kind::Whole | Kind::BrokenDefinitions => "",
+            _ => DEFINITIONS,
+        }
+    }
+
+    pub fn rows(self) -> &'static [Row] {
+        match self {
+            Kind::Captures => &CAPTURES,
+            Kind::Times => &TIMES,
+            Kind::Scalars => &SCALARS,
+            Kind::Vectors => &VECTORS,
+            Kind::Commands => &COMMANDS,
+            Kind::WhiteSpace => &WHITE_SPACE,
+            Kind::Whole => &WHOLE,
+            Kind::BrokenDefinitions => &BROKEN_DEFINITIONS,
+        }
+    }
+}
+
 /// A write header that target 1001000 acknowledges, and a STOP.
-pub const ACKNOWLEDGED: &str = "#0 1! 1\"
+const ACKNOWLEDGED: &str = "#0 1! 1\"
 #10 0\" #15 0!
 #16 1\" #20 1! #25 0!
 #26 0\" #30 1! #35 0!
@@ -26,7 +76,7 @@ pub const ACKNOWLEDGED: &str = "#0 1! 1\"
 ";
 
 /// The same without an acknowledge.
-pub const REFUSED: &str = "#0 1! 1\"
+const REFUSED: &str = "#0 1! 1\"
 #10 0\" #15 0!
 #16 1\" #20 1! #25 0!
 #26 0\" #30 1! #35 0!
@@ -41,24 +91,24 @@ pub const REFUSED: &str = "#0 1! 1\"
 ";
 
 /// The first one cut short.
-pub const CUT: &str = "#0 1! 1\"
+const CUT: &str = "#0 1! 1\"
 #10 0\" #15 0!
 #16 1\" #20 1! #25 0!
 #26 0\" #30 1! #35 0!
 #40 1! #45 0!";
 
-pub const ACKNOWLEDGED_SAMPLES: &str =
+const ACKNOWLEDGED_SAMPLES: &str =
     "0HH 10HL 15LL 16LH 20HH 25LH 26LL 30HL 35LL 40HL 45LL 46LH 50HH 55LH 56LL 60HL 65LL \
 70HL 75LL 80HL 85LL 90HL 95LL 100HL 105LL 110HL 115HH";
 
-pub const REFUSED_SAMPLES: &str =
+const REFUSED_SAMPLES: &str =
     "0HH 10HL 15LL 16LH 20HH 25LH 26LL 30HL 35LL 40HL 45LL 46LH 50HH 55LH 56LL 60HL 65LL \
 70HL 75LL 80HL 85LL 90HL 95LL 96LH 100HH 105LH 106LL 110HL 115HH";
 
-pub const CUT_SAMPLES: &str = "0HH 10HL 15LL 16LH 20HH 25LH 26LL 30HL 35LL 40HL 45LL";
+const CUT_SAMPLES: &str = "0HH 10HL 15LL 16LH 20HH 25LH 26LL 30HL 35LL 40HL 45LL";
 
 /// What stands on line 8 and after, and the samples or the refusal: whole captures.
-pub const CAPTURES: [(&str, &str); 7] = [
+static CAPTURES: [Row; 7] = [
     (ACKNOWLEDGED, ACKNOWLEDGED_SAMPLES),
     (REFUSED, REFUSED_SAMPLES),
     (CUT, CUT_SAMPLES),
@@ -72,7 +122,7 @@ pub const CAPTURES: [(&str, &str); 7] = [
 ];
 
 /// The same: times.
-pub const TIMES: [(&str, &str); 20] = [
+static TIMES: [Row; 20] = [
     ("#5\n#4", "V3 line 9"),
     ("#5 #4", "V3 line 8"),
     ("#5 1! #4 1\"", "V3 line 8"),
@@ -99,7 +149,7 @@ pub const TIMES: [(&str, &str); 20] = [
 ];
 
 /// The same: scalar changes.
-pub const SCALARS: [(&str, &str); 12] = [
+static SCALARS: [Row; 12] = [
     (
         "#1 0! #2 1! #3 z! #4 x! #5 Z! #6 X! #7 0!",
         "1LU 2HU 4UU 5HU 6UU 7LU",
@@ -118,7 +168,7 @@ pub const SCALARS: [(&str, &str); 12] = [
 ];
 
 /// The same: vectors, real numbers and strings.
-pub const VECTORS: [(&str, &str); 17] = [
+static VECTORS: [Row; 17] = [
     ("b1 ! B0 \"", "0HL"),
     ("b0x1z ! bX10 \" #1 B1Zx !", "0HL 1UL"),
     ("b1 $end b0 #5", ""),
@@ -139,7 +189,7 @@ pub const VECTORS: [(&str, &str); 17] = [
 ];
 
 /// The same: blocks and commands.
-pub const COMMANDS: [(&str, &str); 15] = [
+static COMMANDS: [Row; 15] = [
     ("$dumpvars 1! 1\" $end #3 0!", "0HH 3LH"),
     (
         "$dumpall 1! #2 0! $end $dumpoff x! x\" $end #3 $dumpon 1! $end",
@@ -164,14 +214,14 @@ pub const COMMANDS: [(&str, &str); 15] = [
 ];
 
 /// The same: white space.
-pub const WHITE_SPACE: [(&str, &str); 3] = [
+static WHITE_SPACE: [Row; 3] = [
     ("1!\u{b}1\"\u{c}#1\t0!\r\n2", "V2 line 9"),
     ("1!\u{1c}1\"", "V2 line 8"),
     ("\n \r\t\u{b}\u{c}\n#", "V2 line 10"),
 ];
 
 /// Whole dumps, and their samples or refusals.
-pub const WHOLE: [(&str, &str); 43] = [
+static WHOLE: [Row; 43] = [
     ("", "V1 scl"),
     (" \n", "V1 scl"),
     ("#0", "V2 line 1"),
@@ -270,7 +320,7 @@ $var wire 1 b sda $end $upscope $end $enddefinitions $end 0a 1ab 1b",
 ];
 
 /// Dumps whose seven lines of definitions are cut short or changed.
-pub const BROKEN_DEFINITIONS: [(&str, &str); 5] = [
+static BROKEN_DEFINITIONS: [Row; 5] = [
     ("$timescale\n", "V4 line 1"),
     (
         "$timescale\n1 us $end\n$scope module top $end\n$var wire 1 ! scl $end\n",
