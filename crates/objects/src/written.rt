@@ -7,7 +7,7 @@ use std::alloc::AllocError;
 impl<'s, 'a> Object<'s, 'a> {
     /// Adds all fields, that of the kind first.
     pub(crate) fn write(&self, fields: &mut Fields<'_>) -> Result<(), AllocError> {
-        fields.put("kind", &self.kind())?;
+        fields.text("kind", self.kind())?;
         match self {
             Object::Pair { .. } | Object::Plan { .. } | Object::Certificate { .. } => {
                 self.write_checked(fields)
@@ -57,10 +57,10 @@ impl<'s, 'a> Object<'s, 'a> {
                 after,
                 explain,
             } => {
-                fields.put("pair", pair)?;
-                fields.put("participants", participants)?;
-                fields.put("meet", meet)?;
-                fields.put("after", after)?;
+                fields.number("pair", *pair)?;
+                fields.pair("participants", *participants)?;
+                fields.pair("meet", *meet)?;
+                fields.text("after", *after)?;
                 match explain {
                     Some(fault) => fault.write(fields),
                     None => Ok(()),
@@ -72,9 +72,9 @@ impl<'s, 'a> Object<'s, 'a> {
                 unsafe_pairs,
                 explain,
             } => {
-                fields.put("safe", safe)?;
-                fields.put("pairs", pairs)?;
-                fields.put("unsafe_pairs", unsafe_pairs)?;
+                fields.flag("safe", *safe)?;
+                fields.number("pairs", *pairs)?;
+                fields.number("unsafe_pairs", *unsafe_pairs)?;
                 match explain {
                     Some(mending) => mending.write(fields),
                     None => Ok(()),
@@ -88,11 +88,11 @@ impl<'s, 'a> Object<'s, 'a> {
                 pair,
                 explain,
             } => {
-                fields.put("accepted", accepted)?;
-                fields.put_some("safe", safe)?;
-                fields.put_some("code", code)?;
-                fields.put_some("line", line)?;
-                fields.put_some("pair", pair)?;
+                fields.flag("accepted", *accepted)?;
+                fields.some_flag("safe", *safe)?;
+                fields.some_text("code", *code)?;
+                fields.some_number("line", *line)?;
+                fields.some_number("pair", *pair)?;
                 match explain {
                     Some(notes) => notes.write(fields),
                     None => Ok(()),
@@ -112,12 +112,12 @@ impl<'s, 'a> Object<'s, 'a> {
                 first,
                 second,
             } => {
-                fields.put("pair", pair)?;
-                fields.put("participants", participants)?;
-                fields.put_some("unsafe", is_unsafe)?;
-                fields.put_some("both", both)?;
-                fields.put_some("first", first)?;
-                fields.put_some("second", second)
+                fields.number("pair", *pair)?;
+                fields.pair("participants", *participants)?;
+                fields.some_flag("unsafe", *is_unsafe)?;
+                fields.some_slots("both", *both)?;
+                fields.some_slots("first", *first)?;
+                fields.some_slots("second", *second)
             }
             Object::Total {
                 participant,
@@ -125,10 +125,10 @@ impl<'s, 'a> Object<'s, 'a> {
                 may_win,
                 loses,
             } => {
-                fields.put("participant", participant)?;
-                fields.put("wins", wins)?;
-                fields.put("may_win", may_win)?;
-                fields.put("loses", loses)
+                fields.text("participant", *participant)?;
+                fields.number("wins", *wins)?;
+                fields.number("may_win", *may_win)?;
+                fields.number("loses", *loses)
             }
             _ => Ok(()),
         }
@@ -147,8 +147,8 @@ impl<'s, 'a> Object<'s, 'a> {
                 if let Some(to) = to {
                     to.write(fields, "to")?;
                 }
-                fields.put("end", end)?;
-                fields.put("participants", participants)?;
+                fields.text("end", *end)?;
+                fields.texts("participants", *participants)?;
                 match explain {
                     Some(heard) => heard.write(fields),
                     None => Ok(()),
@@ -158,28 +158,28 @@ impl<'s, 'a> Object<'s, 'a> {
                 transactions,
                 unexplained,
             } => {
-                fields.put("transactions", transactions)?;
-                fields.put("unexplained", unexplained)
+                fields.number("transactions", *transactions)?;
+                fields.number("unexplained", *unexplained)
             }
             Object::TooFew {
                 transactions,
                 at_least,
             } => {
-                fields.put("transactions", transactions)?;
-                fields.put("at_least", at_least)
+                fields.number("transactions", *transactions)?;
+                fields.number("at_least", *at_least)
             }
             Object::Participant {
                 participant,
                 alone,
                 with_others,
             } => {
-                fields.put("participant", participant)?;
-                fields.put("alone", alone)?;
-                fields.put("with_others", with_others)
+                fields.text("participant", *participant)?;
+                fields.number("alone", *alone)?;
+                fields.number("with_others", *with_others)
             }
             Object::Count { what, transactions } => {
-                fields.put("what", what)?;
-                fields.put("transactions", transactions)
+                fields.text("what", *what)?;
+                fields.number("transactions", *transactions)
             }
             _ => Ok(()),
         }
@@ -193,23 +193,23 @@ impl<'s, 'a> Object<'s, 'a> {
                 scope,
                 name,
             } => {
-                fields.put("code", code)?;
-                fields.put("changes", changes)?;
-                fields.put_some("scope", scope)?;
-                fields.put("name", name)
+                fields.text("code", *code)?;
+                fields.number("changes", *changes)?;
+                fields.some_text("scope", *scope)?;
+                fields.text("name", *name)
             }
             Object::Bus {
                 transactions,
                 scl_code,
                 sda_code,
             } => {
-                fields.put("transactions", transactions)?;
-                fields.put("scl_code", scl_code)?;
-                fields.put("sda_code", sda_code)
+                fields.number("transactions", *transactions)?;
+                fields.text("scl_code", *scl_code)?;
+                fields.text("sda_code", *sda_code)
             }
             Object::Signals { signals, buses } => {
-                fields.put("signals", signals)?;
-                fields.put("buses", buses)
+                fields.number("signals", *signals)?;
+                fields.number("buses", *buses)
             }
             _ => Ok(()),
         }
@@ -218,19 +218,19 @@ impl<'s, 'a> Object<'s, 'a> {
     fn write_other(&self, fields: &mut Fields<'_>) -> Result<(), AllocError> {
         match self {
             Object::Wire { wire, explain } => {
-                fields.put("wire", wire)?;
+                fields.text("wire", *wire)?;
                 match explain {
                     Some(played) => played.write(fields),
                     None => Ok(()),
                 }
             }
-            Object::Won { participants } => fields.put("participants", participants),
+            Object::Won { participants } => fields.texts("participants", *participants),
             Object::Refusal { code, line, signal } => {
-                fields.put("code", code)?;
-                fields.put_some("line", line)?;
-                fields.put_some("signal", signal)
+                fields.text("code", *code)?;
+                fields.some_number("line", *line)?;
+                fields.some_text("signal", *signal)
             }
-            Object::Hint { text } | Object::Line { text } => fields.put("text", text),
+            Object::Hint { text } | Object::Line { text } => fields.text("text", *text),
             _ => Ok(()),
         }
     }
@@ -239,8 +239,8 @@ impl<'s, 'a> Object<'s, 'a> {
 impl<'a> Time<'a> {
     fn write(&self, fields: &mut Fields<'_>, name: &str) -> Result<(), AllocError> {
         match self {
-            Time::Number(number) => fields.put(name, number),
-            Time::Text(text) => fields.put(name, text),
+            Time::Number(number) => fields.number(name, *number),
+            Time::Text(text) => fields.text(name, *text),
         }
     }
 }
@@ -248,7 +248,7 @@ impl<'a> Time<'a> {
 impl<'s, 'a> Notes<'s, 'a> {
     fn write(&self, fields: &mut Fields<'_>) -> Result<(), AllocError> {
         fields.open_explain()?;
-        fields.put("notes", &self.notes)?;
+        fields.texts("notes", self.notes)?;
         fields.close()
     }
 }
@@ -256,11 +256,11 @@ impl<'s, 'a> Notes<'s, 'a> {
 impl<'s, 'a> Fault<'s, 'a> {
     fn write(&self, fields: &mut Fields<'_>) -> Result<(), AllocError> {
         fields.open_explain()?;
-        fields.put_some("slot", &self.slot)?;
-        fields.put_some("bus", &self.bus)?;
-        fields.put_some("bytes", &self.bytes)?;
-        fields.put_some("next", &self.next)?;
-        fields.put("notes", &self.notes)?;
+        fields.some_number("slot", self.slot)?;
+        fields.some_text("bus", self.bus)?;
+        fields.some_pair("bytes", self.bytes)?;
+        fields.some_pair("next", self.next)?;
+        fields.texts("notes", self.notes)?;
         fields.close()
     }
 }
@@ -268,8 +268,8 @@ impl<'s, 'a> Fault<'s, 'a> {
 impl<'s, 'a> Mending<'s, 'a> {
     fn write(&self, fields: &mut Fields<'_>) -> Result<(), AllocError> {
         fields.open_explain()?;
-        fields.put("never", &self.never)?;
-        fields.put("notes", &self.notes)?;
+        fields.pairs("never", self.never)?;
+        fields.texts("notes", self.notes)?;
         fields.close()
     }
 }
@@ -277,13 +277,13 @@ impl<'s, 'a> Mending<'s, 'a> {
 impl<'s, 'a> Heard<'s, 'a> {
     fn write(&self, fields: &mut Fields<'_>) -> Result<(), AllocError> {
         fields.open_explain()?;
-        fields.put("bytes", &self.bytes)?;
+        fields.text("bytes", self.bytes)?;
         fields.open_list("nearest")?;
         for near in self.nearest {
             near.write(fields)?;
         }
         fields.close_list()?;
-        fields.put("notes", &self.notes)?;
+        fields.texts("notes", self.notes)?;
         fields.close()
     }
 }
@@ -291,10 +291,10 @@ impl<'s, 'a> Heard<'s, 'a> {
 impl Near {
     fn write(&self, fields: &mut Fields<'_>) -> Result<(), AllocError> {
         fields.open()?;
-        fields.put("participant", &self.participant)?;
-        fields.put("slot", &self.slot)?;
-        fields.put("does", &self.does)?;
-        fields.put("wire", &self.wire)?;
+        fields.text("participant", self.participant.as_str())?;
+        fields.number("slot", self.slot)?;
+        fields.text("does", self.does.as_str())?;
+        fields.text("wire", self.wire.as_str())?;
         fields.close()
     }
 }
@@ -302,8 +302,8 @@ impl Near {
 impl<'s, 'a> Played<'s, 'a> {
     fn write(&self, fields: &mut Fields<'_>) -> Result<(), AllocError> {
         fields.open_explain()?;
-        fields.put("bytes", &self.bytes)?;
-        fields.put("notes", &self.notes)?;
+        fields.text("bytes", self.bytes)?;
+        fields.texts("notes", self.notes)?;
         fields.close()
     }
 }

@@ -1,5 +1,5 @@
 use Rattle.std.proofs.Common.{◌≡◌, All}
-use Rattle.test_parts.proofs.queue.threads.is_settled.Given as goal
+use Rattle.test_libraries.proofs.queue.threads.is_settled.Given as goal
 
 abbrev pub invariant-loop-e : goal.invariant-loop-e
 invariant-loop-e l =
