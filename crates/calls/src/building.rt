@@ -2,34 +2,41 @@
 
 use crate::scarcity::be_there_again;
 use plan_core::{BuildError, Builder, Name, NameError, Plan};
+use plan_text::read_plan;
 use run_parts::RunError;
 use std::alloc::Global;
 
-/// The plan that a builder makes of all that a plan has, in the same order. Where memory is refused the builder is as it was,
-/// and is asked once more when there is some.
-pub fn built_again(alloc: Global, plan: &Plan) -> Result<Plan, RunError> {
+/// The plan that a builder makes of all that the plan of a text has, in the same order. Where memory is refused the builder
+/// is as it was, and is asked once more when there is some.
+pub fn built_again(alloc: Global, text: &[u8]) -> Result<Plan, RunError> {
+    let plan = read_plan(alloc, text)?;
     let mut builder = Builder::new(alloc);
+    add_all(alloc, &mut builder, &plan)?;
+    Ok(builder.finish())
+}
+
+fn add_all(alloc: Global, builder: &mut Builder, plan: &Plan) -> Result<(), RunError> {
     for k in 0..plan.messages() {
-        if is_wanting(alloc, add_message(alloc, &mut builder, plan, k))? {
-            add_message(alloc, &mut builder, plan, k)?;
+        if is_wanting(alloc, add_message(alloc, builder, plan, k))? {
+            add_message(alloc, builder, plan, k)?;
         }
     }
     for k in 0..plan.controllers() {
-        if is_wanting(alloc, add_controller(alloc, &mut builder, plan, k))? {
-            add_controller(alloc, &mut builder, plan, k)?;
+        if is_wanting(alloc, add_controller(alloc, builder, plan, k))? {
+            add_controller(alloc, builder, plan, k)?;
         }
     }
     for k in 0..plan.interrupts() {
-        if is_wanting(alloc, add_interrupt(alloc, &mut builder, plan, k))? {
-            add_interrupt(alloc, &mut builder, plan, k)?;
+        if is_wanting(alloc, add_interrupt(alloc, builder, plan, k))? {
+            add_interrupt(alloc, builder, plan, k)?;
         }
     }
     for k in 0..plan.nevers() {
-        if is_wanting(alloc, add_never(&mut builder, plan, k))? {
-            add_never(&mut builder, plan, k)?;
+        if is_wanting(alloc, add_never(builder, plan, k))? {
+            add_never(builder, plan, k)?;
         }
     }
-    Ok(builder.finish())
+    Ok(())
 }
 
 // Whether memory was refused, which is there again from here on.

@@ -18,15 +18,40 @@ pub fn tell_lists<O: Output>(
     sda: &str,
     out: &mut O,
 ) -> Result<Status, RunError> {
-    let plan = read_plan(alloc, plan)?;
-    let copied = copied(alloc, &plan)?;
-    let mut reader = Reader::new(alloc, scl, sda)?;
-    feed(alloc, &mut reader, dump)?;
-    let samples = reader.end()?;
-    let heard = heard(alloc, samples.as_slice())?;
-    let explainers = explainers(alloc, &plan, heard.as_slice())?;
+    let (copied, explainers) = counted(alloc, plan, dump, scl, sda)?;
     let line = format!(in alloc; "{copied} {explainers}\n")?;
     write_lines(out, line.as_bytes(), Status::Good)
+}
+
+// The two numbers.
+fn counted(
+    alloc: Global,
+    plan: &[u8],
+    dump: &[u8],
+    scl: &str,
+    sda: &str,
+) -> Result<(u32, usize), RunError> {
+    let plan = read_plan(alloc, plan)?;
+    let copied = copied(alloc, &plan)?;
+    Ok((copied, explained(alloc, &plan, dump, scl, sda)?))
+}
+
+fn explained(
+    alloc: Global,
+    plan: &Plan,
+    dump: &[u8],
+    scl: &str,
+    sda: &str,
+) -> Result<usize, RunError> {
+    let samples = samples(alloc, dump, scl, sda)?;
+    let heard = heard(alloc, samples.as_slice())?;
+    Ok(explainers(alloc, plan, heard.as_slice())?)
+}
+
+fn samples(alloc: Global, dump: &[u8], scl: &str, sda: &str) -> Result<Vec<Sample>, VcdError> {
+    let mut reader = Reader::new(alloc, scl, sda)?;
+    feed(alloc, &mut reader, dump)?;
+    reader.end()
 }
 
 // Feeds a piece, and once more where memory was refused, when there is some: the reader is then as it was.

@@ -27,7 +27,7 @@ use crate::seats::run_seats;
 use crate::texts::{Texts, run_on_texts};
 use crate::words::{Asked, Made, Words, asked_of};
 use run_parts::devices::reading::READS;
-use run_parts::{Output, RunError, Status, Watched, read_within, write_lines};
+use run_parts::{Input, Output, RunError, Status, Watched, read_within, write_lines};
 use std::io::ErrorKind;
 use std::process::ExitCode;
 use std::rt::{Env, Files};
@@ -95,11 +95,23 @@ fn run_made<R: Files + AllocGlobal + Threads + Sync, O: Output>(
     let alloc = rt.alloc();
     let mut first = Watched::new(opened(rt, words.first)?);
     let mut second = Watched::new(opened(rt, words.second)?);
-    if let Made::Seats = made {
-        return run_seats(alloc, &mut first, &mut second, out, words.one, words.other);
+    match made {
+        Made::Seats => run_seats(alloc, &mut first, &mut second, out, words.one, words.other),
+        _ => run_on_files(rt, made, &mut first, &mut second, words, out),
     }
-    let first = read_within(alloc, &mut first, READS)?;
-    let second = read_within(alloc, &mut second, READS)?;
+}
+
+fn run_on_files<R: AllocGlobal + Threads + Sync, I: Input, O: Output>(
+    rt: &R,
+    made: Made,
+    first: &mut I,
+    second: &mut I,
+    words: Words<'_>,
+    out: &mut O,
+) -> Result<Status, RunError> {
+    let alloc = rt.alloc();
+    let first = read_within(alloc, first, READS)?;
+    let second = read_within(alloc, second, READS)?;
     let texts = Texts {
         first: first.as_slice(),
         second: second.as_slice(),

@@ -41,17 +41,10 @@ pub fn make<R: Threads + Sync, O: Output>(
         Call::Accept => tell(alloc, accepted(alloc, plan, cert)?, out),
         Call::Reprint => tell(alloc, accepted_again(alloc, plan, cert)?, out),
         Call::AcceptPlan => tell(alloc, accepted_whole(alloc, plan, cert)?, out),
-        Call::Table => {
-            let plan = read_plan(alloc, plan)?;
-            certify(alloc, table(alloc, &plan)?, out)
-        }
-        Call::TableBy(workers) => {
-            let plan = read_plan(alloc, plan)?;
-            certify(alloc, table_with(rt, alloc, &plan, workers, &NoGate)?, out)
-        }
+        Call::Table => certify(alloc, table_of(alloc, plan)?, out),
+        Call::TableBy(workers) => certify(alloc, table_by(rt, alloc, plan, workers)?, out),
         Call::Rebuild => {
-            let plan = read_plan(alloc, plan)?;
-            let spelling = print_plan(alloc, &built_again(alloc, &plan)?)?;
+            let spelling = spelled_again(alloc, plan)?;
             write_lines(out, spelling.as_slice(), Status::Good)
         }
     }
@@ -70,17 +63,39 @@ fn accepted(alloc: Global, plan: &[u8], cert: &[u8]) -> Result<Answer, RunError>
     }
 }
 
+fn table_of(alloc: Global, plan: &[u8]) -> Result<Table, RunError> {
+    let plan = read_plan(alloc, plan)?;
+    Ok(table(alloc, &plan)?)
+}
+
+fn table_by<R: Threads + Sync>(
+    rt: &R,
+    alloc: Global,
+    plan: &[u8],
+    workers: u32,
+) -> Result<Table, RunError> {
+    let plan = read_plan(alloc, plan)?;
+    Ok(table_with(rt, alloc, &plan, workers, &NoGate)?)
+}
+
+fn spelled_again(alloc: Global, plan: &[u8]) -> Result<Vec<u8>, RunError> {
+    let again = built_again(alloc, plan)?;
+    Ok(print_plan(alloc, &again)?)
+}
+
 // The answer to the certificate as it is printed again, or to what is wrong with its text.
 fn accepted_again(alloc: Global, plan: &[u8], cert: &[u8]) -> Result<Answer, RunError> {
     read_plan(alloc, plan)?;
     match read_cert(alloc, cert) {
-        Ok(read) => {
-            let printed = print_cert(alloc, &read)?;
-            accepted(alloc, plan, printed.as_slice())
-        }
+        Ok(read) => accepted_printed(alloc, plan, &read),
         Err(CertError::Wrong(fault)) => Ok(Answer::Wrong(fault)),
         Err(CertError::NoMemory) => Err(RunError::NoMemory),
     }
+}
+
+fn accepted_printed(alloc: Global, plan: &[u8], cert: &CertText) -> Result<Answer, RunError> {
+    let printed = print_cert(alloc, cert)?;
+    accepted(alloc, plan, printed.as_slice())
 }
 
 // The same by the plan that was read and its proofs, or by both texts where the certificate has no proofs.

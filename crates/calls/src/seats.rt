@@ -27,12 +27,26 @@ pub fn run_seats<I: Input, J: Input, O: Output>(
     starters: &str,
     answers: &str,
 ) -> Result<Status, RunError> {
+    let plan = plan_of(alloc, plan)?;
+    let (page, status) = played(alloc, plan, script, starters, answers)?;
+    write_lines(out, page.as_bytes(), status)
+}
+
+fn plan_of<I: Input>(alloc: Global, plan: &mut I) -> Result<Plan, RunError> {
     let text = read_within(alloc, plan, READS)?;
-    let plan = read_plan(alloc, text.as_slice())?;
+    Ok(read_plan(alloc, text.as_slice())?)
+}
+
+fn played<J: Input>(
+    alloc: Global,
+    plan: Plan,
+    script: &mut J,
+    starters: &str,
+    answers: &str,
+) -> Result<(String, Status), RunError> {
     let script = read_within(alloc, script, READS)?;
     let script = str::from_utf8(&script).unwrap_or("");
-    let (page, status) = page_of(alloc, plan, starters, answers, script)?;
-    write_lines(out, page.as_bytes(), status)
+    page_of(alloc, plan, starters, answers, script)
 }
 
 fn page_of(
