@@ -342,28 +342,6 @@ want 2 "" "error: invalid value '' for '--workers <N>': cannot parse integer fro
 For more information, try '--help'."
 run "empty number of workers" check safe.plan --workers ""
 
-# Who wins between two who begin with the same bytes: a bit of the third byte is in slots 27 to 34, and a STOP after the refusal
-# of the header, of the first and of the second byte in slots 9, 18 and 27.
-three='stop else stop else stop else stop else stop'
-write_plan alike.plan "plan 1" "message m write 1001000 00000001 00000010 00000011 $three ;" \
-    "message n write 1001000 00000001 00000010 00000111 $three ;" "controller a m ;" "controller b n ;"
-want 0 "pair 0 a/m b/n: both 9..27, a/m 32
-total a/m: wins 1, may win 0, loses 0
-total b/n: wins 0, may win 0, loses 1" ""
-run "who wins where two begin with the same bytes" order alike.plan
-write_plan alike.plan "plan 1" "message m write 1001000 00000001 0000000x 00000011 $three ;" "controller a m ;" "controller b m ;"
-want 0 "pair 0 a/m b/m: both 9..36, a/m 25, b/m 25
-total a/m: wins 0, may win 1, loses 0
-total b/m: wins 0, may win 1, loses 0" ""
-run "who wins where a byte that both begin with has an open bit" order alike.plan
-again='stop else stop else again write 1001001 stop else stop else stop else stop'
-write_plan alike.plan "plan 1" "message m write 1001000 00000001 00000010 00000011 $again ;" \
-    "message n write 1001000 00000001 00000010 00000111 $again ;" "controller a m ;" "controller b n ;"
-want 0 "pair 0 a/m b/n: both 9..37, a/m 32
-total a/m: wins 1, may win 0, loses 0
-total b/n: wins 0, may win 0, loses 1" ""
-run "who wins where a refused byte that both begin with is followed by a repeated START" order alike.plan
-
 # Hints are further lines on standard error, after the line of a refusal. The option stands before or after the command.
 
 write_plan again.plan "plan 1" "message m write again stop else stop ;"
