@@ -357,13 +357,15 @@ fn is_settled_at_last(alloc: Global, mut owner: Owner, mut thieves: Vec<Thief>) 
 fn is_settled_with(alloc: Global, mut owner: Owner, thieves: Vec<Thief>) -> bool
     requires { All (λ thief. thief.queue ≡ owner.queue) thieves.items }
 {
-    if owner.take() != Some(2) || owner.take().is_some() {
+    if owner.take() != Some(2) || owner.take().is_some() || owner.take().is_some() {
         return false;
     }
     match settle(owner, Vec::new(alloc)) {
         Ok(_) => false,
         Err(missing) => {
-            missing.why == SettleFault::Missing && settle(missing.owner, thieves).is_ok()
+            missing.why == SettleFault::Missing
+                && missing.thieves.is_empty()
+                && settle(missing.owner, thieves).is_ok()
         }
     }
 }

@@ -1,4 +1,4 @@
-// Runs whose reports have lines for people: the run makes its report in memory, and `explained` passes it on. Each text, report
+// Runs whose reports have lines for people: the run makes its report in memory, and `explain` passes it on. Each text, report
 // and plan has a function that owns it, and others borrow it: so no function has much to give back at an early end.
 
 use crate::inputs::READS;

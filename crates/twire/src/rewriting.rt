@@ -37,7 +37,7 @@ impl Rewriting {
         }
     }
 
-    /// What is told of, where the run writes much.
+    /// What the line of progress calls that which a run writes, where it may be long.
     pub fn writes_long(self) -> Option<&'static str> {
         match self {
             Rewriting::Certify => Some("certificate written"),
@@ -50,7 +50,7 @@ impl Rewriting {
 ///
 /// # Errors
 ///
-/// Those of the run, in the same order; where it cannot write, there is no memory.
+/// Those of the run, in the same order; `NoMemory` stands in place of `Write`.
 pub fn rewritten(alloc: Global, rewriting: Rewriting, text: &[u8]) -> Result<Vec<u8>, RunError> {
     let mut read = Watched::new(text);
     let mut written = Watched::new(Vec::new(alloc));

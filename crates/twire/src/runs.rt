@@ -504,23 +504,22 @@ pub fn finish_certified<R: Files + Input + Print + Eprint + Clock + AllocGlobal>
     extras: Extras,
 ) -> u8 {
     let (named, mut reader) = plan;
-    let ended = out.settle(FilesRead::one(None), end.ended);
-    let status = status_of(rt, ended, extras);
-    match cert {
+    let (read, error, second) = match cert {
         Some((other, mut second)) => {
             let (read, error) = last_read(named, &mut reader, other, &mut second);
-            if extras.hints {
-                let outcome = outcome(read, error, out, end.output, ended, extras);
-                advise_on_certified(rt, file_of(reader), file_of(second), end.starters, outcome);
-            }
+            (read, error, Some(second))
         }
-        None => {
-            let error = reading_error(&mut reader);
-            if extras.hints {
-                let outcome = outcome(named, error, out, end.output, ended, extras);
-                advise_on_certified(rt, file_of(reader), None, end.starters, outcome);
-            }
-        }
+        None => (named, reading_error(&mut reader), None),
+    };
+    let ended = out.settle(FilesRead::one(None), end.ended);
+    let status = status_of(rt, ended, extras);
+    if extras.hints {
+        let outcome = outcome(read, error, out, end.output, ended, extras);
+        let second = match second {
+            Some(second) => file_of(second),
+            None => None,
+        };
+        advise_on_certified(rt, file_of(reader), second, end.starters, outcome);
     }
     status
 }

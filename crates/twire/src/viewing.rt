@@ -103,7 +103,7 @@ fn view_text<J: Input, O: Output>(
     write_shown(alloc, &plan, report.as_slice(), &asked.view, scale, out)
 }
 
-// The report, and what the dump says that its times count, where that has to be known.
+// The report, and the time scale of the dump, where that has to be known.
 fn viewed<J: Input>(
     rt: &(impl Threads + Sync),
     alloc: Global,
