@@ -1,11 +1,12 @@
 // The runs of a bench.
 
+use crate::advice::advise_on_certified;
 use crate::drawings::{Paths, bench_drawn};
 use crate::explaining::{Starting, explain_bench};
-use crate::inputs::{READS, open, open_both};
-use crate::outputs::Sheet;
+use crate::inputs::{READS, file_of, open, open_both, reading_error};
+use crate::outputs::{FilesRead, Sheet};
 use crate::rewriting::{Rewriting, rewritten};
-use crate::runs::{End, Extras, finish_certified};
+use crate::runs::{End, Extras, finish_certified, outcome, status_of};
 use bench_run::{NoGate, run_bench};
 use hints::Named;
 use report::{Input, Output, RunError, Status, Watched, read_within};
@@ -71,7 +72,7 @@ pub fn bench<R: Files + HasInput + Print + Eprint + AllocGlobal + Threads + Wait
     };
     let mut out = out.into_inner();
     out.blame(unwritten);
-    finish_certified(rt, (plan, reader), Some((cert, second)), out, end, extras)
+    finish_certified(rt, (plan, reader), (cert, second), out, end, extras)
 }
 
 /// Rehearses a plan by the certificate that is made of it here.
@@ -93,14 +94,17 @@ pub fn bench_alone<
         extras,
         &mut unwritten,
     );
-    let end = End {
-        ended,
-        output: play.wave.filter(|_| unwritten.is_some()),
-        starters: play.starters,
-    };
+    let error = reading_error(&mut reader);
+    let output = play.wave.filter(|_| unwritten.is_some());
     let mut out = out.into_inner();
     out.blame(unwritten);
-    finish_certified(rt, (plan, reader), None, out, end, extras)
+    let ended = out.settle(FilesRead::one(None), ended);
+    let status = status_of(rt, ended, extras);
+    if extras.hints {
+        let outcome = outcome(plan, error, out, output, ended, extras);
+        advise_on_certified(rt, file_of(reader), None, play.starters, outcome);
+    }
+    status
 }
 
 /// Rehearses the plan of the first reader, with the certificate of the second.

@@ -408,7 +408,7 @@ fn verify<R: Files + Input + Print + Eprint + Clock + AllocGlobal>(
     finish_certified(
         rt,
         (plan, reader),
-        Some((cert, second)),
+        (cert, second),
         out.into_inner(),
         end,
         extras,
@@ -482,7 +482,7 @@ pub fn outcome<'a, R: Files + Print + Eprint + Clock + AllocGlobal>(
     }
 }
 
-/// How a run over a plan and perhaps its certificate ended, the file that it was to write, and who started on its bench.
+/// How a run over a plan and its certificate ended, the file that it was to write, and who started on its bench.
 #[derive(Clone, Copy)]
 pub struct End<'a> {
     pub ended: Result<Status, RunError>,
@@ -493,33 +493,23 @@ pub struct End<'a> {
 /// A file that is read, and its reader.
 pub type Reading<'a, 'b, R, F, S> = (Named<'a>, Source<'b, R, F, S>);
 
-/// Answers the status of a run over a plan and perhaps its certificate, with the line of a refusal, and hints where they are
-/// wanted.
+/// Answers the status of a run over a plan and its certificate, with the line of a refusal, and hints where they are wanted.
 pub fn finish_certified<R: Files + Input + Print + Eprint + Clock + AllocGlobal>(
     rt: &R,
     plan: Reading<'_, '_, R, R::File, R::Reader>,
-    cert: Option<Reading<'_, '_, R, R::File, R::Reader>>,
+    cert: Reading<'_, '_, R, R::File, R::Reader>,
     mut out: Sheet<'_, R>,
     end: End<'_>,
     extras: Extras,
 ) -> u8 {
     let (named, mut reader) = plan;
-    let (read, error, second) = match cert {
-        Some((other, mut second)) => {
-            let (read, error) = last_read(named, &mut reader, other, &mut second);
-            (read, error, Some(second))
-        }
-        None => (named, reading_error(&mut reader), None),
-    };
+    let (other, mut second) = cert;
+    let (read, error) = last_read(named, &mut reader, other, &mut second);
     let ended = out.settle(FilesRead::one(None), end.ended);
     let status = status_of(rt, ended, extras);
     if extras.hints {
         let outcome = outcome(read, error, out, end.output, ended, extras);
-        let second = match second {
-            Some(second) => file_of(second),
-            None => None,
-        };
-        advise_on_certified(rt, file_of(reader), second, end.starters, outcome);
+        advise_on_certified(rt, file_of(reader), file_of(second), end.starters, outcome);
     }
     status
 }
