@@ -89,7 +89,7 @@ impl<'t> Fields<'t> {
         self.close_list()
     }
 
-    /// Adds a field with a list of two texts each.
+    /// Adds a field with a list of pairs of texts.
     pub(crate) fn pairs(&mut self, name: &str, pairs: &[(&str, &str)]) -> Result<(), AllocError> {
         self.open_list(name)?;
         for pair in pairs {

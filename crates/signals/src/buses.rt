@@ -196,7 +196,7 @@ impl Buses {
             .get_mut(sda.saturating_mul(self.count).saturating_add(scl))
     }
 
-    // As SDA, with no other signal it is a bus.
+    // As SDA it is on no bus, free or busy, with any other signal.
     fn forget(&mut self, signal: usize) {
         if let Some(own) = self.signals.get_mut(signal) {
             own.free = Mask::empty();

@@ -110,18 +110,26 @@ pub fn is_named(
     Ok(named(alloc, scl, sda, dump)?.as_str() == answer)
 }
 
-/// Whether the dump has these samples or this refusal: read whole, byte by byte, in other pieces, and cut in two at every
-/// place.
-pub fn is_answered(alloc: Global, dump: &[u8], answer: &str) -> Result<bool, AllocError> {
+/// What is answered for the dump in place of these samples or this refusal, and for which pieces of it: it is read whole,
+/// byte by byte, in other pieces, and cut in two at every place.
+pub fn other_answer(
+    alloc: Global,
+    dump: &[u8],
+    answer: &str,
+) -> Result<Option<String>, AllocError> {
     for bytes in [dump.len(), 1, 2, 7] {
-        if in_pieces(alloc, dump, bytes)?.as_str() != answer {
-            return Ok(false);
+        let found = in_pieces(alloc, dump, bytes)?;
+        if found.as_str() != answer {
+            return Ok(Some(
+                format!(in alloc; "in pieces of {bytes} bytes: {found}")?,
+            ));
         }
     }
     for at in 0..dump.len() {
-        if cut_at(alloc, dump, at)?.as_str() != answer {
-            return Ok(false);
+        let found = cut_at(alloc, dump, at)?;
+        if found.as_str() != answer {
+            return Ok(Some(format!(in alloc; "cut at byte {at}: {found}")?));
         }
     }
-    Ok(true)
+    Ok(None)
 }

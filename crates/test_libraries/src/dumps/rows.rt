@@ -1,6 +1,6 @@
 // Captures, and what they say.
 
-use super::readers::{in_pieces, is_answered, is_named};
+use super::readers::{in_pieces, is_named, other_answer};
 use super::texts::{DEFINITIONS, KINDS, Kind};
 use std::alloc::Global;
 use std::process::Abort;
@@ -10,7 +10,8 @@ use vcd_read::{Reader, VcdError};
 fn expect_rows(rt: &impl Abort, alloc: Global, kind: Kind) -> Result<(), Fail> {
     for (text, answer) in kind.rows() {
         let dump = format!(in alloc; "{}{text}", kind.definitions())?;
-        assert!(rt; is_answered(alloc, dump.as_bytes(), answer)?, "{text}");
+        let other = other_answer(alloc, dump.as_bytes(), answer)?;
+        assert_eq!(rt; other.as_deref(), None, "{text}");
     }
     Ok(())
 }
