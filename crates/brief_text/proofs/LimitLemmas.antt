@@ -235,6 +235,41 @@ bytes_nodes c n0 n1 n2 n3 m p t a b d after e =
     let first : c * suc m ≡ c * m + c = mul-suc c m in
     omega (arith, a, b, d, e, whole, each, apart, first)
 
+-- ---- what is read is within the limits where its parts are
+
+-- the nodes after a further one in so many copies
+abbrev Counted : ℕ → Place → Place → Type 0
+Counted copies at node = (node.nodes ≡ at.nodes + copies) × (node.nodes ≤ MOST_NODES)
+
+write_fits : (room copies : ℕ) (a : Address) (at node : Place) (refused : TailTree × Place) (acked : PayloadTree × Place) (x : FrameTree × Place) → okay (write a acked.0 refused.0, acked.1) ≡ okay x → Counted copies at node → TailFits room 0 copies node refused → PayloadFits room 0 copies refused.1 acked → FrameFits (suc room) 0 copies at x
+write_fits room copies a at node refused acked x e n r p =
+    subst (FrameFits (suc room) 0 copies at) (ok_is (write a acked.0 refused.0, acked.1) x e)
+    record {
+      path = omega (arith, r.path, p.path);
+      count = header_nodes copies at.nodes node.nodes refused.1.nodes (payload_nodes acked.0) (tail_nodes refused.0) n.0 r.count acked.1.nodes p.count;
+      limit = λ l. p.limit (r.limit n.1);
+    }
+
+read_fits : (room copies : ℕ) (a : Address) (at node : Place) (count : Count × Place) (refused after : TailTree × Place) (x : FrameTree × Place) → okay (read a count.0 after.0 refused.0, after.1) ≡ okay x → Counted copies at node → greatest_of count.0 ≤ room → TailFits room 0 copies node refused → TailFits room (greatest_of count.0) copies refused.1 after → FrameFits (suc room) 0 copies at x
+read_fits room copies a at node count refused after x e n c r t =
+    subst (FrameFits (suc room) 0 copies at) (ok_is (read a count.0 after.0 refused.0, after.1) x e)
+    record {
+      path = omega (arith, r.path, t.path);
+      count = header_nodes copies at.nodes node.nodes refused.1.nodes (tail_nodes after.0) (tail_nodes refused.0) n.0 r.count after.1.nodes t.count;
+      limit = λ l. t.limit (r.limit n.1);
+    }
+
+byte_fits : (room copies : ℕ) (bits : Pattern) (at node : Place) (more : ℕ × Place) (refused : TailTree × Place) (acked x : PayloadTree × Place) → okay (repeated (suc more.0) bits acked.0 refused.0, acked.1) ≡ okay x → Counted copies at node → MoreTaken room copies node more → TailFits room more.0 (copies * suc more.0) more.1 refused → PayloadFits room more.0 copies refused.1 acked → PayloadFits (suc room) 0 copies at x
+byte_fits room copies bits at node more refused acked x e n m r p =
+    let size = repeated_bytes more.0 bits acked.0 refused.0 in
+    let sum = bytes_nodes copies at.nodes node.nodes more.1.nodes refused.1.nodes more.0 (payload_nodes acked.0) (tail_nodes refused.0) n.0 m.count r.count acked.1.nodes p.count in
+    subst (PayloadFits (suc room) 0 copies at) (ok_is (repeated (suc more.0) bits acked.0 refused.0, acked.1) x e)
+    record {
+      path = omega (arith, r.path, p.path, size);
+      count = sum ∙ ap (λ k. at.nodes + copies * k) (sym (repeated_nodes (suc more.0) bits acked.0 refused.0));
+      limit = λ l. p.limit (r.limit (m.limit n.1));
+    }
+
 mutual
   unfolding frame_in byte_in
 
@@ -250,12 +285,7 @@ mutual
       let n = counted_takes copies line at node.0 node.1 in
       let r = by_refused room (frames_fit room) 0 copies (omega arith) node.0 refused.0 refused.1 in
       let p = by_payload room (frames_fit room) 0 copies (omega arith) (bytes_fit room) refused.0.1 acked.0 acked.1 in
-      subst (FrameFits (suc room) 0 copies at) (ok_is (write a acked.0.0 refused.0.0, acked.0.1) x acked.2)
-      record {
-        path = omega (arith, r.path, p.path);
-        count = header_nodes copies at.nodes node.0.nodes refused.0.1.nodes (payload_nodes acked.0.0) (tail_nodes refused.0.0) n.0 r.count acked.0.1.nodes p.count;
-        limit = λ l. p.limit (r.limit n.1);
-      }
+      write_fits room copies a at node.0 refused.0 acked.0 x acked.2 n r p
   frames_fit (suc room) zero copies reads a line at x e =
       let node = bind_ok (counted copies line at) (λ node. count_at room node >>= λ count. refused_by (frame_in room 0 copies) count.1 >>= λ refused. next_by (frame_in room (greatest_of count.0) copies) refused.1 >>= λ after. Ok (read a count.0 after.0 refused.0, after.1)) x e in
       let count = bind_ok (count_at room node.0) (λ count. refused_by (frame_in room 0 copies) count.1 >>= λ refused. next_by (frame_in room (greatest_of count.0) copies) refused.1 >>= λ after. Ok (read a count.0 after.0 refused.0, after.1)) x node.2 in
@@ -265,12 +295,7 @@ mutual
       let c = count_takes room node.0 count.0 count.1 in
       let r = moved node.0 count.0.1 refused.0.1 c.1 (by_refused room (frames_fit room) 0 copies (omega arith) count.0.1 refused.0 refused.1) in
       let t = by_next room (frames_fit room) (greatest_of count.0.0) copies c.0 refused.0.1 after.0 after.1 in
-      subst (FrameFits (suc room) 0 copies at) (ok_is (read a count.0.0 after.0.0 refused.0.0, after.0.1) x after.2)
-      record {
-        path = omega (arith, r.path, t.path);
-        count = header_nodes copies at.nodes node.0.nodes refused.0.1.nodes (tail_nodes after.0.0) (tail_nodes refused.0.0) n.0 r.count after.0.1.nodes t.count;
-        limit = λ l. t.limit (r.limit n.1);
-      }
+      read_fits room copies a at node.0 count.0 refused.0 after.0 x after.2 n c.0 r t
 
   bytes_fit : (room : ℕ) → BytesFit room
   bytes_fit zero used copies bits line at x e = absurd cc
@@ -286,14 +311,7 @@ mutual
       let m = more_takes room copies node.0 more.0 more.1 in
       let r = by_refused room (frames_fit room) more.0.0 (copies * suc more.0.0) m.fits more.0.1 refused.0 refused.1 in
       let p = by_payload room (frames_fit room) more.0.0 copies m.fits (bytes_fit room) refused.0.1 acked.0 acked.1 in
-      let size = repeated_bytes more.0.0 bits acked.0.0 refused.0.0 in
-      let sum = bytes_nodes copies at.nodes node.0.nodes more.0.1.nodes refused.0.1.nodes more.0.0 (payload_nodes acked.0.0) (tail_nodes refused.0.0) n.0 m.count r.count acked.0.1.nodes p.count in
-      subst (PayloadFits (suc room) 0 copies at) (ok_is (repeated (suc more.0.0) bits acked.0.0 refused.0.0, acked.0.1) x acked.2)
-      record {
-        path = omega (arith, r.path, p.path, size);
-        count = sum ∙ ap (λ k. at.nodes + copies * k) (sym (repeated_nodes (suc more.0.0) bits acked.0.0 refused.0.0));
-        limit = λ l. p.limit (r.limit (m.limit n.1));
-      }
+      byte_fits room copies bits at node.0 more.0 refused.0 acked.0 x acked.2 n m r p
 
 -- the frames of a message
 pub frames_within : (room : ℕ) (at : Place) (x : FrameTree × Place) → frames_at room 1 at ≡ Ok x → FrameFits room 0 1 at x
