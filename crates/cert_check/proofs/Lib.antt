@@ -4,3 +4,4 @@ pub mod TallyLemmas
 pub mod MemoLemmas
 pub mod AnswerLemmas
 pub mod QuickLemmas
+pub mod FedLemmas

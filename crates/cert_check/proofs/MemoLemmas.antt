@@ -1,31 +1,19 @@
 -- Lines that are remembered: a proof of two senders is one of each pair of them.
-use Rattle.std.proofs.Common.{◌≡◌, ℕ, ◌<◌, Option, Some, None, List, length, replicate, set, slice_get, ap, sym, ◌∙◌, subst, arith, inl, inr}
+use Rattle.std.proofs.Common.{◌≡◌, ℕ, ◌<◌, Option, Some, List, Vec, Global, length, set, slice_get, ap, sym, ◌∙◌, subst, arith, inl, inr}
 use Rattle.std.proofs.lemmas.Bool.{cases_eq}
 use Rattle.std.proofs.lemmas.List.{length-set}
-use Rattle.certificate.specs.declared.lines.Line.{Line}
 use Rattle.certificate.specs.Proofs.{ProofTree}
-use Rattle.certificate.specs.Reading.{line_bytes}
 use Rattle.certificate.specs.Texts.{SpellsLine}
-use Rattle.plan_core.proofs.ListLemmas.{some_at, get_set_same, get_set_other, get_replicate, length_of_all}
+use Rattle.plan_core.proofs.ListLemmas.{some_at, get_set_same, get_set_other}
 use Rattle.plan_core.proofs.SenderPlaceLemmas.{senders_at_place}
 use Rattle.plan_core.specs.Contents.{Contents}
 use Rattle.plan_core.specs.Limits.{IsWithinLimits}
 use Rattle.plan_core.specs.Pairs.{pairs_of}
 use Rattle.plan_core.specs.Participants.{sender_at}
 use Rattle.plan_core.specs.SenderPlaces.{place, place_count}
-use Rattle.cert_check.specs.Judged.{IsMemo, ProvesAt}
+use Rattle.cert_check.specs.Judged.{AreProved, ProvesAt}
 use Rattle.cert_check.specs.Proved.{ProvesPair}
 use Rattle.cert_check.proofs.Checked.{same_pair}
-
--- nothing is remembered
-pub memo_of_none : (plan : Contents) (known : List (Option Line)) (n : ℕ) → known ≡ replicate n None → n ≡ place_count plan → IsMemo plan known
-memo_of_none plan known n all e = record {
-  sized = ap length all ∙ length_of_all n None ∙ e;
-  right = λ k line at.
-      let got : slice_get (replicate n None) k ≡ Some (Some line) = ap (λ (ks : List (Option Line)). slice_get ks k) (sym all) ∙ at in
-      let no : None ≡ Some line = get_replicate n k None (Some line) got in
-      cc;
-}
 
 -- a proof of one pair is one of each pair at its place
 same_proved : (plan : Contents) → IsWithinLimits plan → (i j x y v w : ℕ) (tree : ProofTree) → slice_get (pairs_of plan) i ≡ Some (x, y) → slice_get (pairs_of plan) j ≡ Some (v, w)
@@ -44,16 +32,16 @@ same_proved plan within i j x y v w tree e f same r =
       proved = r.proved;
     }
 
-module _ (plan : Contents) (within : IsWithinLimits plan) (known : List (Option Line)) (memo : IsMemo plan known) (i q : ℕ) (is_pair : i < length (pairs_of plan)) (is_place : (x y : ℕ) → slice_get (pairs_of plan) i ≡ Some (x, y) → q ≡ place plan x y) where
+module _ (plan : Contents) (within : IsWithinLimits plan) (known : List (Option (Vec ℕ Global))) (memo : AreProved plan known) (i q : ℕ) (is_pair : i < length (pairs_of plan)) (is_place : (x y : ℕ) → slice_get (pairs_of plan) i ≡ Some (x, y) → q ≡ place plan x y) where
   -- what is remembered at the place of a pair proves it
-  pub recalled : (line : Line) → slice_get known q ≡ Some (Some line) → (tree : ProofTree) × SpellsLine (line_bytes line) tree × ProvesPair plan i tree
+  pub recalled : (line : Vec ℕ Global) → slice_get known q ≡ Some (Some line) → (tree : ProofTree) × SpellsLine line.items tree × ProvesPair plan i tree
   recalled line e =
       let p = some_at (pairs_of plan) i is_pair in
       let at = memo.right q line e in
       (at.0, at.1, at.2 i p.0.0 p.0.1 p.1 (sym (is_place p.0.0 p.0.1 p.1)))
 
   -- the line of a proof of this pair is remembered at its place
-  pub learned : (line : Line) (tree : ProofTree) → q < place_count plan → SpellsLine (line_bytes line) tree → ProvesPair plan i tree → IsMemo plan (set known q (Some line))
+  pub learned : (line : Vec ℕ Global) (tree : ProofTree) → q < place_count plan → SpellsLine line.items tree → ProvesPair plan i tree → AreProved plan (set known q (Some line))
   learned line tree inside spelled proves =
       let p = some_at (pairs_of plan) i is_pair in
       record {
@@ -63,7 +51,7 @@ module _ (plan : Contents) (within : IsWithinLimits plan) (known : List (Option 
               let got : slice_get (set known q (Some line)) q ≡ Some (Some other) = ap (slice_get (set known q (Some line))) (sym here) ∙ e in
               let same : Some (Some line) ≡ Some (Some other) = sym (get_set_same known q (Some line) (omega (arith, inside, memo.sized))) ∙ got in
               let line_is : line ≡ other = cc in
-              subst (λ (l : Line). ProvesAt plan k (line_bytes l)) line_is
+              subst (λ (l : Vec ℕ Global). ProvesAt plan k l.items) line_is
               (tree, spelled, λ j v w listed at. same_proved plan within i j p.0.0 p.0.1 v w tree p.1 listed (at ∙ (here ∙ is_place p.0.0 p.0.1 p.1)) proves)
           | inr elsewhere ↦ memo.right k other (sym (get_set_other known q k (Some line) elsewhere) ∙ e)
         ];

@@ -1,9 +1,9 @@
 -- What the parts of `accept` answer. Only private contracts and proofs use this.
 use Rattle.std.specs.Prelude.{◌≡◌, ◌≢◌, ◌↔◌, ℕ, ◌-◌, ◌<◌, ◌^◌, min, List, [], ◌∷◌, ◌++◌, length, Option, Some, None}
-use Rattle.std.specs.Prelude.{Result, Ok, Err, slice_get, Bool, IsTrue, IfSome, nat_lt, if◌then◌else◌}
-use Rattle.certificate.specs.declared.lines.Line.{Line}
+use Rattle.std.specs.declared.alloc.Global.{Global}
+use Rattle.std.specs.Prelude.{Result, Ok, Err, Vec, slice_get, Bool, IsTrue, IfSome, nat_lt, if◌then◌else◌}
 use Rattle.certificate.specs.declared.lines.ProofLines.{ProofLines}
-use Rattle.certificate.specs.Reading.{ReadSoFar, line_bytes}
+use Rattle.certificate.specs.Reading.{ReadSoFar}
 use Rattle.certificate.specs.Texts.{SpellsLine}
 use Rattle.plan_core.specs.SenderPlaces.{place, place_count}
 use Rattle.certificate.specs.Proofs.{ProofTree}
@@ -16,6 +16,7 @@ use Rattle.plan_text.specs.Refusals as refusals
 use Rattle.cert_check.specs.declared.answers.Answer.{Answer}
 use Rattle.cert_check.specs.declared.answers.AcceptError.{AcceptError}
 use Rattle.cert_check.specs.declared.answers.AcceptError.TheVariants.{Plan, NoMemory}
+use Rattle.cert_check.specs.declared.memos.Memo.{Memo}
 use Rattle.cert_check.specs.declared.tallies.Tally.{Tally}
 use Rattle.cert_check.specs.Accepts.{IsAnswer}
 use Rattle.cert_check.specs.Proved.{ProvesPair, FirstUnproved}
@@ -50,15 +51,22 @@ ProvesAt plan k bytes =
     × ((i x y : ℕ) → slice_get (pairs_of plan) i ≡ Some (x, y) → place plan x y ≡ k → ProvesPair plan i tree)
 
 -- what is remembered of two senders, at their place, is the line of a proof that proves them
-pub record IsMemo (plan : Contents) (known : List (Option Line)) : Type 0 where
-  pub sized : length known ≡ place_count plan
-  pub right : (k : ℕ) (line : Line) → slice_get known k ≡ Some (Some line) → ProvesAt plan k (line_bytes line)
+pub record AreProved (plan : Contents) (lines : List (Option (Vec ℕ Global))) : Type 0 where
+  pub sized : length lines ≡ place_count plan
+  pub right : (k : ℕ) (line : Vec ℕ Global) → slice_get lines k ≡ Some (Some line) → ProvesAt plan k line.items
+
+abbrev pub IsMemo : Contents → Memo → Type 0
+IsMemo plan memo = AreProved plan memo.lines.items
 
 -- one more proof has been read and counted
 abbrev pub AddsOne : Contents → ProofLines × Tally → ProofLines × Tally → Type 0
 AddsOne plan old new =
     (text : List ℕ) (trees : List ProofTree) → ReadSoFar text trees old.0 → Tallies plan trees old.1 →
     (tree : ProofTree) × ReadSoFar text (trees ++ tree ∷ []) new.0 × Tallies plan (trees ++ tree ∷ []) new.1
+
+-- nothing has been read
+abbrev pub Stays : ProofLines × Tally → ProofLines × Tally → Type 0
+Stays old new = (new.0 ≡ old.0) × (new.1 ≡ old.1)
 
 -- the bytes spell a plan, and the certificate is answered so
 pub record IsAnswered (plan_bytes cert_bytes : List ℕ) (answer : Answer) : Type 0 where

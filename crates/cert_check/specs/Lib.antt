@@ -7,3 +7,4 @@ pub mod Reads
 pub mod Wires
 pub mod Judged
 pub mod Quick
+pub mod Fed

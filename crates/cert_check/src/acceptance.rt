@@ -5,6 +5,7 @@ ghost use Rattle.message_tree.specs.declared.items.Item.{Item};
 ghost use Rattle.message_tree.specs.declared.items.Item.TheVariants.{Heard};
 ghost use Rattle.certificate.specs.declared.errors.CertFault.{CertFault};
 ghost use Rattle.certificate.specs.Certificates.{proofs, flaw};
+ghost use Rattle.certificate.specs.Proofs.{ProofTree};
 ghost use Rattle.certificate.specs.Reading.{Fails, ReadSoFar};
 ghost use Rattle.plan_core.specs.Contents.{Contents};
 ghost use Rattle.plan_core.specs.PlanContents.{plan_contents};
@@ -20,12 +21,13 @@ ghost use Rattle.plan_text.specs.Refusals.{First};
 ghost use Rattle.cert_check.specs.Accepts.{IsCertified, IsRefuted, IsMistaken, IsJudged, IsAnswer, Judges};
 ghost use Rattle.cert_check.specs.Accepts.{Answers, FoundSafe};
 ghost use Rattle.cert_check.specs.Holds.{accepted_plan};
-ghost use Rattle.cert_check.specs.Judged.{IsRight};
+ghost use Rattle.cert_check.specs.Judged.{IsMemo, IsRight, Tallies};
 
 use crate::accepted::Accepted;
 use crate::answers::{AcceptError, Answer};
 use crate::faults::check_fault;
-use crate::remembered::{judge_next, no_lines};
+use crate::memos::Memo;
+use crate::remembered::judge_next;
 use crate::tallies::Tally;
 use certificate::{CertError, CertFault, Fault, Head, ProofLines, read_head};
 use plan_core::Plan;
@@ -35,10 +37,11 @@ use std::alloc::{AllocError, Global};
 /// Whether the certificate proves that the plan is safe, or shows that it is not.
 ///
 /// The plan is read first, then the certificate, one line at a time: where a line proves its pair as it stands, no proof is
-/// made of it; of any other line the proof is read, its pair is checked, and the proof is dropped. The place of a line that
-/// proves its pair is remembered for the two senders: where the text has the same line for a further pair of them, nothing
-/// is looked at again. So it takes memory for the plan, for one proof, and for the places of lines (16 bytes for each two
-/// messages or interrupts, 1.3 MB at most), however long the certificate is.
+/// made of it; of any other line the proof is read, its pair is checked, and the proof is dropped. A line that proves its
+/// pair is remembered for the two senders, as long as there is room for it: where the text has the same line for a further
+/// pair of them, nothing is looked at again. So it takes memory for the plan, for one proof, and for the lines that are
+/// remembered (4 MiB of lines at most, and a place of some 32 bytes for each two messages or interrupts, 2.6 MB at most),
+/// however long the certificate is.
 ///
 /// Where it answers `Safe`, no run of the bus has a fault, whatever participants start together and whatever the
 /// targets return: no repeated START or STOP meets another's data bit or each other (UM10204, 3.1.8), no controller
@@ -98,7 +101,7 @@ pub fn accept(alloc: Global, plan: &[u8], cert: &[u8]) -> Result<Answer, AcceptE
 }
 
 /// The same for a plan that was read: it comes back accepted where `accept` answers `Safe`, and else the answer comes
-/// back. It takes memory for one proof, and for the places of lines.
+/// back. It takes memory for one proof, and for the lines that are remembered.
 pub fn accept_certificate(
     alloc: Global,
     plan: Plan,
@@ -116,11 +119,19 @@ pub fn accept_certificate(
     }
 }
 
-/// The answer of `accept` for a plan that was read. It takes memory for one proof, and for the places of lines.
+/// The answer of `accept` for a plan that was read. It takes memory for one proof, and for the lines that are remembered.
 pub fn check_certificate(alloc: Global, plan: &Plan, cert: &[u8]) -> Result<Answer, AllocError>
     ensures { IfOk result (IsAnswer (plan_contents plan.now) cert.now) }
 {
-    match judge_cert(alloc, plan, cert) {
+    answered(judge_cert(alloc, plan, cert))
+}
+
+// What was judged of a text, as an answer.
+pub(crate) fn answered(judged: Result<Answer, CertError>) -> Result<Answer, AllocError>
+    ensures { (plan : Contents) (text : List ℕ) →
+        MatchResult judged (IsJudged plan text) (Fails text) → IfOk result (IsAnswer plan text) }
+{
+    match judged {
         Ok(answer) => Ok(answer),
         Err(CertError::Wrong(fault)) => Ok(Answer::Wrong(fault)),
         Err(CertError::NoMemory) => Err(AllocError),
@@ -146,15 +157,29 @@ fn judge_cert(alloc: Global, plan: &Plan, cert: &[u8]) -> Result<Answer, CertErr
     }
 }
 
-// The proofs that are left, each of them dropped before the next is read. The memory for what is remembered is asked for
-// before the first is read.
-fn judge_proofs(alloc: Global, plan: &Plan, mut lines: ProofLines<'_>) -> Result<Answer, CertError>
+// All proofs. The memory for the places of what is remembered is asked for before the first is read.
+fn judge_proofs(alloc: Global, plan: &Plan, lines: ProofLines<'_>) -> Result<Answer, CertError>
     ensures { (text : List ℕ) → ReadSoFar text [] lines.entry →
         MatchResult result (IsJudged (plan_contents plan.now) text) (Fails text) }
 {
-    let mut tally = Tally::new();
-    let mut known = no_lines(alloc, plan.sender_places())?;
-    'lines: while judge_next(alloc, plan, &mut lines, &mut tally, &mut known)? {}
+    let memo = Memo::new(alloc, plan)?;
+    judge_rest(alloc, plan, lines, Tally::new(), memo)
+}
+
+/// The proofs that are left, each of them dropped before the next is read, behind those that are tallied.
+pub(crate) fn judge_rest(
+    alloc: Global,
+    plan: &Plan,
+    mut lines: ProofLines<'_>,
+    mut tally: Tally,
+    mut memo: Memo,
+) -> Result<Answer, CertError>
+    requires { IsMemo (plan_contents plan.now) memo }
+    ensures { (text : List ℕ) (trees : List ProofTree) →
+        ReadSoFar text trees lines.entry → Tallies (plan_contents plan.now) trees tally →
+        MatchResult result (IsJudged (plan_contents plan.now) text) (Fails text) }
+{
+    'lines: while judge_next(alloc, plan, &mut lines, &mut tally, &mut memo)? {}
     Ok(match tally.fault(plan) {
         None => Answer::Safe,
         Some(fault) => Answer::Wrong(fault),

@@ -4,8 +4,8 @@
 //! `pairs` lays a proof beside the two messages of its pair, node by node (`nodes`, `bits`). `faults` follows the wire of
 //! a fault through one participant at a time, place by place. `certified` checks the proofs of a whole plan, and `accepted`
 //! keeps a plan that they made safe. `acceptance` reads a plan and its certificate, and checks each proof as it comes
-//! (`remembered`, `tallies`), as it stands in the text where that suffices (`quick`). `laws` says what proofs of all pairs
-//! are worth.
+//! (`remembered`, `memos`, `tallies`), as it stands in the text where that suffices (`quick`). `checkers` does the same for a
+//! certificate that comes in pieces. `laws` says what proofs of all pairs are worth.
 #![tactic(auto)]
 
 pub mod acceptance;
@@ -13,8 +13,10 @@ pub mod accepted;
 pub mod answers;
 mod bits;
 pub mod certified;
+pub mod checkers;
 pub mod faults;
 pub mod laws;
+mod memos;
 mod nodes;
 pub mod pairs;
 mod quick;
@@ -25,5 +27,6 @@ pub use acceptance::{accept, accept_certificate, check_certificate};
 pub use accepted::Accepted;
 pub use answers::{AcceptError, Answer};
 pub use certified::accept_plan;
+pub use checkers::{Checker, FeedError};
 pub use faults::check_fault;
 pub use pairs::check_pair;

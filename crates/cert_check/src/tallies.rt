@@ -2,6 +2,7 @@
 
 ghost use Rattle.std.specs.Prelude.{◌≡◌, ◌<◌, ◌∷◌, [], ◌++◌, length, List, IfSome, MatchOption};
 ghost use Rattle.certificate.specs.Proofs.{ProofTree, proof_tree};
+ghost use Rattle.plan_core.specs.Contents.{Contents};
 ghost use Rattle.plan_core.specs.Pairs.{pairs_of};
 ghost use Rattle.plan_core.specs.PlanContents.{plan_contents};
 
@@ -24,8 +25,7 @@ impl Tally {
 
     /// The tally of no proofs.
     pub(crate) fn new() -> Tally
-        ensures proofs { result.proofs ≡ 0 }
-        ensures unproved { result.unproved ≡ None }
+        ensures { (plan : Contents) → Tallies plan [] result }
     {
         Tally {
             proofs: 0,

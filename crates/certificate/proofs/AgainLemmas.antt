@@ -30,14 +30,18 @@ module _ (end : ℕ) (no_digit : is_ascii_digit end ≡ false) where
   digit_test : (n : ℕ) → n < 10 → is_ascii_digit (48 + n) ≡ true
   digit_test n small = grind (arith, nat_tests)
 
+  same_line : (b : ℕ) → is_ascii_digit b ≡ true → (line : ℕ) → line_after line b ≡ line
+  same_line b digit line = rw (ne_eqb b 10 (λ e. let other : is_ascii_digit b ≡ false = ap is_ascii_digit e in cc)) refl
+
   -- from the front of a number these digits lead to its value
   abbrev Counted : ℕ → List ℕ → Type 0
-  Counted n ds = 0 < n → n < 2 ^ 32 → (line : ℕ) (rest : List ℕ) → (after : ℕ) × (number_at end (record { line = line; rest = ds ++ rest }) ≡ digits_at n end after rest)
+  Counted n ds = 0 < n → n < 2 ^ 32 → (line : ℕ) (rest : List ℕ) → number_at end (record { line = line; rest = ds ++ rest }) ≡ digits_at n end line rest
 
   first_digit : (n : ℕ) → n < 10 → Counted n ((48 + n) ∷ [])
   first_digit n small positive fits line rest =
       let back : (48 + n) - 48 ≡ n = omega arith in
-      (line_after line (48 + n), rw (ne_eqb (48 + n) 48 (λ e. omega arith), digit_test n small, back) refl)
+      let digit = digit_test n small in
+      rw (ne_eqb (48 + n) 48 (λ e. omega arith), digit, back, same_line (48 + n) digit line) refl
 
   further_digit : (n : ℕ) (ds : List ℕ) → 10 ≤ n → Counted (n / 10) ds → Counted n (ds ++ (48 + n % 10) ∷ [])
   further_digit n ds large before positive fits line rest =
@@ -45,15 +49,14 @@ module _ (end : ℕ) (no_digit : is_ascii_digit end ≡ false) where
       let digit = digit_test (n % 10) (omega arith) in
       let same : n / 10 * 10 + (b - 48) ≡ n = omega arith in
       let front = before (omega arith) (omega arith) line (b ∷ rest) in
-      let one : digits_at (n / 10) end front.0 (b ∷ rest) ≡ digits_at n end (line_after front.0 b) rest = rw (ne_eqb b end (other_end b digit), digit, same, lt-ltb n (2 ^ 32) fits) refl in
-      (line_after front.0 b, ap (λ (t : List ℕ). number_at end (record { line = line; rest = t })) (append_assoc ds (b ∷ []) rest) ∙ front.1 ∙ one)
+      let one : digits_at (n / 10) end line (b ∷ rest) ≡ digits_at n end line rest = rw (ne_eqb b end (other_end b digit), digit, same, lt-ltb n (2 ^ 32) fits, same_line b digit line) refl in
+      ap (λ (t : List ℕ). number_at end (record { line = line; rest = t })) (append_assoc ds (b ∷ []) rest) ∙ front ∙ one
 
-  pub number_again : (n : ℕ) → n < 2 ^ 32 → (line : ℕ) (rest : List ℕ) → (after : ℕ) × (number_at end (record { line = line; rest = decimal n ++ (end ∷ rest) }) ≡ Ok (n, record { line = after; rest = rest }))
+  pub number_again : (n : ℕ) → n < 2 ^ 32 → (line : ℕ) (rest : List ℕ) → number_at end (record { line = line; rest = decimal n ++ (end ∷ rest) }) ≡ Ok (n, record { line = line_after line end; rest = rest })
   number_again zero fits line rest =
-      (line_after line end, ap (λ (ds : List ℕ). number_at end (record { line = line; rest = ds ++ (end ∷ rest) })) (decimal_digit 0 (lit< tt)) ∙ rw (eq-eqb end end refl) refl)
+      ap (λ (ds : List ℕ). number_at end (record { line = line; rest = ds ++ (end ∷ rest) })) (decimal_digit 0 (lit< tt)) ∙ rw (eq-eqb end end refl) refl
   number_again (suc n) fits line rest =
-      let digits = decimal_by_steps Counted first_digit further_digit (suc n) (omega arith) (omega arith) fits line (end ∷ rest) in
-      (line_after digits.0 end, digits.1 ∙ rw (eq-eqb end end refl) refl)
+      decimal_by_steps Counted first_digit further_digit (suc n) (omega arith) (omega arith) fits line (end ∷ rest) ∙ rw (eq-eqb end end refl) refl
 
 -- ---- wires and kinds
 
@@ -165,18 +168,22 @@ lines_again (t ∷ trees) (suc most) line all fits =
 
 -- ---- texts
 
+-- the number of proofs is read, and what follows it is left on the third line
+pub pairs_again : (number : ℕ) (rest : List ℕ) → number < 2 ^ 32 → pairs_at (record { line = 2; rest = codes "airs " ++ (decimal number ++ (10 ∷ rest)) }) ≡ Ok (number, record { line = 3; rest = rest })
+unfolding pairs_at
+pairs_again number rest fits = number_again 10 refl number fits 2 rest
+
 pub announced_again : (number : ℕ) (trees : List ProofTree) → number < 2 ^ 32 → All (IsPrintableProof 512) trees → text_said (codes "cert 1\n" ++ proofs_text number trees) ≡ Ok (announced number trees)
 unfolding text_said pairs_at
 announced_again number trees fits all =
     let lines = flat_map proof_line trees in
-    let many = number_again 10 refl number fits 2 lines in
-    rw (many.1, lines_again trees (length lines) many.0 all (omega arith)) refl
+    rw (number_again 10 refl number fits 2 lines, lines_again trees (length lines) 3 all (omega arith)) refl
 
 pub faulty_again : (pair : ℕ) (items : List Item) (first second : Kind) → pair < 2 ^ 32 → items ≢ [] → All GoesOn items → text_said (codes "cert 1\n" ++ flaw_text pair items first second) ≡ Ok (faulty pair items first second)
 unfolding text_said flaw_at
 faulty_again pair items first second fits some all =
     let number = number_again 32 refl pair fits 2 (fault_text items first second) in
-    let fault = fault_again items first second some all number.0 [] in
-    let fault_is : fault_at (record { line = number.0; rest = fault_text items first second }) ≡ Ok ((items, first, second), record { line = fault.0; rest = [] }) =
-    ap (λ (t : List ℕ). fault_at (record { line = number.0; rest = t })) (sym (append-nil (fault_text items first second))) ∙ fault.1 in
-    rw (number.1, fault_is) refl
+    let fault = fault_again items first second some all 2 [] in
+    let fault_is : fault_at (record { line = 2; rest = fault_text items first second }) ≡ Ok ((items, first, second), record { line = fault.0; rest = [] }) =
+    ap (λ (t : List ℕ). fault_at (record { line = 2; rest = t })) (sym (append-nil (fault_text items first second))) ∙ fault.1 in
+    rw (number, fault_is) refl

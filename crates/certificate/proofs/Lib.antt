@@ -2,6 +2,7 @@ pub mod AgainLemmas
 pub mod EitherText
 pub mod LineLemmas
 pub mod PrintLemmas
+pub mod ReadLemmas
 pub mod SameLine
 pub mod Soundness
 pub mod TakesLemmas

@@ -45,12 +45,12 @@ lines_same (suc m) (suc n) line (b ∷ rest) p q =
     (λ x e. let less = line_shortens at x e in ap (λ (l : Result (List ProofTree) FormFault). l >>= λ others. Ok (x.0 ∷ others)) (lines_same m n x.1.line x.1.rest (omega (arith, less)) (omega (arith, less))))
 
 -- what is made of a value is refused where the value is
-refusal_made : {A B : Type 0} (r : Result A FormFault) (f : A → B) → refusal (r >>= λ x. Ok (f x)) ≡ refusal r
+pub refusal_made : {A B : Type 0} (r : Result A FormFault) (f : A → B) → refusal (r >>= λ x. Ok (f x)) ≡ refusal r
 refusal_made (Ok x) f = refl
 refusal_made (Err fault) f = refl
 
 -- lines are refused where what follows the first is
-lines_go_on : (at : Place) (x : ProofTree × Place) → line_at at ≡ Ok x → refusal (lines_at at) ≡ refusal (lines_at x.1)
+pub lines_go_on : (at : Place) (x : ProofTree × Place) → line_at at ≡ Ok x → refusal (lines_at at) ≡ refusal (lines_at x.1)
 lines_go_on at x e =
     let less = line_shortens at x e in
     let more : lines_at at ≡ (lines_in (length at.rest) x.1.line x.1.rest >>= λ others. Ok (x.0 ∷ others)) =
@@ -58,46 +58,7 @@ lines_go_on at x e =
     ap refusal more ∙ refusal_made (lines_in (length at.rest) x.1.line x.1.rest) (λ others. x.0 ∷ others)
     ∙ ap refusal (lines_same (length at.rest) (length x.1.rest) x.1.line x.1.rest (omega (arith, less)) (omega arith))
 
--- ---- the front of a text
-
-pub proofs_begun : (text : List ℕ) (version after : Place) (left : ProofLines) → each_at (codes "cert 1\n") (start text) ≡ Ok version → byte_at version ≡ Ok (112, after)
-    → pairs_at after ≡ Ok (left.number, place left.source) → left.seen ≡ 0 → ReadSoFar text [] left
-unfolding text_said
-proofs_begun text version after left front letter pairs none = record {
-  printable = All-nil (IsPrintableProof 512);
-  counted = sym none;
-  text_is =
-      front_takes text version (112, after) front letter
-      ∙ ap (λ (t : List ℕ). codes "cert 1\np" ++ t) (pairs_take after (left.number, place left.source) pairs).0
-      ∙ ap (λ (t : List ℕ). codes "cert 1\npairs " ++ t) (sym (append_assoc (decimal left.number) (10 ∷ []) left.source.rest.now));
-  refusal_is = rw (front, letter, pairs) (refusal_made (lines_at (place left.source)) (announced left.number));
-}
-
 -- ---- the next line
-
--- a proof after others
-proofs_more : (number : ℕ) (trees : List ProofTree) (tree : ProofTree) → codes "cert 1\n" ++ proofs_text number (trees ++ tree ∷ []) ≡ (codes "cert 1\n" ++ proofs_text number trees) ++ proof_line tree
-proofs_more number trees tree =
-    let more : flat_map proof_line (trees ++ tree ∷ []) ≡ flat_map proof_line trees ++ proof_line tree =
-    flat_map-append proof_line trees (tree ∷ []) ∙ ap (λ (t : List ℕ). flat_map proof_line trees ++ t) (append-nil (proof_line tree)) in
-    ap (λ (t : List ℕ). codes "cert 1\npairs " ++ (decimal number ++ (10 ∷ t))) more
-    ∙ ap (λ (t : List ℕ). codes "cert 1\npairs " ++ t) (sym (append_assoc (decimal number) (10 ∷ flat_map proof_line trees) (proof_line tree)))
-
--- one more proof has been read
-pub line_added : (old new : ProofLines) (tree : ProofTree) → new.number ≡ old.number → new.seen ≡ old.seen + 1 → line_at (place old.source) ≡ Ok (tree, place new.source) → AddsTree tree old new
-line_added old new tree number seen read = λ text trees so_far.
-    let taken = line_takes (place old.source) (tree, place new.source) read in
-    record {
-      printable = All-push (IsPrintableProof 512) trees tree so_far.printable taken.1;
-      counted = let len = length-append trees (tree ∷ []) in omega (arith, len, so_far.counted);
-      text_is =
-          so_far.text_is
-          ∙ ap (λ (t : List ℕ). (codes "cert 1\n" ++ proofs_text old.number trees) ++ t) taken.0
-          ∙ sym (append_assoc (codes "cert 1\n" ++ proofs_text old.number trees) (proof_line tree) new.source.rest.now)
-          ∙ ap (λ (t : List ℕ). t ++ new.source.rest.now) (sym (proofs_more old.number trees tree))
-          ∙ ap (λ n. (codes "cert 1\n" ++ proofs_text n (trees ++ tree ∷ [])) ++ new.source.rest.now) (sym number);
-      refusal_is = so_far.refusal_is ∙ lines_go_on (place old.source) (tree, place new.source) read;
-    }
 
 -- the bytes of a line that was read
 pub line_spelled : (at after : Place) (tree : ProofTree) (bytes : List ℕ) → line_at at ≡ Ok (tree, after) → bytes ≡ take (length at.rest - length after.rest) at.rest → SpellsLine bytes tree
@@ -110,18 +71,10 @@ line_spelled at after tree bytes read e =
       text_is = e ∙ ap (λ (n : ℕ). take n at.rest) n ∙ ap (take (length (proof_line tree))) taken.0 ∙ take-append_seam (proof_line tree) after.rest;
     }
 
-lines_refused : (at : Place) (fault : FormFault) → 0 < length at.rest → line_at at ≡ Err fault → refusal (lines_at at) ≡ Some fault
+pub lines_refused : (at : Place) (fault : FormFault) → 0 < length at.rest → line_at at ≡ Err fault → refusal (lines_at at) ≡ Some fault
 lines_refused at fault some e =
     ap refusal (lines_same (length at.rest) (suc (length at.rest)) at.line at.rest (omega arith) (omega arith) ∙ lines_step (length at.rest) at.line at.rest some) ∙ rw e refl
 
-refused_text : {A : Type 0} (r : Result A FormFault) (fault : FormFault) → refusal r ≡ Some fault → r ≡ Err fault
+pub refused_text : {A : Type 0} (r : Result A FormFault) (fault : FormFault) → refusal r ≡ Some fault → r ≡ Err fault
 refused_text (Ok x) fault e = cc
 refused_text (Err other) fault e = let is : other ≡ fault = cc in ap Err is
-
--- the next proof is refused
-pub line_refused : (left : ProofLines) (e : CertError) → 0 < length left.source.rest.now → Refuses (line_at (place left.source)) e → RefusedHere left e
-line_refused left NoMemory some h = λ text trees so_far. tt
-line_refused left (Wrong (Format line)) some h = λ text trees so_far. refused_text (text_said text) (misplaced line) (so_far.refusal_is ∙ lines_refused (place left.source) (misplaced line) some h)
-line_refused left (Wrong (TooDeep line)) some h = λ text trees so_far. refused_text (text_said text) (too_deep line) (so_far.refusal_is ∙ lines_refused (place left.source) (too_deep line) some h)
-line_refused left (Wrong Count) some h = absurd h
-line_refused left (Wrong (Pair i)) some h = absurd h

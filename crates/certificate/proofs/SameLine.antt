@@ -8,7 +8,7 @@ use Rattle.certificate.specs.Reader.{line_at}
 use Rattle.certificate.specs.Reading.{AddsTree}
 use Rattle.certificate.specs.Texts.{SpellsLine, proof_line}
 use Rattle.certificate.proofs.AgainLemmas.{line_again}
-use Rattle.certificate.proofs.LineLemmas.{line_added}
+use Rattle.certificate.proofs.ReadLemmas.{line_added}
 
 pub line_taken : (old new : ProofLines) (bytes : List ℕ) (tree : ProofTree) → SpellsLine bytes tree → old.source.rest.now ≡ bytes ++ new.source.rest.now
     → new.source.line ≡ old.source.line + 1 → new.number ≡ old.number → new.seen ≡ old.seen + 1 → AddsTree tree old new

@@ -1,19 +1,19 @@
 -- What a certificate says as far as it has been read: the proofs so far, of which each stands on a line of its own.
-use Rattle.std.specs.Prelude.{◌≡◌, ◌⊎◌, ℕ, Option, Some, None, Result, Ok, Err, MatchResult, List, [], ◌∷◌, ◌++◌}
+use Rattle.std.specs.Prelude.{◌≡◌, ◌⊎◌, ℕ, ◌+◌, ◌<◌, ◌^◌, Option, Some, None, Result, Ok, Err, MatchResult, List, [], ◌∷◌, ◌++◌}
 use Rattle.std.specs.Prelude.{length, codes, All}
 use Rattle.certificate.specs.declared.errors.CertError.{CertError}
 use Rattle.certificate.specs.declared.errors.CertError.TheVariants.{Wrong, NoMemory}
 use Rattle.certificate.specs.declared.errors.CertFault.{CertFault}
 use Rattle.certificate.specs.declared.read.Head.{Head}
 use Rattle.certificate.specs.declared.read.Head.TheVariants.{Proofs, Flaw}
-use Rattle.certificate.specs.declared.lines.Line.{Line}
 use Rattle.certificate.specs.declared.lines.ProofLines.{ProofLines}
+use Rattle.certificate.specs.declared.lines.Standing.{Standing}
 use Rattle.certificate.specs.declared.values.Cert.{Cert}
 use Rattle.certificate.specs.declared.values.CertText.{CertText}
 use Rattle.certificate.specs.Certificates.{Certificate, certificate_of, proofs, flaw}
-use Rattle.certificate.specs.Places.{place, unread}
+use Rattle.certificate.specs.Places.{unread}
 use Rattle.certificate.specs.Proofs.{ProofTree, proof_tree}
-use Rattle.certificate.specs.Reader.{FormFault, text_said, lines_at}
+use Rattle.certificate.specs.Reader.{FormFault}
 use Rattle.certificate.specs.Refusals.{First}
 use Rattle.certificate.specs.Texts.{IsPrintableProof, Spells, proofs_text}
 
@@ -35,12 +35,20 @@ abbrev pub refusal : {A : Type 0} → Result A FormFault → Option FormFault
 refusal (Ok said) = None
 refusal (Err fault) = Some fault
 
--- These proofs and what is left make up the text, and what is left is refused where and as the text is.
+-- These proofs and what is left make up the text. What is left begins on the line after them.
 pub record ReadSoFar (text : List ℕ) (trees : List ProofTree) (left : ProofLines) : Type 0 where
   pub printable : All (IsPrintableProof 512) trees
   pub counted : length trees ≡ left.seen
+  pub placed : left.source.line ≡ length trees + 3
+  pub fits : left.number < 2 ^ 32
   pub text_is : text ≡ (codes "cert 1\n" ++ proofs_text left.number trees) ++ left.source.rest.now
-  pub refusal_is : refusal (text_said text) ≡ refusal (lines_at (place left.source))
+
+-- these proofs make up the text up to where reading stands
+pub record Stands (before : List ℕ) (trees : List ProofTree) (standing : Standing) : Type 0 where
+  pub printable : All (IsPrintableProof 512) trees
+  pub counted : length trees ≡ standing.seen
+  pub fits : standing.number < 2 ^ 32
+  pub text_is : before ≡ codes "cert 1\n" ++ proofs_text standing.number trees
 
 -- the text that is left
 abbrev pub text_left : ProofLines → List ℕ
@@ -54,10 +62,6 @@ bytes_left left = unread left.source
 abbrev pub HeadRead : List ℕ → Head → Type 0
 HeadRead text (Proofs left) = ReadSoFar text [] left
 HeadRead text (Flaw pair fault) = Spells text (flaw pair fault.wire.items fault.first fault.second)
-
--- the bytes of a line that was read
-abbrev pub line_bytes : Line → List ℕ
-line_bytes line = line.bytes.now
 
 -- one more proof has been read
 abbrev pub AddsTree : ProofTree → ProofLines → ProofLines → Type 0

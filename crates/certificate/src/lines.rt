@@ -1,6 +1,7 @@
 // The proofs of a certificate text, one at a time.
 
-ghost use Rattle.std.specs.Prelude.{◌≡◌, ◌≢◌, ◌<◌, ◌≤◌, ◌+◌, ◌^◌, true, false, length, take, IfOk, IfErr, IfSome, IfNone, OnErr};
+ghost use Rattle.std.specs.Prelude.{◌≡◌, ◌≢◌, ℕ, ◌<◌, ◌≤◌, ◌+◌, ◌^◌, true, false, List, ◌++◌, length, take, IfOk, IfErr};
+ghost use Rattle.std.specs.Prelude.{IfSome, IfNone, OnErr};
 ghost use Rattle.certificate.specs.declared.errors.CertFault.TheVariants.{Count};
 ghost use Rattle.certificate.specs.Proofs.{ProofTree, proof_tree};
 ghost use Rattle.certificate.specs.Texts.{SpellsLine};
@@ -10,11 +11,15 @@ use crate::sources::Source;
 use crate::values::Cert;
 use std::alloc::Global;
 
-/// A line that was read, with its line feed.
+/// The lines before the first proof.
+const HEAD_LINES: u64 = 2;
+
+/// Where the reading of a certificate text stands behind whole lines, apart from what is left of the text.
 #[derive(Clone, Copy, Debug)]
-pub struct Line<'a> {
-    bytes: &'a [u8],
-    ghost some: { 0 < length bytes.now },
+pub struct Standing {
+    // the number of proofs that the text announces, and of those that were read
+    number: u32,
+    seen: u64,
 }
 
 /// What is left of a certificate text whose proofs are read one at a time.
@@ -29,7 +34,8 @@ pub struct ProofLines<'a> {
 
 impl<'a> ProofLines<'a> {
     ghost use Rattle.certificate.specs.Places.{place};
-    ghost use Rattle.certificate.specs.Reading.{AddsTree, AddsProof, EndsHere, RefusedHere, bytes_left, text_left, line_bytes};
+    ghost use Rattle.certificate.specs.Reading.{AddsTree, AddsProof, EndsHere, RefusedHere, bytes_left, text_left};
+    ghost use Rattle.certificate.specs.Reading.{ReadSoFar, Stands};
 
     /// What is left after the first two lines, which announce this number of proofs.
     pub(crate) fn new(source: Source<'a>, number: u32) -> Self
@@ -63,16 +69,17 @@ impl<'a> ProofLines<'a> {
         }
     }
 
-    /// The same, and the line of the proof.
+    /// The same, and the line of the proof, with its line feed.
     ///
     /// # Errors
     ///
     /// As those of `next_proof`.
-    pub fn next_line(&mut self, alloc: Global) -> Result<Option<(Cert, Line<'a>)>, CertError>
+    pub fn next_line(&mut self, alloc: Global) -> Result<Option<(Cert, &'a [u8])>, CertError>
         ensures read { IfOk result (λ next. IfSome next (λ it. AddsProof it.0 self.old self.new)) }
-        ensures spelled { IfOk result (λ next. IfSome next (λ it. SpellsLine (line_bytes it.1) (proof_tree it.0))) }
+        ensures spelled { IfOk result (λ next. IfSome next (λ it. SpellsLine it.1.now (proof_tree it.0))) }
         ensures less { IfOk result (λ next. IfSome next (λ it. bytes_left self.new < bytes_left self.old)) }
         ensures end { IfOk result (λ next. IfNone next (EndsHere self.old)) }
+        ensures ended { IfOk result (λ next. IfNone next (self.new ≡ self.old)) }
         ensures refused { IfErr result (λ e. RefusedHere self.old e) }
         ensures unchanged { OnErr result (self.new ≡ self.old) }
     {
@@ -82,23 +89,23 @@ impl<'a> ProofLines<'a> {
         }
         let mut source = self.source;
         let proof = source.proof_line(alloc)?;
-        let line = Line {
-            bytes: self.source.until(&source),
-        };
+        let line = self.source.until(&source);
         self.source = source;
         self.seen += 1;
         Ok(Some((proof, line)))
     }
 
-    /// Takes the next line where its bytes are those of this line, and does not read them again: whatever proof they
+    /// Takes the next line where these are its bytes, with its line feed, and does not read them again: whatever proof they
     /// spell is then the next one. Else nothing is taken.
-    pub fn takes_again(&mut self, line: &Line<'_>) -> bool
-        ensures read { result ≡ true →
-            (tree : ProofTree) → SpellsLine (line_bytes line.now) tree → AddsTree tree self.old self.new }
+    pub fn takes_again(&mut self, line: &[u8]) -> bool
+        ensures read { result ≡ true → (tree : ProofTree) → SpellsLine line.now tree → AddsTree tree self.old self.new }
         ensures less { result ≡ true → bytes_left self.new < bytes_left self.old }
         ensures unchanged { result ≡ false → self.new ≡ self.old }
     {
-        let Some(source) = self.source.after_line(line.bytes) else {
+        if line.is_empty() {
+            return false;
+        }
+        let Some(source) = self.source.after_line(line) else {
             return false;
         };
         self.source = source;
@@ -115,21 +122,52 @@ impl<'a> ProofLines<'a> {
 
     /// Takes the next line, which has so many bytes with its line feed, and does not read them: whatever proof they spell
     /// is then the next one.
-    pub fn take_line(&mut self, size: usize) -> Line<'a>
+    pub fn take_line(&mut self, size: usize) -> &'a [u8]
         requires some { 0 < size }
         requires within { size ≤ bytes_left self.old }
-        ensures line { line_bytes result ≡ take size (text_left self.old) }
+        ensures line { result.now ≡ take size (text_left self.old) }
         ensures read { (tree : ProofTree) →
             SpellsLine (take size (text_left self.old)) tree → AddsTree tree self.old self.new }
         ensures less { bytes_left self.new < bytes_left self.old }
     {
         let source = self.source.past_line(size);
-        let line = Line {
-            bytes: self.source.until(&source),
-        };
+        let line = self.source.until(&source);
         self.source = source;
         self.seen += 1;
         line
+    }
+
+    /// Where reading stands before what is left.
+    pub fn standing(&self) -> Standing
+        ensures { (text : List ℕ) (trees : List ProofTree) → ReadSoFar text trees self.now →
+            (before : List ℕ) × Stands before trees result × (text ≡ before ++ text_left self.now) }
+    {
+        Standing {
+            number: self.number,
+            seen: self.seen,
+        }
+    }
+
+    /// Goes on where reading stands, with what is left of the text, as far as it is known. None comes only where the text
+    /// has 2 to the power 63 bytes or more.
+    pub fn resume(standing: Standing, rest: &'a [u8]) -> Option<Self>
+        ensures left { IfSome result (λ left. text_left left ≡ rest.now) }
+        ensures read { IfSome result (λ left. (before : List ℕ) (trees : List ProofTree) →
+            Stands before trees standing → ReadSoFar (before ++ rest.now) trees left) }
+        ensures none { IfNone result ((before : List ℕ) (trees : List ProofTree) →
+            Stands before trees standing → 2 ^ 63 ≤ length before + length rest.now) }
+    {
+        let Some(line) = standing.seen.checked_add(HEAD_LINES + 1) else {
+            return None;
+        };
+        let Some(source) = Source::at_line(rest, line) else {
+            return None;
+        };
+        Some(ProofLines {
+            source,
+            number: standing.number,
+            seen: standing.seen,
+        })
     }
 
     // At the end of the text.

@@ -1,6 +1,6 @@
 // What is left of a certificate text, byte by byte.
 
-ghost use Rattle.std.specs.Prelude.{◌≡◌, ◌<◌, ◌≤◌, ◌+◌, ◌-◌, ◌^◌, ◌==◌, ◌++◌, length, take, drop, OnOk, IfSome};
+ghost use Rattle.std.specs.Prelude.{◌≡◌, ◌<◌, ◌≤◌, ◌+◌, ◌-◌, ◌^◌, ◌==◌, ◌++◌, length, take, drop, OnOk, IfSome, IfNone};
 ghost use Rattle.certificate.specs.declared.errors.CertFault.TheVariants.{Format, TooDeep};
 
 use crate::errors::{CertError, CertFault};
@@ -25,6 +25,15 @@ impl<'a> Source<'a> {
             rest: text,
             line: 1,
         }
+    }
+
+    /// What is left of a text from this line on. None comes where the lines could not be counted to its end.
+    pub(crate) fn at_line(rest: &'a [u8], line: u64) -> Option<Self>
+        ensures place { IfSome result (λ source. place source ≡ record { line = line; rest = rest.now }) }
+        ensures none { IfNone result (2 ^ 64 ≤ line + length rest.now) }
+    {
+        line.checked_add(rest.len() as u64)?;
+        Some(Source { rest, line })
     }
 
     /// Whether nothing is left.

@@ -2,7 +2,7 @@ use Rattle.std.proofs.Common.{◌≡◌, subst, codes}
 use Rattle.std.specs.Prelude.{Ok}
 use Rattle.certificate.specs.Places.{place}
 use Rattle.certificate.specs.Reader.{Place, each_at, faulty}
-use Rattle.certificate.proofs.LineLemmas.{proofs_begun}
+use Rattle.certificate.proofs.ReadLemmas.{proofs_begun}
 use Rattle.certificate.proofs.TextTakes.{front_takes, flaw_takes}
 use Rattle.certificate.proofs.read.read_head.Goals as goal
 

@@ -3,7 +3,8 @@ use Rattle.std.proofs.lemmas.Bool.{eqb-false}
 use Rattle.std.proofs.lemmas.Result.{err_from_is_err_and}
 use Rattle.certificate.specs.Places.{place}
 use Rattle.certificate.specs.Proofs.{proof_tree}
-use Rattle.certificate.proofs.LineLemmas.{line_added, line_refused, line_spelled}
+use Rattle.certificate.proofs.LineLemmas.{line_spelled}
+use Rattle.certificate.proofs.ReadLemmas.{line_added, line_refused}
 use Rattle.certificate.proofs.lines.ProofLines.next_line.Goals as goal
 
 pub returns-in_err-proof-clause-refused : goal.returns-in_err-proof-clause-refused
@@ -17,4 +18,4 @@ returns-clause-read c = line_added c.args.self.now _ (proof_tree c.in_ok-proof.p
 
 pub returns-clause-spelled : goal.returns-clause-spelled
 returns-clause-spelled c =
-    line_spelled (place c.args.self.now.source) _ (proof_tree c.in_ok-proof.proof) c.until.result.now c.in_ok-proof.ensures.read c.until.ensures
+    line_spelled (place c.args.self.now.source) _ (proof_tree c.in_ok-proof.proof) c.until-line.result.now c.in_ok-proof.ensures.read c.until-line.ensures
