@@ -3,8 +3,7 @@ use Rattle.std.proofs.Common.{◌≡◌, List, ℕ, get_or, ap, subst, arith}
 use Rattle.std.specs.Prelude.{codes}
 use Rattle.certificate.specs.declared.errors.CertFault.TheVariants.{Format, Count, TooDeep, Pair}
 use Rattle.certificate.specs.Texts.{cert_text}
-use Rattle.cert_check.specs.Accepts.{IsCertified, IsAnswer, AnswersBytes}
-use Rattle.cert_check.proofs.AnswerLemmas.{answers_texts}
+use Rattle.cert_check.specs.Accepts.{IsCertified, AnswersBytes}
 use Rattle.cert_check.proofs.Checked.{certified_is_safe}
 use Rattle.cert_check.specs.declared.answers.Answer.{Answer}
 use Rattle.cert_check.specs.declared.answers.Answer.TheVariants.{Safe, Unsafe, Wrong}
@@ -33,12 +32,6 @@ certifies text slice report plan verdicts status same spelled limits right writt
   written = written;
   judged = judged;
 }
-
--- what is answered for a plan that was read is answered for the two texts
-pub answers_both : (text slice cert cert_slice : List ℕ) (plan : Contents) (answer : Answer) → slice ≡ text → cert_slice ≡ cert → Spells slice plan → IsAnswer plan cert_slice answer → AnswersBytes text cert answer
-answers_both text slice cert cert_slice plan answer same same_cert spelled is =
-    subst (λ (t : List ℕ). AnswersBytes text t answer) same_cert
-    (answers_texts plan cert_slice answer is text (subst (λ (t : List ℕ). Spells t plan) same spelled))
 
 -- ---- what the line of verify and its status say
 

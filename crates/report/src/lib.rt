@@ -1,6 +1,7 @@
 //! The reports of the program over any readers and writers.
 #![tactic(auto)]
 
+mod answering;
 mod blocks;
 pub mod captures;
 pub mod certificates;
