@@ -1,19 +1,18 @@
 -- Bytes that two messages have in common.
 use Rattle.std.proofs.Common.{◌≡◌, ℕ, ◌+◌, ◌*◌, ◌<◌, ◌≤◌, ◌^◌, None, List, [], ◌∷◌, ◌++◌, length, length-append, refl, ap, sym, subst, arith, inl, inr, ◌⊎◌}
 use Rattle.message_tree.specs.declared.bits.Bit.{Bit}
-use Rattle.message_tree.specs.declared.bits.Pattern.{Pattern}
 use Rattle.message_tree.specs.Drops.{payload_weight}
 use Rattle.message_tree.specs.Patterns.{pattern_bits}
-use Rattle.message_tree.specs.Sizes.{payload_slots}
+use Rattle.message_tree.specs.Sizes.{payload_slots, tail_slots}
 use Rattle.message_tree.specs.Texts.{PayloadText, TailText}
-use Rattle.message_tree.specs.Trees.{PayloadTree, byte, stop}
+use Rattle.message_tree.specs.Trees.{PayloadTree, byte, TailTree}
 use Rattle.message_tree.proofs.TextLaws.{lawful_payload}
 use Rattle.arbitration.specs.declared.beginnings.Beginning.{Beginning}
 use Rattle.arbitration.specs.declared.spans.Outcomes.{Outcomes}
 use Rattle.arbitration.specs.Spans.{IsSpan, union_of, after_of, After}
-use Rattle.arbitration.specs.Ways.{Way, both_end, first_wins, second_wins, span_of, AreOutcomes, AllHaveRoom, ArePartings, PartsAt, Goes, Step, stopped, Begins, GoesInByte, GoesWithin, IsBeginning}
+use Rattle.arbitration.specs.Ways.{Way, both_end, first_wins, second_wins, span_of, AreOutcomes, AllHaveRoom, ArePartings, PartsAt, Goes, put_first, Step, Begins, GoesInByte, IsInByte, GoesWithin, IsBeginning}
 use Rattle.arbitration.proofs.BitPlaces.{same_never_part, is_within}
-use Rattle.arbitration.proofs.Nodes.{node_out, node_in, length_of_data, stops_only}
+use Rattle.arbitration.proofs.Nodes.{node_out, node_in, length_of_data, tail_bound, all_room}
 use Rattle.arbitration.proofs.SpanLemmas.{span_union, span_after, span_same, room}
 
 -- ---- one byte that both send
@@ -36,25 +35,32 @@ step_in s t u way k g =
       | inr a ↦ inl (inr a)
     ])
 
-pub in_byte : (b : Pattern) (bits ends all : Outcomes) → ArePartings (pattern_bits b) (pattern_bits b) bits → AreOutcomes (TailText stop) (TailText stop) ends → (way : Way) → span_of way all ≡ union_of (span_of way bits) (after_of 9 (span_of way ends)) → IsSpan (GoesInByte way (stopped b)) (span_of way all)
-in_byte b bits ends all p h way e =
-    subst (IsSpan (GoesInByte way (stopped b))) (sym e) (span_union (PartsAt way (pattern_bits b) (pattern_bits b)) (After 9 (Goes way (TailText stop) (TailText stop))) (span_of way bits) (after_of 9 (span_of way ends)) (p way) (span_after (Goes way (TailText stop) (TailText stop)) 9 (span_of way ends) (h way)))
+pub in_byte : (s : Step) (bits refused all : Outcomes) → ArePartings (pattern_bits s.bits) (pattern_bits s.bits) bits → AreOutcomes (TailText s.refused) (TailText s.refused) refused → ((way : Way) → span_of way all ≡ union_of (span_of way bits) (after_of 9 (span_of way refused))) → IsInByte s all
+in_byte s bits refused all p h e way =
+    let R = Goes way (TailText s.refused) (TailText s.refused) in
+    subst (IsSpan (GoesInByte way s)) (sym (e way)) (span_union (PartsAt way (pattern_bits s.bits) (pattern_bits s.bits)) (After 9 R) (span_of way bits) (after_of 9 (span_of way refused)) (p way) (span_after R 9 (span_of way refused) (h way)))
 
 parts_within : (way : Way) (bs cs : List Bit) (k : ℕ) → length bs ≡ 8 → length cs ≡ 8 → PartsAt way bs cs k → k < 8
 parts_within both_end bs cs k l m p = absurd p
 parts_within first_wins bs cs k l m p = omega (arith, is_within bs k p.zero.0 p.zero.1, l)
 parts_within second_wins bs cs k l m p = omega (arith, is_within cs k p.zero.0 p.zero.1, m)
 
-byte_slots : (way : Way) (b : Pattern) (k : ℕ) → GoesInByte way (stopped b) k → k ≤ 9
-byte_slots way b k (inl p) = omega (arith, parts_within way (pattern_bits b) (pattern_bits b) k (length_of_data b) (length_of_data b) p)
-byte_slots way b k (inr (j, e, g)) = omega (arith, e, (stops_only way j g).1)
+-- who comes to one of the ways after a refusal has an item left to put
+after_refusal : (way : Way) (r : TailTree) (k : ℕ) → Goes way (TailText r) (TailText r) k → k < tail_slots r
+after_refusal way r k g =
+    let rest = put_first way ∷ g.first.0 in
+    omega (arith, tail_bound r (g.wire ++ rest) g.first.1, g.slot, length-append g.wire rest)
 
-pub byte_room : (b : Pattern) (o : Outcomes) (n : ℕ) → ((way : Way) → IsSpan (GoesInByte way (stopped b)) (span_of way o)) → n + 9 < 2 ^ 32 → AllHaveRoom n o
-byte_room b o n h lt way =
-    room (GoesInByte way (stopped b)) n (span_of way o) (h way) (λ k g. omega (arith, byte_slots way b k g, lt))
+byte_slots : (way : Way) (s : Step) (k : ℕ) → GoesInByte way s k → k < 9 + tail_slots s.refused
+byte_slots way s k (inl p) = omega (arith, parts_within way (pattern_bits s.bits) (pattern_bits s.bits) k (length_of_data s.bits) (length_of_data s.bits) p)
+byte_slots way s k (inr (j, e, g)) = omega (arith, e, after_refusal way s.refused j g)
 
-pub at_once_room : (o : Outcomes) → AreOutcomes (TailText stop) (TailText stop) o → AllHaveRoom 9 o
-at_once_room o h way = room (Goes way (TailText stop) (TailText stop)) 9 (span_of way o) (h way) (λ k g. omega (arith, (stops_only way k g).1))
+pub byte_room : (s : Step) (o : Outcomes) (n : ℕ) → IsInByte s o → n + 9 + tail_slots s.refused ≤ 2 ^ 32 → AllHaveRoom n o
+byte_room s o n h le way =
+    room (GoesInByte way s) n (span_of way o) (h way) (λ k g. omega (arith, byte_slots way s k g, le))
+
+pub refused_room : (r : TailTree) (o : Outcomes) → AreOutcomes (TailText r) (TailText r) o → tail_slots r + 9 ≤ 2 ^ 32 → AllHaveRoom 9 o
+refused_room r o h le = all_room (TailText r) (TailText r) o (tail_slots r) 9 h (tail_bound r) le
 
 -- ---- bytes that both begin with
 
@@ -109,7 +115,7 @@ more_in (t ∷ ss) s way k (inr (j, e, h)) =
 pub no_beginning : (beginning : Beginning) → beginning.bytes ≡ 0 → ((way : Way) → span_of way beginning.outcomes ≡ None) → IsBeginning [] beginning
 no_beginning beginning e n = (sym e, λ way. subst (IsSpan (GoesWithin way [])) (sym (n way)) (λ k h. h))
 
-pub longer_beginning : (ss : List Step) (s : Step) (old new : Beginning) (here : Outcomes) → IsBeginning ss old → ((way : Way) → IsSpan (GoesInByte way s) (span_of way here)) → new.bytes ≡ old.bytes + 1 → ((way : Way) → span_of way new.outcomes ≡ union_of (span_of way old.outcomes) (after_of (9 * old.bytes) (span_of way here))) → IsBeginning (ss ++ s ∷ []) new
+pub longer_beginning : (ss : List Step) (s : Step) (old new : Beginning) (here : Outcomes) → IsBeginning ss old → IsInByte s here → new.bytes ≡ old.bytes + 1 → ((way : Way) → span_of way new.outcomes ≡ union_of (span_of way old.outcomes) (after_of (9 * old.bytes) (span_of way here))) → IsBeginning (ss ++ s ∷ []) new
 longer_beginning ss s old new here w h e f =
     let n = 9 * old.bytes in
     let l = w.0 in (

@@ -1,4 +1,5 @@
 pub mod LaidLemmas
+pub mod NumberLemmas
 pub mod CommonBytes
 pub mod BitPlaces
 pub mod Meetings

@@ -118,6 +118,10 @@ abbrev pub GoesInByte : Way → Step → ℕ → Type 0
 GoesInByte way s k =
     PartsAt way (pattern_bits s.bits) (pattern_bits s.bits) k ⊎ After 9 (Goes way (TailText s.refused) (TailText s.refused)) k
 
+-- these are the outcomes within this byte
+abbrev pub IsInByte : Step → Outcomes → Type 0
+IsInByte s outcomes = (way : Way) → IsSpan (GoesInByte way s) (span_of way outcomes)
+
 -- in slot k two who send these bytes go this way
 abbrev pub GoesWithin : Way → List Step → ℕ → Type 0
 GoesWithin way [] k = ⊥

@@ -3,10 +3,9 @@
 ghost use Rattle.std.specs.Prelude.{true, ◌≡◌, ◌+◌, ◌*◌, ◌<◌, ◌^◌, ◌++◌, List};
 ghost use Rattle.message_tree.specs.Sizes.{payload_slots};
 ghost use Rattle.message_tree.specs.Trees.{payload_tree, tail_tree, stop};
-ghost use Rattle.arbitration.specs.Laid.{ends};
 ghost use Rattle.arbitration.specs.Ways.{Step, Begins, IsBeginning};
 
-use crate::beginnings::Beginning;
+use crate::beginnings::{Beginning, in_stopped_byte};
 use crate::bits::is_same;
 use message_tree::{Payload, Tail};
 
@@ -39,7 +38,7 @@ pub(crate) fn common_bytes<'a>(x: &'a Payload, y: &'a Payload, beginning: Beginn
         && is_stop(r)
         && is_stop(s)
     {
-        return common_bytes(after_first, after_second, beginning.and(a));
+        return common_bytes(after_first, after_second, beginning.and(in_stopped_byte(a)));
     }
     Alike {
         beginning,
@@ -50,9 +49,8 @@ pub(crate) fn common_bytes<'a>(x: &'a Payload, y: &'a Payload, beginning: Beginn
 
 /// Whether a message ends here.
 #[inline(always)]
-pub(crate) fn is_stop(tail: &Tail) -> bool
-    ensures value { result ≡ ends tail.now }
-    ensures stop { result ≡ true → tail_tree tail.now ≡ stop }
+fn is_stop(tail: &Tail) -> bool
+    ensures { result ≡ true → tail_tree tail.now ≡ stop }
 {
     matches!(tail, Tail::Stop)
 }

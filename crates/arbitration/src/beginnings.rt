@@ -1,15 +1,16 @@
 // What two messages may come to while they are alike.
 
-ghost use Rattle.std.specs.Prelude.{◌≡◌, ℕ, [], ◌∷◌, ◌++◌, ◌+◌, ◌*◌, ◌<◌, ◌≤◌, ◌^◌, List};
-ghost use Rattle.arbitration.specs.Spans.{IsSpan};
-ghost use Rattle.arbitration.specs.Ways.{Way, span_of, AllHaveRoom, Step, stopped, GoesInByte, IsBeginning};
+ghost use Rattle.std.specs.Prelude.{◌≡◌, [], ◌∷◌, ◌++◌, ◌+◌, ◌*◌, ◌<◌, ◌^◌, List};
+ghost use Rattle.message_tree.specs.Texts.{TailText};
+ghost use Rattle.message_tree.specs.Trees.{TailTree};
+ghost use Rattle.arbitration.specs.Ways.{AreOutcomes, AllHaveRoom, Step, stopped, IsInByte, IsBeginning};
 
 use crate::bits::open_bits;
 use crate::spans::Outcomes;
 use message_tree::Pattern;
 
-/// How many bytes two messages have in common, and what the two may come to within them and the answers to them: either may
-/// win in an open bit, and both may end after a refusal.
+/// How many bytes two messages have in common, and what the two may come to within them: either may win in an open bit, and
+/// after a refusal of one of them they go on alike, and may end or part.
 #[derive(Clone, Copy)]
 pub(crate) struct Beginning {
     pub(crate) bytes: u32,
@@ -27,13 +28,14 @@ impl Beginning {
         }
     }
 
-    /// One more byte, after a refusal of which both end.
-    pub(crate) fn and(self, bits: &Pattern) -> Beginning
-        requires { 9 * self.bytes + 9 < 2 ^ 32 }
-        ensures longer { (ss : List Step) → IsBeginning ss self → IsBeginning (ss ++ stopped bits.now ∷ []) result }
+    /// One more byte, within which two come to these.
+    pub(crate) fn and(self, here: Outcomes) -> Beginning
+        requires slots { 9 * self.bytes + 9 < 2 ^ 32 }
+        requires room { AllHaveRoom (9 * self.bytes) here }
+        ensures longer { (ss : List Step) (s : Step) → IsBeginning ss self → IsInByte s here → IsBeginning (ss ++ s ∷ []) result }
         ensures bytes { result.bytes ≡ self.bytes + 1 }
     {
-        let here = in_byte(bits).after(9 * self.bytes);
+        let here = here.after(9 * self.bytes);
         Beginning {
             bytes: self.bytes + 1,
             outcomes: self.outcomes.union(here),
@@ -41,10 +43,18 @@ impl Beginning {
     }
 }
 
-// What two may come to in a byte that both send, and after a refusal of it.
-fn in_byte(bits: &Pattern) -> Outcomes
-    ensures here { (way : Way) → IsSpan (GoesInByte way (stopped bits.now)) (span_of way result) }
-    ensures room { (n : ℕ) → n + 9 < 2 ^ 32 → AllHaveRoom n result }
+/// What two may come to in a byte that both send, where they come to `refused` after a refusal of it.
+pub(crate) fn in_byte(bits: &Pattern, refused: Outcomes) -> Outcomes
+    requires { AllHaveRoom 9 refused }
+    ensures { (r : TailTree) → AreOutcomes (TailText r) (TailText r) refused →
+        IsInByte (record { bits = bits.now; refused = r }) result }
 {
-    open_bits(bits).union(Outcomes::end_at_once().after(9))
+    open_bits(bits).union(refused.after(9))
+}
+
+/// The same where both end after a refusal.
+pub(crate) fn in_stopped_byte(bits: &Pattern) -> Outcomes
+    ensures { IsInByte (stopped bits.now) result }
+{
+    in_byte(bits, Outcomes::end_at_once())
 }

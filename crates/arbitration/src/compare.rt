@@ -131,7 +131,8 @@ fn reads(c: &Count, d: &Count, x: &Tail, y: &Tail) -> Outcomes
     apart.union(ends)
 }
 
-// What is written after an acknowledge. Most messages have bytes in common, and end where one is refused.
+// What is written after an acknowledge, where the bytes do not stand side by side. Most messages have bytes in common, and
+// end where one is refused.
 #[cycle(compare)]
 fn payloads(x: &Payload, y: &Payload) -> Outcomes
     requires { payload_slots (payload_tree x.now) < 2 ^ 32 }

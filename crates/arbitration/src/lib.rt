@@ -6,10 +6,15 @@ mod alike;
 mod beginnings;
 mod bits;
 mod compare;
+mod first_byte;
+mod first_bytes;
 mod laid;
 pub mod laws;
+mod likeness;
 pub mod pairs;
 mod reads;
+mod rows;
+mod same;
 mod senders;
 pub mod spans;
 

@@ -1,13 +1,14 @@
-use Rattle.std.proofs.Common.{arith}
+use Rattle.std.proofs.Common.{ap, arith}
 use Rattle.plan_core.specs.PlanContents.{plan_contents}
 use Rattle.plan_core.specs.Senders.{what_is_sent}
 use Rattle.plan_core.proofs.PlanLemmas.{limits_of}
-use Rattle.arbitration.proofs.LaidLemmas.{one_more_sent, one_more_long, one_more_begun, sent_there}
+use Rattle.arbitration.specs.Numbers.{steps_of}
+use Rattle.arbitration.proofs.LaidLemmas.{is_numbered, one_more_sent, one_more_long, one_more_numbered, sent_there}
 use Rattle.arbitration.proofs.Runs.{sender_fits}
 use Rattle.arbitration.proofs.pairs.laid_out.Goals as goal
 
-pub of-requires : goal.of-requires
-of-requires c =
+pub of-requires-clause-fits : goal.of-requires-clause-fits
+of-requires-clause-fits c =
     omega (arith, sender_fits (plan_contents c.args.plan.now) c.loop-p.p (what_is_sent c.sends.result) (limits_of c.args.plan.now).messages.bytes c.sends.ensures)
 
 pub loop-p-preserved : goal.loop-p-preserved
@@ -15,8 +16,15 @@ loop-p-preserved c =
     let plan = plan_contents c.args.plan.now in
     let i = c.loop-p.invariant in
     let m = c.in_ok-push.ensures.items in
+    let l = c.in_ok-of.field-0 in
     record {
-      all = one_more_long c.loop-p.laid.items c.push.new.self.items c.in_ok-of.field-0 c.loop-p.p m i.all;
-      sent = one_more_sent plan c.loop-p.laid.items c.push.new.self.items c.in_ok-of.field-0 (what_is_sent c.sends.result) m i.sent (sent_there plan c.loop-p.laid.items c.loop-p.p (what_is_sent c.sends.result) i.all c.sends.ensures) c.in_ok-of.ensures.sends;
-      begun = one_more_begun c.loop-p.laid.items c.push.new.self.items c.in_ok-of.field-0 m i.begun c.in_ok-of.ensures.begun;
+      all = one_more_long c.loop-p.laid.items c.push.new.self.items l c.loop-p.p m i.all;
+      sent = one_more_sent plan c.loop-p.laid.items c.push.new.self.items l (what_is_sent c.sends.result) m i.sent (sent_there plan c.loop-p.laid.items c.loop-p.p (what_is_sent c.sends.result) i.all c.sends.ensures) (ap what_is_sent c.in_ok-of.ensures.sends);
+      known = c.in_ok-of.ensures.known;
+      numbered = one_more_numbered (steps_of c.loop-p.known.bytes.items) (steps_of c.of.new.known.bytes.items) c.loop-p.laid.items c.push.new.self.items l c.in_ok-of.ensures.keeps m i.numbered (is_numbered (steps_of c.of.new.known.bytes.items) l c.sends.result c.in_ok-of.ensures.sends c.in_ok-of.ensures.laid);
     }
+
+pub returns : goal.returns
+returns c =
+    let i = c.loop-p.invariant in
+    record { all = omega (arith, i.all, c.loop-p.auto.p-end, c.loop-p-test.false, c.participants-p-end.ensures); sent = i.sent; numbered = (steps_of c.loop-p.known.bytes.items, i.numbered) }

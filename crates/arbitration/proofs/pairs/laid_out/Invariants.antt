@@ -3,7 +3,8 @@ use Rattle.plan_core.specs.PlanContents.{plan_contents}
 use Rattle.plan_core.specs.Participants.{sender_at}
 use Rattle.plan_core.specs.Senders.{what_is_sent}
 use Rattle.arbitration.specs.declared.laid.Laid.{Laid}
-use Rattle.arbitration.specs.Plans.{IsBegun}
+use Rattle.arbitration.specs.Numbers.{AreKnown, steps_of}
+use Rattle.arbitration.specs.Plans.{AreNumbered}
 use Rattle.arbitration.proofs.pairs.laid_out.Given as goal
 
 abbrev pub invariant-loop-p : goal.invariant-loop-p
@@ -11,5 +12,6 @@ invariant-loop-p l =
     record {
       all : length l.laid.items ≡ l.p;
       sent : (k : ℕ) (q : Laid) → slice_get l.laid.items k ≡ Some q → sender_at (plan_contents l.plan) k ≡ Some (what_is_sent q.sends);
-      begun : (k : ℕ) (q : Laid) → slice_get l.laid.items k ≡ Some q → IsBegun q;
+      known : AreKnown l.known.bytes.items;
+      numbered : AreNumbered (steps_of l.known.bytes.items) l.laid.items;
     }

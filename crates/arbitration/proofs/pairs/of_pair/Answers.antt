@@ -1,14 +1,17 @@
 use Rattle.plan_core.specs.Participants.{sender_at}
 use Rattle.plan_core.specs.PlanContents.{plan_contents}
 use Rattle.plan_core.specs.Senders.{what_is_sent}
-use Rattle.arbitration.proofs.LaidLemmas.{begun_at, sent_at}
+use Rattle.arbitration.proofs.LaidLemmas.{numbered_at, sent_at}
 use Rattle.arbitration.proofs.SenderLemmas.{both_of_pair, first_of_pair}
 use Rattle.arbitration.proofs.Runs.{ends_span, first_span, second_span}
 use Rattle.arbitration.proofs.pairs.of_pair.Goals as goal
 
 pub outcomes-requires : goal.outcomes-requires
 outcomes-requires c =
-    begun_at (plan_contents c.args.plan.now) c.args.laid.now c.args.x c.index-laid-x.result c.requires.laid c.requires.x_within c.index-laid-x.is
+    let plan = plan_contents c.args.plan.now in
+    let laid = c.args.laid.now in
+    let are = c.requires.laid in
+    (are.numbered.0, numbered_at plan laid c.args.x c.index-laid-x.result are c.requires.x_within c.index-laid-x.is, numbered_at plan laid c.args.y c.index-laid-y.result are c.requires.y_within c.index-laid-y.is)
 
 pub returns-clause-both : goal.returns-clause-both
 returns-clause-both c =

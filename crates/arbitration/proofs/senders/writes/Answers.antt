@@ -9,15 +9,15 @@ use Rattle.arbitration.proofs.senders.writes.Goals as goal
 
 pub after_alike-requires : goal.after_alike-requires
 after_alike-requires c =
-    let m = c.common_laid-alike.ensures in
-    let s = slots_left m.0 (payload_tree c.args.x.now) (payload_tree c.common_laid-alike.result.first.now) m.2 in
+    let m = c.common-alike.ensures in
+    let s = slots_left m.0 (payload_tree c.args.x.now) (payload_tree c.common-alike.result.first.now) m.2 in
     omega (arith, m.1.0, s, c.requires.slots)
 
 pub answered-requires-clause-acked : goal.answered-requires-clause-acked
 answered-requires-clause-acked c =
     let x = payload_tree c.args.x.now in
     let y = payload_tree c.args.y.now in
-    all_room (PayloadText x) (PayloadText y) c.after_alike.result (payload_slots x) 9 (c.after_alike.ensures x y c.common_laid-alike.ensures) (payload_bound x) (omega (arith, c.requires.slots))
+    all_room (PayloadText x) (PayloadText y) c.after_alike.result (payload_slots x) 9 (c.after_alike.ensures x y c.common-alike.ensures) (payload_bound x) (omega (arith, c.requires.slots))
 
 pub answered-requires-clause-refused : goal.answered-requires-clause-refused
 answered-requires-clause-refused c =
@@ -38,4 +38,4 @@ returns-else-always_part c =
     let y = payload_tree c.args.y.now in
     let r = tail_tree c.args.r.now in
     let s = tail_tree c.args.s.now in
-    writes_are (write c.args.a.now x r) (write c.args.b.now y s) c.args.a.now c.args.b.now c.header-first_bits.result c.header-second_bits.result c.answered.result x y r s refl refl c.header-first_bits.ensures c.header-second_bits.ensures (bytes_answered c.header-first_bits.result c.header-second_bits.result x y r s (ap length c.header-first_bits.ensures ∙ length_of_header c.args.a.now Zero) (ap length c.header-second_bits.ensures ∙ length_of_header c.args.b.now Zero) c.partings-parted.result c.answered.result c.after_alike.result c.tails.result (λ k i. let e = c.always_part.ensures.1 (k, i) in cc) c.partings-parted.ensures (c.after_alike.ensures x y c.common_laid-alike.ensures) c.tails.ensures c.answered.ensures)
+    writes_are (write c.args.a.now x r) (write c.args.b.now y s) c.args.a.now c.args.b.now c.header-first_bits.result c.header-second_bits.result c.answered.result x y r s refl refl c.header-first_bits.ensures c.header-second_bits.ensures (bytes_answered c.header-first_bits.result c.header-second_bits.result x y r s (ap length c.header-first_bits.ensures ∙ length_of_header c.args.a.now Zero) (ap length c.header-second_bits.ensures ∙ length_of_header c.args.b.now Zero) c.partings-parted.result c.answered.result c.after_alike.result c.tails.result (λ k i. let e = c.always_part.ensures.1 (k, i) in cc) c.partings-parted.ensures (c.after_alike.ensures x y c.common-alike.ensures) c.tails.ensures c.answered.ensures)

@@ -1,7 +1,7 @@
 use Rattle.std.proofs.Common.{◌≡◌, suc, ◌-◌, map, ap, ◌∙◌, arith}
 use Rattle.arbitration.specs.Laid.{rest_of, shown}
 use Rattle.arbitration.proofs.LaidLemmas.{rest_at}
-use Rattle.arbitration.proofs.laid.rest.Goals as goal
+use Rattle.arbitration.proofs.rows.rest.Goals as goal
 
 pub returns : goal.returns
 returns c =

@@ -1,7 +1,7 @@
 use Rattle.std.proofs.Common.{◌≡◌, suc, ◌-◌, ℕ, None, take, get_or, subst, arith}
 use Rattle.arbitration.specs.declared.beginnings.Beginning.{Beginning}
 use Rattle.arbitration.specs.Ways.{IsBeginning}
-use Rattle.arbitration.proofs.laid.beginning.Goals as goal
+use Rattle.arbitration.proofs.rows.beginning.Goals as goal
 
 abbrev nothing : Beginning
 nothing = record { bytes = 0; outcomes = record { both = None; first = None; second = None } }
