@@ -120,9 +120,7 @@ pub fn other_answer(
     for bytes in [dump.len(), 1, 2, 7] {
         let found = in_pieces(alloc, dump, bytes)?;
         if found.as_str() != answer {
-            return Ok(Some(
-                format!(in alloc; "in pieces of {bytes} bytes: {found}")?,
-            ));
+            return Ok(Some(format!(in alloc; "in pieces of {bytes} bytes: {found}")?));
         }
     }
     for at in 0..dump.len() {
