@@ -2,6 +2,7 @@ pub mod AcceptedLemmas
 pub mod BlockLemmas
 pub mod PrintableLemmas
 pub mod CertificateLemmas
+pub mod CheckerReading
 pub mod LineLemmas
 pub mod CheckLemmas
 pub mod CaptureLemmas

@@ -3,6 +3,7 @@ pub mod Lines
 pub mod FaultLines
 pub mod Checks
 pub mod Certificates
+pub mod CertificateReading
 pub mod Spellings
 pub mod CaptureLines
 pub mod CaptureViews

@@ -9,7 +9,7 @@ ghost use Rattle.run_parts.specs.Runs.{ReadsText, HaltsAtText, ReadsBoth, HaltsA
 
 use crate::blocks::{BLOCK, write_in_blocks};
 use crate::checks::status_of;
-use cert_check::check_certificate;
+use crate::verifying::read_certificate;
 use plan_text::read_plan;
 use run_parts::devices::reading::READS;
 use run_parts::{
@@ -49,7 +49,8 @@ pub fn run_certify<I: Input, O: Output>(
 }
 
 /// Writes what the certificate that the second reader gives says of the plan that the first reader gives: `accepted safe`,
-/// `accepted unsafe`, or what is wrong with it. The status is `Good`, `Bad` or `Refused`.
+/// `accepted unsafe`, or what is wrong with it. The certificate is read block by block, and no more of it is held than what
+/// is open, until a line is refused. The status is `Good`, `Bad` or `Refused`.
 ///
 /// # Errors
 ///
@@ -71,8 +72,7 @@ pub fn run_verify<I: Input, J: Input, O: Output>(
 {
     let plan_text = read_within(alloc, plan, READS)?;
     let plan = read_plan(alloc, plan_text.as_slice())?;
-    let cert_text = read_within(alloc, cert, READS)?;
-    let answer = check_certificate(alloc, &plan, cert_text.as_slice())?;
+    let answer = read_certificate(alloc, &plan, cert)?;
     let report = answer_line(alloc, answer)?;
     write_lines(out, report.as_bytes(), status_of_answer(answer))
 }

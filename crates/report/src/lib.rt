@@ -10,6 +10,7 @@ pub mod laws;
 pub mod lines;
 pub mod spellings;
 pub mod telling;
+mod verifying;
 
 pub use captures::{run_capture, run_capture_of};
 pub use certificates::{run_certify, run_verify};

@@ -1,11 +1,12 @@
-use Rattle.std.proofs.Common.{◌∙◌, subst, ℕ, List}
+use Rattle.std.proofs.Common.{◌∙◌, refl, subst, ℕ, List}
 use Rattle.plan_core.specs.PlanContents.{plan_contents}
 use Rattle.report.specs.Certificates.{Verified}
 use Rattle.run_parts.specs.PlanTexts.{RefusesPlan, SpellsPlan}
-use Rattle.run_parts.specs.Runs.{ReadsBoth, HaltsAtBoth, at_first, at_second, after_both, unread, refused}
+use Rattle.run_parts.specs.Runs.{ReadsBoth, HaltsAtBoth, at_first, after_both, unread, refused}
 use Rattle.run_parts.specs.RunErrors.{run_error}
 use Rattle.run_parts.specs.declared.errors.RunError.TheVariants as error
 use Rattle.report.proofs.CertificateLemmas.{answers_both}
+use Rattle.report.proofs.CheckerReading.{halts_at_second}
 use Rattle.run_parts.proofs.PlanTextLemmas.{spells_plan}
 use Rattle.run_parts.proofs.PlanTextLemmas.{refuses_plan}
 use Rattle.run_parts.proofs.RunLemmas.{halting_stops, writing_reports, writing_stops}
@@ -21,27 +22,27 @@ returns-in_err-plan-clause-stops g c =
     let first = subst (λ (t : List ℕ). RefusesPlan t (run_error e)) c.as_slice.ensures.value (refuses_plan c.as_slice.result.now e c.in_err-plan.ensures.refused) in
     halting_stops (ReadsBoth g.I.Input.reader g.J.Input.reader) Verified g.O.Output.writer (HaltsAtBoth g.I.Input.reader g.J.Input.reader RefusesPlan SpellsPlan) (c.args.plan.now, c.args.cert.now) c.args.out.now (c.read_within.new.reader, c.args.cert.now) c.from_residual-in_err-plan.result (run_error e) c.from_residual-in_err-plan.ensures.1 (at_first (refused c.in_ok-plan_text.ensures.all first))
 
-pub returns-in_err-cert_text-clause-stops : goal.returns-in_err-cert_text-clause-stops
-returns-in_err-cert_text-clause-stops g c =
-    let spelled = spells_plan c.in_ok-plan_text.plan_text.items c.as_slice.result.now (plan_contents c.in_ok-plan.plan) c.as_slice.ensures.value c.in_ok-plan.ensures.spelled in
-    halting_stops (ReadsBoth g.I.Input.reader g.J.Input.reader) Verified g.O.Output.writer (HaltsAtBoth g.I.Input.reader g.J.Input.reader RefusesPlan SpellsPlan) (c.args.plan.now, c.args.cert.now) c.args.out.now (c.read_within.new.reader, c.read_within-2.new.reader) c.from_residual-in_err-cert_text.result c.in_err-cert_text.field-0.0 c.from_residual-in_err-cert_text.ensures.1 (at_second c.in_ok-plan_text.ensures.all spelled c.in_err-cert_text.ensures.stops)
-
 pub returns-in_err-answer-clause-stops : goal.returns-in_err-answer-clause-stops
 returns-in_err-answer-clause-stops g c =
-    halting_stops (ReadsBoth g.I.Input.reader g.J.Input.reader) Verified g.O.Output.writer (HaltsAtBoth g.I.Input.reader g.J.Input.reader RefusesPlan SpellsPlan) (c.args.plan.now, c.args.cert.now) c.args.out.now (c.read_within.new.reader, c.read_within-2.new.reader) c.from_residual-in_err-answer.result error.NoMemory c.from_residual-in_err-answer.ensures.1 (after_both {texts = (c.in_ok-plan_text.plan_text.items, c.in_ok-cert_text.cert_text.items)} (c.in_ok-plan_text.ensures.all, c.in_ok-cert_text.ensures.all))
+    let spelled = spells_plan c.in_ok-plan_text.plan_text.items c.as_slice.result.now (plan_contents c.in_ok-plan.plan) c.as_slice.ensures.value c.in_ok-plan.ensures.spelled in
+    halting_stops (ReadsBoth g.I.Input.reader g.J.Input.reader) Verified g.O.Output.writer (HaltsAtBoth g.I.Input.reader g.J.Input.reader RefusesPlan SpellsPlan) (c.args.plan.now, c.args.cert.now) c.args.out.now (c.read_within.new.reader, c.read_certificate.new.cert) c.from_residual-in_err-answer.result c.in_err-answer.field-0.0 c.from_residual-in_err-answer.ensures.1
+    (halts_at_second g.I.Input.reader g.J.Input.reader (c.args.plan.now, c.args.cert.now) (c.read_within.new.reader, c.read_certificate.new.cert) c.in_ok-plan_text.plan_text.items c.in_err-answer.field-0.0 c.in_ok-plan_text.ensures.all spelled c.in_err-answer.ensures.stops)
 
 pub returns-in_err-report-clause-stops : goal.returns-in_err-report-clause-stops
 returns-in_err-report-clause-stops g c =
-    halting_stops (ReadsBoth g.I.Input.reader g.J.Input.reader) Verified g.O.Output.writer (HaltsAtBoth g.I.Input.reader g.J.Input.reader RefusesPlan SpellsPlan) (c.args.plan.now, c.args.cert.now) c.args.out.now (c.read_within.new.reader, c.read_within-2.new.reader) c.from_residual-in_err-report.result error.NoMemory c.from_residual-in_err-report.ensures.1 (after_both {texts = (c.in_ok-plan_text.plan_text.items, c.in_ok-cert_text.cert_text.items)} (c.in_ok-plan_text.ensures.all, c.in_ok-cert_text.ensures.all))
+    let all = c.in_ok-answer.ensures.answer in
+    halting_stops (ReadsBoth g.I.Input.reader g.J.Input.reader) Verified g.O.Output.writer (HaltsAtBoth g.I.Input.reader g.J.Input.reader RefusesPlan SpellsPlan) (c.args.plan.now, c.args.cert.now) c.args.out.now (c.read_within.new.reader, c.read_certificate.new.cert) c.from_residual-in_err-report.result error.NoMemory c.from_residual-in_err-report.ensures.1 (after_both {texts = (c.in_ok-plan_text.plan_text.items, all.0)} (c.in_ok-plan_text.ensures.all, all.1))
 
 pub returns-clause-report : goal.returns-clause-report
 returns-clause-report g c =
-    let right = answers_both c.in_ok-plan_text.plan_text.items c.as_slice.result.now c.in_ok-cert_text.cert_text.items c.as_slice-2.result.now (plan_contents c.in_ok-plan.plan) c.in_ok-answer.answer c.as_slice.ensures.value c.as_slice-2.ensures.value c.in_ok-plan.ensures.spelled c.in_ok-answer.ensures in
+    let all = c.in_ok-answer.ensures.answer in
+    let right = answers_both c.in_ok-plan_text.plan_text.items c.as_slice.result.now all.0 all.0 (plan_contents c.in_ok-plan.plan) c.in_ok-answer.answer c.as_slice.ensures.value refl c.in_ok-plan.ensures.spelled all.2 in
     let line = c.as_bytes.ensures.value ∙ c.in_ok-report.ensures in
-    writing_reports (ReadsBoth g.I.Input.reader g.J.Input.reader) Verified g.O.Output.writer (HaltsAtBoth g.I.Input.reader g.J.Input.reader RefusesPlan SpellsPlan) (c.args.plan.now, c.args.cert.now) c.args.out.now (c.read_within.new.reader, c.read_within-2.new.reader) (c.in_ok-plan_text.plan_text.items, c.in_ok-cert_text.cert_text.items) (c.in_ok-plan_text.ensures.all, c.in_ok-cert_text.ensures.all) c.as_bytes.result.now c.status_of_answer.result (record { answer = c.in_ok-answer.answer; right = right; line = line; ended = c.status_of_answer.ensures }) c.write_lines.new.out c.write_lines.result c.write_lines.ensures.status c.write_lines.ensures.all
+    writing_reports (ReadsBoth g.I.Input.reader g.J.Input.reader) Verified g.O.Output.writer (HaltsAtBoth g.I.Input.reader g.J.Input.reader RefusesPlan SpellsPlan) (c.args.plan.now, c.args.cert.now) c.args.out.now (c.read_within.new.reader, c.read_certificate.new.cert) (c.in_ok-plan_text.plan_text.items, all.0) (c.in_ok-plan_text.ensures.all, all.1) c.as_bytes.result.now c.status_of_answer.result (record { answer = c.in_ok-answer.answer; right = right; line = line; ended = c.status_of_answer.ensures }) c.write_lines.new.out c.write_lines.result c.write_lines.ensures.status c.write_lines.ensures.all
 
 pub returns-clause-stops : goal.returns-clause-stops
 returns-clause-stops g c =
-    let right = answers_both c.in_ok-plan_text.plan_text.items c.as_slice.result.now c.in_ok-cert_text.cert_text.items c.as_slice-2.result.now (plan_contents c.in_ok-plan.plan) c.in_ok-answer.answer c.as_slice.ensures.value c.as_slice-2.ensures.value c.in_ok-plan.ensures.spelled c.in_ok-answer.ensures in
+    let all = c.in_ok-answer.ensures.answer in
+    let right = answers_both c.in_ok-plan_text.plan_text.items c.as_slice.result.now all.0 all.0 (plan_contents c.in_ok-plan.plan) c.in_ok-answer.answer c.as_slice.ensures.value refl c.in_ok-plan.ensures.spelled all.2 in
     let line = c.as_bytes.ensures.value ∙ c.in_ok-report.ensures in
-    writing_stops (ReadsBoth g.I.Input.reader g.J.Input.reader) Verified g.O.Output.writer (HaltsAtBoth g.I.Input.reader g.J.Input.reader RefusesPlan SpellsPlan) (c.args.plan.now, c.args.cert.now) c.args.out.now (c.read_within.new.reader, c.read_within-2.new.reader) (c.in_ok-plan_text.plan_text.items, c.in_ok-cert_text.cert_text.items) (c.in_ok-plan_text.ensures.all, c.in_ok-cert_text.ensures.all) c.as_bytes.result.now c.status_of_answer.result (record { answer = c.in_ok-answer.answer; right = right; line = line; ended = c.status_of_answer.ensures }) c.write_lines.new.out c.write_lines.result c.write_lines.ensures.stops
+    writing_stops (ReadsBoth g.I.Input.reader g.J.Input.reader) Verified g.O.Output.writer (HaltsAtBoth g.I.Input.reader g.J.Input.reader RefusesPlan SpellsPlan) (c.args.plan.now, c.args.cert.now) c.args.out.now (c.read_within.new.reader, c.read_certificate.new.cert) (c.in_ok-plan_text.plan_text.items, all.0) (c.in_ok-plan_text.ensures.all, all.1) c.as_bytes.result.now c.status_of_answer.result (record { answer = c.in_ok-answer.answer; right = right; line = line; ended = c.status_of_answer.ensures }) c.write_lines.new.out c.write_lines.result c.write_lines.ensures.stops
