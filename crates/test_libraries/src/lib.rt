@@ -1,7 +1,7 @@
 //! Tests of what no command shows, through the public calls of the libraries: single calls and their values, messages, plans
-//! and places that no text of a plan reaches, dumps in pieces, the queue, threads, trees of any depth. What is a command
-//! with its files is a case of the trials (`tests/cases`). The tests stand apart from the libraries, which are then proved
-//! once and not once more with their tests.
+//! and places that no text of a plan reaches, dumps and certificates in pieces, the queue, threads, trees of any depth. What
+//! is a command with its files is a case of the trials (`tests/cases`). The tests stand apart from the libraries, which are
+//! then proved once and not once more with their tests.
 #![tactic(auto)]
 
 #[cfg(test)]
@@ -22,6 +22,8 @@ mod dumps;
 mod limits;
 #[cfg(test)]
 mod messages;
+#[cfg(test)]
+mod pieces;
 #[cfg(test)]
 mod plans;
 #[cfg(test)]
