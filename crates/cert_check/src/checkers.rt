@@ -1,6 +1,6 @@
 // A certificate that comes in pieces.
 
-ghost use Rattle.std.specs.Prelude.{◌≡◌, ℕ, ◌≤◌, ◌+◌, ◌-◌, ◌^◌, List, [], ◌++◌, length, drop, Err, IfOk, OnOk, IfSome, MatchResult};
+ghost use Rattle.std.specs.Prelude.{◌≡◌, ℕ, ◌≤◌, ◌^◌, Some, None, List, [], ◌++◌, length, drop, Err, IfOk, IfSome};
 ghost use Rattle.certificate.specs.Proofs.{ProofTree};
 ghost use Rattle.certificate.specs.Reading.{ReadSoFar, bytes_left};
 ghost use Rattle.plan_core.specs.PlanContents.{plan_contents};

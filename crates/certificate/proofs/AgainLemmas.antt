@@ -1,4 +1,5 @@
--- What is spelled so is read again, whatever follows it. On which line the reader then stands does not matter here.
+-- What is spelled so is read again, whatever follows it. On which line the reader then stands matters for proofs and their
+-- number alone.
 use Rattle.std.proofs.Common.{◌≡◌, ◌≢◌, ◌<◌, ◌≤◌, ◌+◌, ◌-◌, ◌*◌, ◌/◌, ◌%◌, ◌^◌, ℕ, zero, suc, true, false, List, [], ◌∷◌, ◌++◌, length, Some, refl, ap, sym, ◌∙◌, arith, lit<, append_assoc, append-nil, length-append, eq-eqb, codes}
 use Rattle.std.specs.Prelude.{Ok, decimal, flat_map, All}
 use Rattle.std.specs.Char.{is_ascii_digit}

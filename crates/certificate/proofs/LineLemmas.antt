@@ -1,19 +1,12 @@
--- Lines of proofs: what has been read and what is left are the text, and what is left is refused as the text is.
-use Rattle.std.proofs.Common.{◌≡◌, ℕ, zero, suc, ◌+◌, ◌-◌, ◌<◌, ◌≤◌, List, [], ◌∷◌, ◌++◌, length, take, Some, refl, ap, sym, ◌∙◌, arith, append_assoc, append-nil, codes, length-append}
-use Rattle.std.specs.Prelude.{Result, Ok, Err, decimal, flat_map}
-use Rattle.std.proofs.lemmas.List.Elements.{All-push, All-nil}
-use Rattle.std.proofs.lemmas.Grind.{flat_map-append}
+-- Lines of proofs: what is left is refused where what follows its first line is.
+use Rattle.std.proofs.Common.{◌≡◌, ℕ, zero, suc, ◌+◌, ◌-◌, ◌<◌, ◌≤◌, List, [], ◌∷◌, length, take, Some, refl, ap, ◌∙◌, arith, length-append}
+use Rattle.std.specs.Prelude.{Result, Ok, Err}
 use Rattle.std.proofs.Math.Seq.{take-append_seam}
-use Rattle.certificate.specs.declared.errors.CertError.{CertError}
-use Rattle.certificate.specs.declared.errors.CertError.TheVariants.{Wrong, NoMemory}
-use Rattle.certificate.specs.declared.errors.CertFault.TheVariants.{Format, Count, TooDeep, Pair}
-use Rattle.certificate.specs.declared.lines.ProofLines.{ProofLines}
-use Rattle.certificate.specs.Places.{place, Refuses}
 use Rattle.certificate.specs.Proofs.{ProofTree}
-use Rattle.certificate.specs.Reader.{FormFault, misplaced, too_deep, Place, ◌>>=◌, byte_at, each_at, line_at, lines_in, lines_at, announced, pairs_at, start, text_said}
-use Rattle.certificate.specs.Reading.{ReadSoFar, AddsTree, RefusedHere, refusal}
-use Rattle.certificate.specs.Texts.{IsPrintableProof, SpellsLine, proof_text, proofs_text, proof_line}
-use Rattle.certificate.proofs.TextTakes.{line_takes, pairs_take, front_takes}
+use Rattle.certificate.specs.Reader.{FormFault, Place, ◌>>=◌, line_at, lines_in, lines_at}
+use Rattle.certificate.specs.Reading.{refusal}
+use Rattle.certificate.specs.Texts.{SpellsLine, proof_text, proof_line}
+use Rattle.certificate.proofs.TextTakes.{line_takes}
 
 -- ---- how many lines there may be makes no difference, where there may be as many as there are bytes
 

@@ -1,7 +1,6 @@
 -- What has been read and what is left are the text, and what is left is refused as the text is.
-use Rattle.std.proofs.Common.{◌≡◌, ℕ, zero, suc, ◌+◌, ◌<◌, ◌≤◌, ◌^◌, List, [], ◌∷◌, ◌++◌, length, Some, refl, ap, sym, ◌∙◌, arith, append_assoc, append-nil, codes, length-append}
-use Rattle.std.specs.Prelude.{Result, Ok, Err, decimal, flat_map, All}
-use Rattle.std.proofs.lemmas.List.{append_cancel_right}
+use Rattle.std.proofs.Common.{◌≡◌, ℕ, suc, ◌+◌, ◌<◌, ◌≤◌, ◌^◌, List, [], ◌∷◌, ◌++◌, length, ap, sym, ◌∙◌, arith, append_assoc, append-nil, codes, length-append}
+use Rattle.std.specs.Prelude.{Ok, decimal, flat_map, All}
 use Rattle.std.proofs.lemmas.List.Elements.{All-push, All-nil}
 use Rattle.std.proofs.lemmas.Grind.{flat_map-append}
 use Rattle.certificate.specs.declared.errors.CertError.{CertError}
@@ -11,7 +10,7 @@ use Rattle.certificate.specs.declared.lines.ProofLines.{ProofLines}
 use Rattle.certificate.specs.declared.lines.Standing.{Standing}
 use Rattle.certificate.specs.Places.{place, Refuses}
 use Rattle.certificate.specs.Proofs.{ProofTree}
-use Rattle.certificate.specs.Reader.{FormFault, misplaced, too_deep, Place, byte_at, each_at, line_at, lines_at, announced, pairs_at, start, text_said}
+use Rattle.certificate.specs.Reader.{misplaced, too_deep, Place, byte_at, each_at, line_at, lines_at, announced, pairs_at, start, text_said}
 use Rattle.certificate.specs.Reading.{ReadSoFar, Stands, AddsTree, RefusedHere, refusal}
 use Rattle.certificate.specs.Texts.{IsPrintableProof, proof_text, proofs_text, proof_line}
 use Rattle.certificate.proofs.AgainLemmas.{line_again, pairs_again}
