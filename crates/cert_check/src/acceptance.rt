@@ -40,7 +40,7 @@ use std::alloc::{AllocError, Global};
 /// made of it; of any other line the proof is read, its pair is checked, and the proof is dropped. A line that proves its
 /// pair is remembered for the two senders, as long as there is room for it: where the text has the same line for a further
 /// pair of them, nothing is looked at again. So it takes memory for the plan, for one proof, and for the lines that are
-/// remembered (4 MiB of lines at most, and a place of some 32 bytes for each two messages or interrupts, 2.6 MB at most),
+/// remembered (64 MiB of lines at most, and a place of some 32 bytes for each two messages or interrupts, 2.6 MB at most),
 /// however long the certificate is.
 ///
 /// Where it answers `Safe`, no run of the bus has a fault, whatever participants start together and whatever the

@@ -10,8 +10,8 @@ ghost use Rattle.cert_check.specs.Quick.{ProvesLine};
 use plan_core::Plan;
 use std::alloc::{AllocError, Global};
 
-/// How many bytes of lines are remembered at most: 4 MiB.
-const ROOM: usize = 4_194_304;
+/// How many bytes of lines are remembered at most: 64 MiB.
+const ROOM: usize = 67_108_864;
 
 /// The lines that are remembered, each at the place of its two senders.
 #[derive(Drop)]
