@@ -25,7 +25,7 @@ pub record IsFed (plan : Contents) (checker : Checker) (text : List ℕ) : Type 
   pub judged : IsJudgedTo plan checker.after checker.tally before
   pub all : text ≡ before ++ checker.held.items
 
--- reading stands behind these proofs in the text, and so many bytes are left of it
+-- reading stands after these proofs in the text, and so many bytes are left of it
 pub record StandsIn (text : List ℕ) (trees : List ProofTree) (standing : Standing) (left : ℕ) : Type 0 where
   pub before : List ℕ
   pub rest : List ℕ

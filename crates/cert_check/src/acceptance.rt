@@ -166,7 +166,7 @@ fn judge_proofs(alloc: Global, plan: &Plan, lines: ProofLines<'_>) -> Result<Ans
     judge_rest(alloc, plan, lines, Tally::new(), memo)
 }
 
-/// The proofs that are left, each of them dropped before the next is read, behind those that are tallied.
+/// The proofs that are left, each of them dropped before the next is read, after those that are tallied.
 pub(crate) fn judge_rest(
     alloc: Global,
     plan: &Plan,

@@ -122,7 +122,7 @@ impl Checker {
         Ok(answered(judge_rest(alloc, plan, lines, tally, memo))?)
     }
 
-    // Reads the first two lines, once both are among the first `end` bytes, and judges the lines behind them.
+    // Reads the first two lines, once both are among the first `end` bytes, and judges the lines after them.
     fn begin(mut self, alloc: Global, plan: &Plan, end: usize) -> Result<Checker, FeedError>
         requires plan { IsOf (plan_contents plan.now) self }
         requires none { self.after ≡ None }
@@ -187,7 +187,7 @@ struct Stop {
     is_refused: bool,
 }
 
-// Where reading stands behind the first two lines of the text. None where they announce no proofs.
+// Where reading stands after the first two lines of the text. None where they announce no proofs.
 fn past_head(alloc: Global, text: &[u8]) -> Result<Option<Stop>, AllocError>
     ensures stands { IfOk result (λ head. IfSome head (λ stop. StandsIn text.now [] stop.standing stop.left)) }
     ensures left { IfOk result (λ head. IfSome head (λ stop. stop.left ≤ length text.now)) }

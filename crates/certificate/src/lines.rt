@@ -14,7 +14,7 @@ use std::alloc::Global;
 /// The lines before the first proof.
 const HEAD_LINES: u64 = 2;
 
-/// Where the reading of a certificate text stands behind whole lines, apart from what is left of the text.
+/// Where the reading of a certificate text stands after whole lines, apart from what is left of the text.
 #[derive(Clone, Copy, Debug)]
 pub struct Standing {
     // the number of proofs that the text announces, and of those that were read

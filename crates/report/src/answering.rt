@@ -14,7 +14,7 @@ use run_parts::devices::reading::{BLOCK, READS};
 use run_parts::{Input, RunError};
 use std::alloc::Global;
 
-/// What the certificate that the reader gives says of this plan. It is judged as it comes, and what is judged is let go of.
+/// What the certificate that the reader gives says of this plan. It is judged as it comes, as `Checker` says.
 ///
 /// # Errors
 ///
@@ -58,7 +58,7 @@ fn answer_blocks<J: Input>(
     Err(RunError::Read)
 }
 
-// The checker, fed one more piece. No reader gives a text that is too long in so many calls.
+// The checker, fed one more piece. What a reader gives in a run is never too long.
 fn feed(alloc: Global, plan: &Plan, checker: Checker, piece: &[u8]) -> Result<Checker, RunError>
     requires { IsOf (plan_contents plan.now) checker }
     ensures plan { IfOk result (IsOf (plan_contents plan.now)) }

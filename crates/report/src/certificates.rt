@@ -49,8 +49,9 @@ pub fn run_certify<I: Input, O: Output>(
 }
 
 /// Writes what the certificate that the second reader gives says of the plan that the first reader gives: `accepted safe`,
-/// `accepted unsafe`, or what is wrong with it. The certificate is read block by block, and no more of it is kept than what
-/// is open. The status is `Good`, `Bad` or `Refused`.
+/// `accepted unsafe`, or what is wrong with it. The certificate is judged block by block. Of it are kept what is not judged
+/// yet, lines that were proved (64 MiB at most), and all that comes from a line on that is refused. The status is `Good`,
+/// `Bad` or `Refused`.
 ///
 /// # Errors
 ///
