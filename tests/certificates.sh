@@ -160,5 +160,15 @@ expect "verify: the longest wire" "accepted unsafe, status 1" "$(answer verify p
 sed "2s/ stop/r10010000l stop/" cert >other
 expect "verify: a wire with one header more" "wrong C5 pair 0, status 2" "$(answer verify plan other)"
 
+# A certificate is judged as it comes: one that is larger than the memory there is. A trial build cannot run below any limit.
+if { (ulimit -v 32768 && exec "$twire" --version); } >/dev/null 2>&1; then
+    "$tests/../tools/widest_plan" 80 >plan
+    "$twire" certify plan >cert
+    expect "a certificate of more than 32 MiB" yes "$( (($(stat -c %s cert) > 33554432)) && echo yes)"
+    expect "verify: that certificate with 32 MiB of memory" "accepted safe, status 0" "$(ulimit -v 32768 && answer verify plan cert)"
+else
+    echo "left out: a certificate of more than 32 MiB with 32 MiB of memory (not the proved build)"
+fi
+
 echo "$passed passed, $failed failed"
 ((failed == 0))
