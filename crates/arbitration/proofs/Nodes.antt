@@ -13,7 +13,7 @@ use Rattle.message_tree.specs.Counts.{least_of, greatest_of, Meet}
 use Rattle.message_tree.specs.Laws.{HasText}
 use Rattle.message_tree.specs.Patterns.{pattern_bits, address_bits}
 use Rattle.message_tree.specs.Sizes.{frame_slots, payload_slots, tail_slots}
-use Rattle.message_tree.specs.Texts.{Language, SentThen, AnswerThen, AgainThen, Only, ReadThen, write_header, read_header, FrameText, PayloadText, TailText, InterruptText}
+use Rattle.message_tree.specs.Texts.{Language, message, SentThen, AnswerThen, AgainThen, Only, ReadThen, write_header, read_header, FrameText, PayloadText, TailText, InterruptText}
 use Rattle.message_tree.specs.Trees.{FrameTree, write, read, PayloadTree, byte, last, TailTree, stop, again}
 use Rattle.message_tree.proofs.TextLaws.{lawful_payload, lawful_tail}
 use Rattle.message_tree.proofs.TextLengths.{longest_frame}
@@ -240,6 +240,10 @@ module _ (bs cs : List Bit) (x y : PayloadTree) (r s : TailTree) (l : length bs 
   bytes_answered h o p q n a b c e =
       answered bs cs (PayloadText x) (PayloadText y) (TailText r) (TailText s) l m h o p q n (lawful_payload x).some (lawful_payload y).some a b c e
 
+pub reads_only_part : (c d : Count) (x y : TailTree) (o : Outcomes) → (Meet c d → ⊥) → AreReadsApart c d o → AreOutcomes (ReadThen c (TailText x)) (ReadThen d (TailText y)) o
+reads_only_part c d x y o n h =
+    reads_part c d (TailText x) (TailText y) o n (lawful_tail x).some (lawful_tail y).some h
+
 module _ (a b : Address) (c d : Count) (x y r s : TailTree) (bs cs : List Bit) (e : bs ≡ read_header a) (f : cs ≡ read_header b) where
   length_first : length bs ≡ 8
   length_first = ap length e ∙ length_of_header a One
@@ -328,13 +332,13 @@ before_claim second_wins P k g = let e = (only_first (Sent false) Claim g.wire g
 some_claim : HasText (Only Claim)
 some_claim = (Claim ∷ [], refl)
 
-pub message_and_interrupt : (f : FrameTree) (b : Address) (bs cs : List Bit) (o : Outcomes) → bs ≡ header_of f → cs ≡ address_bits b ++ One ∷ [] → ArePartings bs cs o → AreOutcomes (FrameText f) (InterruptText (address_bits b)) o
+pub message_and_interrupt : (f : FrameTree) (b : Address) (bs cs : List Bit) (o : Outcomes) → bs ≡ header_of (message f) → cs ≡ address_bits b ++ One ∷ [] → ArePartings bs cs o → AreOutcomes (FrameText f) (InterruptText (address_bits b)) o
 message_and_interrupt (write a x r) b bs cs o e f h =
     only_part (write_header a) (read_header b) (AnswerThen (PayloadText x) (TailText r)) (Only Claim) o (length_of_header a Zero ∙ sym (length_of_header b One)) (λ n way k g. before_claim way (AnswerThen (PayloadText x) (TailText r)) k g) (some_answer (PayloadText x) (TailText r) (lawful_payload x).some) some_claim (rw (e, f) at h)
 message_and_interrupt (read a c x r) b bs cs o e f h =
     only_part (read_header a) (read_header b) (AnswerThen (ReadThen c (TailText x)) (TailText r)) (Only Claim) o (length_of_header a One ∙ sym (length_of_header b One)) (λ n way k g. before_claim way (AnswerThen (ReadThen c (TailText x)) (TailText r)) k g) (some_answer (ReadThen c (TailText x)) (TailText r) (some_read c x)) some_claim (rw (e, f) at h)
 
-pub interrupt_and_message : (a : Address) (f : FrameTree) (bs cs : List Bit) (o : Outcomes) → bs ≡ address_bits a ++ One ∷ [] → cs ≡ header_of f → ArePartings bs cs o → AreOutcomes (InterruptText (address_bits a)) (FrameText f) o
+pub interrupt_and_message : (a : Address) (f : FrameTree) (bs cs : List Bit) (o : Outcomes) → bs ≡ address_bits a ++ One ∷ [] → cs ≡ header_of (message f) → ArePartings bs cs o → AreOutcomes (InterruptText (address_bits a)) (FrameText f) o
 interrupt_and_message a (write b y s) bs cs o e f h =
     only_part (read_header a) (write_header b) (Only Claim) (AnswerThen (PayloadText y) (TailText s)) o (length_of_header a One ∙ sym (length_of_header b Zero)) (λ n way k g. after_claim way (AnswerThen (PayloadText y) (TailText s)) k g) some_claim (some_answer (PayloadText y) (TailText s) (lawful_payload y).some) (rw (e, f) at h)
 interrupt_and_message a (read b d y s) bs cs o e f h =

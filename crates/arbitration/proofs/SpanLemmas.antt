@@ -57,3 +57,7 @@ span_between R lo hi (Some s) le f =
 pub room : (R : ℕ → Type 0) (n : ℕ) (a : Option Slots) → IsSpan R a → ((k : ℕ) → R k → k + n < 2 ^ 32) → HasRoom n a
 room R n None f h = tt
 room R n (Some s) f h = (h s.earliest f.earliest, h s.latest f.latest)
+
+pub less_room : (m n : ℕ) (a : Option Slots) → m ≤ n → HasRoom n a → HasRoom m a
+less_room m n None le h = tt
+less_room m n (Some s) le h = (omega (arith, h.0, le), omega (arith, h.1, le))

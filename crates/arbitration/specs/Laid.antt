@@ -1,12 +1,8 @@
 -- The bytes that a message begins with, side by side. Only private contracts and proofs use this.
 use Rattle.std.specs.Prelude.{◌≡◌, ℕ, zero, suc, ◌<◌, List, [], ◌∷◌, length, take, get_or}
 use Rattle.std.proofs.Common.{Bor}
-use Rattle.message_tree.specs.declared.tree.Frame.{Frame}
-use Rattle.message_tree.specs.declared.tree.Frame.TheVariants.{Write', Read}
 use Rattle.message_tree.specs.declared.tree.Payload.{Payload}
 use Rattle.message_tree.specs.declared.tree.Payload.TheVariants.{Byte', Last}
-use Rattle.plan_core.specs.declared.senders.Sends.{Sends}
-use Rattle.plan_core.specs.declared.senders.Sends.TheVariants.{Message, Interrupt}
 use Rattle.arbitration.specs.declared.beginnings.Beginning.{Beginning}
 use Rattle.arbitration.specs.Numbers.{byte_step}
 use Rattle.arbitration.specs.Ways.{Step, IsBeginning}
@@ -20,24 +16,6 @@ payload_steps (Last r) = []
 abbrev pub payload_rests : Payload → List Payload
 payload_rests (Byte' b p t r) = t ∷ payload_rests t
 payload_rests (Last r) = []
-
--- the same after the first header of a message
-abbrev pub frame_steps : Frame → List Step
-frame_steps (Write' address p acked refused) = payload_steps acked
-frame_steps (Read address count after refused) = []
-
-abbrev pub frame_rests : Frame → List Payload
-frame_rests (Write' address p acked refused) = payload_rests acked
-frame_rests (Read address count after refused) = []
-
--- and of what is sent
-abbrev pub first_steps : Sends → List Step
-first_steps (Message f) = frame_steps f.now
-first_steps (Interrupt address) = []
-
-abbrev pub first_rests : Sends → List Payload
-first_rests (Message f) = frame_rests f.now
-first_rests (Interrupt address) = []
 
 -- what a reference shows
 abbrev pub shown : Bor Payload → Payload

@@ -5,4 +5,5 @@ pub mod Laws
 pub mod Numbers
 pub mod Laid
 pub mod Rows
+pub mod Openings
 pub mod Plans

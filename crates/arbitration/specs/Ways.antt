@@ -1,5 +1,5 @@
 -- The three ways in which two go apart or end, by one description. Only private contracts and proofs use this.
-use Rattle.std.specs.Prelude.{◌≡◌, ℕ, ◌+◌, ◌*◌, ◌<◌, ◌⊎◌, true, false, Option, Some, List, [], ◌∷◌, length, slice_get}
+use Rattle.std.specs.Prelude.{◌≡◌, ℕ, ◌+◌, ◌*◌, ◌<◌, ◌⊎◌, true, false, Option, Some, List, [], ◌∷◌, ◌++◌, length, slice_get}
 use Rattle.message_tree.specs.declared.bits.Bit.{Bit}
 use Rattle.message_tree.specs.declared.bits.Pattern.{Pattern}
 use Rattle.message_tree.specs.declared.bits.Bit.TheVariants.{Zero, One, Either}
@@ -8,9 +8,9 @@ use Rattle.message_tree.specs.declared.items.Item.{Item}
 use Rattle.message_tree.specs.declared.items.Item.TheVariants.{Sent, Stop}
 use Rattle.message_tree.specs.Bits.{SplitAt}
 use Rattle.message_tree.specs.Counts.{InRange, greatest_of}
-use Rattle.message_tree.specs.Texts.{Language, Allows, TailText, write_header, read_header}
+use Rattle.message_tree.specs.Texts.{Language, Sender, message, interrupt, Allows, TailText, write_header, read_header}
 use Rattle.message_tree.specs.Patterns.{pattern_bits}
-use Rattle.message_tree.specs.Trees.{FrameTree, write, read, PayloadTree, byte, TailTree, stop}
+use Rattle.message_tree.specs.Trees.{write, read, PayloadTree, byte, TailTree, stop}
 use Rattle.arbitration.specs.declared.beginnings.Beginning.{Beginning}
 use Rattle.arbitration.specs.declared.spans.Slots.{Slots}
 use Rattle.arbitration.specs.declared.spans.Outcomes.{Outcomes}
@@ -95,9 +95,10 @@ abbrev pub Answered : Option Slots → Option Slots → Option Slots → Option 
 Answered parted acked refused result = result ≡ union_of (union_of parted (after_of 9 acked)) (after_of 9 refused)
 
 -- the bits of the first header
-abbrev pub header_of : FrameTree → List Bit
-header_of (write address acked refused) = write_header address
-header_of (read address count after refused) = read_header address
+abbrev pub header_of : Sender → List Bit
+header_of (message (write address acked refused)) = write_header address
+header_of (message (read address count after refused)) = read_header address
+header_of (interrupt address) = address ++ One ∷ []
 
 -- a byte that two messages begin with, and what both write after a refusal of it
 pub record Step : Type 0 where

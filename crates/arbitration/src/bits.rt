@@ -43,7 +43,7 @@ pub(crate) fn data(p: &Pattern) -> [Bit; 8]
     ]
 }
 
-// Whether two data bytes are the same.
+/// Whether two data bytes are the same.
 #[inline(always)]
 pub(crate) fn is_same(a: &Pattern, b: &Pattern) -> bool
     ensures { result ≡ true → a.now ≡ b.now }

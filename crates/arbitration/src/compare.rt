@@ -10,13 +10,13 @@ ghost use Rattle.arbitration.specs.Ways.{AreOutcomes, BeginAlike, Way, span_of, 
 use crate::alike::{Alike, common_bytes};
 use crate::beginnings::Beginning;
 use crate::bits::{always_part, data, header, partings};
-use crate::reads::reads_apart;
+use crate::reads::{reads_apart, reads_met};
 use crate::spans::Outcomes;
 use message_tree::{Address, Bit, Count, Frame, Payload, Tail};
 
 // Two frames, from their headers on.
 #[cycle(compare)]
-pub(crate) fn frames(f: &Frame, g: &Frame) -> Outcomes
+fn frames(f: &Frame, g: &Frame) -> Outcomes
     requires { frame_slots (frame_tree f.now) < 2 ^ 32 }
     ensures { AreOutcomes (FrameText (frame_tree f.now)) (FrameText (frame_tree g.now)) result }
 {
@@ -120,15 +120,11 @@ fn reads(c: &Count, d: &Count, x: &Tail, y: &Tail) -> Outcomes
     ensures { AreOutcomes (ReadThen c.now (TailText (tail_tree x.now))) (ReadThen d.now (TailText (tail_tree y.now)))
         result }
 {
-    let apart = reads_apart(c, d);
-    if !c.meets(d) {
-        return apart;
+    if c.meets(d) {
+        reads_met(c, d, tails(x, y))
+    } else {
+        reads_apart(c, d)
     }
-    let least = c.least().max(d.least()) as u32;
-    let greatest = c.greatest().min(d.greatest()) as u32;
-    let ended = tails(x, y);
-    let ends = ended.after(9 * least).union(ended.after(9 * greatest));
-    apart.union(ends)
 }
 
 // What is written after an acknowledge, where the bytes do not stand side by side. Most messages have bytes in common, and

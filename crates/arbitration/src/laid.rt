@@ -1,69 +1,119 @@
-// What a participant sends, with the bytes that it begins with side by side.
+// What a participant sends, with the bytes that it begins with side by side, and the tails after its first header by number.
 
-ghost use Rattle.std.specs.Prelude.{◌≡◌, ◌<◌, ◌^◌, List, OnOk, IfOk};
+ghost use Rattle.std.specs.Prelude.{◌≡◌, ◌<◌, ◌^◌, OnOk, IfOk};
 ghost use Rattle.plan_core.specs.Senders.{what_is_sent};
 ghost use Rattle.arbitration.specs.Arbitration.{sender_slots};
-ghost use Rattle.arbitration.specs.Laid.{first_steps, first_rests};
-ghost use Rattle.arbitration.specs.Numbers.{AreKnown, Keeps, steps_of};
-ghost use Rattle.arbitration.specs.Rows.{IsRow};
+ghost use Rattle.arbitration.specs.Numbers.{AreKnown, Keeps, trees_of};
+ghost use Rattle.arbitration.specs.Openings.{sender_of, IsNumbered};
 
 use crate::beginnings::Beginning;
-use crate::first_bytes::FirstBytes;
+use crate::known_tails::{KnownTail, KnownTails};
 use crate::rows::Row;
-use message_tree::Frame;
+use message_tree::{Address, Count, Frame, Payload};
 use plan_core::Sends;
 use std::alloc::{AllocError, Global};
 
-/// What a participant sends, and the row of the bytes after its first header, where this is one of a write.
+/// A message that begins with a write.
+#[derive(Drop)]
+pub(crate) struct FirstWrite<'a> {
+    pub(crate) address: Address,
+    pub(crate) acked: &'a Payload,
+    // the bytes that `acked` goes on with
+    pub(crate) row: Row<'a>,
+    pub(crate) refused: KnownTail<'a>,
+}
+
+/// A message that begins with a read.
+#[derive(Drop)]
+pub(crate) struct FirstRead<'a> {
+    pub(crate) address: Address,
+    pub(crate) count: Count,
+    pub(crate) after: KnownTail<'a>,
+    pub(crate) refused: KnownTail<'a>,
+}
+
+/// What a participant sends, by its first header.
+#[derive(Drop)]
+pub(crate) enum Opening<'a> {
+    Write(FirstWrite<'a>),
+    Read(FirstRead<'a>),
+    Interrupt(Address),
+}
+
+/// What a participant sends, as two are compared by it.
 #[derive(Drop)]
 pub struct Laid<'a> {
-    pub(crate) sends: Sends<'a>,
-    pub(crate) row: Row<'a>,
-    ghost fits: { sender_slots (what_is_sent sends) < 2 ^ 32 },
+    pub(crate) opening: Opening<'a>,
+    ghost fits: { sender_slots (sender_of opening) < 2 ^ 32 },
 }
 
 impl<'a> Laid<'a> {
-    /// What is sent, with its first bytes found.
+    /// What is sent, with its first bytes and tails found.
     pub(crate) fn of(
         alloc: Global,
-        known: &mut FirstBytes<'a>,
+        known: &mut KnownTails<'a>,
         sends: Sends<'a>,
     ) -> Result<Laid<'a>, AllocError>
-        requires known { AreKnown known.old.bytes.items }
+        requires known { AreKnown known.old.tails.items }
         requires fits { sender_slots (what_is_sent sends) < 2 ^ 32 }
-        ensures known { OnOk result (AreKnown known.new.bytes.items) }
-        ensures keeps { OnOk result (Keeps (steps_of known.old.bytes.items) (steps_of known.new.bytes.items)) }
-        ensures sends { IfOk result (λ laid. laid.sends ≡ sends.entry) }
-        ensures laid { IfOk result (λ laid.
-            IsRow (steps_of known.new.bytes.items) (first_steps sends.entry) (first_rests sends.entry) laid.row) }
+        ensures known { OnOk result (AreKnown known.new.tails.items) }
+        ensures keeps { OnOk result (Keeps (trees_of known.old.tails.items) (trees_of known.new.tails.items)) }
+        ensures sent { IfOk result (λ laid. sender_of laid.opening ≡ what_is_sent sends.entry) }
+        ensures numbered { IfOk result (λ laid. IsNumbered (trees_of known.new.tails.items) laid.opening) }
     {
-        let row = first_row(alloc, known, &sends)?;
-        Ok(Laid { sends, row })
+        let opening = Opening::of(alloc, known, sends)?;
+        Ok(Laid { opening })
     }
 }
 
-// The row of the bytes after the first header.
-fn first_row<'a>(
-    alloc: Global,
-    known: &mut FirstBytes<'a>,
-    sends: &Sends<'a>,
-) -> Result<Row<'a>, AllocError>
-    requires known { AreKnown known.old.bytes.items }
-    requires fits { sender_slots (what_is_sent sends.now) < 2 ^ 32 }
-    ensures known { OnOk result (AreKnown known.new.bytes.items) }
-    ensures keeps { OnOk result (Keeps (steps_of known.old.bytes.items) (steps_of known.new.bytes.items)) }
-    ensures row { IfOk result (λ row.
-        IsRow (steps_of known.new.bytes.items) (first_steps sends.now) (first_rests sends.now) row) }
-{
-    match sends {
-        Sends::Message(frame) => match frame {
-            Frame::Write { acked, .. } => {
-                let mut row = Row::new(alloc);
-                row.lay(known, Beginning::none(), acked)?;
-                Ok(row)
-            }
-            Frame::Read { .. } => Ok(Row::new(alloc)),
-        },
-        Sends::Interrupt(_) => Ok(Row::new(alloc)),
+impl<'a> Opening<'a> {
+    // The same, before it is known to fit.
+    fn of(
+        alloc: Global,
+        known: &mut KnownTails<'a>,
+        sends: Sends<'a>,
+    ) -> Result<Opening<'a>, AllocError>
+        requires known { AreKnown known.old.tails.items }
+        requires fits { sender_slots (what_is_sent sends) < 2 ^ 32 }
+        ensures known { OnOk result (AreKnown known.new.tails.items) }
+        ensures keeps { OnOk result (Keeps (trees_of known.old.tails.items) (trees_of known.new.tails.items)) }
+        ensures sent { IfOk result (λ opening. sender_of opening ≡ what_is_sent sends.entry) }
+        ensures numbered { IfOk result (λ opening. IsNumbered (trees_of known.new.tails.items) opening) }
+    {
+        match sends {
+            Sends::Message(frame) => match frame {
+                Frame::Write {
+                    address,
+                    acked,
+                    refused,
+                } => {
+                    let refused = known.put(refused)?;
+                    let mut row = Row::new(alloc);
+                    row.lay(known, Beginning::none(), acked)?;
+                    Ok(Opening::Write(FirstWrite {
+                        address: *address,
+                        acked,
+                        row,
+                        refused,
+                    }))
+                }
+                Frame::Read {
+                    address,
+                    count,
+                    after,
+                    refused,
+                } => {
+                    let after = known.put(after)?;
+                    let refused = known.put(refused)?;
+                    Ok(Opening::Read(FirstRead {
+                        address: *address,
+                        count: *count,
+                        after,
+                        refused,
+                    }))
+                }
+            },
+            Sends::Interrupt(address) => Ok(Opening::Interrupt(address)),
+        }
     }
 }

@@ -1,4 +1,4 @@
-// A number by which equal bytes find one another. Nothing rests on it: who has the same one is compared.
+// A number by which equal tails find one another. Nothing rests on it: who has the same one is compared.
 
 use message_tree::{Address, Bit, Count, Frame, Pattern, Payload, Tail};
 
@@ -14,9 +14,9 @@ const BYTE: u64 = 5;
 
 const LAST: u64 = 6;
 
-/// The same number for two bytes that are equal and go on alike after a refusal. Others may have it too.
-pub(crate) fn likeness(bits: &Pattern, refused: &Tail) -> u64 {
-    with_tail(with_pattern(0, bits), refused)
+/// The same number for two tails that are equal. Others may have it too.
+pub(crate) fn likeness(tail: &Tail) -> u64 {
+    with_tail(0, tail)
 }
 
 #[cycle(likeness)]

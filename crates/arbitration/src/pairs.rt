@@ -9,15 +9,16 @@ ghost use Rattle.arbitration.specs.Laws.{EndsAt, BeatsAt};
 ghost use Rattle.arbitration.specs.Plans.{AreLaid};
 ghost use Rattle.arbitration.specs.Spans.{IsSpan};
 
-use crate::first_bytes::FirstBytes;
+use crate::known_tails::KnownTails;
 use crate::laid::Laid;
 use crate::senders::outcomes;
 use crate::spans::Outcomes;
 use plan_core::Plan;
 use std::alloc::{AllocError, Global};
 
-/// What the participants of a plan send, as `of_pair` needs it: some 50 bytes for each byte that a message begins with. While
-/// it is found there are some 80 more for each byte that differs from those before it, or goes on otherwise after a refusal.
+/// What the participants of a plan send, as `of_pair` needs it: some 60 bytes for each byte that a message begins with. While
+/// it is found there are some 80 more for each way to go on, after a refusal of a header or byte or after a read, that differs
+/// from those before it.
 ///
 /// # Errors
 ///
@@ -25,7 +26,7 @@ use std::alloc::{AllocError, Global};
 pub fn laid_out(alloc: Global, plan: &Plan) -> Result<Vec<Laid<'_>>, AllocError>
     ensures { IfOk result (λ laid. AreLaid (plan_contents plan.now) laid.items) }
 {
-    let mut known = FirstBytes::new(alloc);
+    let mut known = KnownTails::new(alloc);
     let mut laid = Vec::new(alloc);
     for p in 0..plan.participants() {
         laid.push(Laid::of(alloc, &mut known, plan.sends(p))?)?;

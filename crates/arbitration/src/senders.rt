@@ -1,114 +1,121 @@
 // The outcomes of two participants, by what they send.
 
-ghost use Rattle.std.specs.Prelude.{◌≡◌, ◌+◌, ◌<◌, ◌^◌, List, max};
-ghost use Rattle.message_tree.specs.Sizes.{frame_slots, payload_slots, tail_slots};
-ghost use Rattle.message_tree.specs.Texts.{SenderText, FrameText};
-ghost use Rattle.message_tree.specs.Trees.{frame_tree, payload_tree, tail_tree, write};
-ghost use Rattle.plan_core.specs.Senders.{what_is_sent};
-ghost use Rattle.arbitration.specs.Arbitration.{EndTogether, Wins};
-ghost use Rattle.arbitration.specs.Laid.{payload_steps, payload_rests, frame_steps, frame_rests};
-ghost use Rattle.arbitration.specs.Plans.{IsNumbered};
-ghost use Rattle.arbitration.specs.Rows.{IsRow};
+ghost use Rattle.std.specs.Prelude.{◌≡◌, ◌+◌, ◌*◌, ◌<◌, ◌^◌, List};
+ghost use Rattle.message_tree.specs.Counts.{greatest_of};
+ghost use Rattle.message_tree.specs.Sizes.{frame_slots, tail_slots};
+ghost use Rattle.message_tree.specs.Texts.{SenderText, FrameText, ReadThen, TailText};
+ghost use Rattle.message_tree.specs.Trees.{TailTree};
+ghost use Rattle.arbitration.specs.Arbitration.{EndTogether, Wins, sender_slots};
+ghost use Rattle.arbitration.specs.Numbers.{tree_of};
+ghost use Rattle.arbitration.specs.Openings.{read_tree, write_tree, sender_of, IsNumbered, IsNumberedRead, IsNumberedWrite};
 ghost use Rattle.arbitration.specs.Spans.{IsSpan};
-ghost use Rattle.arbitration.specs.Ways.{AreOutcomes, Step, header_of};
+ghost use Rattle.arbitration.specs.Ways.{AreOutcomes, header_of};
 
 use crate::bits::{always_part, header, partings};
-use crate::compare::{after_alike, answered, frames, tails};
-use crate::laid::Laid;
-use crate::rows::{Row, common};
+use crate::compare::{after_alike, answered};
+use crate::known_tails::after_both;
+use crate::laid::{FirstRead, FirstWrite, Laid, Opening};
+use crate::reads::{reads_apart, reads_met};
+use crate::rows::common;
 use crate::spans::Outcomes;
-use message_tree::{Address, Bit, Frame, Payload, Tail};
-use plan_core::Sends;
+use message_tree::Bit;
 
 /// What two participants who send this may come to when they start together and alone. An interrupt never ends by a STOP,
 /// and loses or wins in its header. Each level of the messages is a call, but for the bytes that both begin with.
 pub(crate) fn outcomes(first: &Laid<'_>, second: &Laid<'_>) -> Outcomes
-    requires { (known : List Step) × IsNumbered known first.now × IsNumbered known second.now }
-    ensures both { IsSpan (EndTogether (SenderText (what_is_sent first.now.sends)) (SenderText (what_is_sent second.now.sends)))
+    requires { (known : List TailTree) × IsNumbered known first.now.opening × IsNumbered known second.now.opening }
+    ensures both { IsSpan (EndTogether (SenderText (sender_of first.now.opening)) (SenderText (sender_of second.now.opening)))
         result.both }
-    ensures first { IsSpan (Wins (SenderText (what_is_sent first.now.sends)) (SenderText (what_is_sent second.now.sends)))
+    ensures first { IsSpan (Wins (SenderText (sender_of first.now.opening)) (SenderText (sender_of second.now.opening)))
         result.first }
-    ensures second { IsSpan (Wins (SenderText (what_is_sent second.now.sends)) (SenderText (what_is_sent first.now.sends)))
+    ensures second { IsSpan (Wins (SenderText (sender_of second.now.opening)) (SenderText (sender_of first.now.opening)))
         result.second }
 {
-    starts(first, second)
+    starts(&first.opening, &second.opening)
 }
 
 // The same, from their first headers on.
-fn starts(first: &Laid<'_>, second: &Laid<'_>) -> Outcomes
-    requires { (known : List Step) × IsNumbered known first.now × IsNumbered known second.now }
-    ensures { AreOutcomes (SenderText (what_is_sent first.now.sends)) (SenderText (what_is_sent second.now.sends)) result }
+fn starts(first: &Opening<'_>, second: &Opening<'_>) -> Outcomes
+    requires slots { sender_slots (sender_of first.now) < 2 ^ 32 }
+    requires numbered { (known : List TailTree) × IsNumbered known first.now × IsNumbered known second.now }
+    ensures { AreOutcomes (SenderText (sender_of first.now)) (SenderText (sender_of second.now)) result }
 {
-    match &first.sends {
-        Sends::Message(f) => match &second.sends {
-            Sends::Message(g) => messages(f, g, &first.row, &second.row),
-            Sends::Interrupt(b) => partings(&first_header(f), &header(b, Bit::One)),
+    match first {
+        Opening::Write(v) => match second {
+            Opening::Write(w) => writes(v, w),
+            _ => partings(&first_header(first), &first_header(second)),
         },
-        Sends::Interrupt(a) => match &second.sends {
-            Sends::Message(g) => partings(&header(a, Bit::One), &first_header(g)),
-            Sends::Interrupt(b) => partings(&header(a, Bit::One), &header(b, Bit::One)),
+        Opening::Read(r) => match second {
+            Opening::Read(s) => reads(r, s),
+            _ => partings(&first_header(first), &first_header(second)),
         },
+        Opening::Interrupt(_) => partings(&first_header(first), &first_header(second)),
     }
 }
 
-// Two messages whose first bytes stand side by side.
-fn messages(f: &Frame, g: &Frame, first: &Row<'_>, second: &Row<'_>) -> Outcomes
-    requires slots { frame_slots (frame_tree f.now) < 2 ^ 32 }
-    requires rows { (known : List Step) × IsRow known (frame_steps f.now) (frame_rests f.now) first.now ×
-        IsRow known (frame_steps g.now) (frame_rests g.now) second.now }
-    ensures { AreOutcomes (FrameText (frame_tree f.now)) (FrameText (frame_tree g.now)) result }
+// The bits of the first header.
+fn first_header(opening: &Opening<'_>) -> [Bit; 8]
+    ensures { result ≡ header_of (sender_of opening.now) }
 {
-    match f {
-        Frame::Write {
-            address: a,
-            acked: x,
-            refused: r,
-        } => match g {
-            Frame::Write {
-                address: b,
-                acked: y,
-                refused: s,
-            } => writes(a, b, x, y, r, s, first, second),
-            Frame::Read { .. } => frames(f, g),
-        },
-        Frame::Read { .. } => frames(f, g),
+    match opening {
+        Opening::Write(w) => header(&w.address, Bit::Zero),
+        Opening::Read(r) => header(&r.address, Bit::One),
+        Opening::Interrupt(address) => header(address, Bit::One),
     }
 }
 
 // Two writes, and what follows each answer to their headers.
-fn writes(
-    a: &Address,
-    b: &Address,
-    x: &Payload,
-    y: &Payload,
-    r: &Tail,
-    s: &Tail,
-    first: &Row<'_>,
-    second: &Row<'_>,
-) -> Outcomes
-    requires slots { max (payload_slots (payload_tree x.now)) (tail_slots (tail_tree r.now)) + 9 < 2 ^ 32 }
-    requires rows { (known : List Step) × IsRow known (payload_steps x.now) (payload_rests x.now) first.now ×
-        IsRow known (payload_steps y.now) (payload_rests y.now) second.now }
-    ensures { AreOutcomes (FrameText (write a.now (payload_tree x.now) (tail_tree r.now)))
-        (FrameText (write b.now (payload_tree y.now) (tail_tree s.now))) result }
+fn writes(first: &FirstWrite<'_>, second: &FirstWrite<'_>) -> Outcomes
+    requires slots { frame_slots (write_tree first.now) < 2 ^ 32 }
+    requires numbered { (known : List TailTree) × IsNumberedWrite known first.now × IsNumberedWrite known second.now }
+    ensures { AreOutcomes (FrameText (write_tree first.now)) (FrameText (write_tree second.now)) result }
 {
-    let first_bits = header(a, Bit::Zero);
-    let second_bits = header(b, Bit::Zero);
+    let first_bits = header(&first.address, Bit::Zero);
+    let second_bits = header(&second.address, Bit::Zero);
     let parted = partings(&first_bits, &second_bits);
     if always_part(&first_bits, &second_bits) {
         parted
     } else {
-        let alike = common(x, y, first, second);
-        answered(parted, after_alike(alike), tails(r, s))
+        let alike = common(first.acked, second.acked, &first.row, &second.row);
+        answered(
+            parted,
+            after_alike(alike),
+            after_both(&first.refused, &second.refused),
+        )
     }
 }
 
-// The bits of the message's first header.
-fn first_header(f: &Frame) -> [Bit; 8]
-    ensures { result ≡ header_of (frame_tree f.now) }
+// Two reads, and what follows each answer to their headers.
+fn reads(first: &FirstRead<'_>, second: &FirstRead<'_>) -> Outcomes
+    requires slots { frame_slots (read_tree first.now) < 2 ^ 32 }
+    requires numbered { (known : List TailTree) × IsNumberedRead known first.now × IsNumberedRead known second.now }
+    ensures { AreOutcomes (FrameText (read_tree first.now)) (FrameText (read_tree second.now)) result }
 {
-    match f {
-        Frame::Write { address, .. } => header(address, Bit::Zero),
-        Frame::Read { address, .. } => header(address, Bit::One),
+    let first_bits = header(&first.address, Bit::One);
+    let second_bits = header(&second.address, Bit::One);
+    let parted = partings(&first_bits, &second_bits);
+    if always_part(&first_bits, &second_bits) {
+        parted
+    } else {
+        answered(
+            parted,
+            read_bytes(first, second),
+            after_both(&first.refused, &second.refused),
+        )
+    }
+}
+
+// The same, from their first bytes on.
+fn read_bytes(first: &FirstRead<'_>, second: &FirstRead<'_>) -> Outcomes
+    requires slots { tail_slots (tree_of first.now.after) + 9 * greatest_of first.now.count < 2 ^ 32 }
+    requires numbered { (known : List TailTree) × IsNumberedRead known first.now × IsNumberedRead known second.now }
+    ensures { AreOutcomes (ReadThen first.now.count (TailText (tree_of first.now.after)))
+        (ReadThen second.now.count (TailText (tree_of second.now.after))) result }
+{
+    if first.count.meets(&second.count) {
+        let ended = after_both(&first.after, &second.after);
+        reads_met(&first.count, &second.count, ended)
+    } else {
+        reads_apart(&first.count, &second.count)
     }
 }

@@ -5,9 +5,8 @@ use Rattle.message_tree.specs.Texts.{FrameText, PayloadText, TailText, ReadThen}
 use Rattle.message_tree.specs.Trees.{frame_tree, payload_tree, tail_tree, write, byte, again}
 use Rattle.message_tree.specs.declared.tree.Frame.{Frame}
 use Rattle.message_tree.specs.declared.tree.Payload.{Payload}
-use Rattle.message_tree.proofs.TextLaws.{lawful_tail}
 use Rattle.arbitration.proofs.CommonBytes.{alike_outcomes, slots_left, weight_left}
-use Rattle.arbitration.proofs.Nodes.{all_room, payload_bound, tail_bound, frame_bound, read_bound, bytes_part, bytes_answered, reads_parted, reads_answered, reads_part, reads_end, writes_are, write_meets_read, read_meets_write, bytes_are, lasts_are, byte_and_last, last_and_byte, stops_are, stop_and_again, again_and_stop, agains_are}
+use Rattle.arbitration.proofs.Nodes.{all_room, payload_bound, tail_bound, frame_bound, read_bound, bytes_part, bytes_answered, reads_parted, reads_answered, reads_only_part, writes_are, write_meets_read, read_meets_write, bytes_are, lasts_are, byte_and_last, last_and_byte, stops_are, stop_and_again, again_and_stop, agains_are}
 use Rattle.arbitration.proofs.compare.+compare.Goals as goal
 
 pub bytes-answered-requires-clause-acked : goal.bytes-answered-requires-clause-acked
@@ -79,29 +78,18 @@ pub apart-returns-in-Last-y-2 : goal.apart-returns-in-Last-y-2
 apart-returns-in-Last-y-2 t c =
     lasts_are (payload_tree c.args.x.now) (payload_tree c.args.y.now) c.tails.result (tail_tree c.in-Last.r) (tail_tree c.in-Last-y-2.s) (ap payload_tree c.in-Last.is) (ap payload_tree c.in-Last-y-2.is) c.tails.ensures
 
-pub reads-returns-then-not-meets : goal.reads-returns-then-not-meets
-reads-returns-then-not-meets t c =
+pub reads-reads_met-requires-clause-room : goal.reads-reads_met-requires-clause-room
+reads-reads_met-requires-clause-room t c =
     let x = tail_tree c.args.x.now in
-    let y = tail_tree c.args.y.now in
-    reads_part c.args.c.now c.args.d.now (TailText x) (TailText y) c.reads_apart-apart.result (λ m. let e = c.meets.ensures.1 m in cc) (lawful_tail x).some (lawful_tail y).some c.reads_apart-apart.ensures
+    all_room (TailText x) (TailText (tail_tree c.args.y.now)) c.tails.result (tail_slots x) (9 * greatest_of c.args.c.now) c.tails.ensures (tail_bound x) (omega (arith, c.requires))
 
-pub reads-after-requires : goal.reads-after-requires
-reads-after-requires t c =
-    let x = tail_tree c.args.x.now in
-    let m = c.meets.ensures.0 c.if-not-meets.false in
-    all_room (TailText x) (TailText (tail_tree c.args.y.now)) c.tails-ended.result (tail_slots x) (9 * c.max-least.result) c.tails-ended.ensures (tail_bound x) (omega (arith, m.1.0, m.1.1, m.2.0, m.2.1, c.max-least.ensures, c.least.ensures, c.least-2.ensures, c.requires))
+pub reads-returns-then-meets : goal.reads-returns-then-meets
+reads-returns-then-meets t c =
+    c.reads_met.ensures (tail_tree c.args.x.now) (tail_tree c.args.y.now) c.tails.ensures
 
-pub reads-after-requires-2 : goal.reads-after-requires-2
-reads-after-requires-2 t c =
-    let x = tail_tree c.args.x.now in
-    all_room (TailText x) (TailText (tail_tree c.args.y.now)) c.tails-ended.result (tail_slots x) (9 * c.min-greatest.result) c.tails-ended.ensures (tail_bound x) (omega (arith, c.min-greatest.ensures, c.greatest.ensures, c.greatest-2.ensures, c.requires))
-
-pub reads-returns : goal.reads-returns
-reads-returns t c =
-    let x = tail_tree c.args.x.now in
-    let y = tail_tree c.args.y.now in
-    let m = c.meets.ensures.0 c.if-not-meets.false in
-    reads_end c.args.c.now c.args.d.now (TailText x) (TailText y) c.reads_apart-apart.result c.union.result c.tails-ended.result c.max-least.result c.min-greatest.result m (omega (arith, c.max-least.ensures, c.least.ensures, c.least-2.ensures)) (omega (arith, c.min-greatest.ensures, c.greatest.ensures, c.greatest-2.ensures)) (lawful_tail x).some (lawful_tail y).some c.reads_apart-apart.ensures c.tails-ended.ensures (λ way. let e = c.union.ensures way in let f = c.union-ends.ensures way in let g = c.after.ensures way in let h = c.after-2.ensures way in cc)
+pub reads-returns-else-meets : goal.reads-returns-else-meets
+reads-returns-else-meets t c =
+    reads_only_part c.args.c.now c.args.d.now (tail_tree c.args.x.now) (tail_tree c.args.y.now) c.reads_apart.result (λ m. let e = c.meets.ensures.1 m in cc) c.reads_apart.ensures
 
 pub tails-after-requires : goal.tails-after-requires
 tails-after-requires t c =

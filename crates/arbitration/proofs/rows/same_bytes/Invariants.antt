@@ -1,5 +1,5 @@
 use Rattle.std.proofs.Common.{◌≡◌, take}
-use Rattle.arbitration.proofs.rows.same_numbers.Given as goal
+use Rattle.arbitration.proofs.rows.same_bytes.Given as goal
 
 abbrev pub invariant-loop-k : goal.invariant-loop-k
 invariant-loop-k l = take l.k l.first ≡ take l.k l.second
