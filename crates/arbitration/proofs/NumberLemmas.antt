@@ -52,10 +52,6 @@ one_name : (known : List TailTree) (k l : ℕ) (s t : TailTree) → k ≡ l → 
 one_name known k l s t e a b =
     let f : Some s ≡ Some t = sym a ∙ (ap (slice_get known) e ∙ b) in cc
 
-pub same_outcomes : (known : List TailTree) (r s : KnownTail) → IsKnown known r → IsKnown known s → r.number ≡ s.number → AreOutcomes (TailText (tree_of r)) (TailText (tree_of s)) r.outcomes
-same_outcomes known r s a b e =
-    subst (λ (t : TailTree). AreOutcomes (TailText (tree_of r)) (TailText t) r.outcomes) (one_name known r.number s.number (tree_of r) (tree_of s) e a.named b.named) a.outcomes
-
 -- ---- lists of bytes
 
 pub bytes_length : (known : List TailTree) (bs : List FirstByte) (ss : List Step) → AreBytes known bs ss → length bs ≡ length ss
