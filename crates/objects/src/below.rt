@@ -1,56 +1,35 @@
 // Lines for people, without their four blanks.
 
-use crate::kinds::{Fault, Near};
+use crate::fields::{Value, push_part, push_texts, separate};
 use crate::words::number;
 use std::alloc::{AllocError, Global};
 
-/// What those below an unsafe pair say.
-pub(crate) fn fault_of<'s, 'a>(
-    participants: (&str, &str),
-    notes: &'s [&'a str],
-) -> Option<Fault<'s, 'a>> {
-    if notes.is_empty() {
-        return None;
-    }
-    let slot = slot_in(notes);
-    Some(match rows_of(participants, notes) {
-        Some(rows) => Fault {
-            slot,
-            bus: Some(rows.bus),
-            bytes: Some(rows.bytes),
-            next: Some(rows.next),
-            notes,
-        },
-        None => Fault {
-            slot,
-            bus: None,
-            bytes: None,
-            next: None,
-            notes,
-        },
-    })
-}
-
-// The rows of bytes below an unsafe pair.
+/// The rows of bytes below an unsafe pair: those on the bus, those of the two, and what each does next.
 #[derive(Clone, Copy)]
-struct Rows<'a> {
-    bus: &'a str,
-    bytes: (&'a str, &'a str),
-    next: (&'a str, &'a str),
+pub(crate) struct Rows<'a> {
+    pub(crate) bus: &'a str,
+    pub(crate) bytes: [&'a str; 2],
+    pub(crate) next: [&'a str; 2],
 }
 
-fn rows_of<'a>(participants: (&str, &str), notes: &[&'a str]) -> Option<Rows<'a>> {
-    let (one, other) = participants;
+/// The rows, where the lines begin with them.
+pub(crate) fn rows_of<'a>(participants: [&str; 2], notes: &[&'a str]) -> Option<Rows<'a>> {
+    let [one, other] = participants;
     let (bus, notes) = row(notes, "bus")?;
     let (first, notes) = row(notes, one)?;
     let (second, _) = row(notes, other)?;
-    let (first, first_next) = first.split_once("next: ")?;
-    let (second, second_next) = second.split_once("next: ")?;
+    let (first, first_next) = bytes_and_next(first)?;
+    let (second, second_next) = bytes_and_next(second)?;
     Some(Rows {
         bus,
-        bytes: (first.trim_end(), second.trim_end()),
-        next: (first_next, second_next),
+        bytes: [first, second],
+        next: [first_next, second_next],
     })
+}
+
+fn bytes_and_next(row: &str) -> Option<(&str, &str)> {
+    let (bytes, next) = row.split_once("next: ")?;
+    Some((bytes.trim_end(), next))
 }
 
 // What stands behind a title in the first line, or below it where the title has a line of its own; and the lines after that.
@@ -64,7 +43,8 @@ fn row<'s, 'a>(notes: &'s [&'a str], title: &str) -> Option<(&'a str, &'s [&'a s
     Some((line.trim_start(), rest))
 }
 
-fn slot_in(notes: &[&str]) -> Option<u64> {
+/// The slot that the first line of them that gives one gives.
+pub(crate) fn slot_in(notes: &[&str]) -> Option<u64> {
     for line in notes {
         if let Some(words) = line.strip_prefix("slot ") {
             let (slot, _) = words.split_once(',')?;
@@ -74,27 +54,35 @@ fn slot_in(notes: &[&str]) -> Option<u64> {
     None
 }
 
-/// The pairs of names behind the word `never`.
-pub(crate) fn nevers_in<'a>(
+/// Adds the pairs of names behind the word `never`, as parts of a list.
+pub(crate) fn push_nevers(
     alloc: Global,
-    notes: &[&'a str],
-) -> Result<Vec<(&'a str, &'a str)>, AllocError> {
-    let mut nevers = Vec::new(alloc);
+    text: &mut String,
+    notes: &[&str],
+) -> Result<(), AllocError> {
     let mut awaited = Awaited::Never;
     for line in notes {
-        for word in line.split(' ') {
-            awaited = match awaited {
-                Awaited::Never if word == "never" => Awaited::First,
-                Awaited::Never => Awaited::Never,
-                Awaited::First => Awaited::Second(word),
-                Awaited::Second(first) => {
-                    nevers.push((first, word))?;
-                    Awaited::Never
-                }
-            };
-        }
+        awaited = push_nevers_of(alloc, text, awaited, *line)?;
     }
-    Ok(nevers)
+    Ok(())
+}
+
+// Those in one line, and what is awaited after it.
+fn push_nevers_of<'a>(
+    alloc: Global,
+    text: &mut String,
+    before: Awaited<'a>,
+    line: &'a str,
+) -> Result<Awaited<'a>, AllocError> {
+    let mut awaited = before;
+    for word in line.split(' ') {
+        if let Awaited::Second(first) = awaited {
+            separate(text)?;
+            push_texts(alloc, text, &[first, word])?;
+        }
+        awaited = awaited.after(word);
+    }
+    Ok(awaited)
 }
 
 // Which word of a `never` item comes next.
@@ -103,6 +91,16 @@ enum Awaited<'a> {
     Never,
     First,
     Second(&'a str),
+}
+
+impl<'a> Awaited<'a> {
+    fn after(self, word: &'a str) -> Awaited<'a> {
+        match self {
+            Awaited::Never if word == "never" => Awaited::First,
+            Awaited::First => Awaited::Second(word),
+            Awaited::Never | Awaited::Second(_) => Awaited::Never,
+        }
+    }
 }
 
 /// What those below a transaction say, put together where they were broken: the bytes on the first line, and then what is said
@@ -127,18 +125,17 @@ fn begins(line: &str) -> bool {
         || line.split(' ').nth(1) == Some("leaves")
 }
 
-/// What such a text says of participants.
-pub(crate) fn nearest_in(alloc: Global, text: &str) -> Result<Vec<Near>, AllocError> {
-    let mut nearest = Vec::new(alloc);
-    for line in text.split('\n') {
+/// Adds what such a text says of participants, as parts of a list.
+pub(crate) fn push_nearest(alloc: Global, text: &mut String, said: &str) -> Result<(), AllocError> {
+    for line in said.split('\n') {
         if let Some(leaves) = leaves_of(line) {
-            nearest.push(near_of(alloc, leaves)?)?;
+            push_leaves(alloc, text, leaves)?;
         }
     }
-    Ok(nearest)
+    Ok(())
 }
 
-// Where a participant leaves a transaction.
+// Where a participant leaves a transaction, what it does there, and what the wire has.
 #[derive(Clone, Copy)]
 struct Leaves<'a> {
     participant: &'a str,
@@ -160,22 +157,17 @@ fn leaves_of(line: &str) -> Option<Leaves<'_>> {
     })
 }
 
-fn near_of(alloc: Global, leaves: Leaves<'_>) -> Result<Near, AllocError> {
-    let Leaves {
-        participant,
-        slot,
-        does,
-        wire,
-    } = leaves;
-    let participant = String::from_str(alloc, participant)?;
-    let does = String::from_str(alloc, does)?;
-    let wire = String::from_str(alloc, wire)?;
-    Ok(Near {
-        participant,
-        slot,
-        does,
-        wire,
-    })
+fn push_leaves(alloc: Global, text: &mut String, leaves: Leaves<'_>) -> Result<(), AllocError> {
+    push_part(
+        alloc,
+        text,
+        &[
+            ("participant", Value::Text(leaves.participant)),
+            ("slot", Value::Number(leaves.slot)),
+            ("does", Value::Text(leaves.does)),
+            ("wire", Value::Text(leaves.wire)),
+        ],
+    )
 }
 
 /// The words of the rows with this title, with single blanks between them.
@@ -186,16 +178,28 @@ pub(crate) fn words_of_rows(
 ) -> Result<String, AllocError> {
     let mut text = String::new(alloc);
     for line in notes {
-        let mut words = line.split(' ').filter(|word| !word.is_empty());
-        if words.next() != Some(title) {
-            continue;
-        }
-        for word in words {
-            if !text.is_empty() {
-                text.push(' ')?;
-            }
-            text.push_str(word)?;
+        if let Some(words) = after_title(line, title) {
+            push_words(&mut text, words)?;
         }
     }
     Ok(text)
+}
+
+// What stands after the first word, where that is the title.
+fn after_title<'a>(line: &'a str, title: &str) -> Option<&'a str> {
+    let (word, words) = line.trim_start_matches(' ').split_once(' ')?;
+    if word == title { Some(words) } else { None }
+}
+
+fn push_words(text: &mut String, words: &str) -> Result<(), AllocError> {
+    for word in words.split(' ') {
+        if word.is_empty() {
+            continue;
+        }
+        if !text.is_empty() {
+            text.push(' ')?;
+        }
+        text.push_str(word)?;
+    }
+    Ok(())
 }

@@ -1,15 +1,15 @@
 // Lines of `capture`.
 
-use crate::below::{nearest_in, unbroken};
-use crate::kinds::{Heard, Near, Object, Time};
-use crate::words::{number, push, push_words};
+use crate::below::{push_nearest, unbroken};
+use crate::fields::{Value, push, push_explained};
+use crate::words::number;
 use std::alloc::{AllocError, Global};
 
 // When a transaction begins and ends, and what is said of it.
 #[derive(Clone, Copy)]
 struct Told<'a> {
-    from: Time<'a>,
-    to: Option<Time<'a>>,
+    from: Value<'a>,
+    to: Value<'a>,
     words: &'a str,
 }
 
@@ -17,10 +17,10 @@ struct Told<'a> {
 fn taken_apart(line: &str) -> Option<Told<'_>> {
     let (from, rest) = line.split_once('-')?;
     let (to, words) = match rest.strip_prefix(' ') {
-        Some(words) => (None, words),
+        Some(words) => (Value::Absent, words),
         None => {
             let (to, words) = split_time(rest, from.contains(' '))?;
-            (Some(time_of(to)), words)
+            (time_of(to), words)
         }
     };
     Some(Told {
@@ -41,115 +41,172 @@ fn split_time(rest: &str, has_unit: bool) -> Option<(&str, &str)> {
     Some((rest.get(..size)?, words))
 }
 
-fn time_of(text: &str) -> Time<'_> {
+// A time as it stands in a dump, or in parts of a second.
+fn time_of(text: &str) -> Value<'_> {
     match number(text) {
-        Some(number) => Time::Number(number),
-        None => Time::Text(text),
+        Some(number) => Value::Number(number),
+        None => Value::Text(text),
     }
 }
 
-/// Adds the object of a transaction.
-pub(crate) fn push_transaction<'a>(
+/// Adds the object of a transaction. Lines for people give its bytes, and who goes along with it furthest.
+pub(crate) fn push_transaction(
     alloc: Global,
     text: &mut String,
-    line: &'a str,
-    notes: &[&'a str],
-) -> Result<(), AllocError> {
-    match taken_apart(line) {
-        Some(told) => push_told(alloc, text, told, notes),
-        None => push(alloc, text, &Object::Line { text: line }),
-    }
+    line: &str,
+    notes: &[&str],
+) -> Option<Result<(), AllocError>> {
+    let told = taken_apart(line)?;
+    Some(push_told(alloc, text, told, notes))
 }
 
-fn push_told<'a>(
+fn push_told(
+    alloc: Global,
+    text: &mut String,
+    told: Told<'_>,
+    notes: &[&str],
+) -> Result<(), AllocError> {
+    let said = unbroken(alloc, notes)?;
+    push_heard(alloc, text, told, said.as_str(), notes)
+}
+
+fn push_heard(
+    alloc: Global,
+    text: &mut String,
+    told: Told<'_>,
+    said: &str,
+    notes: &[&str],
+) -> Result<(), AllocError> {
+    let mut nearest = String::new(alloc);
+    push_nearest(alloc, &mut nearest, said)?;
+    push_said(alloc, text, told, said, nearest.as_str(), notes)
+}
+
+fn push_said<'a>(
     alloc: Global,
     text: &mut String,
     told: Told<'a>,
-    notes: &[&'a str],
+    said: &'a str,
+    nearest: &'a str,
+    notes: &[&str],
 ) -> Result<(), AllocError> {
-    let mut labels = Vec::new(alloc);
-    push_labels(&mut labels, told.words)?;
-    let said = unbroken(alloc, notes)?;
-    let nearest = nearest_in(alloc, said.as_str())?;
-    push(
+    push_explained(
         alloc,
         text,
-        &Object::Transaction {
-            from: told.from,
-            to: told.to,
-            end: end_of(told.words),
-            participants: labels.as_slice(),
-            explain: heard_of(said.as_str(), nearest.as_slice(), &*notes),
-        },
+        "transaction",
+        &[
+            ("from", told.from),
+            ("to", told.to),
+            ("end", end_of(told.words)),
+            ("participants", participants_of(told.words)),
+        ],
+        &[
+            ("bytes", first_line(said)),
+            ("nearest", Value::Parts(nearest)),
+        ],
+        notes,
     )
 }
 
-// What those below a transaction say, where there are some.
-fn heard_of<'s, 'a>(
-    said: &'s str,
-    nearest: &'s [Near],
-    notes: &'s [&'a str],
-) -> Option<Heard<'s, 'a>> {
-    if notes.is_empty() {
-        return None;
-    }
-    Some(Heard {
-        bytes: said.split('\n').next().unwrap_or(""),
-        nearest,
-        notes,
-    })
+fn first_line(said: &str) -> Value<'_> {
+    Value::Text(said.split('\n').next().unwrap_or(""))
 }
 
 // How a transaction ended of which these words are said.
-fn end_of(words: &str) -> &str {
-    match words {
+fn end_of(words: &str) -> Value<'_> {
+    Value::Text(match words {
         "cut" | "unfinished" => words,
         _ => "stop",
-    }
+    })
 }
 
-// Adds the labels of those who explain it.
-fn push_labels<'a>(labels: &mut Vec<&'a str>, words: &'a str) -> Result<(), AllocError> {
+// Those who explain it.
+fn participants_of(words: &str) -> Value<'_> {
     match words {
-        "cut" | "unfinished" | "unexplained" => Ok(()),
-        _ => push_words(labels, words),
+        "cut" | "unfinished" | "unexplained" => Value::Parts(""),
+        _ => Value::Words(words),
     }
 }
 
-/// The object of `N transactions, U unexplained`.
-pub(crate) fn last<'s, 'a>(line: &'a str) -> Option<Object<'s, 'a>> {
+/// Adds the object of `N transactions, U unexplained`: how many a STOP ended.
+pub(crate) fn push_last(
+    alloc: Global,
+    text: &mut String,
+    line: &str,
+) -> Option<Result<(), AllocError>> {
     let (transactions, rest) = line.split_once(" transactions, ")?;
-    Some(Object::Transactions {
-        transactions: number(transactions)?,
-        unexplained: number(rest.strip_suffix(" unexplained")?)?,
-    })
+    let unexplained = rest.strip_suffix(" unexplained")?;
+    let transactions = number(transactions)?;
+    let unexplained = number(unexplained)?;
+    Some(push(
+        alloc,
+        text,
+        "transactions",
+        &[
+            ("transactions", Value::Number(transactions)),
+            ("unexplained", Value::Number(unexplained)),
+        ],
+    ))
 }
 
-/// The object of what stands after `too` in `too few: C of N`.
-pub(crate) fn too_few<'s, 'a>(rest: &'a str) -> Option<Object<'s, 'a>> {
+/// Adds the object of what stands after `too` in `too few: C of N`.
+pub(crate) fn push_too_few(
+    alloc: Global,
+    text: &mut String,
+    rest: &str,
+) -> Option<Result<(), AllocError>> {
     let (transactions, least) = rest.strip_prefix("few: ")?.split_once(" of ")?;
-    Some(Object::TooFew {
-        transactions: number(transactions)?,
-        at_least: number(least)?,
-    })
+    let transactions = number(transactions)?;
+    let at_least = number(least)?;
+    Some(push(
+        alloc,
+        text,
+        "too_few",
+        &[
+            ("transactions", Value::Number(transactions)),
+            ("at_least", Value::Number(at_least)),
+        ],
+    ))
 }
 
-/// The object of `LABEL A alone, B with others`.
-pub(crate) fn participant<'s, 'a>(line: &'a str) -> Option<Object<'s, 'a>> {
+/// Adds the object of `LABEL A alone, B with others`: how many transactions a participant explains.
+pub(crate) fn push_participant(
+    alloc: Global,
+    text: &mut String,
+    line: &str,
+) -> Option<Result<(), AllocError>> {
     let (participant, counts) = line.split_once(' ')?;
     let (alone, others) = counts.split_once(" alone, ")?;
-    Some(Object::Participant {
-        participant,
-        alone: number(alone)?,
-        with_others: number(others.strip_suffix(" with others")?)?,
-    })
+    let others = others.strip_suffix(" with others")?;
+    let alone = number(alone)?;
+    let with_others = number(others)?;
+    Some(push(
+        alloc,
+        text,
+        "participant",
+        &[
+            ("participant", Value::Text(participant)),
+            ("alone", Value::Number(alone)),
+            ("with_others", Value::Number(with_others)),
+        ],
+    ))
 }
 
-/// The object of `unexplained N`, `cut N` or `unfinished N`.
-pub(crate) fn count<'s, 'a>(line: &'a str) -> Option<Object<'s, 'a>> {
+/// Adds the object of `unexplained N`, `cut N` or `unfinished N`.
+pub(crate) fn push_count(
+    alloc: Global,
+    text: &mut String,
+    line: &str,
+) -> Option<Result<(), AllocError>> {
     let (what, transactions) = line.split_once(' ')?;
-    Some(Object::Count {
-        what,
-        transactions: number(transactions)?,
-    })
+    let transactions = number(transactions)?;
+    Some(push(
+        alloc,
+        text,
+        "count",
+        &[
+            ("what", Value::Text(what)),
+            ("transactions", Value::Number(transactions)),
+        ],
+    ))
 }

@@ -1,16 +1,16 @@
 // Lines of `check` and `verify`.
 
-use crate::below::{fault_of, nevers_in};
-use crate::kinds::{Mending, Notes, Object};
-use crate::words::{number, push};
+use crate::below::{push_nevers, rows_of, slot_in};
+use crate::fields::{Field, Value, push_explained, some_number};
+use crate::words::number;
 use std::alloc::{AllocError, Global};
 
 // What `pair I X Y: KIND against KIND after WIRE` says.
 #[derive(Clone, Copy)]
 struct Pair<'a> {
     pair: u64,
-    participants: (&'a str, &'a str),
-    meet: (&'a str, &'a str),
+    participants: [&'a str; 2],
+    meet: [&'a str; 2],
     after: &'a str,
 }
 
@@ -23,144 +23,136 @@ fn pair_of(rest: &str) -> Option<Pair<'_>> {
     Some(Pair {
         pair,
         participants,
-        meet: (first, second),
+        meet: [first, second],
         after,
     })
 }
 
 /// The number and the participants of `I X Y`.
-pub(crate) fn pair_named(head: &str) -> Option<(u64, (&str, &str))> {
+pub(crate) fn pair_named(head: &str) -> Option<(u64, [&str; 2])> {
     let (pair, labels) = head.split_once(' ')?;
     let (first, second) = labels.split_once(' ')?;
-    Some((number(pair)?, (first, second)))
+    Some((number(pair)?, [first, second]))
 }
 
-/// Adds the object of an unsafe pair.
-pub(crate) fn push_pair<'a>(
+/// Adds the object of an unsafe pair, of what stands after the first word. Lines for people give the bytes on the bus and
+/// those of the two, what each does next, and in which slot.
+pub(crate) fn push_pair(
     alloc: Global,
     text: &mut String,
-    line: &'a str,
-    rest: &'a str,
-    notes: &[&'a str],
-) -> Result<(), AllocError> {
-    match pair_of(rest) {
-        Some(pair) => push_pair_of(alloc, text, pair, notes),
-        None => push(alloc, text, &Object::Line { text: line }),
-    }
+    rest: &str,
+    notes: &[&str],
+) -> Option<Result<(), AllocError>> {
+    let pair = pair_of(rest)?;
+    let slot = ("slot", some_number(slot_in(notes)));
+    Some(match rows_of(pair.participants, notes) {
+        None => push_fault(alloc, text, pair, &[slot], notes),
+        Some(rows) => push_fault(
+            alloc,
+            text,
+            pair,
+            &[
+                slot,
+                ("bus", Value::Text(rows.bus)),
+                ("bytes", Value::Texts(&rows.bytes)),
+                ("next", Value::Texts(&rows.next)),
+            ],
+            notes,
+        ),
+    })
 }
 
-fn push_pair_of<'a>(
+fn push_fault(
     alloc: Global,
     text: &mut String,
-    pair: Pair<'a>,
-    notes: &[&'a str],
+    pair: Pair<'_>,
+    explained: &[Field<'_>],
+    notes: &[&str],
 ) -> Result<(), AllocError> {
-    let Pair {
-        pair,
-        participants,
-        meet,
-        after,
-    } = pair;
-    let explain = fault_of(participants, notes);
-    push(
+    push_explained(
         alloc,
         text,
-        &Object::Pair {
-            pair,
-            participants,
-            meet,
-            after,
-            explain,
-        },
+        "pair",
+        &[
+            ("pair", Value::Number(pair.pair)),
+            ("participants", Value::Texts(&pair.participants)),
+            ("meet", Value::Texts(&pair.meet)),
+            ("after", Value::Text(pair.after)),
+        ],
+        explained,
+        notes,
     )
 }
 
-/// Adds the object of `safe: N pairs` or `unsafe: F of N pairs`.
-pub(crate) fn push_plan<'a>(
+/// Adds the object of `safe: N pairs` or `unsafe: F of N pairs`. Lines for people give the `never` items that mend the plan.
+pub(crate) fn push_plan(
     alloc: Global,
     text: &mut String,
-    line: &'a str,
-    notes: &[&'a str],
-) -> Result<(), AllocError> {
-    if notes.is_empty() {
-        return push_plan_of(alloc, text, line, None);
-    }
-    push_mending(alloc, text, line, notes)
-}
-
-fn push_mending<'a>(
-    alloc: Global,
-    text: &mut String,
-    line: &'a str,
-    notes: &[&'a str],
-) -> Result<(), AllocError> {
-    let never = nevers_in(alloc, notes)?;
-    let mending = Mending {
-        never: never.as_slice(),
-        notes: &*notes,
-    };
-    push_plan_of(alloc, text, line, Some(mending))
-}
-
-fn push_plan_of<'a>(
-    alloc: Global,
-    text: &mut String,
-    line: &'a str,
-    explain: Option<Mending<'_, 'a>>,
-) -> Result<(), AllocError> {
-    match plan(line, explain) {
-        Some(object) => push(alloc, text, &object),
-        None => push(alloc, text, &Object::Line { text: line }),
-    }
-}
-
-fn plan<'s, 'a>(line: &str, explain: Option<Mending<'s, 'a>>) -> Option<Object<'s, 'a>> {
+    line: &str,
+    notes: &[&str],
+) -> Option<Result<(), AllocError>> {
     let counts = line.strip_suffix(" pairs")?;
     if let Some(pairs) = counts.strip_prefix("safe: ") {
-        return Some(Object::Plan {
-            safe: true,
-            pairs: number(pairs)?,
-            unsafe_pairs: 0,
-            explain,
-        });
+        let pairs = number(pairs)?;
+        return Some(push_counts(alloc, text, true, pairs, 0, notes));
     }
     let (unsafe_pairs, pairs) = counts.strip_prefix("unsafe: ")?.split_once(" of ")?;
-    Some(Object::Plan {
-        safe: false,
-        pairs: number(pairs)?,
-        unsafe_pairs: number(unsafe_pairs)?,
-        explain,
-    })
+    let pairs = number(pairs)?;
+    let unsafe_pairs = number(unsafe_pairs)?;
+    Some(push_counts(alloc, text, false, pairs, unsafe_pairs, notes))
 }
 
-/// The object of `accepted safe`, `accepted unsafe`, `wrong C1 line L`, `wrong C2` or `wrong C5 pair I`.
-pub(crate) fn certificate<'s, 'a>(
-    line: &'a str,
-    explain: Option<Notes<'s, 'a>>,
-) -> Option<Object<'s, 'a>> {
+fn push_counts(
+    alloc: Global,
+    text: &mut String,
+    is_safe: bool,
+    pairs: u64,
+    unsafe_pairs: u64,
+    notes: &[&str],
+) -> Result<(), AllocError> {
+    let mut nevers = String::new(alloc);
+    push_nevers(alloc, &mut nevers, notes)?;
+    push_explained(
+        alloc,
+        text,
+        "plan",
+        &[
+            ("safe", Value::Flag(is_safe)),
+            ("pairs", Value::Number(pairs)),
+            ("unsafe_pairs", Value::Number(unsafe_pairs)),
+        ],
+        &[("never", Value::Parts(nevers.as_str()))],
+        notes,
+    )
+}
+
+/// Adds the object of `accepted safe`, `accepted unsafe`, `wrong C1 line L`, `wrong C2` or `wrong C5 pair I`.
+pub(crate) fn push_certificate(
+    alloc: Global,
+    text: &mut String,
+    line: &str,
+    notes: &[&str],
+) -> Option<Result<(), AllocError>> {
     if let Some(word) = line.strip_prefix("accepted ") {
-        return Some(Object::Certificate {
-            accepted: true,
-            safe: Some(word == "safe"),
-            code: None,
-            line: None,
-            pair: None,
-            explain,
-        });
+        let is_safe = Value::Flag(word == "safe");
+        let fields = [("accepted", Value::Flag(true)), ("safe", is_safe)];
+        return Some(push_explained(alloc, text, "certificate", &fields, &[], notes));
     }
     let words = line.strip_prefix("wrong ")?;
     let (code, place) = words.split_once(' ').unwrap_or((words, ""));
-    Some(Object::Certificate {
-        accepted: false,
-        safe: None,
-        code: Some(code),
-        line: number_after("line ", place),
-        pair: number_after("pair ", place),
-        explain,
-    })
+    let fields = [
+        ("accepted", Value::Flag(false)),
+        ("code", Value::Text(code)),
+        ("line", number_after("line ", place)),
+        ("pair", number_after("pair ", place)),
+    ];
+    Some(push_explained(alloc, text, "certificate", &fields, &[], notes))
 }
 
-/// The number after this word.
-pub(crate) fn number_after(word: &str, words: &str) -> Option<u64> {
-    number(words.strip_prefix(word)?)
+// The number after this word.
+fn number_after<'a>(word: &str, words: &str) -> Value<'a> {
+    match words.strip_prefix(word) {
+        Some(rest) => some_number(number(rest)),
+        None => Value::Absent,
+    }
 }

@@ -1,47 +1,93 @@
 // Lines of `order`.
 
 use crate::checks::pair_named;
-use crate::kinds::Object;
+use crate::fields::{Value, push};
 use crate::words::number;
+use std::alloc::{AllocError, Global};
 
-/// The object of what stands after `pair` in `pair I X Y: WAYS`.
-pub(crate) fn order<'s, 'a>(rest: &'a str) -> Option<Object<'s, 'a>> {
+/// Adds the object of what stands after `pair` in `pair I X Y: WAYS`: who wins, and in which slots.
+pub(crate) fn push_order(
+    alloc: Global,
+    text: &mut String,
+    rest: &str,
+) -> Option<Result<(), AllocError>> {
     let (head, ways) = rest.split_once(':')?;
     let (pair, participants) = pair_named(head)?;
-    let (one, other) = participants;
-    let ways = ways.trim_start();
-    Some(Object::Order {
-        pair,
-        participants,
-        is_unsafe: (ways == "unsafe").then_some(true),
-        both: slots_of(ways, "both"),
-        first: slots_of(ways, one),
-        second: slots_of(ways, other),
-    })
+    Some(push_ways(alloc, text, pair, &participants, ways.trim_start()))
+}
+
+fn push_ways(
+    alloc: Global,
+    text: &mut String,
+    pair: u64,
+    participants: &[&str; 2],
+    ways: &str,
+) -> Result<(), AllocError> {
+    let [one, other] = participants;
+    push(
+        alloc,
+        text,
+        "order",
+        &[
+            ("pair", Value::Number(pair)),
+            ("participants", Value::Texts(participants)),
+            ("unsafe", unsafe_of(ways)),
+            ("both", slots_of(ways, "both")),
+            ("first", slots_of(ways, one)),
+            ("second", slots_of(ways, other)),
+        ],
+    )
+}
+
+fn unsafe_of<'a>(ways: &str) -> Value<'a> {
+    if ways == "unsafe" {
+        Value::Flag(true)
+    } else {
+        Value::Absent
+    }
 }
 
 // The earliest and the latest slot of the way with this name.
-fn slots_of(ways: &str, name: &str) -> Option<(u64, u64)> {
+fn slots_of<'a>(ways: &str, name: &str) -> Value<'a> {
     for way in ways.split(", ") {
         if let Some((found, slots)) = way.split_once(' ') {
             if found == name {
-                let (from, to) = slots.split_once("..").unwrap_or((slots, slots));
-                return Some((number(from)?, number(to)?));
+                return slots_in(slots);
             }
         }
     }
-    None
+    Value::Absent
 }
 
-/// The object of what stands after `total` in `total X: wins W, may win M, loses L`.
-pub(crate) fn total<'s, 'a>(rest: &'a str) -> Option<Object<'s, 'a>> {
+fn slots_in<'a>(slots: &str) -> Value<'a> {
+    let (from, to) = slots.split_once("..").unwrap_or((slots, slots));
+    match (number(from), number(to)) {
+        (Some(from), Some(to)) => Value::Slots(from, to),
+        _ => Value::Absent,
+    }
+}
+
+/// Adds the object of what stands after `total` in `total X: wins W, may win M, loses L`.
+pub(crate) fn push_total(
+    alloc: Global,
+    text: &mut String,
+    rest: &str,
+) -> Option<Result<(), AllocError>> {
     let (participant, counts) = rest.split_once(": wins ")?;
     let (wins, counts) = counts.split_once(", may win ")?;
     let (may_win, loses) = counts.split_once(", loses ")?;
-    Some(Object::Total {
-        participant,
-        wins: number(wins)?,
-        may_win: number(may_win)?,
-        loses: number(loses)?,
-    })
+    let wins = number(wins)?;
+    let may_win = number(may_win)?;
+    let loses = number(loses)?;
+    Some(push(
+        alloc,
+        text,
+        "total",
+        &[
+            ("participant", Value::Text(participant)),
+            ("wins", Value::Number(wins)),
+            ("may_win", Value::Number(may_win)),
+            ("loses", Value::Number(loses)),
+        ],
+    ))
 }

@@ -1,40 +1,46 @@
 // Lines of `signals`.
 
-use crate::kinds::Object;
-use crate::words::{number, push};
+use crate::fields::{Value, push};
+use crate::words::number;
 use std::alloc::{AllocError, Global};
 
-/// The object of what stands after `signal` in `signal CODE CHANGES SCOPE NAME`.
-pub(crate) fn signal<'s, 'a>(rest: &'a str) -> Option<Object<'s, 'a>> {
+/// Adds the object of what stands after `signal` in `signal CODE CHANGES SCOPE NAME`.
+pub(crate) fn push_signal(
+    alloc: Global,
+    text: &mut String,
+    rest: &str,
+) -> Option<Result<(), AllocError>> {
     let (code, rest) = rest.split_once(' ')?;
     let (changes, rest) = rest.split_once(' ')?;
     let (scope, name) = rest.split_once(' ')?;
-    Some(Object::Signal {
-        code,
-        changes: number(changes)?,
-        scope: if scope == "-" { None } else { Some(scope) },
-        name,
-    })
+    let changes = number(changes)?;
+    let scope = match scope {
+        "-" => Value::Absent,
+        _ => Value::Text(scope),
+    };
+    Some(push(
+        alloc,
+        text,
+        "signal",
+        &[
+            ("code", Value::Text(code)),
+            ("changes", Value::Number(changes)),
+            ("scope", scope),
+            ("name", Value::Text(name)),
+        ],
+    ))
 }
 
 /// Adds the object of what stands after `bus` in `bus N transactions --scl-code 'CODE' --sda-code 'CODE'`.
 pub(crate) fn push_bus(
     alloc: Global,
     text: &mut String,
-    line: &str,
     rest: &str,
-) -> Result<(), AllocError> {
-    match bus_of(rest) {
-        Some((transactions, scl, sda)) => push_codes(alloc, text, transactions, scl, sda),
-        None => push(alloc, text, &Object::Line { text: line }),
-    }
-}
-
-// How many transactions, and the two codes in quotes.
-fn bus_of(rest: &str) -> Option<(u64, &str, &str)> {
+) -> Option<Result<(), AllocError>> {
     let (transactions, codes) = rest.split_once(" transactions --scl-code ")?;
     let (scl, sda) = codes.split_once(" --sda-code ")?;
-    Some((number(transactions)?, scl, sda))
+    let transactions = number(transactions)?;
+    Some(push_codes(alloc, text, transactions, scl, sda))
 }
 
 fn push_codes(
@@ -46,14 +52,25 @@ fn push_codes(
 ) -> Result<(), AllocError> {
     let scl = unquoted(alloc, scl)?;
     let sda = unquoted(alloc, sda)?;
+    push_bus_of(alloc, text, transactions, scl.as_str(), sda.as_str())
+}
+
+fn push_bus_of<'a>(
+    alloc: Global,
+    text: &mut String,
+    transactions: u64,
+    scl: &'a str,
+    sda: &'a str,
+) -> Result<(), AllocError> {
     push(
         alloc,
         text,
-        &Object::Bus {
-            transactions,
-            scl_code: scl.as_str(),
-            sda_code: sda.as_str(),
-        },
+        "bus",
+        &[
+            ("transactions", Value::Number(transactions)),
+            ("scl_code", Value::Text(scl)),
+            ("sda_code", Value::Text(sda)),
+        ],
     )
 }
 
@@ -71,11 +88,23 @@ fn unquoted(alloc: Global, word: &str) -> Result<String, AllocError> {
     Ok(text)
 }
 
-/// The object of `S signals, B buses`.
-pub(crate) fn last<'s, 'a>(line: &'a str) -> Option<Object<'s, 'a>> {
+/// Adds the object of `S signals, B buses`.
+pub(crate) fn push_last(
+    alloc: Global,
+    text: &mut String,
+    line: &str,
+) -> Option<Result<(), AllocError>> {
     let (signals, rest) = line.split_once(" signals, ")?;
-    Some(Object::Signals {
-        signals: number(signals)?,
-        buses: number(rest.strip_suffix(" buses")?)?,
-    })
+    let buses = rest.strip_suffix(" buses")?;
+    let signals = number(signals)?;
+    let buses = number(buses)?;
+    Some(push(
+        alloc,
+        text,
+        "signals",
+        &[
+            ("signals", Value::Number(signals)),
+            ("buses", Value::Number(buses)),
+        ],
+    ))
 }
