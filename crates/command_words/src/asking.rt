@@ -8,7 +8,7 @@ use dump_tokens::Time;
 use std::alloc::{AllocError, Global};
 
 /// What a command line comes to.
-#[derive(Debug, Drop)]
+#[derive(Drop)]
 pub enum Asked<'a> {
     /// A run, and how what it says is written.
     Run {
@@ -23,7 +23,7 @@ pub enum Asked<'a> {
 
 /// A run of the program, with lines for people in its report where `explain` says so. `output` is the file to write, where it
 /// is not standard output.
-#[derive(Clone, Copy, Debug)]
+#[derive(Clone, Copy)]
 pub enum Request<'a> {
     /// Whether a plan is safe.
     Check {
@@ -109,7 +109,7 @@ pub enum Request<'a> {
 }
 
 /// Whether hints and colours are wanted with a run, and whether reports, refusals and hints are JSON.
-#[derive(Clone, Copy, Debug)]
+#[derive(Clone, Copy)]
 pub struct Manner {
     pub hints: When,
     pub colors: When,
@@ -117,7 +117,7 @@ pub struct Manner {
 }
 
 /// When something for people is wanted.
-#[derive(Clone, Copy, Debug, PartialEq, Eq)]
+#[derive(Clone, Copy, PartialEq, Eq)]
 pub enum When {
     /// Where somebody sees it on a terminal.
     Auto,
@@ -128,30 +128,21 @@ pub enum When {
 /// What the words of a command line ask for. The first one is the program's name.
 pub fn read_words<'a>(alloc: Global, words: &'a [String]) -> Result<Asked<'a>, AllocError> {
     match parse(alloc, words) {
-        Ok(Some((request, manner))) => match fault_of(request) {
-            None => Ok(Asked::Run { request, manner }),
-            Some(fault) => refusal(alloc, fault),
-        },
-        Ok(None) => refusal(alloc, TOO_MANY_WORDS),
+        Ok(asked) => Ok(asked),
         Err(error) => told(alloc, &error),
     }
 }
 
-const TOO_MANY_WORDS: &str = "'--certify' stands for CERT: give PLAN and STARTERS alone";
+// What is wrong with a command line that clap takes.
+type Fault = &'static str;
 
-const NOT_BITS: &str = "the value for '--answers <BITS>' is not of 0 and 1";
+const TOO_MANY_WORDS: Fault = "'--certify' stands for CERT: give PLAN and STARTERS alone";
 
-const NO_FILE: &str = "'--wave' wants a file, since the report goes to standard output";
+const NOT_BITS: Fault = "the value for '--answers <BITS>' is not of 0 and 1";
 
-const INPUT_TWICE: &str = "standard input can be one of the files, and not two";
+const NO_FILE: Fault = "'--wave' wants a file, since the report goes to standard output";
 
-fn refusal<'a>(alloc: Global, fault: &str) -> Result<Asked<'a>, AllocError> {
-    told(alloc, &error_of(alloc, fault)?)
-}
-
-fn error_of(alloc: Global, fault: &str) -> Result<Error, AllocError> {
-    program(alloc)?.error(ErrorKind::ValueValidation, fault)
-}
+const INPUT_TWICE: Fault = "standard input can be one of the files, and not two";
 
 // What clap says in place of a request, unless it had no memory.
 fn told<'a>(alloc: Global, error: &Error) -> Result<Asked<'a>, AllocError> {
@@ -166,205 +157,36 @@ fn told<'a>(alloc: Global, error: &Error) -> Result<Asked<'a>, AllocError> {
     })
 }
 
-// What is wrong with a request, where clap takes it.
-fn fault_of(request: Request<'_>) -> Option<&'static str> {
-    match request {
-        Request::Verify { plan, cert, .. } if are_input(plan, cert) => Some(INPUT_TWICE),
-        Request::Capture { plan, vcd, .. } if are_input(plan, vcd) => Some(INPUT_TWICE),
-        Request::Page {
-            plan,
-            capture: Some(vcd),
-            ..
-        } if are_input(plan, vcd) => Some(INPUT_TWICE),
-        Request::Bench {
-            plan,
-            cert: Some(cert),
-            ..
-        } if are_input(plan, cert) => Some(INPUT_TWICE),
-        Request::Check {
-            wave: Some("-"),
-            ..
-        } => Some(NO_FILE),
-        Request::Bench {
-            wave: Some("-"),
-            ..
-        } => Some(NO_FILE),
-        Request::Bench { answers, .. } if !are_bits(answers) => Some(NOT_BITS),
-        _ => None,
-    }
-}
-
-fn are_bits(answers: &str) -> bool {
-    answers.bytes().all(|byte| byte == b'0' || byte == b'1')
-}
-
-fn are_input(one: &str, other: &str) -> bool {
-    is_input(one) && is_input(other)
-}
-
-fn is_input(path: &str) -> bool {
-    matches!(path, "-" | "/dev/stdin" | "/dev/fd/0" | "/proc/self/fd/0")
-}
-
 // ---- what clap found
 
-// The words for a command, as far as it takes them.
-#[derive(Clone, Copy)]
-struct Found<'a> {
-    plan: Option<&'a str>,
-    brief: Option<&'a str>,
-    cert: Option<&'a str>,
-    vcd: Option<&'a str>,
-    recorded: Option<&'a str>,
-    starters: Option<&'a str>,
-    workers: Option<u32>,
-    capture: Options<'a>,
-    fill: Option<&'a str>,
-    answers: Option<&'a str>,
-    rest: Option<&'a str>,
-    is_certified: bool,
-    explain: bool,
-    merge: bool,
-    most: Option<u32>,
-    wave: Option<&'a str>,
-    pair: Option<u32>,
-    output: Option<&'a str>,
-    hints: Option<&'a str>,
-    color: Option<&'a str>,
-    format: Option<&'a str>,
-}
-
-// There is no request where a word is missing, which clap refuses by itself, or one too many stands beside `--certify`.
-fn parse<'a>(alloc: Global, words: &'a [String]) -> Result<Option<(Request<'a>, Manner)>, Error> {
+fn parse<'a>(alloc: Global, words: &'a [String]) -> Result<Asked<'a>, Error> {
     let matches = program(alloc)?.try_get_matches_from(words)?;
+    match asked_of(&matches) {
+        Ok(asked) => Ok(asked),
+        Err(fault) => Err(error_of(alloc, fault)?),
+    }
+}
+
+fn error_of(alloc: Global, fault: &str) -> Result<Error, AllocError> {
+    program(alloc)?.error(ErrorKind::ValueValidation, fault)
+}
+
+fn asked_of<'a>(matches: &ArgMatches<'a>) -> Result<Asked<'a>, Fault> {
     let Some((name, matches)) = matches.subcommand() else {
-        return Ok(None);
+        return Err(TOO_MANY_WORDS);
     };
-    let found = found_in(matches);
-    if let Some(fault) = found.capture.fault() {
-        return Err(error_of(alloc, fault)?);
-    }
-    Ok(asked_of(name, found))
-}
-
-fn found_in<'a>(matches: &ArgMatches<'a>) -> Found<'a> {
-    Found {
-        plan: matches.get_str("PLAN"),
-        brief: matches.get_str("BRIEF"),
-        cert: matches.get_str("CERT"),
-        vcd: matches.get_str("VCD"),
-        recorded: matches.get_str("capture"),
-        starters: matches.get_str("STARTERS"),
-        workers: matches.get_one::<u32>("workers"),
-        capture: Options::found_in(matches),
-        fill: matches.get_str("fill"),
-        answers: matches.get_str("answers"),
-        rest: matches.get_str("rest"),
-        is_certified: matches.get_flag("certify"),
-        explain: matches.get_flag("explain"),
-        merge: matches.get_flag("merge"),
-        most: matches.get_one::<u32>("most"),
-        wave: matches.get_str("wave"),
-        pair: matches.get_one::<u32>("pair"),
-        output: output_of(matches.get_str("output")),
-        hints: matches.get_str("hints"),
-        color: matches.get_str("color"),
-        format: matches.get_str("format"),
-    }
-}
-
-// `-` is standard output.
-fn output_of(path: Option<&str>) -> Option<&str> {
-    path.filter(|path| *path != "-")
-}
-
-fn asked_of<'a>(name: &str, found: Found<'a>) -> Option<(Request<'a>, Manner)> {
-    let request = request_of(name, found)?;
-    let manner = Manner {
-        hints: when_of(found.hints),
-        colors: when_of(found.color),
-        is_json: found.format == Some("json"),
-    };
-    Some((request, manner))
-}
-
-fn request_of<'a>(name: &str, found: Found<'a>) -> Option<Request<'a>> {
-    Some(match name {
-        "check" => Request::Check {
-            plan: found.plan?,
-            workers: found.workers?,
-            explain: found.most.filter(|_| found.explain),
-            wave: found.wave,
-            pair: found.pair,
-        },
-        "certify" => Request::Certify {
-            plan: found.plan?,
-            output: found.output,
-        },
-        "verify" => Request::Verify {
-            plan: found.plan?,
-            cert: found.cert?,
-            explain: found.explain,
-        },
-        "order" => Request::Order { plan: found.plan? },
-        "capture" => Request::Capture {
-            plan: found.plan?,
-            vcd: found.vcd?,
-            lines: found.capture.lines(),
-            min_pulse: found.capture.min_pulse(),
-            view: found.capture.view(),
-            explain: found.explain,
-        },
-        "signals" => Request::Signals { vcd: found.vcd? },
-        "learn" => Request::Learn {
-            vcd: found.vcd?,
-            lines: found.capture.lines(),
-            merge: found.merge,
-            output: found.output,
-        },
-        "bench" => return bench_of(found),
-        "page" => Request::Page {
-            plan: found.plan?,
-            capture: found.recorded,
-            lines: found.capture.lines(),
-            output: found.output,
-        },
-        "expand" => Request::Expand {
-            brief: found.brief?,
-            output: found.output,
-        },
-        "print" => Request::Print {
-            plan: found.plan?,
-            output: found.output,
-        },
-        "brief" => Request::Brief {
-            plan: found.plan?,
-            output: found.output,
-        },
-        _ => return None,
+    Ok(Asked::Run {
+        request: request_of(name, matches)?,
+        manner: manner_of(matches),
     })
 }
 
-// With `--certify` the starters stand in the place of the certificate.
-fn bench_of<'a>(found: Found<'a>) -> Option<Request<'a>> {
-    let (cert, starters) = if found.is_certified {
-        match found.starters {
-            Some(_) => return None,
-            None => (None, found.cert?),
-        }
-    } else {
-        (found.cert, found.starters?)
-    };
-    Some(Request::Bench {
-        plan: found.plan?,
-        cert,
-        starters,
-        fill: found.fill? == "1",
-        answers: found.answers?,
-        rest: found.rest? == "1",
-        explain: found.explain,
-        wave: found.wave,
-    })
+fn manner_of(matches: &ArgMatches<'_>) -> Manner {
+    Manner {
+        hints: when_of(matches.get_str("hints")),
+        colors: when_of(matches.get_str("color")),
+        is_json: matches.get_str("format") == Some("json"),
+    }
 }
 
 fn when_of(word: Option<&str>) -> When {
@@ -373,4 +195,185 @@ fn when_of(word: Option<&str>) -> When {
         Some("never") => When::Never,
         _ => When::Auto,
     }
+}
+
+fn request_of<'a>(name: &str, matches: &ArgMatches<'a>) -> Result<Request<'a>, Fault> {
+    match name {
+        "check" => check_of(matches),
+        "verify" => verify_of(matches),
+        "order" => Ok(Request::Order {
+            plan: word(matches, "PLAN"),
+        }),
+        "signals" => Ok(Request::Signals {
+            vcd: word(matches, "VCD"),
+        }),
+        "capture" | "learn" | "page" => recorded_of(name, matches),
+        "bench" => bench_of(matches),
+        _ => Ok(written_of(name, matches)),
+    }
+}
+
+// A word of this name, which clap wants or has a default for.
+fn word<'a>(matches: &ArgMatches<'a>, name: &str) -> &'a str {
+    matches.get_str(name).unwrap_or("")
+}
+
+// `-` is standard output.
+fn output_of<'a>(matches: &ArgMatches<'a>) -> Option<&'a str> {
+    match matches.get_str("output") {
+        Some("-") => None,
+        path => path,
+    }
+}
+
+fn wave_of<'a>(matches: &ArgMatches<'a>) -> Result<Option<&'a str>, Fault> {
+    match matches.get_str("wave") {
+        Some("-") => Err(NO_FILE),
+        path => Ok(path),
+    }
+}
+
+fn check_of<'a>(matches: &ArgMatches<'a>) -> Result<Request<'a>, Fault> {
+    Ok(Request::Check {
+        plan: word(matches, "PLAN"),
+        workers: matches.get_one::<u32>("workers").unwrap_or(1),
+        explain: most_of(matches),
+        wave: wave_of(matches)?,
+        pair: matches.get_one::<u32>("pair"),
+    })
+}
+
+// How many unsafe pairs are to be explained.
+fn most_of(matches: &ArgMatches<'_>) -> Option<u32> {
+    if matches.get_flag("explain") {
+        matches.get_one::<u32>("most")
+    } else {
+        None
+    }
+}
+
+fn verify_of<'a>(matches: &ArgMatches<'a>) -> Result<Request<'a>, Fault> {
+    let plan = word(matches, "PLAN");
+    let cert = word(matches, "CERT");
+    refuse_input_twice(plan, cert)?;
+    Ok(Request::Verify {
+        plan,
+        cert,
+        explain: matches.get_flag("explain"),
+    })
+}
+
+// What writes a text for further runs.
+fn written_of<'a>(name: &str, matches: &ArgMatches<'a>) -> Request<'a> {
+    let plan = word(matches, "PLAN");
+    let output = output_of(matches);
+    match name {
+        "certify" => Request::Certify { plan, output },
+        "expand" => Request::Expand {
+            brief: word(matches, "BRIEF"),
+            output,
+        },
+        "brief" => Request::Brief { plan, output },
+        _ => Request::Print { plan, output },
+    }
+}
+
+// What reads a recorded bus.
+fn recorded_of<'a>(name: &str, matches: &ArgMatches<'a>) -> Result<Request<'a>, Fault> {
+    let options = Options::found_in(matches);
+    if let Some(fault) = options.fault() {
+        return Err(fault);
+    }
+    match name {
+        "capture" => capture_of(matches, &options),
+        "learn" => Ok(learn_of(matches, options.lines())),
+        _ => page_of(matches, options.lines()),
+    }
+}
+
+fn capture_of<'a>(matches: &ArgMatches<'a>, options: &Options<'a>) -> Result<Request<'a>, Fault> {
+    let plan = word(matches, "PLAN");
+    let vcd = word(matches, "VCD");
+    refuse_input_twice(plan, vcd)?;
+    Ok(Request::Capture {
+        plan,
+        vcd,
+        lines: options.lines(),
+        min_pulse: options.min_pulse(),
+        view: options.view(),
+        explain: matches.get_flag("explain"),
+    })
+}
+
+fn learn_of<'a>(matches: &ArgMatches<'a>, lines: Lines<'a>) -> Request<'a> {
+    Request::Learn {
+        vcd: word(matches, "VCD"),
+        lines,
+        merge: matches.get_flag("merge"),
+        output: output_of(matches),
+    }
+}
+
+fn page_of<'a>(matches: &ArgMatches<'a>, lines: Lines<'a>) -> Result<Request<'a>, Fault> {
+    let plan = word(matches, "PLAN");
+    let capture = matches.get_str("capture");
+    refuse_input_twice(plan, capture.unwrap_or(""))?;
+    Ok(Request::Page {
+        plan,
+        capture,
+        lines,
+        output: output_of(matches),
+    })
+}
+
+fn bench_of<'a>(matches: &ArgMatches<'a>) -> Result<Request<'a>, Fault> {
+    let plan = word(matches, "PLAN");
+    let (cert, starters) = cert_and_starters(matches)?;
+    refuse_input_twice(plan, cert.unwrap_or(""))?;
+    let wave = wave_of(matches)?;
+    Ok(Request::Bench {
+        plan,
+        cert,
+        starters,
+        fill: matches.get_str("fill") == Some("1"),
+        answers: answers_of(matches)?,
+        rest: matches.get_str("rest") == Some("1"),
+        explain: matches.get_flag("explain"),
+        wave,
+    })
+}
+
+// With `--certify` the starters stand in the place of the certificate.
+fn cert_and_starters<'a>(matches: &ArgMatches<'a>) -> Result<(Option<&'a str>, &'a str), Fault> {
+    let first = word(matches, "CERT");
+    match (matches.get_flag("certify"), matches.get_str("STARTERS")) {
+        (true, Some(_)) => Err(TOO_MANY_WORDS),
+        (true, None) => Ok((None, first)),
+        (false, starters) => Ok((Some(first), starters.unwrap_or(""))),
+    }
+}
+
+fn answers_of<'a>(matches: &ArgMatches<'a>) -> Result<&'a str, Fault> {
+    let answers = word(matches, "answers");
+    if are_bits(answers) {
+        Ok(answers)
+    } else {
+        Err(NOT_BITS)
+    }
+}
+
+fn are_bits(answers: &str) -> bool {
+    answers.bytes().all(|byte| byte == b'0' || byte == b'1')
+}
+
+fn refuse_input_twice(one: &str, other: &str) -> Result<(), Fault> {
+    if is_input(one) && is_input(other) {
+        Err(INPUT_TWICE)
+    } else {
+        Ok(())
+    }
+}
+
+fn is_input(path: &str) -> bool {
+    matches!(path, "-" | "/dev/stdin" | "/dev/fd/0" | "/proc/self/fd/0")
 }

@@ -5,7 +5,7 @@ use dump_tokens::Time;
 
 /// Which signals of a dump are the two lines of the bus: those of these names, in this scope where there is one, or those
 /// of these codes.
-#[derive(Clone, Copy, Debug)]
+#[derive(Clone, Copy)]
 pub struct Lines<'a> {
     pub scl: Line<'a>,
     pub sda: Line<'a>,
@@ -13,14 +13,14 @@ pub struct Lines<'a> {
 }
 
 /// How one of the two lines is found.
-#[derive(Clone, Copy, Debug)]
+#[derive(Clone, Copy)]
 pub enum Line<'a> {
     Named(&'a str),
     Coded(&'a str),
 }
 
 /// Which transactions are told, and how.
-#[derive(Clone, Copy, Debug)]
+#[derive(Clone, Copy)]
 pub struct View {
     /// How many Stopped transactions there are to be.
     pub at_least: Option<u32>,
