@@ -24,40 +24,53 @@ pub fn below_wire(
     wire: &str,
 ) -> Result<String, AllocError> {
     let wire = items_of(alloc, wire)?;
+    below_items(alloc, plan, starters, fill, wire.as_slice())
+}
+
+fn below_items(
+    alloc: Global,
+    plan: &Plan,
+    starters: &str,
+    fill: bool,
+    wire: &[Item],
+) -> Result<String, AllocError> {
     let mut rows = Vec::new(alloc);
     for label in starters.split(',') {
         if let Some(p) = plan.find(label) {
-            rows.push(row_of(alloc, plan, p, label, fill, wire.as_slice())?)?;
+            rows.push(row_of(alloc, plan, p, label, fill, wire)?)?;
         }
     }
+    below_rows(alloc, wire, rows.as_slice())
+}
+
+fn below_rows(alloc: Global, wire: &[Item], rows: &[Row<'_>]) -> Result<String, AllocError> {
     let mut below = Below::new(alloc);
-    push_blocks(alloc, &mut below, wire.as_slice(), rows.as_slice())?;
+    push_blocks(alloc, &mut below, wire, rows)?;
     Ok(below.finish())
 }
 
 // What a starter puts in each slot up to its end, as symbols.
 #[derive(Drop)]
-struct Row {
-    label: String,
+struct Row<'a> {
+    label: &'a str,
     symbols: String,
     // the slot in which it loses
     lost: Option<usize>,
 }
 
-fn row_of(
+fn row_of<'a>(
     alloc: Global,
     plan: &Plan,
     p: u32,
-    label: &str,
+    label: &'a str,
     fill: bool,
     wire: &[Item],
-) -> Result<Row, AllocError> {
+) -> Result<Row<'a>, AllocError> {
     let mut symbols = String::new(alloc);
     let mut lost = None;
     if p < plan.participants() {
         lost = push_symbols(&mut symbols, Place::start(plan.sends(p)), fill, wire)?;
     }
-    let label = String::from_str(alloc, label)?;
     Ok(Row {
         label,
         symbols,
@@ -102,7 +115,7 @@ fn push_blocks(
     alloc: Global,
     below: &mut Below,
     wire: &[Item],
-    rows: &[Row],
+    rows: &[Row<'_>],
 ) -> Result<(), AllocError> {
     let longest = rows.iter().map(|it| it.label.len()).max().unwrap_or(0);
     let columns = longest.saturating_add(2).clamp(6, LABELS);
@@ -140,15 +153,11 @@ fn push_block(
     columns: usize,
     wire: &[Item],
     block: &[Cell],
-    rows: &[Row],
+    rows: &[Row<'_>],
 ) -> Result<(), AllocError> {
-    let slots = slots_line(alloc, block)?;
-    below.hang("slot", columns, slots.as_str().trim_end())?;
-    let bytes = bytes_line(alloc, wire, block)?;
-    below.hang("byte", columns, bytes.as_str().trim_end())?;
-    let symbols = wire_symbols(alloc, wire)?;
-    let line = symbols_line(alloc, symbols.as_str(), block)?;
-    below.hang("wire", columns, line.as_str().trim_end())?;
+    push_slots(alloc, below, columns, block)?;
+    push_bytes(alloc, below, columns, wire, block)?;
+    push_wire(alloc, below, columns, wire, block)?;
     let first = block.first().map_or(0, |it| it.from);
     let is_last = block.last().is_some_and(|it| wire.len() <= it.end());
     for row in rows {
@@ -159,26 +168,60 @@ fn push_block(
     Ok(())
 }
 
-fn slots_line(alloc: Global, block: &[Cell]) -> Result<String, AllocError> {
+fn push_slots(
+    alloc: Global,
+    below: &mut Below,
+    columns: usize,
+    block: &[Cell],
+) -> Result<(), AllocError> {
     let mut line = String::new(alloc);
     for cell in block {
-        let number = format!(in alloc; "{}", cell.from)?;
-        pad(
-            &mut line,
-            if cell.is_byte() { number.as_str() } else { "" },
-            cell.size,
-        )?;
+        push_slot(alloc, &mut line, cell)?;
     }
-    Ok(line)
+    below.hang("slot", columns, line.as_str().trim_end())
 }
 
-fn bytes_line(alloc: Global, wire: &[Item], block: &[Cell]) -> Result<String, AllocError> {
+fn push_slot(alloc: Global, line: &mut String, cell: &Cell) -> Result<(), AllocError> {
+    if !cell.is_byte() {
+        return pad(line, "", cell.size);
+    }
+    let number = format!(in alloc; "{}", cell.from)?;
+    pad(line, number.as_str(), cell.size)
+}
+
+fn push_bytes(
+    alloc: Global,
+    below: &mut Below,
+    columns: usize,
+    wire: &[Item],
+    block: &[Cell],
+) -> Result<(), AllocError> {
     let mut line = String::new(alloc);
     for cell in block {
-        let words = cell.words(alloc, wire)?;
-        pad(&mut line, words.as_str(), cell.size)?;
+        push_words(alloc, &mut line, wire, cell)?;
     }
-    Ok(line)
+    below.hang("byte", columns, line.as_str().trim_end())
+}
+
+fn push_words(
+    alloc: Global,
+    line: &mut String,
+    wire: &[Item],
+    cell: &Cell,
+) -> Result<(), AllocError> {
+    let words = cell.words(alloc, wire)?;
+    pad(line, words.as_str(), cell.size)
+}
+
+fn push_wire(
+    alloc: Global,
+    below: &mut Below,
+    columns: usize,
+    wire: &[Item],
+    block: &[Cell],
+) -> Result<(), AllocError> {
+    let symbols = wire_symbols(alloc, wire)?;
+    push_symbols_of(alloc, below, columns, symbols.as_str(), block)
 }
 
 fn wire_symbols(alloc: Global, wire: &[Item]) -> Result<String, AllocError> {
@@ -187,6 +230,17 @@ fn wire_symbols(alloc: Global, wire: &[Item]) -> Result<String, AllocError> {
         symbols.push(item.symbol())?;
     }
     Ok(symbols)
+}
+
+fn push_symbols_of(
+    alloc: Global,
+    below: &mut Below,
+    columns: usize,
+    symbols: &str,
+    block: &[Cell],
+) -> Result<(), AllocError> {
+    let line = symbols_line(alloc, symbols, block)?;
+    below.hang("wire", columns, line.as_str().trim_end())
 }
 
 fn symbols_line(alloc: Global, symbols: &str, block: &[Cell]) -> Result<String, AllocError> {
@@ -205,16 +259,38 @@ fn push_row(
     below: &mut Below,
     columns: usize,
     block: &[Cell],
-    row: &Row,
+    row: &Row<'_>,
     is_last: bool,
 ) -> Result<(), AllocError> {
     let line = symbols_line(alloc, row.symbols.as_str(), block)?;
     let shown = line.as_str().trim_end();
     let end = block.last().map_or(0, |it| it.end());
-    let words = match row.lost {
-        Some(slot) if slot < end => format!(in alloc; "{shown}  lost in slot {slot}")?,
-        None if is_last => format!(in alloc; "{shown}  won")?,
-        _ => String::from_str(alloc, shown)?,
-    };
-    below.hang(row.label.as_str(), columns, words.as_str())
+    match row.lost {
+        Some(slot) if slot < end => push_lost(alloc, below, columns, row.label, shown, slot),
+        None if is_last => push_won(alloc, below, columns, row.label, shown),
+        _ => below.hang(row.label, columns, shown),
+    }
+}
+
+fn push_lost(
+    alloc: Global,
+    below: &mut Below,
+    columns: usize,
+    label: &str,
+    shown: &str,
+    slot: usize,
+) -> Result<(), AllocError> {
+    let words = format!(in alloc; "{shown}  lost in slot {slot}")?;
+    below.hang(label, columns, words.as_str())
+}
+
+fn push_won(
+    alloc: Global,
+    below: &mut Below,
+    columns: usize,
+    label: &str,
+    shown: &str,
+) -> Result<(), AllocError> {
+    let words = format!(in alloc; "{shown}  won")?;
+    below.hang(label, columns, words.as_str())
 }

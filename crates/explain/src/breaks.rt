@@ -30,6 +30,29 @@ pub(crate) fn where_it_breaks(
     y: u32,
     line: &[u8],
 ) -> Result<String, AllocError> {
+    match break_of(alloc, plan, x, y, line)? {
+        Some(Break { word, slot, reason }) => {
+            format!(in alloc; "it breaks off at word {word}, in slot {slot}: {reason}")
+        }
+        None => String::from_str(alloc, "it breaks off at its end"),
+    }
+}
+
+// A word that does not prove what it stands for, by its number.
+#[derive(Clone, Copy)]
+struct Break {
+    word: u32,
+    slot: u32,
+    reason: Reason,
+}
+
+fn break_of(
+    alloc: Global,
+    plan: &Plan,
+    x: u32,
+    y: u32,
+    line: &[u8],
+) -> Result<Option<Break>, AllocError> {
     let mut left = Vec::new(alloc);
     if x < plan.participants() && y < plan.participants() {
         left.push(Both {
@@ -39,23 +62,49 @@ pub(crate) fn where_it_breaks(
             are_reads: false,
         })?;
     }
+    first_break(&mut left, line)
+}
+
+fn first_break(left: &mut Vec<Both<'_>>, line: &[u8]) -> Result<Option<Break>, AllocError> {
     let mut number = 0u32;
     for word in line.split(|byte| *byte == b' ') {
         number = number.saturating_add(1);
         let Some(both) = left.pop() else {
             break;
         };
-        let ends = ended(both);
-        if let Err(reason) = proves(&mut left, both, ends, word)? {
-            let slot = slot_of(both, ends, word);
-            return format!(in alloc; "it breaks off at word {number}, in slot {slot}: {reason}");
+        if let Some((slot, reason)) = broken(left, both, word)? {
+            return Ok(Some(Break {
+                word: number,
+                slot,
+                reason,
+            }));
         }
     }
-    String::from_str(alloc, "it breaks off at its end")
+    Ok(None)
 }
 
-// What a word of a proof comes to.
+// In which slot a word does not prove what it stands for, and why. What further words are to prove is left to them.
+fn broken<'a>(
+    left: &mut Vec<Both<'a>>,
+    both: Both<'a>,
+    word: &[u8],
+) -> Result<Option<(u32, Reason)>, AllocError> {
+    if let b"R" = word {
+        return Ok(at(both.slot, apart_by_reads(both)));
+    }
+    let Some(ends) = ended(both) else {
+        let reason = "the two never read the same number of bytes";
+        return Ok(Some((both.slot, reason)));
+    };
+    Ok(at(ends.slot, unproved(left, ends, word)?))
+}
+
+// Why a word does not prove what it stands for, where it does not.
 type Reason = &'static str;
+
+fn at(slot: u32, reason: Option<Reason>) -> Option<(u32, Reason)> {
+    Some((slot, reason?))
+}
 
 // The two where a word other than `R` is to prove something: two reads are gone through to their end, where there is one.
 fn ended<'a>(both: Both<'a>) -> Option<Both<'a>> {
@@ -66,55 +115,77 @@ fn ended<'a>(both: Both<'a>) -> Option<Both<'a>> {
     }
 }
 
-// In which slot the two are of which a word speaks.
-fn slot_of(both: Both<'_>, ends: Option<Both<'_>>, word: &[u8]) -> u32 {
-    match (word, ends) {
-        (b"R", _) | (_, None) => both.slot,
-        (_, Some(ends)) => ends.slot,
+// The word `R`: the two never read the same number of bytes.
+fn apart_by_reads(both: Both<'_>) -> Option<Reason> {
+    if !both.are_reads {
+        Some("a proof has no such word there")
+    } else if after_reads(both).is_some() {
+        Some("both may read the same number of bytes")
+    } else {
+        None
     }
 }
 
-// Whether a word proves what it stands for, or why not. What further words are to prove is left to them.
-fn proves<'a>(
+fn unproved<'a>(
     left: &mut Vec<Both<'a>>,
     both: Both<'a>,
-    ends: Option<Both<'a>>,
     word: &[u8],
-) -> Result<Result<(), Reason>, AllocError> {
-    match (word, ends) {
-        (b"R", None) => Ok(Ok(())),
-        (b"R", Some(_)) if both.are_reads => Ok(Err("both may read the same number of bytes")),
-        (_, None) => Ok(Err("the two never read the same number of bytes")),
-        (b"B", Some(both)) => proves_bytes(left, both, false),
-        (b"D", Some(both)) => proves_bytes(left, both, true),
-        (b"S", Some(both)) => proves_frames(left, both),
-        (b".", Some(both)) => Ok(proves_stops(both)),
-        ([b'P', digit], Some(both)) => Ok(proves_split(both, digit.wrapping_sub(b'0'))),
-        _ => Ok(Err("a proof has no such word there")),
+) -> Result<Option<Reason>, AllocError> {
+    match word {
+        b"B" => push_answers(left, both, false),
+        b"D" => push_answers(left, both, true),
+        b"S" => push_frames(left, both),
+        b"." => Ok(unstopped(both)),
+        [b'P', digit] => Ok(unsplit(both, digit.wrapping_sub(b'0'))),
+        _ => Ok(Some("a proof has no such word there")),
     }
 }
 
 // Two bytes that are written, or two headers of reads: what follows both answers is left.
-fn proves_bytes<'a>(
+fn push_answers<'a>(
     left: &mut Vec<Both<'a>>,
     both: Both<'a>,
     are_reads: bool,
-) -> Result<Result<(), Reason>, AllocError> {
+) -> Result<Option<Reason>, AllocError> {
     let wrong = if are_reads {
-        Err("the two do not both read there")
+        "the two do not both read there"
     } else {
-        Err("the two do not both write a byte there")
+        "the two do not both write a byte there"
     };
-    let refused = answered(both, true, false);
-    let acked = answered(both, false, are_reads);
-    match (acked, refused) {
-        (Some(acked), Some(refused))
-            if listens(acked.first) == are_reads && listens(acked.second) == are_reads => {
-            left.push(refused)?;
-            left.push(acked)?;
-            Ok(Ok(()))
+    match push_next(left, answered(both, true), wrong)? {
+        Some(wrong) => Ok(Some(wrong)),
+        None => push_next(left, acknowledged(both, are_reads), wrong),
+    }
+}
+
+// Two repeated STARTs: the frames after them are left.
+fn push_frames<'a>(left: &mut Vec<Both<'a>>, both: Both<'a>) -> Result<Option<Reason>, AllocError> {
+    let wrong = "the two do not both send a repeated START there";
+    push_next(left, after_item(both, Item::Again), wrong)
+}
+
+fn push_next<'a>(
+    left: &mut Vec<Both<'a>>,
+    next: Option<Both<'a>>,
+    wrong: Reason,
+) -> Result<Option<Reason>, AllocError> {
+    match next {
+        Some(next) => {
+            left.push(next)?;
+            Ok(None)
         }
-        _ => Ok(wrong),
+        None => Ok(Some(wrong)),
+    }
+}
+
+// The two after a byte that each sends and its acknowledge, where both or none then listen to a read.
+fn acknowledged<'a>(both: Both<'a>, are_reads: bool) -> Option<Both<'a>> {
+    let mut next = answered(both, false)?;
+    next.are_reads = are_reads;
+    if listens(next.first) == are_reads && listens(next.second) == are_reads {
+        Some(next)
+    } else {
+        None
     }
 }
 
@@ -123,12 +194,22 @@ fn listens(place: Place<'_>) -> bool {
 }
 
 // The two after a byte that each sends and this answer to it.
-fn answered<'a>(both: Both<'a>, answer: bool, are_reads: bool) -> Option<Both<'a>> {
+fn answered<'a>(both: Both<'a>, answer: bool) -> Option<Both<'a>> {
     Some(Both {
         first: after_answer(both.first, answer)?,
         second: after_answer(both.second, answer)?,
         slot: both.slot.saturating_add(9),
-        are_reads,
+        are_reads: false,
+    })
+}
+
+// The two after an item of one slot, where it may come next in both.
+fn after_item<'a>(both: Both<'a>, item: Item) -> Option<Both<'a>> {
+    Some(Both {
+        first: after(&both.first, item)?,
+        second: after(&both.second, item)?,
+        slot: both.slot.saturating_add(1),
+        are_reads: false,
     })
 }
 
@@ -149,44 +230,26 @@ fn after_bits<'a>(start: Place<'a>, bits: u32) -> Option<Place<'a>> {
     Some(place)
 }
 
-// Two repeated STARTs: the frames after them are left.
-fn proves_frames<'a>(
-    left: &mut Vec<Both<'a>>,
-    both: Both<'a>,
-) -> Result<Result<(), Reason>, AllocError> {
-    match (
-        after(&both.first, Item::Again),
-        after(&both.second, Item::Again),
-    ) {
-        (Some(first), Some(second)) => {
-            left.push(Both {
-                first,
-                second,
-                slot: both.slot.saturating_add(1),
-                are_reads: false,
-            })?;
-            Ok(Ok(()))
-        }
-        _ => Ok(Err("the two do not both send a repeated START there")),
-    }
-}
-
-fn proves_stops(both: Both<'_>) -> Result<(), Reason> {
+fn unstopped(both: Both<'_>) -> Option<Reason> {
     if both.first.offered() == Offered::Stop && both.second.offered() == Offered::Stop {
-        Ok(())
+        None
     } else {
-        Err("the two do not both send a STOP there")
+        Some("the two do not both send a STOP there")
     }
 }
 
-fn proves_split(both: Both<'_>, bit: u8) -> Result<(), Reason> {
-    let wrong = Err("no bit of this number is known in both and different there");
-    if u32::from(bit) >= BITS {
-        return wrong;
+fn unsplit(both: Both<'_>, bit: u8) -> Option<Reason> {
+    if u32::from(bit) < BITS && differ(both, bit) {
+        None
+    } else {
+        Some("no bit of this number is known in both and different there")
     }
+}
+
+fn differ(both: Both<'_>, bit: u8) -> bool {
     match (known_bit(both.first, bit), known_bit(both.second, bit)) {
-        (Some(first), Some(second)) if first != second => Ok(()),
-        _ => wrong,
+        (Some(first), Some(second)) => first != second,
+        _ => false,
     }
 }
 
@@ -203,24 +266,11 @@ fn known_bit(start: Place<'_>, bit: u8) -> Option<bool> {
 fn after_reads<'a>(both: Both<'a>) -> Option<Both<'a>> {
     let mut now = both;
     for _ in 0..BYTES {
-        now = heard(now)?;
-        let may_end = may(now, true);
-        let slot = now.slot.saturating_add(1);
-        if let Some((first, second)) = may_end {
-            return Some(Both {
-                first,
-                second,
-                slot,
-                are_reads: false,
-            });
+        let heard = heard(now)?;
+        if let Some(ended) = after_item(heard, Item::Sent(true)) {
+            return Some(ended);
         }
-        let (first, second) = may(now, false)?;
-        now = Both {
-            first,
-            second,
-            slot,
-            are_reads: true,
-        };
+        now = after_item(heard, Item::Sent(false))?;
     }
     None
 }
@@ -229,19 +279,7 @@ fn after_reads<'a>(both: Both<'a>) -> Option<Both<'a>> {
 fn heard<'a>(both: Both<'a>) -> Option<Both<'a>> {
     let mut now = both;
     for _ in 0..BITS {
-        now = Both {
-            first: after(&now.first, Item::Heard(false))?,
-            second: after(&now.second, Item::Heard(false))?,
-            slot: now.slot.saturating_add(1),
-            are_reads: true,
-        };
+        now = after_item(now, Item::Heard(false))?;
     }
     Some(now)
-}
-
-// The two after this acknowledge of their own, where both may send it.
-fn may<'a>(both: Both<'a>, bit: bool) -> Option<(Place<'a>, Place<'a>)> {
-    let first = after(&both.first, Item::Sent(bit))?;
-    let second = after(&both.second, Item::Sent(bit))?;
-    Some((first, second))
 }

@@ -23,17 +23,31 @@ pub fn below_transaction(
     is_unexplained: bool,
 ) -> Result<String, AllocError> {
     let mut below = Below::new(alloc);
-    let transaction = &heard.transaction;
-    let marks = transaction.marks.as_slice();
-    let words = words_of(alloc, marks)?;
-    below.hang("", 0, words.as_str())?;
-    if let Until::Stopped(_) = transaction.until {
-        push_glitch(alloc, &mut below, marks, heard.following)?;
+    push_transaction(alloc, &mut below, plan, heard, is_unexplained)?;
+    Ok(below.finish())
+}
+
+fn push_transaction(
+    alloc: Global,
+    below: &mut Below,
+    plan: &Plan,
+    heard: &Heard,
+    is_unexplained: bool,
+) -> Result<(), AllocError> {
+    let marks = heard.transaction.marks.as_slice();
+    push_words(alloc, below, marks)?;
+    if let Until::Stopped(_) = heard.transaction.until {
+        push_glitch(alloc, below, marks, heard.following)?;
         if is_unexplained {
-            push_nearest(alloc, &mut below, plan, marks)?;
+            push_nearest(alloc, below, plan, marks)?;
         }
     }
-    Ok(below.finish())
+    Ok(())
+}
+
+fn push_words(alloc: Global, below: &mut Below, marks: &[Mark]) -> Result<(), AllocError> {
+    let words = words_of(alloc, marks)?;
+    below.hang("", 0, words.as_str())
 }
 
 fn words_of(alloc: Global, marks: &[Mark]) -> Result<String, AllocError> {
@@ -53,18 +67,24 @@ fn push_glitch(
 ) -> Result<(), AllocError> {
     let bits = last_bits(marks);
     if bits != 0 {
-        let words = format!(in alloc;
-            "the STOP comes after {bits} of a byte's nine bits: is it a glitch?"
-        )?;
-        below.say(words.as_str())?;
+        push_cut(alloc, below, bits)?;
     }
     if following != 0 {
-        let words = format!(in alloc;
-            "{following} bits follow on a free bus: is the STOP a glitch?"
-        )?;
-        below.say(words.as_str())?;
+        push_following(alloc, below, following)?;
     }
     Ok(())
+}
+
+fn push_cut(alloc: Global, below: &mut Below, bits: usize) -> Result<(), AllocError> {
+    let words = format!(in alloc;
+        "the STOP comes after {bits} of a byte's nine bits: is it a glitch?"
+    )?;
+    below.say(words.as_str())
+}
+
+fn push_following(alloc: Global, below: &mut Below, following: u64) -> Result<(), AllocError> {
+    let words = format!(in alloc; "{following} bits follow on a free bus: is the STOP a glitch?")?;
+    below.say(words.as_str())
 }
 
 // How many bits of a byte that is not whole come before the STOP at the end.
@@ -117,12 +137,23 @@ fn nearest(alloc: Global, plan: &Plan, marks: &[Mark]) -> Result<Vec<Leaves>, Al
 }
 
 fn insert(nearest: &mut Vec<Leaves>, new: Leaves) -> Result<(), AllocError> {
-    let before = nearest.iter().filter(|it| it.slot >= new.slot).count();
+    let before = count_not_before(nearest.as_slice(), new.slot);
     if before < NEAREST {
         nearest.insert(before.min(nearest.len()), new)?;
         nearest.truncate(NEAREST);
     }
     Ok(())
+}
+
+// How many leave in this slot or a later one.
+fn count_not_before(nearest: &[Leaves], slot: usize) -> usize {
+    let mut count = 0usize;
+    for near in nearest {
+        if slot <= near.slot {
+            count = count.saturating_add(1);
+        }
+    }
+    count
 }
 
 // In which slot somebody leaves these marks, and what it does there.
@@ -155,15 +186,17 @@ fn push_leaves(
     marks: &[Mark],
     near: Leaves,
 ) -> Result<(), AllocError> {
-    let label = label_of(alloc, plan, near.participant)?;
-    let words = format!(in alloc;
-        "{} leaves at slot {}: {} there, the wire has {}",
-        label.as_str(),
-        near.slot,
-        does(near.offered),
-        shown(marks.get(near.slot))
-    )?;
+    let mut words = label_of(alloc, plan, near.participant)?;
+    push_leaving(&mut words, near, marks.get(near.slot))?;
     below.say(words.as_str())
+}
+
+fn push_leaving(words: &mut String, near: Leaves, mark: Option<&Mark>) -> Result<(), AllocError> {
+    let slot = near.slot;
+    write!(words, " leaves at slot {slot}: ")?;
+    words.push_str(does(near.offered))?;
+    words.push_str(" there, the wire has ")?;
+    words.push_str(shown(mark))
 }
 
 fn does(offered: Offered) -> &'static str {

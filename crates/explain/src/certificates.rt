@@ -15,44 +15,55 @@ pub fn below_answer(
     line: &str,
 ) -> Result<String, AllocError> {
     let mut below = Below::new(alloc);
-    if !line.starts_with("wrong") {
-        return Ok(below.finish());
+    if line.starts_with("wrong") {
+        push_wrong(alloc, &mut below, plan, cert, line)?;
     }
-    if let Some(pair) = pair_of(plan, line) {
-        push_pair(alloc, &mut below, plan, cert, pair)?;
-    }
-    if line == "wrong C2" {
-        push_counts(alloc, &mut below, plan, cert)?;
-    }
-    below.say("a plan that was changed wants a new certificate: twire certify PLAN")?;
     Ok(below.finish())
 }
 
-fn push_pair(
+fn push_wrong(
     alloc: Global,
     below: &mut Below,
     plan: &Plan,
     cert: &[u8],
-    pair: Pair,
+    line: &str,
 ) -> Result<(), AllocError> {
-    let Pair {
-        number,
-        first: x,
-        second: y,
-    } = pair;
-    let first = label_of(alloc, plan, x)?;
-    let second = label_of(alloc, plan, y)?;
-    let words = format!(in alloc;
-        "pair {number} is {} and {}: what the certificate says of them is not so",
-        first.as_str(),
-        second.as_str()
-    )?;
-    below.say(words.as_str())?;
-    if let Some(line) = proof_line(cert, number) {
-        let words = where_it_breaks(alloc, plan, x, y, line)?;
-        below.say(words.as_str())?;
+    if let Some(pair) = pair_of(plan, line) {
+        push_pair(alloc, below, plan, pair)?;
+        if let Some(proof) = proof_line(cert, pair.number) {
+            push_break(alloc, below, plan, pair, proof)?;
+        }
     }
-    Ok(())
+    if line == "wrong C2" {
+        push_counts(alloc, below, plan, cert)?;
+    }
+    below.say("a plan that was changed wants a new certificate: twire certify PLAN")
+}
+
+fn push_pair(alloc: Global, below: &mut Below, plan: &Plan, pair: Pair) -> Result<(), AllocError> {
+    let number = pair.number;
+    let mut words = format!(in alloc; "pair {number} is ")?;
+    push_label(alloc, &mut words, plan, pair.first)?;
+    words.push_str(" and ")?;
+    push_label(alloc, &mut words, plan, pair.second)?;
+    words.push_str(": what the certificate says of them is not so")?;
+    below.say(words.as_str())
+}
+
+fn push_label(alloc: Global, words: &mut String, plan: &Plan, p: u32) -> Result<(), AllocError> {
+    let label = label_of(alloc, plan, p)?;
+    words.push_str(label.as_str())
+}
+
+fn push_break(
+    alloc: Global,
+    below: &mut Below,
+    plan: &Plan,
+    pair: Pair,
+    proof: &[u8],
+) -> Result<(), AllocError> {
+    let words = where_it_breaks(alloc, plan, pair.first, pair.second, proof)?;
+    below.say(words.as_str())
 }
 
 // The line of a pair's proof, where the text has proofs.
@@ -68,14 +79,20 @@ fn push_counts(
     plan: &Plan,
     cert: &[u8],
 ) -> Result<(), AllocError> {
-    let lines = cert
-        .iter()
-        .filter(|byte| **byte == b'\n')
-        .count()
-        .saturating_sub(2);
+    let pairs = plan.pair_count();
+    let lines = count_lines(cert).saturating_sub(2);
     let words = format!(in alloc;
-        "the plan has {} pairs, and the certificate has {lines} lines of proofs",
-        plan.pair_count()
+        "the plan has {pairs} pairs, and the certificate has {lines} lines of proofs"
     )?;
     below.say(words.as_str())
+}
+
+fn count_lines(text: &[u8]) -> usize {
+    let mut lines = 0usize;
+    for byte in text {
+        if *byte == b'\n' {
+            lines = lines.saturating_add(1);
+        }
+    }
+    lines
 }

@@ -29,6 +29,19 @@ pub fn below_pair(alloc: Global, plan: &Plan, line: &str) -> Result<String, Allo
     Ok(below.finish())
 }
 
+// One of the two: its label, and what it does along the wire.
+#[derive(Drop)]
+struct Side {
+    label: String,
+    row: Followed,
+}
+
+fn side_of(alloc: Global, plan: &Plan, p: u32, wire: &[Item]) -> Result<Side, AllocError> {
+    let label = label_of(alloc, plan, p)?;
+    let row = follow_wire(alloc, plan, p, wire)?;
+    Ok(Side { label, row })
+}
+
 fn push_meeting(
     alloc: Global,
     plan: &Plan,
@@ -36,23 +49,44 @@ fn push_meeting(
     meeting: &Meeting,
 ) -> Result<(), AllocError> {
     let wire = meeting.wire.as_slice();
-    let first = label_of(alloc, plan, meeting.pair.first)?;
-    let second = label_of(alloc, plan, meeting.pair.second)?;
-    let columns = first
+    let one = side_of(alloc, plan, meeting.pair.first, wire)?;
+    let other = side_of(alloc, plan, meeting.pair.second, wire)?;
+    push_sides(alloc, below, wire, &one, &other)
+}
+
+fn push_sides(
+    alloc: Global,
+    below: &mut Below,
+    wire: &[Item],
+    one: &Side,
+    other: &Side,
+) -> Result<(), AllocError> {
+    let columns = columns_for(one.label.as_str(), other.label.as_str());
+    let width = one.row.words.len().max(other.row.words.len());
+    push_bus(alloc, below, columns, wire)?;
+    push_row(alloc, below, columns, one, width)?;
+    push_row(alloc, below, columns, other, width)?;
+    push_reason(alloc, below, wire.len(), one.row.next, other.row.next)?;
+    push_open(alloc, below, one)?;
+    push_open(alloc, below, other)
+}
+
+fn columns_for(first: &str, second: &str) -> usize {
+    first
         .len()
         .max(second.len())
         .saturating_add(2)
-        .clamp(5, LABELS);
-    let bus = bus_words(alloc, wire)?;
-    below.row("bus", columns, bus.as_str())?;
-    let one = follow_wire(alloc, plan, meeting.pair.first, wire)?;
-    let other = follow_wire(alloc, plan, meeting.pair.second, wire)?;
-    let width = one.words.len().max(other.words.len());
-    push_row(alloc, below, first.as_str(), columns, &one, width)?;
-    push_row(alloc, below, second.as_str(), columns, &other, width)?;
-    push_reason(alloc, below, wire.len(), one.next, other.next)?;
-    push_open(alloc, below, first.as_str(), &one)?;
-    push_open(alloc, below, second.as_str(), &other)
+        .clamp(5, LABELS)
+}
+
+fn push_bus(
+    alloc: Global,
+    below: &mut Below,
+    columns: usize,
+    wire: &[Item],
+) -> Result<(), AllocError> {
+    let words = bus_words(alloc, wire)?;
+    below.row("bus", columns, words.as_str())
 }
 
 fn bus_words(alloc: Global, wire: &[Item]) -> Result<String, AllocError> {
@@ -66,19 +100,19 @@ fn bus_words(alloc: Global, wire: &[Item]) -> Result<String, AllocError> {
 fn push_row(
     alloc: Global,
     below: &mut Below,
-    label: &str,
     columns: usize,
-    row: &Followed,
+    side: &Side,
     width: usize,
 ) -> Result<(), AllocError> {
-    let mut words = String::from_str(alloc, row.words.as_str())?;
-    if width <= room_after(columns).saturating_sub(NEXT) {
-        for _ in row.words.len()..width {
-            words.push(' ')?;
-        }
-    }
-    write!(words, "  next: {}", deed(row.next))?;
-    below.row(label, columns, words.as_str())
+    let words = side.row.words.as_str();
+    let filled = if width <= room_after(columns).saturating_sub(NEXT) {
+        width
+    } else {
+        words.len()
+    };
+    let deed = deed(side.row.next);
+    let line = format!(in alloc; "{words:filled$}  next: {deed}")?;
+    below.row(side.label.as_str(), columns, line.as_str())
 }
 
 fn push_reason(
@@ -88,11 +122,11 @@ fn push_reason(
     first: Offered,
     second: Offered,
 ) -> Result<(), AllocError> {
+    let source = source(first, second);
+    let first = deed(first);
+    let second = deed(second);
     let reason = format!(in alloc;
-        "slot {slot}, {}: {} meets {}. Both send alike until here.",
-        source(first, second),
-        deed(first),
-        deed(second)
+        "slot {slot}, {source}: {first} meets {second}. Both send alike until here."
     )?;
     below.say(reason.as_str())
 }
@@ -106,25 +140,25 @@ fn source(first: Offered, second: Offered) -> &'static str {
     }
 }
 
-fn push_open(
-    alloc: Global,
-    below: &mut Below,
-    label: &str,
-    row: &Followed,
-) -> Result<(), AllocError> {
-    if row.open.is_empty() {
+fn push_open(alloc: Global, below: &mut Below, side: &Side) -> Result<(), AllocError> {
+    if side.row.open.is_empty() {
         return Ok(());
     }
-    let mut words = format!(in alloc; "{label} may send either bit before it in slot")?;
-    for (k, (from, to)) in row.open.iter().enumerate() {
+    let mut words = String::from_str(alloc, side.label.as_str())?;
+    push_ranges(&mut words, side.row.open.as_slice())?;
+    below.say(words.as_str())
+}
+
+fn push_ranges(words: &mut String, open: &[(usize, usize)]) -> Result<(), AllocError> {
+    words.push_str(" may send either bit before it in slot")?;
+    for (k, (from, to)) in open.iter().enumerate() {
         if k == RANGES {
-            words.push_str(", ..")?;
-            break;
+            return words.push_str(", ..");
         }
         words.push_str(if k == 0 { " " } else { ", " })?;
-        push_range(&mut words, *from, *to)?;
+        push_range(words, *from, *to)?;
     }
-    below.say(words.as_str())
+    Ok(())
 }
 
 fn push_range(words: &mut String, from: usize, to: usize) -> Result<(), AllocError> {
@@ -145,16 +179,31 @@ pub fn below_unsafe(
     nevers: &[(u32, u32)],
 ) -> Result<String, AllocError> {
     let mut below = Below::new(alloc);
-    let mut words = String::from_str(alloc, mends(pairs.len()))?;
+    push_mends(alloc, &mut below, plan, pairs.len(), nevers)?;
+    push_with_interrupts(alloc, &mut below, plan, pairs)?;
+    Ok(below.finish())
+}
+
+fn push_mends(
+    alloc: Global,
+    below: &mut Below,
+    plan: &Plan,
+    pairs: usize,
+    nevers: &[(u32, u32)],
+) -> Result<(), AllocError> {
+    let mut words = String::from_str(alloc, mends(pairs))?;
+    push_nevers(&mut words, plan, nevers)?;
+    below.say(words.as_str())
+}
+
+fn push_nevers(words: &mut String, plan: &Plan, nevers: &[(u32, u32)]) -> Result<(), AllocError> {
     if !nevers.is_empty() {
         words.push_str("; or")?;
     }
     for (c, d) in nevers {
-        push_never(&mut words, plan, *c, *d)?;
+        push_never(words, plan, *c, *d)?;
     }
-    below.say(words.as_str())?;
-    push_with_interrupts(alloc, &mut below, plan, pairs)?;
-    Ok(below.finish())
+    Ok(())
 }
 
 fn mends(pairs: usize) -> &'static str {
@@ -181,23 +230,43 @@ fn push_with_interrupts(
     plan: &Plan,
     pairs: &[u32],
 ) -> Result<(), AllocError> {
-    let count = pairs.iter().filter(|it| has_interrupt(plan, **it)).count();
+    let count = count_with_interrupts(plan, pairs);
     if count == 0 {
         return Ok(());
     }
     let mut words = String::from_str(alloc, "no 'never' keeps an interrupt away:")?;
-    for (k, pair) in pairs
-        .iter()
-        .filter(|it| has_interrupt(plan, **it))
-        .enumerate()
-    {
-        if k == RANGES {
-            write!(words, " and {} more", count.saturating_sub(k))?;
-            break;
+    push_first_pairs(&mut words, plan, pairs, count)?;
+    below.say(words.as_str())
+}
+
+fn count_with_interrupts(plan: &Plan, pairs: &[u32]) -> usize {
+    let mut count = 0usize;
+    for pair in pairs {
+        if has_interrupt(plan, *pair) {
+            count = count.saturating_add(1);
+        }
+    }
+    count
+}
+
+fn push_first_pairs(
+    words: &mut String,
+    plan: &Plan,
+    pairs: &[u32],
+    count: usize,
+) -> Result<(), AllocError> {
+    let mut left = count;
+    for pair in pairs {
+        if !has_interrupt(plan, *pair) {
+            continue;
+        }
+        if count.saturating_sub(left) == RANGES {
+            return write!(words, " and {left} more");
         }
         write!(words, " pair {pair}")?;
+        left = left.saturating_sub(1);
     }
-    below.say(words.as_str())
+    Ok(())
 }
 
 // Interrupts come after all sendings, so where a pair has one its second participant is one.

@@ -15,15 +15,11 @@ pub struct Heard {
 /// The transactions of what was read so far.
 #[derive(Drop)]
 pub struct Notes {
-    alloc: Global,
     // None once the dump was refused: whoever reads it says so
     dump: Option<Reader>,
-    watch: Watch,
-    listener: Listener,
-    heard: Vec<Heard>,
-    is_free: bool,
     // where short levels are left out
     pulses: Option<Pulses>,
+    ear: Ear,
 }
 
 impl Notes {
@@ -34,19 +30,11 @@ impl Notes {
         sda: Probe<'_>,
         least: u64,
     ) -> Result<Notes, AllocError> {
-        let pulses = if least == 0 {
-            None
-        } else {
-            Some(Pulses::new(alloc, least))
-        };
+        let dump = Reader::of(alloc, scl, sda)?;
         Ok(Notes {
-            alloc,
-            dump: Some(Reader::of(alloc, scl, sda)?),
-            watch: Watch::new(),
-            listener: Listener::new(),
-            heard: Vec::new(alloc),
-            is_free: false,
-            pulses,
+            dump: Some(dump),
+            pulses: pulses_of(alloc, least),
+            ear: Ear::new(alloc),
         })
     }
 
@@ -58,33 +46,90 @@ impl Notes {
         if dump.feed(piece).is_err() {
             return Ok(());
         }
-        self.hear(dump.samples())?;
+        hear(&mut self.ear, &mut self.pulses, dump.samples())?;
         dump.clear_samples();
         self.dump = Some(dump);
         Ok(())
     }
 
+    /// The transactions of the whole dump, in order, and how many levels were left out.
+    pub fn finish(self) -> Result<(Vec<Heard>, u64), AllocError> {
+        let Notes {
+            dump,
+            pulses,
+            mut ear,
+        } = self;
+        let short = match last_samples(dump) {
+            Some(samples) => hear_last(&mut ear, pulses, samples.as_slice())?,
+            None => 0,
+        };
+        Ok((ear.finish()?, short))
+    }
+}
+
+fn pulses_of(alloc: Global, least: u64) -> Option<Pulses> {
+    if least == 0 {
+        None
+    } else {
+        Some(Pulses::new(alloc, least))
+    }
+}
+
+fn hear(ear: &mut Ear, pulses: &mut Option<Pulses>, samples: &[Sample]) -> Result<(), AllocError> {
+    match pulses {
+        Some(pulses) => {
+            let left = pulses.feed(samples)?;
+            ear.hear(left.as_slice())
+        }
+        None => ear.hear(samples),
+    }
+}
+
+// The samples of a dump that are left at its end.
+fn last_samples(dump: Option<Reader>) -> Option<Vec<Sample>> {
+    match dump?.end() {
+        Ok(samples) => Some(samples),
+        Err(_) => None,
+    }
+}
+
+// The last samples. It answers how many levels were left out.
+fn hear_last(ear: &mut Ear, pulses: Option<Pulses>, samples: &[Sample]) -> Result<u64, AllocError> {
+    match pulses {
+        Some(pulses) => {
+            let (left, short) = pulses.end(samples)?;
+            ear.hear(left.as_slice())?;
+            Ok(short)
+        }
+        None => {
+            ear.hear(samples)?;
+            Ok(0)
+        }
+    }
+}
+
+// What was heard on the two lines.
+#[derive(Drop)]
+struct Ear {
+    alloc: Global,
+    watch: Watch,
+    listener: Listener,
+    heard: Vec<Heard>,
+    is_free: bool,
+}
+
+impl Ear {
+    fn new(alloc: Global) -> Ear {
+        Ear {
+            alloc,
+            watch: Watch::new(),
+            listener: Listener::new(),
+            heard: Vec::new(alloc),
+            is_free: false,
+        }
+    }
+
     fn hear(&mut self, samples: &[Sample]) -> Result<(), AllocError> {
-        let Some(mut pulses) = self.pulses.take() else {
-            return self.each(samples);
-        };
-        let left = pulses.feed(samples)?;
-        self.pulses = Some(pulses);
-        self.each(left.as_slice())
-    }
-
-    // The last samples. It answers how many levels were left out.
-    fn hear_last(&mut self, samples: &[Sample]) -> Result<u64, AllocError> {
-        let Some(pulses) = self.pulses.take() else {
-            self.each(samples)?;
-            return Ok(0);
-        };
-        let (left, short) = pulses.end(samples)?;
-        self.each(left.as_slice())?;
-        Ok(short)
-    }
-
-    fn each(&mut self, samples: &[Sample]) -> Result<(), AllocError> {
         for sample in samples {
             self.sample(sample)?;
         }
@@ -102,7 +147,7 @@ impl Notes {
         }
         if let Some(transaction) = self.listener.next(self.alloc, &event)? {
             self.is_free = matches!(transaction.until, Until::Stopped(_));
-            self.note(transaction)?;
+            push_heard(&mut self.heard, transaction)?;
         }
         Ok(())
     }
@@ -113,33 +158,24 @@ impl Notes {
         }
     }
 
-    fn note(&mut self, transaction: Transaction) -> Result<(), AllocError> {
-        self.heard.push(Heard {
-            transaction,
-            following: 0,
-        })?;
-        Ok(())
-    }
-
-    /// The transactions of the whole dump, in order, and how many levels were left out.
-    pub fn finish(mut self) -> Result<(Vec<Heard>, u64), AllocError> {
-        let mut short = 0;
-        if let Some(dump) = self.dump.take() {
-            if let Ok(samples) = dump.end() {
-                short = self.hear_last(samples.as_slice())?;
-            }
-        }
-        let Notes {
+    // The last transaction has no end.
+    fn finish(self) -> Result<Vec<Heard>, AllocError> {
+        let Ear {
             listener,
             mut heard,
             ..
         } = self;
         if let Some(transaction) = listener.end() {
-            heard.push(Heard {
-                transaction,
-                following: 0,
-            })?;
+            push_heard(&mut heard, transaction)?;
         }
-        Ok((heard, short))
+        Ok(heard)
     }
+}
+
+fn push_heard(heard: &mut Vec<Heard>, transaction: Transaction) -> Result<(), AllocError> {
+    heard.push(Heard {
+        transaction,
+        following: 0,
+    })?;
+    Ok(())
 }

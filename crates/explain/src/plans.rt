@@ -14,9 +14,15 @@ pub fn below_safe(alloc: Global, plan: &Plan, endings: Endings) -> Result<String
 }
 
 fn push_endings(alloc: Global, below: &mut Below, endings: Endings) -> Result<(), AllocError> {
+    let Endings {
+        header,
+        later,
+        read,
+        alike,
+        ..
+    } = endings;
     let words = format!(in alloc;
-        "where targets acknowledge: {} must part in a header, {} later, {} at a read's end; {} may end alike",
-        endings.header, endings.later, endings.read, endings.alike
+        "where targets acknowledge: {header} must part in a header, {later} later, {read} at a read's end; {alike} may end alike"
     )?;
     below.say(words.as_str())
 }
@@ -27,18 +33,25 @@ fn push_notes(alloc: Global, below: &mut Below, plan: &Plan) -> Result<(), Alloc
     }
     for k in 0..plan.messages() {
         if !is_sent(plan, k) {
-            let words = format!(in alloc; "nobody sends {}", plan.message_name(k).as_str())?;
-            below.say(words.as_str())?;
+            push_unsent(alloc, below, plan.message_name(k).as_str())?;
         }
     }
-    let apart = kept_apart(plan);
-    if apart != 0 {
-        let words = format!(in alloc;
-            "{apart} pairs were not checked: 'never' keeps their controllers apart"
-        )?;
-        below.say(words.as_str())?;
+    push_apart(alloc, below, kept_apart(plan))
+}
+
+fn push_unsent(alloc: Global, below: &mut Below, message: &str) -> Result<(), AllocError> {
+    let words = format!(in alloc; "nobody sends {message}")?;
+    below.say(words.as_str())
+}
+
+fn push_apart(alloc: Global, below: &mut Below, apart: u64) -> Result<(), AllocError> {
+    if apart == 0 {
+        return Ok(());
     }
-    Ok(())
+    let words = format!(in alloc;
+        "{apart} pairs were not checked: 'never' keeps their controllers apart"
+    )?;
+    below.say(words.as_str())
 }
 
 // Whether some controller has the message.

@@ -13,7 +13,7 @@ use std::alloc::{AllocError, Global};
 use std::cmp::Ordering;
 
 /// Which transactions are told, and how.
-#[derive(Clone, Copy, Debug)]
+#[derive(Clone, Copy)]
 pub struct View {
     /// How many Stopped transactions there are to be.
     pub at_least: Option<u32>,
@@ -107,26 +107,24 @@ pub fn shown(
     scale: Option<Scale>,
 ) -> Result<(String, Status), AllocError> {
     let mut page = Page {
+        tallies: tallies_of(alloc, plan, view)?,
         text: String::new(alloc),
         is_shown: true,
         stopped: 0,
         unexplained: 0,
-        tallies: if view.summary {
-            Some(Tallies::new(alloc, plan)?)
-        } else {
-            None
-        },
     };
-    let scale_of_times = scale.filter(|_| view.si);
-    for line in report.trim_ascii_end().split('\n') {
-        if line.starts_with("    ") {
-            page.below(line)?;
-        } else if let Some(told) = read_line(line) {
-            page.is_shown = view.has(scale, told.from);
-            page.line(alloc, line, &told, scale_of_times)?;
-        }
+    page.read(alloc, report, view, scale)?;
+    let status = page.end(view)?;
+    let Page { text, .. } = page;
+    Ok((text, status))
+}
+
+fn tallies_of(alloc: Global, plan: &Plan, view: &View) -> Result<Option<Tallies>, AllocError> {
+    if view.summary {
+        Ok(Some(Tallies::new(alloc, plan)?))
+    } else {
+        Ok(None)
     }
-    page.finish(alloc, view)
 }
 
 // What has been passed on so far.
@@ -141,6 +139,25 @@ struct Page {
 }
 
 impl Page {
+    fn read(
+        &mut self,
+        alloc: Global,
+        report: &str,
+        view: &View,
+        scale: Option<Scale>,
+    ) -> Result<(), AllocError> {
+        let scale_of_times = scale.filter(|_| view.si);
+        for line in report.trim_ascii_end().split('\n') {
+            if line.starts_with("    ") {
+                self.below(line)?;
+            } else if let Some(told) = read_line(line) {
+                self.is_shown = view.has(scale, told.from);
+                self.line(alloc, line, &told, scale_of_times)?;
+            }
+        }
+        Ok(())
+    }
+
     fn below(&mut self, line: &str) -> Result<(), AllocError> {
         if self.is_shown && self.tallies.is_none() {
             self.push_line(line)?;
@@ -182,16 +199,19 @@ impl Page {
         told: &Told<'_>,
         scale: Scale,
     ) -> Result<(), AllocError> {
-        let from = scale.told(alloc, told.from)?;
-        self.text.push_str(from.as_str())?;
+        self.push_time(alloc, scale, told.from)?;
         self.text.push('-')?;
         if let Some(until) = told.until {
-            let until = scale.told(alloc, until)?;
-            self.text.push_str(until.as_str())?;
+            self.push_time(alloc, scale, until)?;
         }
         self.text.push(' ')?;
         let words = line.split_once(' ').map(|parts| parts.1).unwrap_or("");
         self.push_line(words)
+    }
+
+    fn push_time(&mut self, alloc: Global, scale: Scale, time: u64) -> Result<(), AllocError> {
+        let told = scale.told(alloc, time)?;
+        self.text.push_str(told.as_str())
     }
 
     fn push_line(&mut self, line: &str) -> Result<(), AllocError> {
@@ -199,30 +219,24 @@ impl Page {
         self.text.push('\n')
     }
 
-    fn finish(mut self, alloc: Global, view: &View) -> Result<(String, Status), AllocError> {
+    // The last lines, and the status.
+    fn end(&mut self, view: &View) -> Result<Status, AllocError> {
         if let Some(tallies) = &self.tallies {
-            tallies.push_to(alloc, &mut self.text)?;
+            tallies.push_to(&mut self.text)?;
         }
-        let Page {
-            mut text,
-            stopped,
-            unexplained,
-            ..
-        } = self;
-        let last = format!(in alloc; "{stopped} transactions, {unexplained} unexplained\n")?;
-        text.push_str(last.as_str())?;
-        let mut status = if unexplained == 0 {
-            Status::Good
-        } else {
-            Status::Bad
-        };
-        if let Some(least) = view.at_least {
-            if stopped < u64::from(least) {
-                let few = format!(in alloc; "too few: {stopped} of {least}\n")?;
-                text.push_str(few.as_str())?;
-                status = Status::Bad;
+        let stopped = self.stopped;
+        let unexplained = self.unexplained;
+        writeln!(
+            self.text,
+            "{stopped} transactions, {unexplained} unexplained"
+        )?;
+        match view.at_least {
+            Some(least) if stopped < u64::from(least) => {
+                writeln!(self.text, "too few: {stopped} of {least}")?;
+                Ok(Status::Bad)
             }
+            _ if unexplained == 0 => Ok(Status::Good),
+            _ => Ok(Status::Bad),
         }
-        Ok((text, status))
     }
 }

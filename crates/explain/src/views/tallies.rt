@@ -80,16 +80,9 @@ impl Tallies {
     }
 
     /// The lines of the summary.
-    pub(crate) fn push_to(&self, alloc: Global, text: &mut String) -> Result<(), AllocError> {
+    pub(crate) fn push_to(&self, text: &mut String) -> Result<(), AllocError> {
         for sender in self.senders.iter() {
-            let Sender {
-                label,
-                alone,
-                with_others,
-            } = sender;
-            let label = label.as_str();
-            let line = format!(in alloc; "{label} {alone} alone, {with_others} with others\n")?;
-            text.push_str(line.as_str())?;
+            sender.push_to(text)?;
         }
         let Tallies {
             unexplained,
@@ -97,9 +90,18 @@ impl Tallies {
             unfinished,
             ..
         } = self;
-        let lines = format!(in alloc;
+        write!(
+            text,
             "unexplained {unexplained}\ncut {cut}\nunfinished {unfinished}\n"
-        )?;
-        text.push_str(lines.as_str())
+        )
+    }
+}
+
+impl Sender {
+    fn push_to(&self, text: &mut String) -> Result<(), AllocError> {
+        let label = self.label.as_str();
+        let alone = self.alone;
+        let with_others = self.with_others;
+        writeln!(text, "{label} {alone} alone, {with_others} with others")
     }
 }
