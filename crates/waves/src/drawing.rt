@@ -43,45 +43,74 @@ pub fn wave_of(
     wire: &[Item],
     fill: Option<bool>,
 ) -> Result<String, AllocError> {
+    let mut rows = rows_of(alloc, plan, participants)?;
+    let mut dump = dump_of(alloc, plan, participants)?;
+    let end = push_run(&mut dump, rows.as_mut_slice(), wire, fill)?;
+    dump.finish(end)
+}
+
+// The participants, before the first slot.
+fn rows_of<'a>(
+    alloc: Global,
+    plan: &'a Plan,
+    participants: &[u32],
+) -> Result<Vec<Row<'a>>, AllocError> {
     let mut rows = Vec::new(alloc);
     for p in participants {
         if *p < plan.participants() {
             rows.push(Row::new(Place::start(plan.sends(*p))))?;
         }
     }
-    let names = names_of(alloc, plan, participants)?;
-    let mut dump = Dump::new(alloc, names.as_slice())?;
-    push_start(&mut dump, rows.len())?;
-    let mut begin = FIRST_SLOT;
-    for item in wire {
-        push_slot(&mut dump, rows.as_slice(), begin, fill, Some(*item))?;
-        for row in rows.iter_mut() {
-            row.see(fill, *item);
-        }
-        begin = begin.saturating_add(SLOT);
-    }
-    let end = push_end(
-        &mut dump,
-        rows.as_slice(),
-        begin,
-        fill,
-        wire.last().copied(),
-    )?;
-    dump.finish(end)
+    Ok(rows)
 }
 
-// The names of the signals.
-fn names_of(alloc: Global, plan: &Plan, participants: &[u32]) -> Result<Vec<String>, AllocError> {
-    let mut names = Vec::new(alloc);
+// The definitions of the signals.
+fn dump_of(alloc: Global, plan: &Plan, participants: &[u32]) -> Result<Dump, AllocError> {
+    let mut dump = Dump::new(alloc)?;
     for name in ["scl", "sda", "targets"] {
-        names.push(String::from_str(alloc, name)?)?;
+        dump.define(name)?;
     }
+    define_labels(alloc, &mut dump, plan, participants)?;
+    dump.begin()?;
+    Ok(dump)
+}
+
+fn define_labels(
+    alloc: Global,
+    dump: &mut Dump,
+    plan: &Plan,
+    participants: &[u32],
+) -> Result<(), AllocError> {
     for p in participants {
         if *p < plan.participants() {
-            names.push(plan.label(alloc, *p)?)?;
+            let label = plan.label(alloc, *p)?;
+            dump.define(label.as_str())?;
         }
     }
-    Ok(names)
+    Ok(())
+}
+
+// The run from START on, and when its waves end.
+fn push_run(
+    dump: &mut Dump,
+    rows: &mut [Row<'_>],
+    wire: &[Item],
+    fill: Option<bool>,
+) -> Result<u64, AllocError> {
+    push_start(dump, rows.len())?;
+    let mut begin = FIRST_SLOT;
+    for item in wire {
+        push_slot(dump, rows, begin, fill, Some(*item))?;
+        see(rows, fill, *item);
+        begin = begin.saturating_add(SLOT);
+    }
+    push_end(dump, rows, begin, fill, wire.last().copied())
+}
+
+fn see(rows: &mut [Row<'_>], fill: Option<bool>, item: Item) {
+    for row in rows.iter_mut() {
+        row.see(fill, item);
+    }
 }
 
 // A free bus, and START by all of them together.
@@ -90,16 +119,19 @@ fn push_start(dump: &mut Dump, rows: usize) -> Result<(), AllocError> {
     dump.show(SCL, Shown::High)?;
     dump.show(SDA, Shown::High)?;
     dump.show(TARGETS, Shown::Free)?;
-    for k in 0..rows {
-        dump.show(ROWS.saturating_add(k), Shown::Free)?;
-    }
+    show_all(dump, rows, Shown::Free)?;
     dump.at(START);
-    for k in 0..rows {
-        dump.show(ROWS.saturating_add(k), Shown::Low)?;
-    }
+    show_all(dump, rows, Shown::Low)?;
     dump.show(SDA, Shown::Low)?;
     dump.at(CLOCK);
     dump.show(SCL, Shown::Low)
+}
+
+fn show_all(dump: &mut Dump, rows: usize, shown: Shown) -> Result<(), AllocError> {
+    for k in 0..rows {
+        dump.show(ROWS.saturating_add(k), shown)?;
+    }
+    Ok(())
 }
 
 // One slot, with its item, where it has one.
@@ -112,29 +144,54 @@ fn push_slot(
 ) -> Result<(), AllocError> {
     dump.at(begin);
     let answers = item == Some(Item::Heard(false));
-    dump.show(TARGETS, if answers { Shown::Low } else { Shown::Free })?;
-    let mut is_low = answers;
-    for (k, row) in rows.iter().enumerate() {
-        let pulls = matches!(row.act(fill, item), Act::Pull | Act::Stop);
-        is_low = is_low || pulls;
-        dump.show(
-            ROWS.saturating_add(k),
-            if pulls { Shown::Low } else { Shown::Free },
-        )?;
-    }
-    dump.show(SDA, if is_low { Shown::Low } else { Shown::High })?;
+    dump.show(TARGETS, low_where(answers, Shown::Free))?;
+    let is_pulled = show_pulls(dump, rows, fill, item)?;
+    dump.show(SDA, low_where(answers || is_pulled, Shown::High))?;
     dump.at(begin.saturating_add(RISE));
     dump.show(SCL, Shown::High)?;
     dump.at(begin.saturating_add(AGAIN));
-    for (k, row) in rows.iter().enumerate() {
-        if row.act(fill, item) == Act::Again {
-            dump.show(ROWS.saturating_add(k), Shown::Low)?;
-        }
-    }
+    show_acts(dump, rows, fill, item, Act::Again, Shown::Low)?;
     if item == Some(Item::Again) {
         dump.show(SDA, Shown::Low)?;
     }
     push_last_move(dump, rows, begin, fill, item)
+}
+
+fn low_where(is_low: bool, other: Shown) -> Shown {
+    if is_low { Shown::Low } else { other }
+}
+
+// What participants pull, and whether one does.
+fn show_pulls(
+    dump: &mut Dump,
+    rows: &[Row<'_>],
+    fill: Option<bool>,
+    item: Option<Item>,
+) -> Result<bool, AllocError> {
+    let mut is_pulled = false;
+    for (k, row) in rows.iter().enumerate() {
+        let pulls = matches!(row.act(fill, item), Act::Pull | Act::Stop);
+        is_pulled = is_pulled || pulls;
+        dump.show(ROWS.saturating_add(k), low_where(pulls, Shown::Free))?;
+    }
+    Ok(is_pulled)
+}
+
+// Those who do this in the slot show this.
+fn show_acts(
+    dump: &mut Dump,
+    rows: &[Row<'_>],
+    fill: Option<bool>,
+    item: Option<Item>,
+    act: Act,
+    shown: Shown,
+) -> Result<(), AllocError> {
+    for (k, row) in rows.iter().enumerate() {
+        if row.act(fill, item) == act {
+            dump.show(ROWS.saturating_add(k), shown)?;
+        }
+    }
+    Ok(())
 }
 
 // The end of a slot: who stops lets SDA go, and else SCL falls.
@@ -146,11 +203,7 @@ fn push_last_move(
     item: Option<Item>,
 ) -> Result<(), AllocError> {
     dump.at(begin.saturating_add(FALL));
-    for (k, row) in rows.iter().enumerate() {
-        if row.act(fill, item) == Act::Stop {
-            dump.show(ROWS.saturating_add(k), Shown::Free)?;
-        }
-    }
+    show_acts(dump, rows, fill, item, Act::Stop, Shown::Free)?;
     match item {
         None => dump.show(SDA, Shown::Unknown),
         Some(Item::Stop) => dump.show(SDA, Shown::High),

@@ -40,21 +40,28 @@ pub(crate) struct Dump {
 }
 
 impl Dump {
-    /// The definitions of these signals, none of which has been shown yet. The time counts microseconds.
-    pub(crate) fn new(alloc: Global, names: &[String]) -> Result<Dump, AllocError> {
+    /// A dump that counts microseconds, with no signal yet.
+    pub(crate) fn new(alloc: Global) -> Result<Dump, AllocError> {
         let mut text = String::new(alloc);
         text.push_str("$version twire $end\n$timescale 1 us $end\n$scope module bus $end\n")?;
-        for (signal, name) in names.iter().enumerate() {
-            let name = name.as_str();
-            writeln!(text, "$var wire 1 {} {name} $end", code(signal))?;
-        }
-        text.push_str("$upscope $end\n$enddefinitions $end\n")?;
         Ok(Dump {
             text,
-            shown: vec![in alloc; Shown::Unknown; names.len()]?,
+            shown: Vec::new(alloc),
             time: 0,
             is_told: false,
         })
+    }
+
+    /// Defines the next signal, which has not been shown yet.
+    pub(crate) fn define(&mut self, name: &str) -> Result<(), AllocError> {
+        let code = code(self.shown.len());
+        writeln!(self.text, "$var wire 1 {code} {name} $end")?;
+        Ok(self.shown.push(Shown::Unknown)?)
+    }
+
+    /// Ends the definitions.
+    pub(crate) fn begin(&mut self) -> Result<(), AllocError> {
+        self.text.push_str("$upscope $end\n$enddefinitions $end\n")
     }
 
     /// The changes from here on are of this time.
@@ -65,19 +72,23 @@ impl Dump {
 
     /// The signal shows this from now on.
     pub(crate) fn show(&mut self, signal: usize, shown: Shown) -> Result<(), AllocError> {
-        if self.shown.get(signal).is_none_or(|it| *it == shown) {
+        match self.shown.get_mut(signal) {
+            Some(it) if *it != shown => *it = shown,
+            _ => return Ok(()),
+        }
+        self.push_time()?;
+        self.text.push(shown.digit())?;
+        self.text.push(code(signal))?;
+        self.text.push('\n')
+    }
+
+    fn push_time(&mut self) -> Result<(), AllocError> {
+        if self.is_told {
             return Ok(());
         }
-        if !self.is_told {
-            let time = self.time;
-            writeln!(self.text, "#{time}")?;
-            self.is_told = true;
-        }
-        writeln!(self.text, "{}{}", shown.digit(), code(signal))?;
-        if let Some(it) = self.shown.get_mut(signal) {
-            *it = shown;
-        }
-        Ok(())
+        self.is_told = true;
+        let time = self.time;
+        writeln!(self.text, "#{time}")
     }
 
     /// The whole text, which ends at this time.
