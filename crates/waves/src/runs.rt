@@ -20,13 +20,20 @@ pub fn wave_of_check(
     pair: Option<u32>,
 ) -> Result<Option<String>, RunError> {
     let plan = read_plan(alloc, text)?;
-    let faults = faults(alloc, &plan)?;
+    Ok(wave_of_pair(alloc, &plan, pair)?)
+}
+
+fn wave_of_pair(
+    alloc: Global,
+    plan: &Plan,
+    pair: Option<u32>,
+) -> Result<Option<String>, AllocError> {
+    let faults = faults(alloc, plan)?;
     for k in 0..faults.len() {
         let (i, fault) = faults.get(k);
         if i < plan.pair_count() && pair.unwrap_or(i) == i {
             let (x, y) = plan.pair(i);
-            let wave = wave_of(alloc, &plan, &[x, y], fault.wire.as_slice(), None)?;
-            return Ok(Some(wave));
+            return some_wave(alloc, plan, &[x, y], fault.wire.as_slice(), None);
         }
     }
     Ok(None)
@@ -49,16 +56,35 @@ pub fn wave_of_bench(
         return Ok(None);
     };
     let plan = read_plan(alloc, text)?;
-    let wire = items_of(alloc, wire)?;
-    let participants = participants_of(alloc, &plan, starters)?;
-    let wave = wave_of(
+    Ok(wave_of_run(alloc, &plan, starters, fill, wire)?)
+}
+
+fn wave_of_run(
+    alloc: Global,
+    plan: &Plan,
+    starters: &str,
+    fill: bool,
+    symbols: &str,
+) -> Result<Option<String>, AllocError> {
+    let wire = items_of(alloc, symbols)?;
+    let participants = participants_of(alloc, plan, starters)?;
+    some_wave(
         alloc,
-        &plan,
+        plan,
         participants.as_slice(),
         wire.as_slice(),
         Some(fill),
-    )?;
-    Ok(Some(wave))
+    )
+}
+
+fn some_wave(
+    alloc: Global,
+    plan: &Plan,
+    participants: &[u32],
+    wire: &[Item],
+    fill: Option<bool>,
+) -> Result<Option<String>, AllocError> {
+    Ok(Some(wave_of(alloc, plan, participants, wire, fill)?))
 }
 
 // The symbols of the wire in the report of a rehearsal.
