@@ -157,6 +157,8 @@ fn made<J: Input>(
     let mut made = Watched::new(Vec::new(alloc));
     match report_capture(rt, alloc, &mut plan, vcd, &mut made, asked, quiet) {
         Ok(_) => Ok(made.into_inner()),
+        // memory takes everything, as long as there is some
+        Err(RunError::Write) => Err(RunError::NoMemory),
         Err(error) => Err(error),
     }
 }
