@@ -236,5 +236,30 @@ else
     cat err
 fi
 
+# What is shown of a report is made in memory first. With less and less of it, all is shown or memory is refused, and nothing
+# is half written. A trial build cannot run below any limit.
+if { (ulimit -v 32768 && exec "$twire" --version); } >/dev/null 2>&1; then
+    "$twire" capture plan long --summary >due
+    shown=0 refused=0 other=
+    for ((limit = 4000; limit <= 24000; limit += 500)); do
+        (ulimit -v "$limit" && exec "$twire" capture plan long --summary --hints never) >report 2>err
+        if [[ ! -s err ]] && cmp -s report due; then
+            shown=$((shown + 1))
+        elif [[ ! -s report && $(cat err) == "refused memory" ]]; then
+            refused=$((refused + 1))
+        else
+            other="$limit KiB: $(tail -n 1 report) $(cat err)"
+        fi
+    done
+    if [[ $shown -gt 0 && $refused -gt 0 && -z $other ]]; then
+        passed=$((passed + 1))
+    else
+        failed=$((failed + 1))
+        echo "FAILED: a report in part with less and less memory: $shown shown, $refused refused, $other"
+    fi
+else
+    echo "left out: a report in part with less and less memory (not the proved build)"
+fi
+
 echo "$passed passed, $failed failed"
 ((failed == 0))
