@@ -1,0 +1,20 @@
+-- A text that grows by parts.
+use Rattle.std.specs.Prelude.{◌≡◌, ℕ, Bool, true, false, List, [], ◌∷◌, ◌++◌, ◌/◌, ◌%◌, string_bytes}
+use Rattle.std.specs.Fmt.{digit_glyph}
+use Rattle.growing_text.specs.declared.texts.Text.{Text}
+
+-- what it says
+abbrev pub said : Text → List ℕ
+said text = string_bytes text.text
+
+-- memory was there for all its parts
+abbrev pub is_whole : Text → Bool
+is_whole text = text.is_whole
+
+-- a byte in lower-case hexadecimal
+abbrev pub two_digits : ℕ → List ℕ
+two_digits byte = digit_glyph false (byte / 16) ∷ digit_glyph false (byte % 16) ∷ []
+
+-- one more part: it is said, if the text is whole, and only a whole text can stay so
+abbrev pub Grows : Text → List ℕ → Text → Type 0
+Grows old part new = is_whole new ≡ true → (is_whole old ≡ true) × (said new ≡ said old ++ part)

@@ -1,0 +1,88 @@
+// Words in lines for a terminal.
+
+use crate::texts::Text;
+use std::alloc::{AllocError, Global};
+
+/// The columns of a terminal.
+pub const COLUMNS: usize = 80;
+
+/// Words in lines of 80 columns. A longer word has a line of its own.
+#[derive(Drop)]
+pub struct Lines {
+    text: Text,
+    column: usize,
+    // what a line begins with that goes on from the one before
+    margin: &'static str,
+}
+
+impl Lines {
+    /// No line yet.
+    pub fn new(alloc: Global) -> Lines {
+        Lines {
+            text: Text::new(alloc),
+            column: 0,
+            margin: "",
+        }
+    }
+
+    /// Begins a line with these words, which are not broken. Where it is too long it goes on after the margin.
+    pub fn begin(&mut self, words: &str, margin: &'static str) {
+        self.text.push(words);
+        self.column = words.chars().count();
+        self.margin = margin;
+    }
+
+    /// One word more, with a blank before it.
+    pub fn word(&mut self, word: &str) {
+        self.make_room(word.chars().count());
+        self.text.push(word);
+    }
+
+    /// A number as a word, with this right after it.
+    pub fn number(&mut self, number: u64, after: &str) {
+        let digits = number.checked_ilog10().unwrap_or(0).saturating_add(1);
+        self.make_room((digits as usize).saturating_add(after.chars().count()));
+        self.text.push_number(number);
+        self.text.push(after);
+    }
+
+    /// A byte as a word of two hexadecimal digits.
+    pub fn byte(&mut self, byte: u8) {
+        self.make_room(2);
+        self.text.push_hex(byte);
+    }
+
+    // A blank, after which so many characters come: on this line, or on the next one where they do not fit.
+    fn make_room(&mut self, characters: usize) {
+        let width = characters.saturating_add(1);
+        if self.column > self.margin.len() && self.column.saturating_add(width) > COLUMNS {
+            self.text.push("\n");
+            self.text.push(self.margin);
+            self.column = self.margin.len();
+        }
+        self.text.push(" ");
+        self.column = self.column.saturating_add(width);
+    }
+
+    /// Each word of these, which stand between blanks.
+    pub fn words(&mut self, words: &str) {
+        for word in words.split(' ') {
+            self.word(word);
+        }
+    }
+
+    /// Ends the line.
+    pub fn end(&mut self) {
+        self.text.push("\n");
+        self.column = 0;
+    }
+
+    /// All lines.
+    ///
+    /// # Errors
+    ///
+    /// Where memory was refused for one of their parts.
+    pub fn finish(self) -> Result<String, AllocError> {
+        self.text.finish()
+    }
+}

@@ -1,0 +1,70 @@
+// A text that grows by parts.
+
+ghost use Rattle.std.specs.Prelude.{◌≡◌, true, false, [], string_bytes, MatchResult};
+ghost use Rattle.std.specs.Fmt.{decimal};
+ghost use Rattle.growing_text.specs.Texts.{said, is_whole, two_digits, Grows};
+
+use std::alloc::{AllocError, Global};
+
+/// A text that grows by parts. From the first part on for which memory was refused, no more is added, and `finish` says so.
+#[derive(Drop)]
+pub struct Text {
+    text: String,
+    is_whole: bool,
+}
+
+impl Text {
+    /// No part yet.
+    pub fn new(alloc: Global) -> Text
+        ensures said { said result ≡ [] }
+        ensures whole { is_whole result ≡ true }
+    {
+        Text {
+            text: String::new(alloc),
+            is_whole: true,
+        }
+    }
+
+    /// One more part.
+    pub fn push(&mut self, part: &str)
+        ensures { Grows self.old (part.now) self.new }
+    {
+        if self.is_whole && self.text.push_str(part).is_err() {
+            self.is_whole = false;
+        }
+    }
+
+    /// A number in decimal.
+    pub fn push_number(&mut self, number: u64)
+        ensures { Grows self.old (decimal number) self.new }
+    {
+        if self.is_whole && write!(self.text, "{number}").is_err() {
+            self.is_whole = false;
+        }
+    }
+
+    /// A byte as two hexadecimal digits.
+    pub fn push_hex(&mut self, byte: u8)
+        ensures { Grows self.old (two_digits byte) self.new }
+    {
+        if self.is_whole && write!(self.text, "{byte:02x}").is_err() {
+            self.is_whole = false;
+        }
+    }
+
+    /// The whole text.
+    ///
+    /// # Errors
+    ///
+    /// Where memory was refused for one of its parts.
+    pub fn finish(self) -> Result<String, AllocError>
+        ensures { MatchResult result (λ text. (is_whole self ≡ true) × (string_bytes text ≡ said self))
+            (λ _. is_whole self ≡ false) }
+    {
+        if self.is_whole {
+            Ok(self.text)
+        } else {
+            Err(AllocError)
+        }
+    }
+}
