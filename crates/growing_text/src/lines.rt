@@ -40,16 +40,37 @@ impl Lines {
 
     /// A number as a word, with this right after it.
     pub fn number(&mut self, number: u64, after: &str) {
+        self.number_in("", number, after);
+    }
+
+    /// A number with this right before and after it, as one word.
+    pub fn number_in(&mut self, before: &str, number: u64, after: &str) {
         let digits = number.checked_ilog10().unwrap_or(0).saturating_add(1);
-        self.make_room((digits as usize).saturating_add(after.chars().count()));
+        self.begin_word(before, digits as usize, after);
         self.text.push_number(number);
         self.text.push(after);
     }
 
     /// A byte as a word of two hexadecimal digits.
     pub fn byte(&mut self, byte: u8) {
-        self.make_room(2);
+        self.byte_in("", byte, "");
+    }
+
+    /// A byte as two hexadecimal digits with this right before and after them, as one word.
+    pub fn byte_in(&mut self, before: &str, byte: u8, after: &str) {
+        self.begin_word(before, 2, after);
         self.text.push_hex(byte);
+        self.text.push(after);
+    }
+
+    // A word that begins so, and has so many digits and this after it.
+    fn begin_word(&mut self, before: &str, digits: usize, after: &str) {
+        let width = before
+            .chars()
+            .count()
+            .saturating_add(after.chars().count());
+        self.make_room(width.saturating_add(digits));
+        self.text.push(before);
     }
 
     // A blank, after which so many characters come: on this line, or on the next one where they do not fit.

@@ -1,6 +1,7 @@
 // A text that grows by parts.
 
 ghost use Rattle.std.specs.Prelude.{◌≡◌, true, false, [], string_bytes, MatchResult};
+ghost use Rattle.std.specs.Char.{encode_utf8};
 ghost use Rattle.std.specs.Fmt.{decimal};
 ghost use Rattle.growing_text.specs.Texts.{said, is_whole, two_digits, Grows};
 
@@ -30,6 +31,15 @@ impl Text {
         ensures { Grows self.old (part.now) self.new }
     {
         if self.is_whole && self.text.push_str(part).is_err() {
+            self.is_whole = false;
+        }
+    }
+
+    /// One more character.
+    pub fn push_char(&mut self, character: char)
+        ensures { Grows self.old (encode_utf8 character) self.new }
+    {
+        if self.is_whole && self.text.push(character).is_err() {
             self.is_whole = false;
         }
     }

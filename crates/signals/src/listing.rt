@@ -7,6 +7,7 @@ use crate::definitions::{Found, Listing};
 use crate::levels::Levels;
 use dump_tokens::reading::{BLOCK, Reading};
 use dump_tokens::tokens::Cutter;
+use growing_text::Text;
 use run_parts::devices::reading::READS;
 use run_parts::{Input, Output, RunError, Status, write_report};
 use std::alloc::{AllocError, Global};
@@ -253,73 +254,67 @@ pub fn bus_options<J: Input>(alloc: Global, vcd: &mut J) -> Result<Option<String
 
 impl Listed {
     fn text(&self, alloc: Global) -> Result<String, AllocError> {
-        let mut text = String::new(alloc);
-        self.push_lines(alloc, &mut text)?;
-        Ok(text)
-    }
-
-    fn push_lines(&self, alloc: Global, text: &mut String) -> Result<(), AllocError> {
+        let mut text = Text::new(alloc);
         for entry in self.declared.entries.iter() {
-            self.push_signal(alloc, text, entry)?;
+            self.push_signal(&mut text, entry);
         }
         for bus in self.buses.iter() {
-            let stopped = bus.stopped;
-            write!(text, "bus {stopped} transactions ")?;
-            self.push_codes(alloc, text, bus)?;
-            text.push('\n')?;
+            text.push("bus ");
+            text.push_number(u64::from(bus.stopped));
+            text.push(" transactions ");
+            self.push_codes(&mut text, bus);
+            text.push("\n");
         }
-        let signals = self.declared.entries.len();
-        let buses = self.buses.len();
-        write!(text, "{signals} signals, {buses} buses\n")
+        text.push_number(self.declared.entries.len() as u64);
+        text.push(" signals, ");
+        text.push_number(self.buses.len() as u64);
+        text.push(" buses\n");
+        text.finish()
     }
 
     fn options(&self, alloc: Global) -> Result<Option<String>, AllocError> {
         let Some(bus) = self.buses.first() else {
             return Ok(None);
         };
-        let mut text = String::new(alloc);
-        self.push_options(alloc, &mut text, bus)?;
-        Ok(Some(text))
+        let mut text = Text::new(alloc);
+        self.push_options(&mut text, bus);
+        Ok(Some(text.finish()?))
     }
 
-    fn push_options(&self, alloc: Global, text: &mut String, bus: &Bus) -> Result<(), AllocError> {
+    fn push_options(&self, text: &mut Text, bus: &Bus) {
         let names = (
             self.declared.plain_name(bus.scl),
             self.declared.plain_name(bus.sda),
         );
         let (Some(scl), Some(sda)) = names else {
-            return self.push_codes(alloc, text, bus);
+            return self.push_codes(text, bus);
         };
-        text.push_str("--scl ")?;
-        push_bytes(alloc, text, scl)?;
-        text.push_str(" --sda ")?;
-        push_bytes(alloc, text, sda)
+        text.push("--scl ");
+        push_bytes(text, scl);
+        text.push(" --sda ");
+        push_bytes(text, sda);
     }
 
-    fn push_signal(
-        &self,
-        alloc: Global,
-        text: &mut String,
-        entry: &Entry,
-    ) -> Result<(), AllocError> {
-        text.push_str("signal ")?;
-        push_bytes(alloc, text, entry.code.as_slice())?;
-        let changes = self.levels.changes(entry.number);
-        write!(text, " {changes} ")?;
+    fn push_signal(&self, text: &mut Text, entry: &Entry) {
+        text.push("signal ");
+        push_bytes(text, entry.code.as_slice());
+        text.push(" ");
+        text.push_number(self.levels.changes(entry.number));
+        text.push(" ");
         match self.declared.scopes.get(entry.scope) {
-            Some(scope) if !scope.is_empty() => push_scope(alloc, text, scope.as_slice())?,
-            _ => text.push('-')?,
+            Some(scope) if !scope.is_empty() => push_scope(text, scope.as_slice()),
+            _ => text.push("-"),
         }
-        text.push(' ')?;
-        push_bytes(alloc, text, entry.name.as_slice())?;
-        text.push('\n')
+        text.push(" ");
+        push_bytes(text, entry.name.as_slice());
+        text.push("\n");
     }
 
-    fn push_codes(&self, alloc: Global, text: &mut String, bus: &Bus) -> Result<(), AllocError> {
-        text.push_str("--scl-code ")?;
-        push_quoted(alloc, text, self.declared.code(bus.scl))?;
-        text.push_str(" --sda-code ")?;
-        push_quoted(alloc, text, self.declared.code(bus.sda))
+    fn push_codes(&self, text: &mut Text, bus: &Bus) {
+        text.push("--scl-code ");
+        push_quoted(text, self.declared.code(bus.scl));
+        text.push(" --sda-code ");
+        push_quoted(text, self.declared.code(bus.sda));
     }
 }
 
@@ -331,34 +326,38 @@ fn is_called(entry: &Entry, name: &[u8]) -> bool {
     }
 }
 
-fn push_scope(alloc: Global, text: &mut String, scope: &[u8]) -> Result<(), AllocError> {
+fn push_scope(text: &mut Text, scope: &[u8]) {
     if scope.starts_with(b".") {
-        text.push('.')?;
+        text.push(".");
     }
-    push_bytes(alloc, text, scope)
+    push_bytes(text, scope);
 }
 
 // A code as a shell takes it.
-fn push_quoted(alloc: Global, text: &mut String, code: &[u8]) -> Result<(), AllocError> {
-    text.push('\'')?;
+fn push_quoted(text: &mut Text, code: &[u8]) {
+    text.push("'");
     for byte in code {
         if *byte == b'\'' {
-            text.push_str("'\\''")?;
+            text.push("'\\''");
         } else {
-            push_bytes(alloc, text, &[*byte])?;
+            push_byte(text, *byte);
         }
     }
-    text.push('\'')
+    text.push("'");
 }
 
-// Bytes that do not print are written as `\x` and two digits.
-fn push_bytes(alloc: Global, text: &mut String, bytes: &[u8]) -> Result<(), AllocError> {
+fn push_bytes(text: &mut Text, bytes: &[u8]) {
     for byte in bytes {
-        if matches!(*byte, b' '..=b'~') {
-            text.push(char::from(*byte))?;
-        } else {
-            write!(text, "\\x{byte:02x}")?;
-        }
+        push_byte(text, *byte);
     }
-    Ok(())
+}
+
+// A byte that does not print is written as `\x` and two digits.
+fn push_byte(text: &mut Text, byte: u8) {
+    if matches!(byte, b' '..=b'~') {
+        text.push_char(char::from(byte));
+    } else {
+        text.push("\\x");
+        text.push_hex(byte);
+    }
 }

@@ -3,7 +3,8 @@
 use crate::lessons::paths::Sent;
 use crate::lessons::seen::{Sight, Sights};
 use crate::lessons::trees::{After, Node, Tree};
-use crate::lessons::words::{Line, data_word, push_path, push_unseen, why};
+use crate::lessons::words::{push_data, push_path, push_unseen, why};
+use growing_text::{Lines, Text};
 use std::alloc::{AllocError, Global};
 
 // How many paths are told above a message.
@@ -18,79 +19,88 @@ pub(crate) fn written(
     seen: &Sights,
     trees: &Vec<Tree>,
 ) -> Result<String, AllocError> {
-    let mut line = Line::new(alloc);
-    line.begin("brief 1", "")?;
-    line.end()?;
-    push_counts(alloc, &mut line, seen, trees.len())?;
     let names = names_of(alloc, trees)?;
+    let mut line = Lines::new(alloc);
+    line.begin("brief 1", "");
+    line.end();
+    push_counts(&mut line, seen, trees.len());
     for (tree, name) in trees.iter().zip(names.iter()) {
-        line.end()?;
+        line.end();
         push_sights(alloc, &mut line, tree, seen)?;
         push_message(alloc, &mut line, tree, name.as_str())?;
     }
-    line.end()?;
-    line.begin("controller seen", "   ")?;
-    for name in names.iter() {
-        line.word(name.as_str())?;
-    }
-    line.word(";")?;
-    line.end()?;
-    Ok(line.finish())
+    line.end();
+    push_controller(&mut line, names.as_slice());
+    line.finish()
 }
 
-fn push_counts(
-    alloc: Global,
-    line: &mut Line,
-    seen: &Sights,
-    messages: usize,
-) -> Result<(), AllocError> {
-    let stopped = seen.stopped;
-    let words = format!(in alloc; "# seen: {stopped} transactions, {messages} messages")?;
-    line.begin(words.as_str(), "#")?;
-    line.end()?;
-    for odd in seen.odd.iter() {
-        let words = why(odd.why);
-        let count = odd.times;
-        let first = odd.first;
-        let begin = format!(in alloc; "# in no message: {count}, first at {first}:")?;
-        line.begin(begin.as_str(), "#  ")?;
-        for word in words.split(' ') {
-            line.word(word)?;
-        }
-        line.end()?;
+fn push_controller(line: &mut Lines, names: &[String]) {
+    line.begin("controller seen", "   ");
+    for name in names {
+        line.word(name.as_str());
     }
-    Ok(())
+    line.word(";");
+    line.end();
+}
+
+fn push_counts(line: &mut Lines, seen: &Sights, messages: usize) {
+    line.begin("# seen:", "#");
+    line.number(seen.stopped, "");
+    line.word("transactions,");
+    line.number(messages as u64, "");
+    line.word("messages");
+    line.end();
+    for odd in seen.odd.iter() {
+        line.begin("# in no message:", "#  ");
+        line.number(odd.times, ",");
+        line.words("first at");
+        line.number(odd.first, ":");
+        line.words(why(odd.why));
+        line.end();
+    }
 }
 
 // How often and when first each path of a message was seen, and what never was.
 fn push_sights(
     alloc: Global,
-    line: &mut Line,
+    line: &mut Lines,
     tree: &Tree,
     seen: &Sights,
 ) -> Result<(), AllocError> {
     for number in tree.paths.iter().take(TOLD) {
-        if let Some(Sight { path, times, first }) = seen.sights.get(*number) {
-            let begin = format!(in alloc; "# {times} times, first at {first}:")?;
-            line.begin(begin.as_str(), "#    ")?;
-            push_path(alloc, line, path.as_slice())?;
-            line.end()?;
+        if let Some(sight) = seen.sights.get(*number) {
+            push_sight(line, sight);
         }
     }
     let others = tree.paths.len().saturating_sub(TOLD);
     if others > 0 {
-        let words = format!(in alloc; "# and {others} others")?;
-        line.begin(words.as_str(), "#")?;
-        line.end()?;
+        line.begin("# and", "#");
+        line.number(others as u64, " others");
+        line.end();
     }
-    line.begin("# never seen:", "#    ")?;
+    line.begin("# never seen:", "#    ");
     push_unseen(alloc, line, tree)?;
-    line.end()
+    line.end();
+    Ok(())
 }
 
-fn push_message(alloc: Global, line: &mut Line, tree: &Tree, name: &str) -> Result<(), AllocError> {
-    let begin = format!(in alloc; "message {name}")?;
-    line.begin(begin.as_str(), "   ")?;
+fn push_sight(line: &mut Lines, sight: &Sight) {
+    line.begin("#", "#    ");
+    line.number(sight.times, "");
+    line.words("times, first at");
+    line.number(sight.first, ":");
+    push_path(line, sight.path.as_slice());
+    line.end();
+}
+
+fn push_message(
+    alloc: Global,
+    line: &mut Lines,
+    tree: &Tree,
+    name: &str,
+) -> Result<(), AllocError> {
+    line.begin("message", "   ");
+    line.word(name);
     let mut waiting = Vec::new(alloc);
     waiting.push(Waiting::Place(0))?;
     for _ in 0..MOST_WORDS {
@@ -98,26 +108,35 @@ fn push_message(alloc: Global, line: &mut Line, tree: &Tree, name: &str) -> Resu
             break;
         };
         match next {
-            Waiting::Close => line.word(")")?,
+            Waiting::Close => line.word(")"),
             Waiting::Place(place) => {
-                let Some(node) = tree.nodes.get(place).copied() else {
-                    continue;
-                };
-                push_sent(alloc, line, &node)?;
-                if let After::On(place) = node.acked {
-                    waiting.push(Waiting::Place(place))?;
-                }
-                if let After::On(place) = node.refused {
-                    line.word("else")?;
-                    line.word("(")?;
-                    waiting.push(Waiting::Close)?;
-                    waiting.push(Waiting::Place(place))?;
+                if let Some(node) = tree.nodes.get(place) {
+                    push_sent(alloc, line, node)?;
+                    push_next(line, &mut waiting, node)?;
                 }
             }
         }
     }
-    line.word(";")?;
-    line.end()
+    line.word(";");
+    line.end();
+    Ok(())
+}
+
+// What follows a place: after a refusal in brackets, which stand before what follows an acknowledge.
+fn push_next(
+    line: &mut Lines,
+    waiting: &mut Vec<Waiting>,
+    node: &Node,
+) -> Result<(), AllocError> {
+    if let After::On(place) = node.acked {
+        waiting.push(Waiting::Place(place))?;
+    }
+    if let After::On(place) = node.refused {
+        line.words("else (");
+        waiting.push(Waiting::Close)?;
+        waiting.push(Waiting::Place(place))?;
+    }
+    Ok(())
 }
 
 // What is still to be written of a message, the last one first.
@@ -127,44 +146,49 @@ enum Waiting {
     Close,
 }
 
-fn push_sent(alloc: Global, line: &mut Line, node: &Node) -> Result<(), AllocError> {
-    let words = match node.sent {
-        Sent::Write(address) => format!(in alloc; "write 0x{address:02x}")?,
-        Sent::Data(_) => data_word(alloc, node)?,
-        Sent::Read(address, count) => {
-            // a read that was always refused has some count
-            let count = count.unwrap_or(1);
-            format!(in alloc; "read 0x{address:02x} {count}")?
+fn push_sent(alloc: Global, line: &mut Lines, node: &Node) -> Result<(), AllocError> {
+    match node.sent {
+        Sent::Write(address) => line.byte_in("write 0x", address, ""),
+        Sent::Data(byte) => {
+            let mut text = Text::new(alloc);
+            push_data(&mut text, byte, node.known);
+            let word = text.finish()?;
+            line.word(word.as_str());
         }
-    };
-    line.word(words.as_str())
+        Sent::Read(address, count) => {
+            line.byte_in("read 0x", address, "");
+            // a read that was always refused has some count
+            line.number(u64::from(count.unwrap_or(1)), "");
+        }
+    }
+    Ok(())
 }
 
 // A name for each message: of its first two headers, with a number where another has it already.
 fn names_of(alloc: Global, trees: &Vec<Tree>) -> Result<Vec<String>, AllocError> {
-    let mut names: Vec<String> = Vec::new(alloc);
-    let mut stems: Vec<String> = Vec::new(alloc);
+    let mut names = Vec::new(alloc);
+    let mut stems = Vec::new(alloc);
     for tree in trees.iter() {
         let stem = stem_of(alloc, tree)?;
-        let before = stems
-            .iter()
-            .filter(|other| other.as_str() == stem.as_str())
-            .count();
-        let name = if before == 0 {
-            stem.clone()?
-        } else {
-            let stem = stem.as_str();
-            let number = before.saturating_add(1);
-            format!(in alloc; "{stem}_{number}")?
-        };
-        names.push(name)?;
+        names.push(name_of(alloc, stem.as_str(), stems.as_slice())?)?;
         stems.push(stem)?;
     }
     Ok(names)
 }
 
+fn name_of(alloc: Global, stem: &str, stems: &[String]) -> Result<String, AllocError> {
+    let before = stems.iter().filter(|other| other.as_str() == stem).count();
+    let mut name = Text::new(alloc);
+    name.push(stem);
+    if before > 0 {
+        name.push("_");
+        name.push_number(before.saturating_add(1) as u64);
+    }
+    name.finish()
+}
+
 fn stem_of(alloc: Global, tree: &Tree) -> Result<String, AllocError> {
-    let mut stem = String::new(alloc);
+    let mut stem = Text::new(alloc);
     let mut headers = 0u32;
     let mut at = 0usize;
     for _ in 0..tree.nodes.len() {
@@ -172,15 +196,14 @@ fn stem_of(alloc: Global, tree: &Tree) -> Result<String, AllocError> {
             break;
         };
         let header = match node.sent {
-            Sent::Write(address) => Some(format!(in alloc; "write_{address:02x}")?),
-            Sent::Read(address, _) => Some(format!(in alloc; "read_{address:02x}")?),
+            Sent::Write(address) => Some(("write_", address)),
+            Sent::Read(address, _) => Some(("read_", address)),
             Sent::Data(_) => None,
         };
-        if let Some(header) = header {
-            if headers > 0 {
-                stem.push('_')?;
-            }
-            stem.push_str(header.as_str())?;
+        if let Some((word, address)) = header {
+            stem.push(if headers > 0 { "_" } else { "" });
+            stem.push(word);
+            stem.push_hex(address);
             headers = headers.saturating_add(1);
         }
         match node.acked {
@@ -188,5 +211,5 @@ fn stem_of(alloc: Global, tree: &Tree) -> Result<String, AllocError> {
             _ => break,
         }
     }
-    Ok(stem)
+    stem.finish()
 }
