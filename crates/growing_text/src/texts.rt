@@ -62,6 +62,13 @@ impl Text {
         }
     }
 
+    /// There was no memory for what would come next.
+    pub fn cut(&mut self)
+        ensures { is_whole self.new ≡ false }
+    {
+        self.is_whole = false;
+    }
+
     /// The whole text.
     ///
     /// # Errors

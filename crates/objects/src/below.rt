@@ -1,7 +1,8 @@
 // Lines for people, without their four blanks.
 
-use crate::fields::{Value, push_part, push_texts, separate};
+use crate::fields::Objects;
 use crate::words::number;
+use growing_text::Text;
 use std::alloc::{AllocError, Global};
 
 /// The rows of bytes below an unsafe pair: those on the bus, those of the two, and what each does next.
@@ -54,35 +55,26 @@ pub(crate) fn slot_in(notes: &[&str]) -> Option<u64> {
     None
 }
 
-/// Adds the pairs of names behind the word `never`, as parts of a list.
-pub(crate) fn push_nevers(
-    alloc: Global,
-    text: &mut String,
-    notes: &[&str],
-) -> Result<(), AllocError> {
+/// The list of the pairs of names after the word `never`.
+pub(crate) fn push_nevers(objects: &mut Objects, notes: &[&str]) {
+    objects.begin("[");
     let mut awaited = Awaited::Never;
     for line in notes {
-        awaited = push_nevers_of(alloc, text, awaited, *line)?;
+        awaited = push_nevers_of(objects, awaited, *line);
     }
-    Ok(())
+    objects.end("]");
 }
 
 // Those in one line, and what is awaited after it.
-fn push_nevers_of<'a>(
-    alloc: Global,
-    text: &mut String,
-    before: Awaited<'a>,
-    line: &'a str,
-) -> Result<Awaited<'a>, AllocError> {
+fn push_nevers_of<'a>(objects: &mut Objects, before: Awaited<'a>, line: &'a str) -> Awaited<'a> {
     let mut awaited = before;
     for word in line.split(' ') {
         if let Awaited::Second(first) = awaited {
-            separate(text)?;
-            push_texts(alloc, text, &[first, word])?;
+            objects.texts_part(&[first, word]);
         }
         awaited = awaited.after(word);
     }
-    Ok(awaited)
+    awaited
 }
 
 // Which word of a `never` item comes next.
@@ -106,16 +98,16 @@ impl<'a> Awaited<'a> {
 /// What those below a transaction say, put together where they were broken: the bytes on the first line, and then what is said
 /// of a STOP, and of each participant that goes along with it furthest, on a line of its own.
 pub(crate) fn unbroken(alloc: Global, notes: &[&str]) -> Result<String, AllocError> {
-    let mut text = String::new(alloc);
+    let mut text = Text::new(alloc);
     for (k, line) in notes.iter().enumerate() {
         if begins(line) {
-            text.push('\n')?;
+            text.push("\n");
         } else if k != 0 {
-            text.push(' ')?;
+            text.push(" ");
         }
-        text.push_str(line)?;
+        text.push(line);
     }
-    Ok(text)
+    text.finish()
 }
 
 // Whether a line begins what is said of a STOP or of a participant.
@@ -125,14 +117,15 @@ fn begins(line: &str) -> bool {
         || line.split(' ').nth(1) == Some("leaves")
 }
 
-/// Adds what such a text says of participants, as parts of a list.
-pub(crate) fn push_nearest(alloc: Global, text: &mut String, said: &str) -> Result<(), AllocError> {
+/// The list of what such a text says of participants.
+pub(crate) fn push_nearest(objects: &mut Objects, said: &str) {
+    objects.begin("[");
     for line in said.split('\n') {
         if let Some(leaves) = leaves_of(line) {
-            push_leaves(alloc, text, leaves)?;
+            push_leaves(objects, leaves);
         }
     }
-    Ok(())
+    objects.end("]");
 }
 
 // Where a participant leaves a transaction, what it does there, and what the wire has.
@@ -157,17 +150,13 @@ fn leaves_of(line: &str) -> Option<Leaves<'_>> {
     })
 }
 
-fn push_leaves(alloc: Global, text: &mut String, leaves: Leaves<'_>) -> Result<(), AllocError> {
-    push_part(
-        alloc,
-        text,
-        &[
-            ("participant", Value::Text(leaves.participant)),
-            ("slot", Value::Number(leaves.slot)),
-            ("does", Value::Text(leaves.does)),
-            ("wire", Value::Text(leaves.wire)),
-        ],
-    )
+fn push_leaves(objects: &mut Objects, leaves: Leaves<'_>) {
+    objects.begin_part();
+    objects.text("participant", leaves.participant);
+    objects.number("slot", leaves.slot);
+    objects.text("does", leaves.does);
+    objects.text("wire", leaves.wire);
+    objects.end("}");
 }
 
 /// The words of the rows with this title, with single blanks between them.
@@ -176,30 +165,31 @@ pub(crate) fn words_of_rows(
     notes: &[&str],
     title: &str,
 ) -> Result<String, AllocError> {
-    let mut text = String::new(alloc);
+    let mut text = Text::new(alloc);
+    let mut between = "";
     for line in notes {
         if let Some(words) = after_title(line, title) {
-            push_words(&mut text, words)?;
+            between = push_words(&mut text, between, words);
         }
     }
-    Ok(text)
+    text.finish()
+}
+
+// Adds the words, and says what stands before the next one.
+fn push_words(text: &mut Text, before: &'static str, words: &str) -> &'static str {
+    let mut between = before;
+    for word in words.split(' ') {
+        if !word.is_empty() {
+            text.push(between);
+            text.push(word);
+            between = " ";
+        }
+    }
+    between
 }
 
 // What stands after the first word, where that is the title.
 fn after_title<'a>(line: &'a str, title: &str) -> Option<&'a str> {
     let (word, words) = line.trim_start_matches(' ').split_once(' ')?;
     if word == title { Some(words) } else { None }
-}
-
-fn push_words(text: &mut String, words: &str) -> Result<(), AllocError> {
-    for word in words.split(' ') {
-        if word.is_empty() {
-            continue;
-        }
-        if !text.is_empty() {
-            text.push(' ')?;
-        }
-        text.push_str(word)?;
-    }
-    Ok(())
 }

@@ -1,9 +1,8 @@
 // Lines of `capture`.
 
-use crate::below::{push_nearest, unbroken};
-use crate::fields::{Value, push, push_explained};
+use crate::below::unbroken;
+use crate::fields::{Objects, Value};
 use crate::words::number;
-use std::alloc::{AllocError, Global};
 
 // When a transaction begins and ends, and what is said of it.
 #[derive(Clone, Copy)]
@@ -50,49 +49,17 @@ fn time_of(text: &str) -> Value<'_> {
 }
 
 /// Adds the object of a transaction. Lines for people give its bytes, and who goes along with it furthest.
-pub(crate) fn push_transaction(
-    alloc: Global,
-    text: &mut String,
-    line: &str,
-    notes: &[&str],
-) -> Option<Result<(), AllocError>> {
+pub(crate) fn push_transaction(objects: &mut Objects, line: &str, notes: &[&str]) -> Option<()> {
     let told = taken_apart(line)?;
-    Some(push_told(alloc, text, told, notes))
+    match unbroken(objects.alloc, notes) {
+        Ok(said) => push_said(objects, told, said.as_str(), notes),
+        Err(_) => objects.cut(),
+    }
+    Some(())
 }
 
-fn push_told(
-    alloc: Global,
-    text: &mut String,
-    told: Told<'_>,
-    notes: &[&str],
-) -> Result<(), AllocError> {
-    let said = unbroken(alloc, notes)?;
-    push_heard(alloc, text, told, said.as_str(), notes)
-}
-
-fn push_heard(
-    alloc: Global,
-    text: &mut String,
-    told: Told<'_>,
-    said: &str,
-    notes: &[&str],
-) -> Result<(), AllocError> {
-    let mut nearest = String::new(alloc);
-    push_nearest(alloc, &mut nearest, said)?;
-    push_said(alloc, text, told, said, nearest.as_str(), notes)
-}
-
-fn push_said<'a>(
-    alloc: Global,
-    text: &mut String,
-    told: Told<'a>,
-    said: &'a str,
-    nearest: &'a str,
-    notes: &[&str],
-) -> Result<(), AllocError> {
-    push_explained(
-        alloc,
-        text,
+fn push_said<'a>(objects: &mut Objects, told: Told<'a>, said: &'a str, notes: &[&str]) {
+    objects.add_explained(
         "transaction",
         &[
             ("from", told.from),
@@ -102,10 +69,10 @@ fn push_said<'a>(
         ],
         &[
             ("bytes", first_line(said)),
-            ("nearest", Value::Parts(nearest)),
+            ("nearest", Value::Nearest(said)),
         ],
         notes,
-    )
+    );
 }
 
 fn first_line(said: &str) -> Value<'_> {
@@ -123,90 +90,82 @@ fn end_of(words: &str) -> Value<'_> {
 // Those who explain it.
 fn participants_of(words: &str) -> Value<'_> {
     match words {
-        "cut" | "unfinished" | "unexplained" => Value::Parts(""),
+        "cut" | "unfinished" | "unexplained" => Value::Empty,
         _ => Value::Words(words),
     }
 }
 
 /// Adds the object of `N transactions, U unexplained`: how many a STOP ended.
 pub(crate) fn push_last(
-    alloc: Global,
-    text: &mut String,
+    objects: &mut Objects,
     line: &str,
-) -> Option<Result<(), AllocError>> {
+) -> Option<()> {
     let (transactions, rest) = line.split_once(" transactions, ")?;
     let unexplained = rest.strip_suffix(" unexplained")?;
     let transactions = number(transactions)?;
     let unexplained = number(unexplained)?;
-    Some(push(
-        alloc,
-        text,
+    objects.add(
         "transactions",
         &[
             ("transactions", Value::Number(transactions)),
             ("unexplained", Value::Number(unexplained)),
         ],
-    ))
+    );
+    Some(())
 }
 
 /// Adds the object of what stands after `too` in `too few: C of N`.
 pub(crate) fn push_too_few(
-    alloc: Global,
-    text: &mut String,
+    objects: &mut Objects,
     rest: &str,
-) -> Option<Result<(), AllocError>> {
+) -> Option<()> {
     let (transactions, least) = rest.strip_prefix("few: ")?.split_once(" of ")?;
     let transactions = number(transactions)?;
     let at_least = number(least)?;
-    Some(push(
-        alloc,
-        text,
+    objects.add(
         "too_few",
         &[
             ("transactions", Value::Number(transactions)),
             ("at_least", Value::Number(at_least)),
         ],
-    ))
+    );
+    Some(())
 }
 
 /// Adds the object of `LABEL A alone, B with others`: how many transactions a participant explains.
 pub(crate) fn push_participant(
-    alloc: Global,
-    text: &mut String,
+    objects: &mut Objects,
     line: &str,
-) -> Option<Result<(), AllocError>> {
+) -> Option<()> {
     let (participant, counts) = line.split_once(' ')?;
     let (alone, others) = counts.split_once(" alone, ")?;
     let others = others.strip_suffix(" with others")?;
     let alone = number(alone)?;
     let with_others = number(others)?;
-    Some(push(
-        alloc,
-        text,
+    objects.add(
         "participant",
         &[
             ("participant", Value::Text(participant)),
             ("alone", Value::Number(alone)),
             ("with_others", Value::Number(with_others)),
         ],
-    ))
+    );
+    Some(())
 }
 
 /// Adds the object of `unexplained N`, `cut N` or `unfinished N`.
 pub(crate) fn push_count(
-    alloc: Global,
-    text: &mut String,
+    objects: &mut Objects,
     line: &str,
-) -> Option<Result<(), AllocError>> {
+) -> Option<()> {
     let (what, transactions) = line.split_once(' ')?;
     let transactions = number(transactions)?;
-    Some(push(
-        alloc,
-        text,
+    objects.add(
         "count",
         &[
             ("what", Value::Text(what)),
             ("transactions", Value::Number(transactions)),
         ],
-    ))
+    );
+    Some(())
 }

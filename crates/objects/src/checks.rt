@@ -1,9 +1,8 @@
 // Lines of `check` and `verify`.
 
-use crate::below::{push_nevers, rows_of, slot_in};
-use crate::fields::{Field, Value, push_explained, some_number};
+use crate::below::{rows_of, slot_in};
+use crate::fields::{Field, Objects, Value, some_number};
 use crate::words::number;
-use std::alloc::{AllocError, Global};
 
 // What `pair I X Y: KIND against KIND after WIRE` says.
 #[derive(Clone, Copy)]
@@ -38,18 +37,16 @@ pub(crate) fn pair_named(head: &str) -> Option<(u64, [&str; 2])> {
 /// Adds the object of an unsafe pair, of what stands after the first word. Lines for people give the bytes on the bus and
 /// those of the two, what each does next, and in which slot.
 pub(crate) fn push_pair(
-    alloc: Global,
-    text: &mut String,
+    objects: &mut Objects,
     rest: &str,
     notes: &[&str],
-) -> Option<Result<(), AllocError>> {
+) -> Option<()> {
     let pair = pair_of(rest)?;
     let slot = ("slot", some_number(slot_in(notes)));
     Some(match rows_of(pair.participants, notes) {
-        None => push_fault(alloc, text, pair, &[slot], notes),
+        None => push_fault(objects, pair, &[slot], notes),
         Some(rows) => push_fault(
-            alloc,
-            text,
+            objects,
             pair,
             &[
                 slot,
@@ -63,15 +60,12 @@ pub(crate) fn push_pair(
 }
 
 fn push_fault(
-    alloc: Global,
-    text: &mut String,
+    objects: &mut Objects,
     pair: Pair<'_>,
     explained: &[Field<'_>],
     notes: &[&str],
-) -> Result<(), AllocError> {
-    push_explained(
-        alloc,
-        text,
+) {
+    objects.add_explained(
         "pair",
         &[
             ("pair", Value::Number(pair.pair)),
@@ -81,62 +75,55 @@ fn push_fault(
         ],
         explained,
         notes,
-    )
+    );
 }
 
 /// Adds the object of `safe: N pairs` or `unsafe: F of N pairs`. Lines for people give the `never` items that mend the plan.
 pub(crate) fn push_plan(
-    alloc: Global,
-    text: &mut String,
+    objects: &mut Objects,
     line: &str,
     notes: &[&str],
-) -> Option<Result<(), AllocError>> {
+) -> Option<()> {
     let counts = line.strip_suffix(" pairs")?;
     if let Some(pairs) = counts.strip_prefix("safe: ") {
         let pairs = number(pairs)?;
-        return Some(push_counts(alloc, text, true, pairs, 0, notes));
+        return Some(push_counts(objects, true, pairs, 0, notes));
     }
     let (unsafe_pairs, pairs) = counts.strip_prefix("unsafe: ")?.split_once(" of ")?;
     let pairs = number(pairs)?;
     let unsafe_pairs = number(unsafe_pairs)?;
-    Some(push_counts(alloc, text, false, pairs, unsafe_pairs, notes))
+    Some(push_counts(objects, false, pairs, unsafe_pairs, notes))
 }
 
 fn push_counts(
-    alloc: Global,
-    text: &mut String,
+    objects: &mut Objects,
     is_safe: bool,
     pairs: u64,
     unsafe_pairs: u64,
     notes: &[&str],
-) -> Result<(), AllocError> {
-    let mut nevers = String::new(alloc);
-    push_nevers(alloc, &mut nevers, notes)?;
-    push_explained(
-        alloc,
-        text,
+) {
+    objects.add_explained(
         "plan",
         &[
             ("safe", Value::Flag(is_safe)),
             ("pairs", Value::Number(pairs)),
             ("unsafe_pairs", Value::Number(unsafe_pairs)),
         ],
-        &[("never", Value::Parts(nevers.as_str()))],
+        &[("never", Value::Nevers(notes))],
         notes,
-    )
+    );
 }
 
 /// Adds the object of `accepted safe`, `accepted unsafe`, `wrong C1 line L`, `wrong C2` or `wrong C5 pair I`.
 pub(crate) fn push_certificate(
-    alloc: Global,
-    text: &mut String,
+    objects: &mut Objects,
     line: &str,
     notes: &[&str],
-) -> Option<Result<(), AllocError>> {
+) -> Option<()> {
     if let Some(word) = line.strip_prefix("accepted ") {
         let is_safe = Value::Flag(word == "safe");
         let fields = [("accepted", Value::Flag(true)), ("safe", is_safe)];
-        return Some(push_explained(alloc, text, "certificate", &fields, &[], notes));
+        return Some(objects.add_explained("certificate", &fields, &[], notes));
     }
     let words = line.strip_prefix("wrong ")?;
     let (code, place) = words.split_once(' ').unwrap_or((words, ""));
@@ -146,7 +133,7 @@ pub(crate) fn push_certificate(
         ("line", number_after("line ", place)),
         ("pair", number_after("pair ", place)),
     ];
-    Some(push_explained(alloc, text, "certificate", &fields, &[], notes))
+    Some(objects.add_explained("certificate", &fields, &[], notes))
 }
 
 // The number after this word.

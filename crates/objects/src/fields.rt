@@ -1,5 +1,7 @@
 // Objects and their fields. How a text is quoted is left to `serde_json`.
 
+use crate::below::{push_nearest, push_nevers};
+use growing_text::Text;
 use std::alloc::{AllocError, Global};
 
 /// A field, by its name, in which nothing is to be escaped.
@@ -18,8 +20,11 @@ pub(crate) enum Value<'a> {
     Texts(&'a [&'a str]),
     /// The words between single blanks.
     Words(&'a str),
-    /// A list whose parts are written already, with commas between them.
-    Parts(&'a str),
+    /// The pairs of names that stand after the word `never` in these lines.
+    Nevers(&'a [&'a str]),
+    /// Where participants leave a transaction, as it is said of each on a line.
+    Nearest(&'a str),
+    Empty,
 }
 
 /// A number, where there is one.
@@ -30,118 +35,175 @@ pub(crate) fn some_number<'a>(number: Option<u64>) -> Value<'a> {
     }
 }
 
-/// Adds an object of this kind with these fields, and the end of its line.
-pub(crate) fn push(
-    alloc: Global,
-    text: &mut String,
-    kind: &str,
-    fields: &[Field<'_>],
-) -> Result<(), AllocError> {
-    push_explained(alloc, text, kind, fields, &[], &[])
+/// Objects, as they are written.
+#[derive(Drop)]
+pub(crate) struct Objects {
+    pub(crate) alloc: Global,
+    text: Text,
+    // what comes next is the first part of an object or of a list, and has no comma before it
+    is_first: bool,
 }
 
-/// The same with a last field for people: what is explained, and the lines that say it. It is left out where there are none.
-pub(crate) fn push_explained(
-    alloc: Global,
-    text: &mut String,
-    kind: &str,
-    fields: &[Field<'_>],
-    explained: &[Field<'_>],
-    notes: &[&str],
-) -> Result<(), AllocError> {
-    text.push('{')?;
-    push_field(alloc, text, "kind", Value::Text(kind))?;
-    push_fields(alloc, text, fields)?;
-    if !notes.is_empty() {
-        text.push_str(",\"explain\":{")?;
-        push_fields(alloc, text, explained)?;
-        push_field(alloc, text, "notes", Value::Texts(notes))?;
-        text.push('}')?;
+impl Objects {
+    /// Nothing yet.
+    pub(crate) fn new(alloc: Global) -> Objects {
+        Objects {
+            alloc,
+            text: Text::new(alloc),
+            is_first: true,
+        }
     }
-    text.push_str("}\n")
-}
 
-/// Adds an object to the parts of a list.
-pub(crate) fn push_part(
-    alloc: Global,
-    text: &mut String,
-    fields: &[Field<'_>],
-) -> Result<(), AllocError> {
-    separate(text)?;
-    text.push('{')?;
-    push_fields(alloc, text, fields)?;
-    text.push('}')
-}
-
-fn push_fields(alloc: Global, text: &mut String, fields: &[Field<'_>]) -> Result<(), AllocError> {
-    for (name, value) in fields {
-        push_field(alloc, text, *name, *value)?;
+    /// All that was written, unless memory was refused for some of it.
+    pub(crate) fn finish(self) -> Result<String, AllocError> {
+        self.text.finish()
     }
-    Ok(())
-}
 
-fn push_field(
-    alloc: Global,
-    text: &mut String,
-    name: &str,
-    value: Value<'_>,
-) -> Result<(), AllocError> {
-    if let Value::Absent = value {
-        return Ok(());
+    /// Memory was refused for what would come next.
+    pub(crate) fn cut(&mut self) {
+        self.text.cut();
     }
-    separate(text)?;
-    write!(text, "\"{name}\":")?;
-    push_value(alloc, text, value)
-}
 
-fn push_value(alloc: Global, text: &mut String, value: Value<'_>) -> Result<(), AllocError> {
-    match value {
-        Value::Absent => Ok(()),
-        Value::Number(number) => write!(text, "{number}"),
-        Value::Flag(is_so) => text.push_str(if is_so { "true" } else { "false" }),
-        Value::Text(words) => push_text(alloc, text, words),
-        Value::Slots(from, to) => write!(text, "[{from},{to}]"),
-        Value::Texts(list) => push_texts(alloc, text, list),
-        Value::Words(words) => push_words(alloc, text, words),
-        Value::Parts(parts) => write!(text, "[{parts}]"),
+    /// Adds an object of this kind with these fields, and the end of its line.
+    pub(crate) fn add(&mut self, kind: &str, fields: &[Field<'_>]) {
+        self.add_explained(kind, fields, &[], &[]);
     }
-}
 
-/// Adds a list of texts, which may be the next part of a list.
-pub(crate) fn push_texts(
-    alloc: Global,
-    text: &mut String,
-    list: &[&str],
-) -> Result<(), AllocError> {
-    text.push('[')?;
-    for words in list {
-        separate(text)?;
-        push_text(alloc, text, *words)?;
+    /// The same with a last field for people: what is explained, and the lines that say it. It is left out where there are none.
+    pub(crate) fn add_explained(
+        &mut self,
+        kind: &str,
+        fields: &[Field<'_>],
+        explained: &[Field<'_>],
+        notes: &[&str],
+    ) {
+        self.begin("{");
+        self.field("kind", Value::Text(kind));
+        self.fields(fields);
+        if !notes.is_empty() {
+            self.name("explain");
+            self.begin("{");
+            self.fields(explained);
+            self.field("notes", Value::Texts(notes));
+            self.end("}");
+        }
+        self.end("}\n");
+        self.is_first = true;
     }
-    text.push(']')
-}
 
-fn push_words(alloc: Global, text: &mut String, words: &str) -> Result<(), AllocError> {
-    text.push('[')?;
-    for word in words.split(' ') {
-        separate(text)?;
-        push_text(alloc, text, word)?;
+    /// Begins an object that is added to a list.
+    pub(crate) fn begin_part(&mut self) {
+        self.separate();
+        self.begin("{");
     }
-    text.push(']')
-}
 
-fn push_text(alloc: Global, text: &mut String, words: &str) -> Result<(), AllocError> {
-    let Ok(quoted) = serde_json::to_string(alloc, &words) else {
-        // JSON refuses no text
-        return Err(AllocError);
-    };
-    text.push_str(quoted.as_str())
-}
-
-/// Adds a comma, unless what follows is the first part of an object or a list.
-pub(crate) fn separate(text: &mut String) -> Result<(), AllocError> {
-    if text.is_empty() || text.ends_with('{') || text.ends_with('[') {
-        return Ok(());
+    /// Adds a field that holds a text.
+    pub(crate) fn text(&mut self, name: &str, words: &str) {
+        self.name(name);
+        self.quoted(words);
     }
-    text.push(',')
+
+    /// Adds a field that holds a number.
+    pub(crate) fn number(&mut self, name: &str, number: u64) {
+        self.name(name);
+        self.text.push_number(number);
+    }
+
+    /// Adds a list of texts to a list.
+    pub(crate) fn texts_part(&mut self, list: &[&str]) {
+        self.separate();
+        self.texts(list);
+    }
+
+    /// Begins an object or a list.
+    pub(crate) fn begin(&mut self, bracket: &str) {
+        self.text.push(bracket);
+        self.is_first = true;
+    }
+
+    /// Ends an object or a list.
+    pub(crate) fn end(&mut self, bracket: &str) {
+        self.text.push(bracket);
+        self.is_first = false;
+    }
+
+    fn fields(&mut self, fields: &[Field<'_>]) {
+        for (name, value) in fields {
+            self.field(*name, *value);
+        }
+    }
+
+    fn field(&mut self, name: &str, value: Value<'_>) {
+        match value {
+            Value::Absent => {}
+            _ => {
+                self.name(name);
+                self.value(value);
+            }
+        }
+    }
+
+    fn name(&mut self, name: &str) {
+        self.separate();
+        self.text.push("\"");
+        self.text.push(name);
+        self.text.push("\":");
+    }
+
+    fn value(&mut self, value: Value<'_>) {
+        match value {
+            Value::Absent => {}
+            Value::Number(number) => self.text.push_number(number),
+            Value::Flag(is_so) => self.text.push(if is_so { "true" } else { "false" }),
+            Value::Text(words) => self.quoted(words),
+            Value::Slots(from, to) => self.slots(from, to),
+            Value::Texts(list) => self.texts(list),
+            Value::Words(words) => self.words(words),
+            Value::Nevers(notes) => push_nevers(self, notes),
+            Value::Nearest(said) => push_nearest(self, said),
+            Value::Empty => self.text.push("[]"),
+        }
+    }
+
+    fn slots(&mut self, from: u64, to: u64) {
+        self.text.push("[");
+        self.text.push_number(from);
+        self.text.push(",");
+        self.text.push_number(to);
+        self.text.push("]");
+    }
+
+    fn texts(&mut self, list: &[&str]) {
+        self.begin("[");
+        for words in list {
+            self.separate();
+            self.quoted(*words);
+        }
+        self.end("]");
+    }
+
+    fn words(&mut self, words: &str) {
+        self.begin("[");
+        for word in words.split(' ') {
+            self.separate();
+            self.quoted(word);
+        }
+        self.end("]");
+    }
+
+    fn quoted(&mut self, words: &str) {
+        // JSON refuses no text, so an error is want of memory
+        match serde_json::to_string(self.alloc, &words) {
+            Ok(quoted) => self.text.push(quoted.as_str()),
+            Err(_) => self.cut(),
+        }
+    }
+
+    // A comma, unless the first part comes next.
+    fn separate(&mut self) {
+        if !self.is_first {
+            self.text.push(",");
+        }
+        self.is_first = false;
+    }
 }

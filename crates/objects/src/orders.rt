@@ -1,32 +1,27 @@
 // Lines of `order`.
 
 use crate::checks::pair_named;
-use crate::fields::{Value, push};
+use crate::fields::{Objects, Value};
 use crate::words::number;
-use std::alloc::{AllocError, Global};
 
 /// Adds the object of what stands after `pair` in `pair I X Y: WAYS`: who wins, and in which slots.
 pub(crate) fn push_order(
-    alloc: Global,
-    text: &mut String,
+    objects: &mut Objects,
     rest: &str,
-) -> Option<Result<(), AllocError>> {
+) -> Option<()> {
     let (head, ways) = rest.split_once(':')?;
     let (pair, participants) = pair_named(head)?;
-    Some(push_ways(alloc, text, pair, &participants, ways.trim_start()))
+    Some(push_ways(objects, pair, &participants, ways.trim_start()))
 }
 
 fn push_ways(
-    alloc: Global,
-    text: &mut String,
+    objects: &mut Objects,
     pair: u64,
     participants: &[&str; 2],
     ways: &str,
-) -> Result<(), AllocError> {
+) {
     let [one, other] = participants;
-    push(
-        alloc,
-        text,
+    objects.add(
         "order",
         &[
             ("pair", Value::Number(pair)),
@@ -36,7 +31,7 @@ fn push_ways(
             ("first", slots_of(ways, one)),
             ("second", slots_of(ways, other)),
         ],
-    )
+    );
 }
 
 fn unsafe_of<'a>(ways: &str) -> Value<'a> {
@@ -69,19 +64,16 @@ fn slots_in<'a>(slots: &str) -> Value<'a> {
 
 /// Adds the object of what stands after `total` in `total X: wins W, may win M, loses L`.
 pub(crate) fn push_total(
-    alloc: Global,
-    text: &mut String,
+    objects: &mut Objects,
     rest: &str,
-) -> Option<Result<(), AllocError>> {
+) -> Option<()> {
     let (participant, counts) = rest.split_once(": wins ")?;
     let (wins, counts) = counts.split_once(", may win ")?;
     let (may_win, loses) = counts.split_once(", loses ")?;
     let wins = number(wins)?;
     let may_win = number(may_win)?;
     let loses = number(loses)?;
-    Some(push(
-        alloc,
-        text,
+    objects.add(
         "total",
         &[
             ("participant", Value::Text(participant)),
@@ -89,5 +81,6 @@ pub(crate) fn push_total(
             ("may_win", Value::Number(may_win)),
             ("loses", Value::Number(loses)),
         ],
-    ))
+    );
+    Some(())
 }

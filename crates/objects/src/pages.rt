@@ -1,5 +1,6 @@
 // The objects of a whole report.
 
+use crate::fields::Objects;
 use crate::lines::push_line;
 use std::alloc::{AllocError, Global};
 
@@ -11,9 +12,9 @@ const MARGIN: &str = "    ";
 pub fn report_objects(alloc: Global, report: &str) -> Result<String, AllocError> {
     let mut page = Page::new(alloc);
     for line in report.lines() {
-        page.line(alloc, line)?;
+        page.line(line)?;
     }
-    page.finish(alloc)
+    page.finish()
 }
 
 // The objects that are there, and the line of the next one with those for people below it.
@@ -21,7 +22,7 @@ pub fn report_objects(alloc: Global, report: &str) -> Result<String, AllocError>
 struct Page<'a> {
     line: Option<&'a str>,
     notes: Vec<&'a str>,
-    text: String,
+    objects: Objects,
 }
 
 impl<'a> Page<'a> {
@@ -29,34 +30,33 @@ impl<'a> Page<'a> {
         Page {
             line: None,
             notes: Vec::new(alloc),
-            text: String::new(alloc),
+            objects: Objects::new(alloc),
         }
     }
 
-    fn line(&mut self, alloc: Global, line: &'a str) -> Result<(), AllocError> {
+    fn line(&mut self, line: &'a str) -> Result<(), AllocError> {
         match (self.line, line.strip_prefix(MARGIN)) {
-            (Some(above), Some(note)) if !above.starts_with(MARGIN) => Ok(self.notes.push(note)?),
+            (Some(above), Some(note)) if !above.starts_with(MARGIN) => self.notes.push(note)?,
             _ => {
-                self.end_object(alloc)?;
+                self.end_object();
                 self.line = Some(line);
-                Ok(())
             }
         }
-    }
-
-    // No more lines for people come.
-    fn end_object(&mut self, alloc: Global) -> Result<(), AllocError> {
-        if let Some(line) = self.line {
-            push_line(alloc, &mut self.text, line, self.notes.as_slice())?;
-        }
-        self.line = None;
-        self.notes.clear();
         Ok(())
     }
 
-    fn finish(mut self, alloc: Global) -> Result<String, AllocError> {
-        self.end_object(alloc)?;
-        let Page { text, .. } = self;
-        Ok(text)
+    // No more lines for people come.
+    fn end_object(&mut self) {
+        if let Some(line) = self.line {
+            push_line(&mut self.objects, line, self.notes.as_slice());
+        }
+        self.line = None;
+        self.notes.clear();
+    }
+
+    fn finish(mut self) -> Result<String, AllocError> {
+        self.end_object();
+        let Page { objects, .. } = self;
+        objects.finish()
     }
 }

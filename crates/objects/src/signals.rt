@@ -1,15 +1,15 @@
 // Lines of `signals`.
 
-use crate::fields::{Value, push};
+use crate::fields::{Objects, Value};
 use crate::words::number;
+use growing_text::Text;
 use std::alloc::{AllocError, Global};
 
 /// Adds the object of what stands after `signal` in `signal CODE CHANGES SCOPE NAME`.
 pub(crate) fn push_signal(
-    alloc: Global,
-    text: &mut String,
+    objects: &mut Objects,
     rest: &str,
-) -> Option<Result<(), AllocError>> {
+) -> Option<()> {
     let (code, rest) = rest.split_once(' ')?;
     let (changes, rest) = rest.split_once(' ')?;
     let (scope, name) = rest.split_once(' ')?;
@@ -18,9 +18,7 @@ pub(crate) fn push_signal(
         "-" => Value::Absent,
         _ => Value::Text(scope),
     };
-    Some(push(
-        alloc,
-        text,
+    objects.add(
         "signal",
         &[
             ("code", Value::Text(code)),
@@ -28,83 +26,63 @@ pub(crate) fn push_signal(
             ("scope", scope),
             ("name", Value::Text(name)),
         ],
-    ))
+    );
+    Some(())
 }
 
 /// Adds the object of what stands after `bus` in `bus N transactions --scl-code 'CODE' --sda-code 'CODE'`.
 pub(crate) fn push_bus(
-    alloc: Global,
-    text: &mut String,
+    objects: &mut Objects,
     rest: &str,
-) -> Option<Result<(), AllocError>> {
+) -> Option<()> {
     let (transactions, codes) = rest.split_once(" transactions --scl-code ")?;
     let (scl, sda) = codes.split_once(" --sda-code ")?;
     let transactions = number(transactions)?;
-    Some(push_codes(alloc, text, transactions, scl, sda))
+    Some(push_codes(objects, transactions, scl, sda))
 }
 
-fn push_codes(
-    alloc: Global,
-    text: &mut String,
-    transactions: u64,
-    scl: &str,
-    sda: &str,
-) -> Result<(), AllocError> {
-    let scl = unquoted(alloc, scl)?;
-    let sda = unquoted(alloc, sda)?;
-    push_bus_of(alloc, text, transactions, scl.as_str(), sda.as_str())
-}
-
-fn push_bus_of<'a>(
-    alloc: Global,
-    text: &mut String,
-    transactions: u64,
-    scl: &'a str,
-    sda: &'a str,
-) -> Result<(), AllocError> {
-    push(
-        alloc,
-        text,
+fn push_codes(objects: &mut Objects, transactions: u64, scl: &str, sda: &str) {
+    let codes = (unquoted(objects.alloc, scl), unquoted(objects.alloc, sda));
+    let (Ok(scl), Ok(sda)) = codes else {
+        return objects.cut();
+    };
+    objects.add(
         "bus",
         &[
             ("transactions", Value::Number(transactions)),
-            ("scl_code", Value::Text(scl)),
-            ("sda_code", Value::Text(sda)),
+            ("scl_code", Value::Text(scl.as_str())),
+            ("sda_code", Value::Text(sda.as_str())),
         ],
-    )
+    );
 }
 
 // What a shell makes of a word in single quotes, in which `'\''` stands for a quote.
 fn unquoted(alloc: Global, word: &str) -> Result<String, AllocError> {
     let inner = word.strip_prefix('\'').unwrap_or(word);
     let inner = inner.strip_suffix('\'').unwrap_or(inner);
-    let mut text = String::new(alloc);
+    let mut text = Text::new(alloc);
     for (k, part) in inner.split("'\\''").enumerate() {
-        if k != 0 {
-            text.push('\'')?;
-        }
-        text.push_str(part)?;
+        text.push(if k == 0 { "" } else { "'" });
+        text.push(part);
     }
-    Ok(text)
+    text.finish()
 }
 
 /// Adds the object of `S signals, B buses`.
 pub(crate) fn push_last(
-    alloc: Global,
-    text: &mut String,
+    objects: &mut Objects,
     line: &str,
-) -> Option<Result<(), AllocError>> {
+) -> Option<()> {
     let (signals, rest) = line.split_once(" signals, ")?;
     let buses = rest.strip_suffix(" buses")?;
     let signals = number(signals)?;
     let buses = number(buses)?;
-    Some(push(
-        alloc,
-        text,
+    objects.add(
         "signals",
         &[
             ("signals", Value::Number(signals)),
             ("buses", Value::Number(buses)),
         ],
-    ))
+    );
+    Some(())
 }
