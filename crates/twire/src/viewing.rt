@@ -49,7 +49,7 @@ impl Asked<'_> {
 }
 
 /// Why a run ends without its report.
-#[derive(Clone, Copy, Debug)]
+#[derive(Clone, Copy)]
 pub enum Halt {
     Run(RunError),
     /// A time was given with a unit, and the dump does not say what its numbers count.

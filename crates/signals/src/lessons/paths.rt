@@ -5,7 +5,7 @@ use std::alloc::{AllocError, Global};
 
 /// What a controller sends at one place: the header of a write, a data byte, or the header of a read, after which it reads so
 /// many bytes (how many, only an acknowledged one tells).
-#[derive(Clone, Copy, Debug, PartialEq, Eq)]
+#[derive(Clone, Copy, PartialEq, Eq)]
 pub(crate) enum Sent {
     Write(u8),
     Data(u8),
@@ -14,14 +14,14 @@ pub(crate) enum Sent {
 
 /// One place of a path, and whether what was sent there was refused. Data follows directly on what was acknowledged, and a
 /// header after a repeated START.
-#[derive(Clone, Copy, Debug, PartialEq, Eq)]
+#[derive(Clone, Copy, PartialEq, Eq)]
 pub(crate) struct Step {
     pub(crate) sent: Sent,
     pub(crate) refused: bool,
 }
 
 /// Why a transaction is no path of a message.
-#[derive(Clone, Copy, Debug, PartialEq, Eq)]
+#[derive(Clone, Copy, PartialEq, Eq)]
 pub(crate) enum NoPath {
     /// A START, a repeated START or a STOP comes in the midst of a byte, or two of them with no byte between.
     Broken,

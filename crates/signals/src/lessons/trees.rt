@@ -4,7 +4,7 @@ use crate::lessons::paths::{Sent, Step};
 use std::alloc::{AllocError, Global};
 
 /// What was done after an acknowledge, or after a refusal.
-#[derive(Clone, Copy, Debug, PartialEq, Eq)]
+#[derive(Clone, Copy, PartialEq, Eq)]
 pub(crate) enum After {
     /// It never came to that.
     Unseen,
