@@ -2,8 +2,6 @@ pub mod Arbitration
 pub mod Spans
 pub mod Ways
 pub mod Laws
-pub mod Numbers
-pub mod Laid
-pub mod Rows
-pub mod Openings
+pub mod Frames
+pub mod Senders
 pub mod Plans

@@ -28,7 +28,7 @@ pub(crate) fn header(a: &Address, direction: Bit) -> [Bit; 8]
 }
 
 // The bits of a data byte (UM10204, 3.1.5).
-pub(crate) fn data(p: &Pattern) -> [Bit; 8]
+fn data(p: &Pattern) -> [Bit; 8]
     ensures { result ≡ pattern_bits p.now }
 {
     [
@@ -61,6 +61,26 @@ pub(crate) fn open_bits(p: &Pattern) -> Outcomes
     }
     let bits = data(p);
     partings(&bits, &bits)
+}
+
+/// The places at which one of two may win who send these bytes.
+pub(crate) fn byte_partings(a: &Pattern, b: &Pattern) -> Outcomes
+    ensures { ArePartings (pattern_bits a.now) (pattern_bits b.now) result }
+{
+    if is_same(a, b) {
+        return open_bits(a);
+    }
+    partings(&data(a), &data(b))
+}
+
+/// Whether two who send these bytes always part.
+pub(crate) fn bytes_part(a: &Pattern, b: &Pattern) -> bool
+    ensures { IsTrue result ↔ ((k : ℕ) × SplitAt (pattern_bits a.now) (pattern_bits b.now) k) }
+{
+    if is_same(a, b) {
+        return false;
+    }
+    always_part(&data(a), &data(b))
 }
 
 // Whether no bit is open.
