@@ -4,7 +4,8 @@ ghost use Rattle.std.specs.Prelude.{◌≡◌, [], ◌∷◌, ◌++◌, ◌+◌,
 ghost use Rattle.message_tree.specs.Patterns.{pattern_bits};
 ghost use Rattle.message_tree.specs.Texts.{TailText, PayloadText};
 ghost use Rattle.message_tree.specs.Trees.{PayloadTree};
-ghost use Rattle.arbitration.specs.Ways.{AreOutcomes, ArePartings, AllHaveRoom, Step, with_bytes, NeverPart, IsInByte, IsBeginning};
+ghost use Rattle.arbitration.specs.Ways.{AreOutcomes, ArePartings, AllHaveRoom};
+ghost use Rattle.arbitration.specs.Ways.{Step, with_bytes, NeverPart, IsInByte, IsBeginning};
 
 use crate::spans::Outcomes;
 
@@ -31,8 +32,8 @@ impl Beginning {
     pub(crate) fn and(self, here: Outcomes) -> Beginning
         requires slots { 9 * self.bytes + 9 < 2 ^ 32 }
         requires room { AllHaveRoom (9 * self.bytes) here }
-        ensures { (ss ts : List Step) (s t : Step) → IsBeginning ss ts self → NeverPart (s ∷ []) (t ∷ []) → IsInByte s t here →
-            IsBeginning (ss ++ s ∷ []) (ts ++ t ∷ []) result }
+        ensures { (ss ts : List Step) (s t : Step) → IsBeginning ss ts self → NeverPart (s ∷ []) (t ∷ []) →
+            IsInByte s t here → IsBeginning (ss ++ s ∷ []) (ts ++ t ∷ []) result }
     {
         let here = here.after(9 * self.bytes);
         Beginning {

@@ -6,7 +6,8 @@ ghost use Rattle.message_tree.specs.Counts.{greatest_of};
 ghost use Rattle.message_tree.specs.Sizes.{payload_slots, tail_slots};
 ghost use Rattle.message_tree.specs.Texts.{message, ReadThen, FrameText, PayloadText, TailText};
 ghost use Rattle.message_tree.specs.Trees.{FrameTree};
-ghost use Rattle.arbitration.specs.Frames.{AreFrames, IsFrame, IsRow, IsInside, Names, frame_of, next_tree, row_tree, rest_after, trees_of};
+ghost use Rattle.arbitration.specs.Frames.{AreFrames, IsFrame, IsRow, IsInside, Names};
+ghost use Rattle.arbitration.specs.Frames.{frame_of, next_tree, row_tree, rest_after, trees_of};
 ghost use Rattle.arbitration.specs.Ways.{AreOutcomes, AllHaveRoom, AckedText, Answered, Way, span_of, header_of};
 
 use crate::beginnings::in_byte;

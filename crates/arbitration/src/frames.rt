@@ -115,7 +115,8 @@ impl Frames {
     // Whether this frame has this number.
     fn has_at(&self, k: u32, frame: &NumberedFrame) -> bool
         requires { AreFrames self.now.entries.items }
-        ensures { OnTrue result (Names (trees_of self.now.entries.items) k (frame_of (trees_of self.now.entries.items) frame.now)) }
+        ensures { OnTrue result (Names (trees_of self.now.entries.items) k
+            (frame_of (trees_of self.now.entries.items) frame.now)) }
     {
         let k = k as usize;
         k < self.entries.len() && same_frames(&self.entries[k].frame, frame)

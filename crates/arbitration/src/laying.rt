@@ -3,7 +3,8 @@
 ghost use Rattle.std.specs.Prelude.{◌≡◌, ◌+◌, ◌*◌, ◌<◌, ◌≤◌, ◌^◌, length, OnOk, IfOk};
 ghost use Rattle.message_tree.specs.Sizes.{frame_slots, payload_slots, tail_slots};
 ghost use Rattle.message_tree.specs.Trees.{frame_tree, payload_tree, tail_tree};
-ghost use Rattle.arbitration.specs.Frames.{AreFrames, IsFrame, IsRow, Names, Grows, IsInside, frame_of, next_tree, steps_of, row_tree, trees_of};
+ghost use Rattle.arbitration.specs.Frames.{AreFrames, IsFrame, IsRow, Names, Grows, IsInside};
+ghost use Rattle.arbitration.specs.Frames.{frame_of, next_tree, steps_of, row_tree, trees_of};
 ghost use Rattle.arbitration.specs.Ways.{with_bytes};
 
 use crate::beginnings::in_byte;

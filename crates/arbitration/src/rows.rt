@@ -53,7 +53,8 @@ impl Row {
     /// The beginning of so many of the bytes.
     pub(crate) fn beginning(&self, count: usize) -> Beginning
         requires { count ≤ length self.now.beginnings.items }
-        ensures { (ss : List Step) → AreBeginnings ss self.now.beginnings.items → IsBeginning (take count ss) (take count ss) result }
+        ensures { (ss : List Step) → AreBeginnings ss self.now.beginnings.items →
+            IsBeginning (take count ss) (take count ss) result }
     {
         if count == 0 {
             return Beginning::none();
@@ -63,13 +64,14 @@ impl Row {
 
     /// One more byte, within which two who both send it come to these.
     pub(crate) fn push(&mut self, byte: NumberedByte, here: Outcomes) -> Result<(), AllocError>
-        requires begun { (ss : List Step) × AreBeginnings ss self.old.beginnings.items × (length ss ≡ length self.old.bytes.items) }
+        requires begun { (ss : List Step) × AreBeginnings ss self.old.beginnings.items ×
+            (length ss ≡ length self.old.bytes.items) }
         requires slots { 9 * length self.old.bytes.items + 9 < 2 ^ 32 }
         requires room { AllHaveRoom (9 * length self.old.bytes.items) here }
         ensures bytes { OnOk result (self.new.bytes.items ≡ self.old.bytes.items ++ byte ∷ []) }
         ensures last { OnOk result (self.new.last ≡ self.old.last) }
-        ensures begun { OnOk result ((ss : List Step) (s : Step) → AreBeginnings ss self.old.beginnings.items → IsInByte s s here →
-            AreBeginnings (ss ++ s ∷ []) self.new.beginnings.items) }
+        ensures begun { OnOk result ((ss : List Step) (s : Step) → AreBeginnings ss self.old.beginnings.items →
+            IsInByte s s here → AreBeginnings (ss ++ s ∷ []) self.new.beginnings.items) }
     {
         let longer = self.beginning(self.bytes.len()).and(here);
         self.bytes.push(byte)?;
