@@ -14,8 +14,11 @@ use Rattle.arbitration.specs.declared.rows.Next.{Next}
 use Rattle.arbitration.specs.declared.rows.Next.TheVariants.{Stop, Again}
 use Rattle.arbitration.specs.declared.rows.NumberedByte.{NumberedByte}
 use Rattle.arbitration.specs.declared.rows.Row.{Row}
-use Rattle.arbitration.specs.Frames.{Names, Grows, AreBeginnings, IsBegun, IsFrame, IsRow, next_height, bytes_height, row_height, frame_height, step_of, steps_of, row_tree, IsInside, IsEntry, AreFrames, next_tree, again_or_stop, frame_of, trees_after, trees_of}
+use Rattle.message_tree.specs.Patterns.{pattern_bits}
+use Rattle.arbitration.specs.Choices.{AreChoices}
+use Rattle.arbitration.specs.Frames.{Names, Grows, AllTold, AreBeginnings, IsBegun, IsFrame, IsRow, next_height, bytes_height, row_height, frame_height, step_of, steps_of, row_tree, IsInside, IsEntry, AreFrames, next_tree, again_or_stop, frame_of, trees_after, trees_of}
 use Rattle.arbitration.specs.Ways.{AreOutcomes, Step, with_bytes}
+use Rattle.arbitration.proofs.RowLemmas.{told_more}
 
 -- ---- as many trees as entries
 
@@ -165,7 +168,7 @@ module _ (old new : List Entry) (grows : Grows old new) where
   is_grown : (frame : NumberedFrame) → IsFrame old frame → IsFrame new frame
   is_grown frame is =
       let e = ap frame_slots (frame_grown frame is.inside) in
-      record { inside = omega (arith, is.inside, longer); begun = begun_grown frame is.inside is.begun; slots = omega (arith, e, is.slots) }
+      record { inside = omega (arith, is.inside, longer); told = is.told; begun = begun_grown frame is.inside is.begun; slots = omega (arith, e, is.slots) }
 
   entry_grown : (k : ℕ) (e : Entry) → IsEntry old k e → IsEntry new k e
   entry_grown k e is =
@@ -207,6 +210,7 @@ pub is_row_grown : (old new : List Entry) → Grows old new → (row : Row) → 
 is_row_grown old new grows row is =
     record {
       inside = omega (arith, is.inside, longer old new grows);
+      told = is.told;
       begun = subst (λ (ss : List Step). AreBeginnings ss row.beginnings.items) (sym (steps_grown old new grows row is.inside)) is.begun;
     }
 
@@ -220,9 +224,9 @@ module _ (es : List Entry) (old new : Row) (b : NumberedByte) (e : new.bytes.ite
       let f = step_of (trees_of es) in
       ap (map f) e ∙ map-append f old.bytes.items (b ∷ [])
 
-  pub longer_row : IsRow es old → IsInside es b.refused → new.last ≡ old.last → AreBeginnings (steps_of (trees_of es) old ++ step_of (trees_of es) b ∷ []) new.beginnings.items → IsRow es new
-  longer_row is inside same begun =
+  pub longer_row : IsRow es old → AreChoices (pattern_bits b.bits) b.choices → IsInside es b.refused → new.last ≡ old.last → AreBeginnings (steps_of (trees_of es) old ++ step_of (trees_of es) b ∷ []) new.beginnings.items → IsRow es new
+  longer_row is told inside same begun =
       let l = ap next_height same in
       let h = height_more old.bytes.items b (length es) (omega (arith, is.inside)) inside in
       let m = ap bytes_height e in
-      record { inside = omega (arith, is.inside, l, h, m); begun = subst (λ (ss : List Step). AreBeginnings ss new.beginnings.items) (sym longer_steps) begun }
+      record { inside = omega (arith, is.inside, l, h, m); told = subst AllTold (sym e) (told_more old.bytes.items b is.told told); begun = subst (λ (ss : List Step). AreBeginnings ss new.beginnings.items) (sym longer_steps) begun }

@@ -281,20 +281,17 @@ as_frames (write a x r) (read b d y s) o h = h
 as_frames (read a c x r) (write b y s) o h = h
 as_frames (read a c x r) (read b d y s) o h = h
 
-module _ (f g : FrameTree) (bs cs : List Bit) (e : bs ≡ header_of (message f)) (i : cs ≡ header_of (message g)) where
+module _ (f g : FrameTree) where
   some_node : (d : FrameTree) → HasText (AnswerThen (AckedText d) (TailText (refused_of d)))
   some_node d = some_answer (AckedText d) (TailText (refused_of d)) (some_acked d)
 
-  pub frames_part : (o : Outcomes) → ((k : ℕ) × SplitAt bs cs k) → ArePartings bs cs o → AreOutcomes (FrameText f) (FrameText g) o
+  pub frames_part : (o : Outcomes) → ((k : ℕ) × SplitAt (header_of (message f)) (header_of (message g)) k) → ArePartings (header_of (message f)) (header_of (message g)) o → AreOutcomes (FrameText f) (FrameText g) o
   frames_part o k h =
-      as_frames f g o (parted (header_of (message f)) (header_of (message g)) (AnswerThen (AckedText f) (TailText (refused_of f))) (AnswerThen (AckedText g) (TailText (refused_of g))) o (length_of_first f ∙ sym (length_of_first g)) (rw (e, i) at k) (some_node f) (some_node g) (rw (e, i) at h))
+      as_frames f g o (parted (header_of (message f)) (header_of (message g)) (AnswerThen (AckedText f) (TailText (refused_of f))) (AnswerThen (AckedText g) (TailText (refused_of g))) o (length_of_first f ∙ sym (length_of_first g)) k (some_node f) (some_node g) h)
 
-  pub never_split : (((k : ℕ) × SplitAt bs cs k) → ⊥) → NeverSplit (header_of (message f)) (header_of (message g))
-  never_split n = rw (← e, ← i) (λ k s. n (k, s))
-
-  pub frames_answered : (h o p q : Outcomes) → NeverSplit (header_of (message f)) (header_of (message g)) → ArePartings bs cs h → AreOutcomes (AckedText f) (AckedText g) p → AreOutcomes (TailText (refused_of f)) (TailText (refused_of g)) q → ((way : Way) → Answered (span_of way h) (span_of way p) (span_of way q) (span_of way o)) → AreOutcomes (FrameText f) (FrameText g) o
+  pub frames_answered : (h o p q : Outcomes) → NeverSplit (header_of (message f)) (header_of (message g)) → ArePartings (header_of (message f)) (header_of (message g)) h → AreOutcomes (AckedText f) (AckedText g) p → AreOutcomes (TailText (refused_of f)) (TailText (refused_of g)) q → ((way : Way) → Answered (span_of way h) (span_of way p) (span_of way q) (span_of way o)) → AreOutcomes (FrameText f) (FrameText g) o
   frames_answered h o p q n a b c u =
-      as_frames f g o (answered (header_of (message f)) (header_of (message g)) (AckedText f) (AckedText g) (TailText (refused_of f)) (TailText (refused_of g)) (length_of_first f) (length_of_first g) h o p q n (some_acked f) (some_acked g) (rw (e, i) at a) b c u)
+      as_frames f g o (answered (header_of (message f)) (header_of (message g)) (AckedText f) (AckedText g) (TailText (refused_of f)) (TailText (refused_of g)) (length_of_first f) (length_of_first g) h o p q n (some_acked f) (some_acked g) a b c u)
 
 module _ (v w : PayloadTree) (o : Outcomes) where
   pub byte_and_last : (a : Pattern) (x : PayloadTree) (r t : TailTree) → v ≡ byte a x r → w ≡ last t → ((way : Way) → span_of way o ≡ None) → AreOutcomes (PayloadText v) (PayloadText w) o

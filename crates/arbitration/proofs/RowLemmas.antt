@@ -1,5 +1,5 @@
 -- Rows of bytes, and their beginnings.
-use Rattle.std.proofs.Common.{◌≡◌, ℕ, zero, suc, ◌+◌, ◌*◌, ◌<◌, ◌≤◌, get_or, List, [], ◌∷◌, ◌++◌, map, take, drop, length, length-append, ap, sym, ◌∙◌, arith, inl, inr}
+use Rattle.std.proofs.Common.{◌≡◌, ℕ, zero, suc, ◌+◌, ◌*◌, ◌<◌, ◌≤◌, get_or, List, [], ◌∷◌, ◌++◌, map, take, drop, length, length-append, ap, sym, ◌∙◌, subst, arith, inl, inr}
 use Rattle.std.proofs.Math.Numerals.{add-one}
 use Rattle.std.proofs.lemmas.Bool.{cases_lt}
 use Rattle.std.proofs.lemmas.List.{take_all, take-append-le, get_or_append_left, get_or_push, length-map, drop_all, take-map, length-take-le}
@@ -10,7 +10,9 @@ use Rattle.message_tree.specs.Trees.{FrameTree, byte, last}
 use Rattle.arbitration.specs.declared.beginnings.Beginning.{Beginning}
 use Rattle.arbitration.specs.declared.rows.NumberedByte.{NumberedByte}
 use Rattle.arbitration.specs.declared.rows.Row.{Row}
-use Rattle.arbitration.specs.Frames.{AreBeginnings, next_tree, next_height, bytes_height, step_of, steps_of, rest_after, row_tree}
+use Rattle.message_tree.specs.Patterns.{pattern_bits}
+use Rattle.arbitration.specs.Choices.{AreChoices}
+use Rattle.arbitration.specs.Frames.{AreBeginnings, AllTold, next_tree, next_height, bytes_height, step_of, steps_of, rest_after, row_tree}
 use Rattle.arbitration.specs.Ways.{Step, with_bytes, IsBeginning}
 use Rattle.arbitration.proofs.CommonBytes.{slots_left}
 
@@ -43,6 +45,15 @@ height_at : (bs : List NumberedByte) (k : ℕ) (b : NumberedByte) → k < length
 height_at [] k b l e = absurd (omega (arith, l))
 height_at (c ∷ bs) zero b l e = let f = ap (λ (d : NumberedByte). next_height d.refused) e in omega (arith, f)
 height_at (c ∷ bs) (suc k) b l e = let h = height_at bs k b (omega (arith, l)) e in omega (arith, h)
+
+pub told_at : (bs : List NumberedByte) (k : ℕ) (b : NumberedByte) → AllTold bs → k < length bs → b ≡ get_or bs k b → AreChoices (pattern_bits b.bits) b.choices
+told_at [] k b a l e = absurd (omega (arith, l))
+told_at (c ∷ bs) zero b a l e = subst (λ (d : NumberedByte). AreChoices (pattern_bits d.bits) d.choices) (sym e) a.0
+told_at (c ∷ bs) (suc k) b a l e = told_at bs k b a.1 (omega (arith, l)) e
+
+pub told_more : (bs : List NumberedByte) (b : NumberedByte) → AllTold bs → AreChoices (pattern_bits b.bits) b.choices → AllTold (bs ++ b ∷ [])
+told_more [] b a h = (h, tt)
+told_more (c ∷ bs) b a h = (a.0, told_more bs b a.1 h)
 
 module _ (known : List FrameTree) (row : Row) (k : ℕ) (b : NumberedByte) (l : k < length row.bytes.items) (e : b ≡ get_or row.bytes.items k b) where
   pub byte_height : next_height b.refused ≤ bytes_height row.bytes.items

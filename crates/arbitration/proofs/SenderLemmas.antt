@@ -62,20 +62,20 @@ module _ (p q : Option Sender) (s t : Sender) (e : p ≡ Some s) (f : q ≡ Some
       subst (λ (a : Option Sender). IsSpan (Wins (TextOf a) (TextOf q)) o) (sym e) (subst (λ (b : Option Sender). IsSpan (Wins (SenderText s) (TextOf b)) o) (sym f) h)
 
 -- two of whom one interrupts part in the header, or come to nothing
-pub interrupted : (known : List FrameTree) (v w : Sent) (s t : Sender) (bs cs : List Bit) (o : Outcomes) → IsSent known v s → IsSent known w t → ((m n : ℕ) → v ≡ Message m → w ≡ Message n → ⊥) → bs ≡ header_of s → cs ≡ header_of t → ArePartings bs cs o → AreOutcomes (SenderText s) (SenderText t) o
-interrupted known (Message m) (Message n) s t bs cs o i j never e f h = absurd (never m n refl refl)
-interrupted known (Message m) (Interrupt b) (message x) (message y) bs cs o i j never e f h = absurd j
-interrupted known (Message m) (Interrupt b) (message x) (interrupt y) bs cs o i j never e f h =
-    rw j (message_and_interrupt x b bs cs o e (rw j at f) h)
-interrupted known (Message m) (Interrupt b) (interrupt x) t bs cs o i j never e f h = absurd i
-interrupted known (Interrupt a) (Message n) (message x) t bs cs o i j never e f h = absurd i
-interrupted known (Interrupt a) (Message n) (interrupt x) (message y) bs cs o i j never e f h =
-    rw i (interrupt_and_message a y bs cs o (rw i at e) f h)
-interrupted known (Interrupt a) (Message n) (interrupt x) (interrupt y) bs cs o i j never e f h = absurd j
-interrupted known (Interrupt a) (Interrupt b) (message x) t bs cs o i j never e f h = absurd i
-interrupted known (Interrupt a) (Interrupt b) (interrupt x) (message y) bs cs o i j never e f h = absurd j
-interrupted known (Interrupt a) (Interrupt b) (interrupt x) (interrupt y) bs cs o i j never e f h =
-    rw (i, j) (two_interrupts a b bs cs o (rw i at e) (rw j at f) h)
+pub interrupted : (known : List FrameTree) (v w : Sent) (s t : Sender) (o : Outcomes) → IsSent known v s → IsSent known w t → ((m n : ℕ) → v ≡ Message m → w ≡ Message n → ⊥) → ArePartings (header_of s) (header_of t) o → AreOutcomes (SenderText s) (SenderText t) o
+interrupted known (Message m) (Message n) s t o i j never h = absurd (never m n refl refl)
+interrupted known (Message m) (Interrupt b) (message x) (message y) o i j never h = absurd j
+interrupted known (Message m) (Interrupt b) (message x) (interrupt y) o i j never h =
+    rw j (message_and_interrupt x b (header_of (message x)) (header_of (interrupt y)) o refl (ap (λ (bits : List Bit). bits ++ One ∷ []) j) h)
+interrupted known (Message m) (Interrupt b) (interrupt x) t o i j never h = absurd i
+interrupted known (Interrupt a) (Message n) (message x) t o i j never h = absurd i
+interrupted known (Interrupt a) (Message n) (interrupt x) (message y) o i j never h =
+    rw i (interrupt_and_message a y (header_of (interrupt x)) (header_of (message y)) o (ap (λ (bits : List Bit). bits ++ One ∷ []) i) refl h)
+interrupted known (Interrupt a) (Message n) (interrupt x) (interrupt y) o i j never h = absurd j
+interrupted known (Interrupt a) (Interrupt b) (message x) t o i j never h = absurd i
+interrupted known (Interrupt a) (Interrupt b) (interrupt x) (message y) o i j never h = absurd j
+interrupted known (Interrupt a) (Interrupt b) (interrupt x) (interrupt y) o i j never h =
+    rw (i, j) (two_interrupts a b (header_of (interrupt x)) (header_of (interrupt y)) o (ap (λ (bits : List Bit). bits ++ One ∷ []) i) (ap (λ (bits : List Bit). bits ++ One ∷ []) j) h)
 
 -- both send messages
 pub both_messages : (known : List FrameTree) (m n : ℕ) (o : Outcomes) → ((f g : FrameTree) → Names known m f → Names known n g → AreOutcomes (FrameText f) (FrameText g) o) → (s t : Sender) → IsSent known (Message m) s → IsSent known (Message n) t → AreOutcomes (SenderText s) (SenderText t) o

@@ -2,7 +2,8 @@
 -- contracts and proofs use this.
 use Rattle.std.specs.Prelude.{◌≡◌, ℕ, suc, ◌+◌, ◌<◌, ◌≤◌, ◌^◌, max, Option, Some, None, List, [], ◌∷◌, ◌++◌, length, map, take, drop, get_or, slice_get}
 use Rattle.message_tree.specs.Sizes.{frame_slots}
-use Rattle.message_tree.specs.Texts.{FrameText}
+use Rattle.message_tree.specs.Patterns.{pattern_bits}
+use Rattle.message_tree.specs.Texts.{FrameText, write_header, read_header}
 use Rattle.message_tree.specs.Trees.{FrameTree, write, read, PayloadTree, last, TailTree, stop, again}
 use Rattle.arbitration.specs.declared.beginnings.Beginning.{Beginning}
 use Rattle.arbitration.specs.declared.frames.Entry.{Entry}
@@ -14,6 +15,7 @@ use Rattle.arbitration.specs.declared.rows.Next.{Next}
 use Rattle.arbitration.specs.declared.rows.Next.TheVariants.{Stop, Again}
 use Rattle.arbitration.specs.declared.rows.NumberedByte.{NumberedByte}
 use Rattle.arbitration.specs.declared.rows.Row.{Row}
+use Rattle.arbitration.specs.Choices.{AreChoices}
 use Rattle.arbitration.specs.Ways.{AreOutcomes, IsBeginning, Step, with_bytes}
 
 -- this is the number of the frame
@@ -90,8 +92,19 @@ AreBeginnings ss beginnings =
 abbrev pub IsInside : List Entry → Next → Type 0
 IsInside es next = next_height next ≤ length es
 
+-- the choices in the bits of each byte are those that stand with it
+abbrev pub AllTold : List NumberedByte → Type 0
+AllTold [] = Unit {0}
+AllTold (b ∷ bs) = AreChoices (pattern_bits b.bits) b.choices × AllTold bs
+
+-- and those in the bits of the header too
+abbrev pub IsTold : NumberedFrame → Type 0
+IsTold (Write w) = AreChoices (write_header w.address) w.header × AllTold w.acked.bytes.items
+IsTold (Read r) = AreChoices (read_header r.address) r.header
+
 pub record IsRow (es : List Entry) (row : Row) : Type 0 where
   pub inside : row_height row ≤ length es
+  pub told : AllTold row.bytes.items
   pub begun : AreBeginnings (steps_of (trees_of es) row) row.beginnings.items
 
 abbrev pub IsBegun : List Entry → NumberedFrame → Type 0
@@ -101,6 +114,7 @@ IsBegun es (Read r) = Unit {0}
 -- the frame is in terms of these entries, and no text of it has 2 to the power 32 slots
 pub record IsFrame (es : List Entry) (frame : NumberedFrame) : Type 0 where
   pub inside : frame_height frame ≤ length es
+  pub told : IsTold frame
   pub begun : IsBegun es frame
   pub slots : frame_slots (frame_of (trees_of es) frame) < 2 ^ 32
 

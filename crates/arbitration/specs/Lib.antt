@@ -1,5 +1,6 @@
 pub mod Arbitration
 pub mod Spans
+pub mod Choices
 pub mod Ways
 pub mod Laws
 pub mod Frames

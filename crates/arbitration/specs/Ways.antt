@@ -2,7 +2,7 @@
 use Rattle.std.specs.Prelude.{◌≡◌, ℕ, ◌+◌, ◌*◌, ◌<◌, ◌⊎◌, true, false, Option, Some, List, [], ◌∷◌, ◌++◌, length, slice_get}
 use Rattle.message_tree.specs.declared.bits.Bit.{Bit}
 use Rattle.message_tree.specs.declared.bits.Pattern.{Pattern}
-use Rattle.message_tree.specs.declared.bits.Bit.TheVariants.{Zero, One, Either}
+use Rattle.message_tree.specs.declared.bits.Bit.TheVariants.{One}
 use Rattle.message_tree.specs.declared.counts.Count.{Count}
 use Rattle.message_tree.specs.declared.items.Item.{Item}
 use Rattle.message_tree.specs.declared.items.Item.TheVariants.{Sent, Stop}
@@ -52,23 +52,11 @@ AreOutcomes P Q outcomes = (way : Way) → IsSpan (Goes way P Q) (span_of way ou
 abbrev pub AllHaveRoom : ℕ → Outcomes → Type 0
 AllHaveRoom n outcomes = (way : Way) → HasRoom n (span_of way outcomes)
 
--- one of the two bits is known to be 0 and the other to be 1
-abbrev pub Differ : Bit → Bit → Type 0
-Differ b c = ((b ≡ Zero) × (c ≡ One)) ⊎ ((b ≡ One) × (c ≡ Zero))
-
--- no bit is open
-abbrev pub NoneOpen : List Bit → Type 0
-NoneOpen bs = (k : ℕ) → slice_get bs k ≡ Some Either → ⊥
-
 -- at place k one may send 0 and the other 1, and no earlier bit is known in both and different
 pub record WinsAt (bs cs : List Bit) (k : ℕ) : Type 0 where
   pub zero : (b : Bit) × (slice_get bs k ≡ Some b) × Allows b false
   pub one : (c : Bit) × (slice_get cs k ≡ Some c) × Allows c true
   pub before : (j : ℕ) → j < k → SplitAt bs cs j → ⊥
-
--- it is slot k, one of these bits may be sent as 0, and the other as 1
-abbrev pub WinsBit : Bit → Bit → ℕ → ℕ → Type 0
-WinsBit b c k j = (j ≡ k) × Allows b false × Allows c true
 
 abbrev pub PartsAt : Way → List Bit → List Bit → ℕ → Type 0
 PartsAt both_end bs cs k = ⊥

@@ -11,7 +11,6 @@ ghost use Rattle.arbitration.specs.Frames.{frame_of, next_tree, row_tree, rest_a
 ghost use Rattle.arbitration.specs.Ways.{AreOutcomes, AllHaveRoom, AckedText, Answered, Way, span_of, header_of};
 
 use crate::beginnings::in_byte;
-use crate::bits::{always_part, byte_partings, bytes_part, partings};
 use crate::frames::{Frames, NumberedFrame, NumberedRead};
 use crate::reads::{reads_apart, reads_met};
 use crate::rows::{Next, Row, same_bytes};
@@ -45,8 +44,8 @@ impl Frames {
     {
         let first_bits = first.header();
         let second_bits = second.header();
-        let parted = partings(&first_bits, &second_bits);
-        if always_part(&first_bits, &second_bits) {
+        let parted = first_bits.partings(second_bits);
+        if first_bits.always_part(second_bits) {
             return parted;
         }
         let acked = self.acked(first, second);
@@ -112,8 +111,8 @@ impl Frames {
         for k in alike..first.bytes.len().min(second.bytes.len()) {
             let a = &first.bytes[k];
             let b = &second.bytes[k];
-            let parted = byte_partings(&a.bits, &b.bits);
-            if bytes_part(&a.bits, &b.bits) {
+            let parted = a.choices.partings(b.choices);
+            if a.choices.always_part(b.choices) {
                 return met.followed_by(parted);
             }
             let refused = self.nexts(a.refused, b.refused);

@@ -6,14 +6,16 @@ ghost use Rattle.std.specs.Bool.{OnTrue};
 ghost use Rattle.message_tree.specs.Drops.{refused_of};
 ghost use Rattle.message_tree.specs.Texts.{message};
 ghost use Rattle.message_tree.specs.Trees.{FrameTree};
-ghost use Rattle.arbitration.specs.Frames.{AreFrames, IsFrame, Names, Grows, frame_of, frame_height, write_of, next_tree, next_height, trees_of};
+ghost use Rattle.arbitration.specs.Frames.{AreFrames, IsFrame, Names, Grows, frame_of, frame_height, write_of, read_of, next_tree, next_height, trees_of};
+ghost use Rattle.arbitration.specs.Frames.{IsTold};
+ghost use Rattle.arbitration.specs.Choices.{AreChoices};
 ghost use Rattle.arbitration.specs.Ways.{header_of};
 
-use crate::bits::header;
+use crate::bits::Choices;
 use crate::likeness::likeness;
 use crate::rows::{Next, Row, is_same_next, same_rows};
 use crate::spans::Outcomes;
-use message_tree::{Address, Bit, Count};
+use message_tree::{Address, Count};
 use std::alloc::{AllocError, Global};
 use std::collections::HashMap;
 
@@ -21,6 +23,7 @@ use std::collections::HashMap;
 #[derive(Drop)]
 pub(crate) struct NumberedWrite {
     pub(crate) address: Address,
+    pub(crate) header: Choices,
     pub(crate) acked: Row,
     pub(crate) refused: Next,
 }
@@ -29,6 +32,7 @@ pub(crate) struct NumberedWrite {
 #[derive(Clone, Copy)]
 pub(crate) struct NumberedRead {
     pub(crate) address: Address,
+    pub(crate) header: Choices,
     pub(crate) count: Count,
     pub(crate) after: Next,
     pub(crate) refused: Next,
@@ -42,13 +46,14 @@ pub(crate) enum NumberedFrame {
 }
 
 impl NumberedFrame {
-    /// The bits of the header.
-    pub(crate) fn header(&self) -> [Bit; 8]
-        ensures { (known : List FrameTree) → result ≡ header_of (message (frame_of known self.now)) }
+    /// The choices in the bits of the header.
+    pub(crate) fn header(&self) -> Choices
+        ensures { (known : List FrameTree) → IsTold self.now →
+            AreChoices (header_of (message (frame_of known self.now))) result }
     {
         match self {
-            NumberedFrame::Write(w) => header(&w.address, Bit::Zero),
-            NumberedFrame::Read(r) => header(&r.address, Bit::One),
+            NumberedFrame::Write(w) => w.header,
+            NumberedFrame::Read(r) => r.header,
         }
     }
 
@@ -148,7 +153,7 @@ fn same_writes(first: &NumberedWrite, second: &NumberedWrite) -> bool
 }
 
 fn same_reads(first: &NumberedRead, second: &NumberedRead) -> bool
-    ensures { OnTrue result (first.now ≡ second.now) }
+    ensures { OnTrue result ((known : List FrameTree) → read_of known first.now ≡ read_of known second.now) }
 {
     same_addresses(&first.address, &second.address)
         && same_counts(&first.count, &second.count)

@@ -8,10 +8,10 @@ ghost use Rattle.arbitration.specs.Frames.{frame_of, next_tree, steps_of, row_tr
 ghost use Rattle.arbitration.specs.Ways.{with_bytes};
 
 use crate::beginnings::in_byte;
-use crate::bits::byte_partings;
+use crate::bits::Choices;
 use crate::frames::{Frames, NumberedFrame, NumberedRead, NumberedWrite};
 use crate::rows::{Next, NumberedByte, Row};
-use message_tree::{Frame, Payload, Tail};
+use message_tree::{Bit, Frame, Payload, Tail};
 use std::alloc::{AllocError, Global};
 
 impl Frames {
@@ -49,6 +49,7 @@ impl Frames {
                 self.lay_payload(alloc, &mut row, acked)?;
                 Ok(NumberedFrame::Write(NumberedWrite {
                     address: *address,
+                    header: Choices::of_header(address, Bit::Zero),
                     acked: row,
                     refused,
                 }))
@@ -63,6 +64,7 @@ impl Frames {
                 let refused = self.lay_tail(alloc, refused)?;
                 Ok(NumberedFrame::Read(NumberedRead {
                     address: *address,
+                    header: Choices::of_header(address, Bit::One),
                     count: *count,
                     after,
                     refused,
@@ -95,9 +97,11 @@ impl Frames {
                 refused,
             } => {
                 let refused = self.lay_tail(alloc, refused)?;
-                let here = in_byte(byte_partings(bits, bits), self.nexts(refused, refused));
+                let choices = Choices::of_byte(bits);
+                let here = in_byte(choices.partings(choices), self.nexts(refused, refused));
                 let byte = NumberedByte {
                     bits: *bits,
+                    choices,
                     refused,
                 };
                 row.push(byte, here)?;

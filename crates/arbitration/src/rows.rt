@@ -7,7 +7,7 @@ ghost use Rattle.arbitration.specs.Frames.{AreBeginnings};
 ghost use Rattle.arbitration.specs.Ways.{Step, IsInByte, IsBeginning, AllHaveRoom};
 
 use crate::beginnings::Beginning;
-use crate::bits::is_same;
+use crate::bits::{Choices, is_same};
 use crate::spans::Outcomes;
 use message_tree::Pattern;
 use std::alloc::{AllocError, Global};
@@ -24,6 +24,7 @@ pub(crate) enum Next {
 #[derive(Clone, Copy)]
 pub(crate) struct NumberedByte {
     pub(crate) bits: Pattern,
+    pub(crate) choices: Choices,
     pub(crate) refused: Next,
 }
 
@@ -99,7 +100,9 @@ pub(crate) fn is_same_next(a: &Next, b: &Next) -> bool
 fn is_one(a: &NumberedByte, b: &NumberedByte) -> bool
     ensures { result ≡ true → a.now ≡ b.now }
 {
-    is_same(&a.bits, &b.bits) && is_same_next(&a.refused, &b.refused)
+    is_same(&a.bits, &b.bits)
+        && a.choices.is_same(b.choices)
+        && is_same_next(&a.refused, &b.refused)
 }
 
 /// How many bytes two have in common.

@@ -1,12 +1,12 @@
 // The outcomes of two participants, by what they send.
 
-ghost use Rattle.std.specs.Prelude.{◌≡◌};
 ghost use Rattle.message_tree.specs.Texts.{Sender, SenderText};
+ghost use Rattle.arbitration.specs.Choices.{AreChoices};
 ghost use Rattle.arbitration.specs.Frames.{AreFrames, trees_of};
 ghost use Rattle.arbitration.specs.Senders.{IsSent};
 ghost use Rattle.arbitration.specs.Ways.{AreOutcomes, header_of};
 
-use crate::bits::{header, partings};
+use crate::bits::Choices;
 use crate::frames::Frames;
 use crate::spans::Outcomes;
 use message_tree::{Address, Bit};
@@ -30,23 +30,22 @@ pub(crate) fn outcomes(frames: &Frames, first: Sent, second: Sent) -> Outcomes
     match first {
         Sent::Message(m) => match second {
             Sent::Message(n) => frames.numbers(m, n),
-            Sent::Interrupt(_) => partings(
-                &first_header(frames, first),
-                &first_header(frames, second),
-            ),
+            Sent::Interrupt(_) => {
+                first_header(frames, first).partings(first_header(frames, second))
+            }
         },
-        Sent::Interrupt(_) => partings(&first_header(frames, first), &first_header(frames, second)),
+        Sent::Interrupt(_) => first_header(frames, first).partings(first_header(frames, second)),
     }
 }
 
-// The bits of the first header.
-fn first_header(frames: &Frames, sent: Sent) -> [Bit; 8]
+// The choices in the bits of the first header.
+fn first_header(frames: &Frames, sent: Sent) -> Choices
     requires frames { AreFrames frames.now.entries.items }
     requires sent { (s : Sender) × IsSent (trees_of frames.now.entries.items) sent s }
-    ensures { (s : Sender) → IsSent (trees_of frames.now.entries.items) sent s → result ≡ header_of s }
+    ensures { (s : Sender) → IsSent (trees_of frames.now.entries.items) sent s → AreChoices (header_of s) result }
 {
     match sent {
         Sent::Message(n) => frames.entries[n as usize].frame.header(),
-        Sent::Interrupt(address) => header(&address, Bit::One),
+        Sent::Interrupt(address) => Choices::of_header(&address, Bit::One),
     }
 }

@@ -21,9 +21,9 @@ returns-in-Message-second c s t i j =
 pub returns-in-Interrupt-second : goal.returns-in-Interrupt-second
 returns-in-Interrupt-second c s t i j =
     let known = trees_of c.args.frames.now.entries.items in
-    interrupted known c.args.first c.args.second s t c.first_header.result c.first_header-in-Interrupt-second.result c.partings.result i j (λ m n e f. let g = c.in-Interrupt-second.is in cc) (c.first_header.ensures s (subst (λ (v : Sent). IsSent known v s) c.in-Message.is i)) (c.first_header-in-Interrupt-second.ensures t j) c.partings.ensures
+    interrupted known c.args.first c.args.second s t c.partings.result i j (λ m n e f. let g = c.in-Interrupt-second.is in cc) (c.partings.ensures _ _ (c.first_header.ensures s (subst (λ (v : Sent). IsSent known v s) c.in-Message.is i)) (c.first_header-in-Interrupt-second.ensures t j))
 
 pub returns-in-Interrupt : goal.returns-in-Interrupt
 returns-in-Interrupt c s t i j =
     let known = trees_of c.args.frames.now.entries.items in
-    interrupted known c.args.first c.args.second s t c.first_header-in-Interrupt.result c.first_header-in-Interrupt-2.result c.partings-in-Interrupt.result i j (λ m n e f. let g = c.in-Interrupt.is in cc) (c.first_header-in-Interrupt.ensures s i) (c.first_header-in-Interrupt-2.ensures t j) c.partings-in-Interrupt.ensures
+    interrupted known c.args.first c.args.second s t c.partings-in-Interrupt.result i j (λ m n e f. let g = c.in-Interrupt.is in cc) (c.partings-in-Interrupt.ensures _ _ (c.first_header-in-Interrupt.ensures s i) (c.first_header-in-Interrupt-2.ensures t j))

@@ -1,19 +1,24 @@
-use Rattle.std.proofs.Common.{◌≡◌, ◌≤◌, ◌*◌, suc, take, length, refl, ap, subst, arith, inl, inr, List}
+use Rattle.std.proofs.Common.{◌∙◌, Bool, true, false, IsTrue, ◌≡◌, ◌≤◌, ◌*◌, suc, take, length, refl, ap, subst, arith, inl, inr, List, sym, ℕ}
 use Rattle.std.proofs.lemmas.Bool.{cases_lt}
 use Rattle.std.proofs.lemmas.Option.{slice_get_read}
+use Rattle.message_tree.specs.Bits.{SplitAt}
 use Rattle.message_tree.specs.Counts.{greatest_of}
 use Rattle.message_tree.specs.Drops.{refused_of}
 use Rattle.message_tree.specs.Patterns.{pattern_bits}
 use Rattle.message_tree.specs.Sizes.{frame_slots, payload_slots, tail_slots}
-use Rattle.message_tree.specs.Texts.{FrameText, PayloadText, TailText}
+use Rattle.message_tree.specs.Texts.{message, FrameText, PayloadText, TailText}
 use Rattle.message_tree.specs.Trees.{TailTree, last}
 use Rattle.arbitration.specs.Frames.{next_tree, frame_of, rest_after, steps_of, step_of, trees_of}
-use Rattle.arbitration.specs.Ways.{AckedText, AreOutcomes, Step, IsBeginning}
+use Rattle.arbitration.specs.Ways.{header_of, AckedText, AreOutcomes, Step, IsBeginning}
 use Rattle.arbitration.proofs.CommonBytes.{with_rests, parted_room, byte_room, refused_room}
 use Rattle.arbitration.proofs.FrameLemmas.{again_at, one_name, alone_of, slots_named, named_within}
-use Rattle.arbitration.proofs.RowLemmas.{count_at, same_steps, slots_after, byte_height, one_more_step, rest_at, slots_at, rest_ended, rest_goes_on}
-use Rattle.arbitration.proofs.Nodes.{all_room, payload_bound, tail_bound, frame_bound, acked_room, refused_slots, some_tail, length_of_data, bytes_part, frames_part, frames_answered, never_split, write_splits_read, read_splits_write, reads_only_part, byte_and_last, last_and_byte, stops_are, stop_and_again, again_and_stop, agains_are}
+use Rattle.arbitration.proofs.RowLemmas.{told_at, count_at, same_steps, slots_after, byte_height, one_more_step, rest_at, slots_at, rest_ended, rest_goes_on}
+use Rattle.arbitration.proofs.Nodes.{all_room, payload_bound, tail_bound, frame_bound, acked_room, refused_slots, some_tail, length_of_data, bytes_part, frames_part, frames_answered, write_splits_read, read_splits_write, reads_only_part, byte_and_last, last_and_byte, stops_are, stop_and_again, again_and_stop, agains_are}
 use Rattle.arbitration.proofs.frames.Frames.+compare.Goals as goal
+
+-- what is tested is not so
+never : (b : Bool) → b ≡ false → IsTrue b → ⊥
+never b e i = let f : true ≡ false = sym i ∙ e in cc
 
 -- ---- numbers
 
@@ -44,13 +49,19 @@ numbers-returns t c =
 pub frames-acked-acked-requires : goal.frames-acked-acked-requires
 frames-acked-acked-requires t c =
     let known = trees_of c.args.self.now.entries.items in
-    let n = never_split (frame_of known c.args.first.now) (frame_of known c.args.second.now) c.header-first_bits.result c.header-second_bits.result (c.header-first_bits.ensures known) (c.header-second_bits.ensures known) (λ s. let a = c.always_part.ensures.1 s in cc) in
+    let p = c.header-first_bits.ensures known c.requires.first.told in
+    let q = c.header-second_bits.ensures known c.requires.second.told in
+    let n = λ (k : ℕ) (s : SplitAt (header_of (message (frame_of known c.args.first.now))) (header_of (message (frame_of known c.args.second.now))) k). never c.always_part.result c.if-always_part.false ((c.always_part.ensures _ _ p q).1 (k, s)) in
     (omega arith, (c.requires.frames, (c.requires.first, (c.requires.second, n))))
 
 pub frames-returns-then-always_part : goal.frames-returns-then-always_part
 frames-returns-then-always_part t c =
     let known = trees_of c.args.self.now.entries.items in
-    frames_part (frame_of known c.args.first.now) (frame_of known c.args.second.now) c.header-first_bits.result c.header-second_bits.result (c.header-first_bits.ensures known) (c.header-second_bits.ensures known) c.partings-parted.result (c.always_part.ensures.0 c.if-always_part.true) c.partings-parted.ensures
+    let f = frame_of known c.args.first.now in
+    let g = frame_of known c.args.second.now in
+    let p = c.header-first_bits.ensures known c.requires.first.told in
+    let q = c.header-second_bits.ensures known c.requires.second.told in
+    frames_part f g c.partings-parted.result ((c.always_part.ensures _ _ p q).0 c.if-always_part.true) (c.partings-parted.ensures _ _ p q)
 
 pub frames-nexts-refused-requires : goal.frames-nexts-refused-requires
 frames-nexts-refused-requires t c =
@@ -74,11 +85,10 @@ frames-returns t c =
     let known = trees_of c.args.self.now.entries.items in
     let f = frame_of known c.args.first.now in
     let g = frame_of known c.args.second.now in
-    let e = c.header-first_bits.ensures known in
-    let i = c.header-second_bits.ensures known in
-    let n = never_split f g c.header-first_bits.result c.header-second_bits.result e i (λ s. let a = c.always_part.ensures.1 s in cc) in
-    let q = subst (λ (r : TailTree). AreOutcomes (TailText r) (TailText (refused_of g)) c.nexts-refused.result) (c.refused.ensures.tree known) (subst (λ (s : TailTree). AreOutcomes (TailText (next_tree known c.refused.result)) (TailText s) c.nexts-refused.result) (c.refused-2.ensures.tree known) c.nexts-refused.ensures) in
-    frames_answered f g c.header-first_bits.result c.header-second_bits.result e i c.partings-parted.result c.answered.result c.acked-acked.result c.nexts-refused.result n c.partings-parted.ensures c.acked-acked.ensures q c.answered.ensures
+    let p = c.header-first_bits.ensures known c.requires.first.told in
+    let q = c.header-second_bits.ensures known c.requires.second.told in
+    let h = subst (λ (r : TailTree). AreOutcomes (TailText r) (TailText (refused_of g)) c.nexts-refused.result) (c.refused.ensures.tree known) (subst (λ (s : TailTree). AreOutcomes (TailText (next_tree known c.refused.result)) (TailText s) c.nexts-refused.result) (c.refused-2.ensures.tree known) c.nexts-refused.ensures) in
+    frames_answered f g c.partings-parted.result c.answered.result c.acked-acked.result c.nexts-refused.result (λ k s. never c.always_part.result c.if-always_part.false ((c.always_part.ensures _ _ p q).1 (k, s))) (c.partings-parted.ensures _ _ p q) c.acked-acked.ensures h c.answered.ensures
 
 -- ---- what follows the header
 
@@ -149,16 +159,20 @@ pub rows-followed_by-requires-clause-room : goal.rows-followed_by-requires-claus
 rows-followed_by-requires-clause-room t c =
     let known = trees_of c.args.self.now.entries.items in
     let k = c.loop-k.k in
+    let p = told_at c.args.first.now.bytes.items c.loop-k.k c.index-a.result.now c.requires.first.told (omega arith) c.index-a.ensures in
+    let q = told_at c.args.second.now.bytes.items c.loop-k.k c.index-b.result.now c.requires.second.told (omega arith) c.index-b.ensures in
     let first = c.args.first.now in
     let a = c.index-a.result.now in
     let n = count_at known first k (omega arith) in
     let s = slots_at known first k a (omega arith) c.index-a.ensures in
-    parted_room (step_of known a) (step_of known c.index-b.result.now) c.byte_partings-parted.result (9 * c.loop-k.met.bytes) c.byte_partings-parted.ensures (omega (arith, n, c.loop-k.invariant.count, s, c.requires.slots))
+    parted_room (step_of known a) (step_of known c.index-b.result.now) c.partings-parted.result (9 * c.loop-k.met.bytes) (c.partings-parted.ensures _ _ p q) (omega (arith, n, c.loop-k.invariant.count, s, c.requires.slots))
 
-pub rows-returns-then-bytes_part : goal.rows-returns-then-bytes_part
-rows-returns-then-bytes_part t c =
+pub rows-returns-then-always_part : goal.rows-returns-then-always_part
+rows-returns-then-always_part t c =
     let known = trees_of c.args.self.now.entries.items in
     let k = c.loop-k.k in
+    let p = told_at c.args.first.now.bytes.items c.loop-k.k c.index-a.result.now c.requires.first.told (omega arith) c.index-a.ensures in
+    let q = told_at c.args.second.now.bytes.items c.loop-k.k c.index-b.result.now c.requires.second.told (omega arith) c.index-b.ensures in
     let first = c.args.first.now in
     let a = c.index-a.result.now in
     let second = c.args.second.now in
@@ -169,8 +183,8 @@ rows-returns-then-bytes_part t c =
     let y = rest_after k known second in
     let e = rest_at known first k a (omega arith) c.index-a.ensures in
     let f = rest_at known second k b (omega arith) c.index-b.ensures in
-    let part = bytes_part (pattern_bits a.bits) (pattern_bits b.bits) (rest_after (suc k) known first) (rest_after (suc k) known second) (next_tree known a.refused) (next_tree known b.refused) (length_of_data a.bits) (length_of_data b.bits) c.byte_partings-parted.result (c.bytes_part.ensures.0 c.if-bytes_part.true) c.byte_partings-parted.ensures in
-    let rest : AreOutcomes (PayloadText x) (PayloadText y) c.byte_partings-parted.result = rw (e, f) part in
+    let part = bytes_part (pattern_bits a.bits) (pattern_bits b.bits) (rest_after (suc k) known first) (rest_after (suc k) known second) (next_tree known a.refused) (next_tree known b.refused) (length_of_data a.bits) (length_of_data b.bits) c.partings-parted.result ((c.always_part.ensures _ _ p q).0 c.if-always_part.true) (c.partings-parted.ensures _ _ p q) in
+    let rest : AreOutcomes (PayloadText x) (PayloadText y) c.partings-parted.result = rw (e, f) part in
     with_rests k ss ts (last (next_tree known first.last)) (last (next_tree known second.last)) c.followed_by.result (c.followed_by.ensures (take k ss) (take k ts) x y c.loop-k.invariant rest)
 
 pub rows-nexts-refused-requires : goal.rows-nexts-refused-requires
@@ -208,27 +222,31 @@ pub rows-and-met-requires-clause-room : goal.rows-and-met-requires-clause-room
 rows-and-met-requires-clause-room t c =
     let known = trees_of c.args.self.now.entries.items in
     let k = c.loop-k.k in
+    let p = told_at c.args.first.now.bytes.items c.loop-k.k c.index-a.result.now c.requires.first.told (omega arith) c.index-a.ensures in
+    let q = told_at c.args.second.now.bytes.items c.loop-k.k c.index-b.result.now c.requires.second.told (omega arith) c.index-b.ensures in
     let first = c.args.first.now in
     let a = c.index-a.result.now in
     let b = c.index-b.result.now in
     let n = count_at known first k (omega arith) in
     let s = slots_at known first k a (omega arith) c.index-a.ensures in
-    byte_room (step_of known a) (step_of known b) c.in_byte.result (9 * c.loop-k.met.bytes) (c.in_byte.ensures (step_of known a) (step_of known b) c.byte_partings-parted.ensures c.nexts-refused.ensures) (omega (arith, n, c.loop-k.invariant.count, s, c.requires.slots))
+    byte_room (step_of known a) (step_of known b) c.in_byte.result (9 * c.loop-k.met.bytes) (c.in_byte.ensures (step_of known a) (step_of known b) (c.partings-parted.ensures _ _ p q) c.nexts-refused.ensures) (omega (arith, n, c.loop-k.invariant.count, s, c.requires.slots))
 
 pub rows-loop-k-preserved : goal.rows-loop-k-preserved
 rows-loop-k-preserved t c =
     let known = trees_of c.args.self.now.entries.items in
     let k = c.loop-k.k in
+    let p = told_at c.args.first.now.bytes.items c.loop-k.k c.index-a.result.now c.requires.first.told (omega arith) c.index-a.ensures in
+    let q = told_at c.args.second.now.bytes.items c.loop-k.k c.index-b.result.now c.requires.second.told (omega arith) c.index-b.ensures in
     let first = c.args.first.now in
     let a = c.index-a.result.now in
     let second = c.args.second.now in
     let b = c.index-b.result.now in
     let s = step_of known a in
     let t = step_of known b in
-    let here = c.in_byte.ensures s t c.byte_partings-parted.ensures c.nexts-refused.ensures in
+    let here = c.in_byte.ensures s t (c.partings-parted.ensures _ _ p q) c.nexts-refused.ensures in
     let e = one_more_step known first k a (omega arith) c.index-a.ensures in
     let f = one_more_step known second k b (omega arith) c.index-b.ensures in
-    rw (e, f) (c.and-met.ensures (take k (steps_of known first)) (take k (steps_of known second)) s t c.loop-k.invariant (λ j i. let g = c.bytes_part.ensures.1 (j, i) in cc, tt) here)
+    rw (e, f) (c.and-met.ensures (take k (steps_of known first)) (take k (steps_of known second)) s t c.loop-k.invariant (λ j i. never c.always_part.result c.if-always_part.false ((c.always_part.ensures _ _ p q).1 (j, i)), tt) here)
 
 pub rows-followed_by-requires-2-clause-slots : goal.rows-followed_by-requires-2-clause-slots
 rows-followed_by-requires-2-clause-slots t c =

@@ -24,11 +24,11 @@ lay_payload-in_byte-here-requires t c =
 pub lay_payload-push-requires-clause-room : goal.lay_payload-push-requires-clause-room
 lay_payload-push-requires-clause-room t c =
     let put = c.in_ok-refused-in-Byte in
-    let b : NumberedByte = record { bits = c.in-Byte.bits; refused = put.refused } in
+    let b : NumberedByte = record { bits = c.in-Byte.bits; choices = c.of_byte-choices.result; refused = put.refused } in
     let s = step_of (trees_of c.lay_tail.new.self.entries.items) b in
     let e = ap tail_slots put.ensures.tree in
     let f = ap payload_slots (ap payload_tree c.in-Byte.is) in
-    byte_room s s c.in_byte-here.result (9 * length c.args.row.now.bytes.items) (c.in_byte-here.ensures s s c.byte_partings.ensures c.nexts.ensures) (omega (arith, e, f, c.requires.slots))
+    byte_room s s c.in_byte-here.result (9 * length c.args.row.now.bytes.items) (c.in_byte-here.ensures s s (c.partings.ensures _ _ c.of_byte-choices.ensures c.of_byte-choices.ensures) c.nexts.ensures) (omega (arith, e, f, c.requires.slots))
 
 pub lay_payload-lay_payload-requires : goal.lay_payload-lay_payload-requires
 lay_payload-lay_payload-requires t c =
@@ -37,16 +37,16 @@ lay_payload-lay_payload-requires t c =
     let old = c.args.self.now.entries.items in
     let es = c.lay_tail.new.self.entries.items in
     let row = c.args.row.now in
-    let b : NumberedByte = record { bits = i.bits; refused = put.refused } in
+    let b : NumberedByte = record { bits = i.bits; choices = c.of_byte-choices.result; refused = put.refused } in
     let s = step_of (trees_of es) b in
     let is = is_row_grown old es put.ensures.grows row c.requires.row in
     let pushed = c.in_ok-push-in-Byte.ensures in
-    let begun = pushed.begun (steps_of (trees_of es) row) s is.begun (c.in_byte-here.ensures s s c.byte_partings.ensures c.nexts.ensures) in
+    let begun = pushed.begun (steps_of (trees_of es) row) s is.begun (c.in_byte-here.ensures s s (c.partings.ensures _ _ c.of_byte-choices.ensures c.of_byte-choices.ensures) c.nexts.ensures) in
     let e = ap payload_tree i.is ∙ ap (λ (p : Payload). byte i.bits (payload_tree p) (tail_tree i.refused)) (sym c.deref.ensures) in
     let w = ap payload_weight e in
     let l = ap payload_slots e in
     let n = ap length pushed.bytes in
-    (omega (arith, w), (put.ensures.frames, (longer_row es row c.push.new.self b pushed.bytes is put.ensures.inside pushed.last begun, omega (arith, l, n, length-append row.bytes.items (b ∷ []), c.requires.slots))))
+    (omega (arith, w), (put.ensures.frames, (longer_row es row c.push.new.self b pushed.bytes is c.of_byte-choices.ensures put.ensures.inside pushed.last begun, omega (arith, l, n, length-append row.bytes.items (b ∷ []), c.requires.slots))))
 
 pub lay_payload-returns-in_ok-push-in-Byte-clause-grows : goal.lay_payload-returns-in_ok-push-in-Byte-clause-grows
 lay_payload-returns-in_ok-push-in-Byte-clause-grows t c =
@@ -59,7 +59,7 @@ lay_payload-returns-in_ok-push-in-Byte-clause-tree t c =
     let old = c.args.self.now.entries.items in
     let es = c.lay_tail.new.self.entries.items in
     let row = c.args.row.now in
-    let b : NumberedByte = record { bits = i.bits; refused = put.refused } in
+    let b : NumberedByte = record { bits = i.bits; choices = c.of_byte-choices.result; refused = put.refused } in
     let s = step_of (trees_of es) b in
     let ss = steps_of (trees_of old) row in
     let x = payload_tree c.deref.result.now in
@@ -74,7 +74,7 @@ pub lay_payload-returns-in_ok-row-in-Last-clause-row : goal.lay_payload-returns-
 lay_payload-returns-in_ok-row-in-Last-clause-row t c =
     let put = c.in_ok-row-in-Last.ensures in
     let is = is_row_grown c.args.self.now.entries.items c.lay_tail-in-Last.new.self.entries.items put.grows c.args.row.now c.requires.row in
-    record { inside = omega (arith, is.inside, put.inside); begun = is.begun }
+    record { inside = omega (arith, is.inside, put.inside); told = is.told; begun = is.begun }
 
 pub lay_payload-returns-in_ok-row-in-Last-clause-tree : goal.lay_payload-returns-in_ok-row-in-Last-clause-tree
 lay_payload-returns-in_ok-row-in-Last-clause-tree t c =
@@ -108,7 +108,7 @@ pub numbered-returns-in_ok-lay_payload-in-Write-clause-frame : goal.numbered-ret
 numbered-returns-in_ok-lay_payload-in-Write-clause-frame t c =
     let lay = c.in_ok-lay_payload-in-Write.ensures in
     let e = ap frame_slots (numbered-returns-in_ok-lay_payload-in-Write-clause-tree t c) in
-    record { inside = omega (arith, lay.row.inside, c.in_ok-refused-in-Write.ensures.inside, longer c.lay_tail.new.self.entries.items c.lay_payload.new.self.entries.items lay.grows); begun = lay.row.begun; slots = omega (arith, e, c.requires.slots) }
+    record { inside = omega (arith, lay.row.inside, c.in_ok-refused-in-Write.ensures.inside, longer c.lay_tail.new.self.entries.items c.lay_payload.new.self.entries.items lay.grows); told = (c.of_header.ensures, lay.row.told); begun = lay.row.begun; slots = omega (arith, e, c.requires.slots) }
 
 pub numbered-returns-in_ok-refused-in-Read-clause-tree : goal.numbered-returns-in_ok-refused-in-Read-clause-tree
 numbered-returns-in_ok-refused-in-Read-clause-tree t c =
@@ -124,4 +124,4 @@ pub numbered-returns-in_ok-refused-in-Read-clause-frame : goal.numbered-returns-
 numbered-returns-in_ok-refused-in-Read-clause-frame t c =
     let put = c.in_ok-refused-in-Read.ensures in
     let e = ap frame_slots (numbered-returns-in_ok-refused-in-Read-clause-tree t c) in
-    record { inside = omega (arith, put.inside, c.in_ok-after-in-Read.ensures.inside, longer c.lay_tail-in-Read.new.self.entries.items c.lay_tail-in-Read-2.new.self.entries.items put.grows); begun = tt; slots = omega (arith, e, c.requires.slots) }
+    record { inside = omega (arith, put.inside, c.in_ok-after-in-Read.ensures.inside, longer c.lay_tail-in-Read.new.self.entries.items c.lay_tail-in-Read-2.new.self.entries.items put.grows); told = c.of_header-in-Read.ensures; begun = tt; slots = omega (arith, e, c.requires.slots) }
