@@ -120,9 +120,6 @@ after_known known (e ∷ es) =
     let r = after_known (known ++ t ∷ []) es in
     (t ∷ r.0, r.1 ∙ append_assoc known (t ∷ []) r.0)
 
-pub grows_not : (es : List Entry) → Grows es es
-grows_not es = ([], sym (append-nil es))
-
 pub grows_on : (a b c : List Entry) → Grows a b → Grows b c → Grows a c
 grows_on a b c g h = (g.0 ++ h.0, h.1 ∙ (ap (λ (es : List Entry). es ++ h.0) g.1 ∙ append_assoc a g.0 h.0))
 
@@ -149,11 +146,6 @@ module _ (old new : List Entry) (grows : Grows old new) where
   steps_grown row l =
       let t = trees_grow in
       rw t.1 (steps_kept (trees_of old) t.0 row.bytes.items (omega (arith, l, trees_long old)))
-
-  pub row_grown : (row : Row) → row_height row ≤ length old → row_tree (trees_of new) row ≡ row_tree (trees_of old) row
-  row_grown row l =
-      let t = trees_grow in
-      rw t.1 (row_kept (trees_of old) t.0 row (omega (arith, l, trees_long old)))
 
   pub frame_grown : (frame : NumberedFrame) → frame_height frame ≤ length old → frame_of (trees_of new) frame ≡ frame_of (trees_of old) frame
   frame_grown frame l =

@@ -246,10 +246,6 @@ module _ (bs cs : List Bit) (x y : PayloadTree) (r s : TailTree) (l : length bs 
   bytes_part o k h =
       parted bs cs (AnswerThen (PayloadText x) (TailText r)) (AnswerThen (PayloadText y) (TailText s)) o (l ∙ sym m) k (some_answer (PayloadText x) (TailText r) (lawful_payload x).some) (some_answer (PayloadText y) (TailText s) (lawful_payload y).some) h
 
-  pub bytes_answered : (h o p q : Outcomes) → NeverSplit bs cs → ArePartings bs cs h → AreOutcomes (PayloadText x) (PayloadText y) p → AreOutcomes (TailText r) (TailText s) q → ((way : Way) → Answered (span_of way h) (span_of way p) (span_of way q) (span_of way o)) → AreOutcomes FirstBytes SecondBytes o
-  bytes_answered h o p q n a b c e =
-      answered bs cs (PayloadText x) (PayloadText y) (TailText r) (TailText s) l m h o p q n (lawful_payload x).some (lawful_payload y).some a b c e
-
 pub reads_only_part : (c d : Count) (x y : TailTree) (o : Outcomes) → (Meet c d → ⊥) → AreReadsApart c d o → AreOutcomes (ReadThen c (TailText x)) (ReadThen d (TailText y)) o
 reads_only_part c d x y o n h =
     reads_part c d (TailText x) (TailText y) o n (lawful_tail x).some (lawful_tail y).some h

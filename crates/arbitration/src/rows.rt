@@ -1,5 +1,5 @@
-// The bytes that a controller writes after an acknowledge, as a row in which what follows a refusal is a number, so that those
-// of two are compared fast.
+// The bytes that a controller writes after an acknowledge, as a row in which what follows a refusal is a number, so that
+// those of two are compared fast.
 
 ghost use Rattle.std.specs.Prelude.{◌≡◌, true, ◌+◌, ◌*◌, ◌<◌, ◌≤◌, ◌^◌, ◌++◌, [], ◌∷◌, List, length, take, OnOk};
 ghost use Rattle.std.specs.Bool.{OnTrue};
