@@ -1,6 +1,6 @@
-pub mod LaidLemmas
-pub mod NumberLemmas
 pub mod CommonBytes
+pub mod RowLemmas
+pub mod FrameLemmas
 pub mod BitPlaces
 pub mod Meetings
 pub mod Nodes

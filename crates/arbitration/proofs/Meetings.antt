@@ -8,8 +8,12 @@ use Rattle.message_tree.specs.Bits.{SplitAt, NeverSplit}
 use Rattle.message_tree.specs.Laws.{HasText}
 use Rattle.message_tree.specs.Texts.{Language, Allows, SentThen, HeardThen, AnswerThen, AgainThen}
 use Rattle.arbitration.specs.Arbitration.{GoesOn}
-use Rattle.arbitration.specs.Ways.{Way, both_end, first_wins, second_wins, put_first, put_second, Goes, Differ, WinsAt, PartsAt}
+use Rattle.arbitration.specs.Ways.{Way, both_end, first_wins, second_wins, put_first, put_second, Goes, WinsAt, PartsAt}
 use Rattle.arbitration.specs.Spans.{After}
+
+-- one of the two bits is known to be 0 and the other to be 1
+abbrev Differ : Bit → Bit → Type 0
+Differ b c = ((b ≡ Zero) × (c ≡ One)) ⊎ ((b ≡ One) × (c ≡ Zero))
 
 -- what both put before, and how each goes on
 pub record Meet (way : Way) (P Q : Language) (u : List Item) : Type 0 where

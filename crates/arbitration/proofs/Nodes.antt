@@ -10,6 +10,7 @@ use Rattle.message_tree.specs.declared.items.Item.TheVariants.{Sent, Heard, Stop
 use Rattle.std.specs.Int.{bit_at}
 use Rattle.message_tree.specs.Bits.{bit_from, bits_below, SplitAt, NeverSplit}
 use Rattle.message_tree.specs.Counts.{least_of, greatest_of, Meet}
+use Rattle.message_tree.specs.Drops.{refused_of}
 use Rattle.message_tree.specs.Laws.{HasText}
 use Rattle.message_tree.specs.Patterns.{pattern_bits, address_bits}
 use Rattle.message_tree.specs.Sizes.{frame_slots, payload_slots, tail_slots}
@@ -19,7 +20,7 @@ use Rattle.message_tree.proofs.TextLaws.{lawful_payload, lawful_tail}
 use Rattle.message_tree.proofs.TextLengths.{longest_frame}
 use Rattle.arbitration.specs.declared.spans.Outcomes.{Outcomes}
 use Rattle.arbitration.specs.Spans.{IsSpan, union_of, after_of, After}
-use Rattle.arbitration.specs.Ways.{Way, both_end, first_wins, second_wins, put_first, put_second, Goes, span_of, AreOutcomes, AllHaveRoom, PartsAt, ArePartings, ReadsApart, AreReadsApart, Answered, header_of}
+use Rattle.arbitration.specs.Ways.{Way, both_end, first_wins, second_wins, put_first, put_second, Goes, span_of, AreOutcomes, AllHaveRoom, PartsAt, ArePartings, ReadsApart, AreReadsApart, Answered, AckedText, header_of}
 use Rattle.arbitration.proofs.SpanLemmas.{span_union, span_after, span_same, span_between, room}
 use Rattle.arbitration.proofs.Meetings.{some_bit, goes_sent, parts_here, goes_after_sent, goes_answer, goes_after_acked, goes_after_refused, goes_again, goes_after_again}
 use Rattle.arbitration.proofs.ReadMeetings.{some_bytes, Common, goes_read, reads_apart, goes_after_read}
@@ -188,7 +189,7 @@ some_slots (byte a x r) = omega arith
 some_slots (last stop) = omega arith
 some_slots (last (again f)) = omega arith
 
-some_tail : (t : TailTree) → 1 ≤ tail_slots t
+pub some_tail : (t : TailTree) → 1 ≤ tail_slots t
 some_tail stop = omega arith
 some_tail (again f) = omega arith
 
@@ -215,6 +216,15 @@ pub all_room : (P Q : Language) (o : Outcomes) (m n : ℕ) → AreOutcomes P Q o
 all_room P Q o m n h b le way =
     room (Goes way P Q) n (span_of way o) (h way) (λ k g. omega (arith, b (g.wire ++ put_first way ∷ g.first.0) g.first.1, g.slot, length-append g.wire (put_first way ∷ g.first.0)))
 
+pub acked_room : (f : FrameTree) (Q : Language) (o : Outcomes) → AreOutcomes (AckedText f) Q o → frame_slots f ≤ 2 ^ 32 → AllHaveRoom 9 o
+acked_room (write a x r) Q o h le = all_room (PayloadText x) Q o (payload_slots x) 9 h (payload_bound x) (omega (arith, le))
+acked_room (read a c x r) Q o h le =
+    all_room (ReadThen c (TailText x)) Q o (tail_slots x + 9 * greatest_of c) 9 h (read_bound c x) (omega (arith, le))
+
+pub refused_slots : (f : FrameTree) → tail_slots (refused_of f) + 9 ≤ frame_slots f
+refused_slots (write a x r) = omega arith
+refused_slots (read a c x r) = omega arith
+
 -- ---- trees
 
 some_answer : (P R : Language) → HasText P → HasText (AnswerThen P R)
@@ -236,66 +246,50 @@ module _ (bs cs : List Bit) (x y : PayloadTree) (r s : TailTree) (l : length bs 
   bytes_part o k h =
       parted bs cs (AnswerThen (PayloadText x) (TailText r)) (AnswerThen (PayloadText y) (TailText s)) o (l ∙ sym m) k (some_answer (PayloadText x) (TailText r) (lawful_payload x).some) (some_answer (PayloadText y) (TailText s) (lawful_payload y).some) h
 
-  pub bytes_answered : (h o p q : Outcomes) → NeverSplit bs cs → ArePartings bs cs h → AreOutcomes (PayloadText x) (PayloadText y) p → AreOutcomes (TailText r) (TailText s) q → ((way : Way) → Answered (span_of way h) (span_of way p) (span_of way q) (span_of way o)) → AreOutcomes FirstBytes SecondBytes o
-  bytes_answered h o p q n a b c e =
-      answered bs cs (PayloadText x) (PayloadText y) (TailText r) (TailText s) l m h o p q n (lawful_payload x).some (lawful_payload y).some a b c e
-
 pub reads_only_part : (c d : Count) (x y : TailTree) (o : Outcomes) → (Meet c d → ⊥) → AreReadsApart c d o → AreOutcomes (ReadThen c (TailText x)) (ReadThen d (TailText y)) o
 reads_only_part c d x y o n h =
     reads_part c d (TailText x) (TailText y) o n (lawful_tail x).some (lawful_tail y).some h
 
-module _ (a b : Address) (c d : Count) (x y r s : TailTree) (bs cs : List Bit) (e : bs ≡ read_header a) (f : cs ≡ read_header b) where
-  length_first : length bs ≡ 8
-  length_first = ap length e ∙ length_of_header a One
-
-  length_second : length cs ≡ 8
-  length_second = ap length f ∙ length_of_header b One
-
-  abbrev FirstRead : Language
-  FirstRead = AnswerThen (ReadThen c (TailText x)) (TailText r)
-
-  abbrev SecondRead : Language
-  SecondRead = AnswerThen (ReadThen d (TailText y)) (TailText s)
-
-  as_read : (o : Outcomes) → AreOutcomes (SentThen bs FirstRead) (SentThen cs SecondRead) o → AreOutcomes (FrameText (read a c x r)) (FrameText (read b d y s)) o
-  as_read o h = subst (λ (hs : List Bit). AreOutcomes (SentThen hs FirstRead) (FrameText (read b d y s)) o) e (subst (λ (is : List Bit). AreOutcomes (SentThen bs FirstRead) (SentThen is SecondRead) o) f h)
-
-  pub reads_parted : (o : Outcomes) → ((k : ℕ) × SplitAt bs cs k) → ArePartings bs cs o → AreOutcomes (FrameText (read a c x r)) (FrameText (read b d y s)) o
-  reads_parted o k h =
-      as_read o (parted bs cs FirstRead SecondRead o (length_first ∙ sym length_second) k (some_answer (ReadThen c (TailText x)) (TailText r) (some_read c x)) (some_answer (ReadThen d (TailText y)) (TailText s) (some_read d y)) h)
-
-  pub reads_answered : (h o p q : Outcomes) → NeverSplit bs cs → ArePartings bs cs h → AreOutcomes (ReadThen c (TailText x)) (ReadThen d (TailText y)) p → AreOutcomes (TailText r) (TailText s) q → ((way : Way) → Answered (span_of way h) (span_of way p) (span_of way q) (span_of way o)) → AreOutcomes (FrameText (read a c x r)) (FrameText (read b d y s)) o
-  reads_answered h o p q n i j k u =
-      as_read o (answered bs cs (ReadThen c (TailText x)) (ReadThen d (TailText y)) (TailText r) (TailText s) length_first length_second h o p q n (some_read c x) (some_read d y) i j k u)
-
--- a header of a write, one of a read, and any that don't part before
-write_splits_read : (a b : Address) → SplitAt (write_header a) (read_header b) 7
+-- a header of a write and one of a read part
+pub write_splits_read : (a b : Address) → SplitAt (write_header a) (read_header b) 7
 unfolding address_bits
 write_splits_read a b = inl (refl, refl)
 
-read_splits_write : (a b : Address) → SplitAt (read_header a) (write_header b) 7
+pub read_splits_write : (a b : Address) → SplitAt (read_header a) (write_header b) 7
 unfolding address_bits
 read_splits_write a b = inr (refl, refl)
 
-module _ (v w : FrameTree) (a b : Address) (bs cs : List Bit) (o : Outcomes) where
-  pub writes_are : (x y : PayloadTree) (r s : TailTree) → v ≡ write a x r → w ≡ write b y s → bs ≡ write_header a → cs ≡ write_header b → AreOutcomes (SentThen bs (AnswerThen (PayloadText x) (TailText r))) (SentThen cs (AnswerThen (PayloadText y) (TailText s))) o → AreOutcomes (FrameText v) (FrameText w) o
-  writes_are x y r s e f g h k = rw (e, f) (rw (g, h) at k)
+length_of_first : (f : FrameTree) → length (header_of (message f)) ≡ 8
+length_of_first (write a x r) = length_of_header a Zero
+length_of_first (read a c x r) = length_of_header a One
 
-  pub write_meets_read : (x : PayloadTree) (d : Count) (r y s : TailTree) → v ≡ write a x r → w ≡ read b d y s → bs ≡ write_header a → cs ≡ read_header b → ArePartings bs cs o → AreOutcomes (FrameText v) (FrameText w) o
-  write_meets_read x d r y s e f g h k =
-      rw (e, f) (parted (write_header a) (read_header b) (AnswerThen (PayloadText x) (TailText r)) (AnswerThen (ReadThen d (TailText y)) (TailText s)) o (length_of_header a Zero ∙ sym (length_of_header b One)) (7, write_splits_read a b) (some_answer (PayloadText x) (TailText r) (lawful_payload x).some) (some_answer (ReadThen d (TailText y)) (TailText s) (some_read d y)) (rw (g, h) at k))
+some_acked : (f : FrameTree) → HasText (AckedText f)
+some_acked (write a x r) = (lawful_payload x).some
+some_acked (read a c x r) = some_read c x
 
-  pub read_meets_write : (c : Count) (y : PayloadTree) (x r s : TailTree) → v ≡ read a c x r → w ≡ write b y s → bs ≡ read_header a → cs ≡ write_header b → ArePartings bs cs o → AreOutcomes (FrameText v) (FrameText w) o
-  read_meets_write c y x r s e f g h k =
-      rw (e, f) (parted (read_header a) (write_header b) (AnswerThen (ReadThen c (TailText x)) (TailText r)) (AnswerThen (PayloadText y) (TailText s)) o (length_of_header a One ∙ sym (length_of_header b Zero)) (7, read_splits_write a b) (some_answer (ReadThen c (TailText x)) (TailText r) (some_read c x)) (some_answer (PayloadText y) (TailText s) (lawful_payload y).some) (rw (g, h) at k))
+-- a frame is a header, and what follows each answer to it
+abbrev AsNode : FrameTree → Language
+AsNode f = SentThen (header_of (message f)) (AnswerThen (AckedText f) (TailText (refused_of f)))
+
+as_frames : (f g : FrameTree) (o : Outcomes) → AreOutcomes (AsNode f) (AsNode g) o → AreOutcomes (FrameText f) (FrameText g) o
+as_frames (write a x r) (write b y s) o h = h
+as_frames (write a x r) (read b d y s) o h = h
+as_frames (read a c x r) (write b y s) o h = h
+as_frames (read a c x r) (read b d y s) o h = h
+
+module _ (f g : FrameTree) where
+  some_node : (d : FrameTree) → HasText (AnswerThen (AckedText d) (TailText (refused_of d)))
+  some_node d = some_answer (AckedText d) (TailText (refused_of d)) (some_acked d)
+
+  pub frames_part : (o : Outcomes) → ((k : ℕ) × SplitAt (header_of (message f)) (header_of (message g)) k) → ArePartings (header_of (message f)) (header_of (message g)) o → AreOutcomes (FrameText f) (FrameText g) o
+  frames_part o k h =
+      as_frames f g o (parted (header_of (message f)) (header_of (message g)) (AnswerThen (AckedText f) (TailText (refused_of f))) (AnswerThen (AckedText g) (TailText (refused_of g))) o (length_of_first f ∙ sym (length_of_first g)) k (some_node f) (some_node g) h)
+
+  pub frames_answered : (h o p q : Outcomes) → NeverSplit (header_of (message f)) (header_of (message g)) → ArePartings (header_of (message f)) (header_of (message g)) h → AreOutcomes (AckedText f) (AckedText g) p → AreOutcomes (TailText (refused_of f)) (TailText (refused_of g)) q → ((way : Way) → Answered (span_of way h) (span_of way p) (span_of way q) (span_of way o)) → AreOutcomes (FrameText f) (FrameText g) o
+  frames_answered h o p q n a b c u =
+      as_frames f g o (answered (header_of (message f)) (header_of (message g)) (AckedText f) (AckedText g) (TailText (refused_of f)) (TailText (refused_of g)) (length_of_first f) (length_of_first g) h o p q n (some_acked f) (some_acked g) a b c u)
 
 module _ (v w : PayloadTree) (o : Outcomes) where
-  pub bytes_are : (a b : Pattern) (x y : PayloadTree) (r s : TailTree) → v ≡ byte a x r → w ≡ byte b y s → AreOutcomes (SentThen (pattern_bits a) (AnswerThen (PayloadText x) (TailText r))) (SentThen (pattern_bits b) (AnswerThen (PayloadText y) (TailText s))) o → AreOutcomes (PayloadText v) (PayloadText w) o
-  bytes_are a b x y r s e f k = rw (e, f) k
-
-  pub lasts_are : (r s : TailTree) → v ≡ last r → w ≡ last s → AreOutcomes (TailText r) (TailText s) o → AreOutcomes (PayloadText v) (PayloadText w) o
-  lasts_are r s e f k = rw (e, f) k
-
   pub byte_and_last : (a : Pattern) (x : PayloadTree) (r t : TailTree) → v ≡ byte a x r → w ≡ last t → ((way : Way) → span_of way o ≡ None) → AreOutcomes (PayloadText v) (PayloadText w) o
   byte_and_last a x r t e f n =
       rw (e, f) (come_to_nothing (PayloadText (byte a x r)) (PayloadText (last t)) o (byte_meets_last a x r t) n)

@@ -186,12 +186,12 @@ module _ (plan : Contents) (x y : ℕ) (n : x ≢ y) (o : Option Slots) where
   pub ends_span : IsSpan (EndTogether (Text plan x) (Text plan y)) o → IsSpan (EndsAt plan x y) o
   ends_span h = span_same (EndTogether (Text plan x) (Text plan y)) (EndsAt plan x y) o (ended plan x y n) (ends plan x y n) h
 
-  pub first_span : IsSpan (Wins (Text plan x) (Text plan y)) o → IsSpan (BeatsAt plan (pair x y) x y) o
-  first_span h =
+  pub first_in_runs : IsSpan (Wins (Text plan x) (Text plan y)) o → IsSpan (BeatsAt plan (pair x y) x y) o
+  first_in_runs h =
       span_same (Wins (Text plan x) (Text plan y)) (BeatsAt plan (pair x y) x y) o (first_wins_run plan x y n) (wins_of_run plan (pair x y) x y) h
 
-  pub second_span : IsSpan (Wins (Text plan y) (Text plan x)) o → IsSpan (BeatsAt plan (pair x y) y x) o
-  second_span h =
+  pub second_in_runs : IsSpan (Wins (Text plan y) (Text plan x)) o → IsSpan (BeatsAt plan (pair x y) y x) o
+  second_in_runs h =
       span_same (Wins (Text plan y) (Text plan x)) (BeatsAt plan (pair x y) y x) o (second_wins_run plan x y n) (wins_of_run plan (pair x y) y x) h
 
 -- ---- a pair that has no fault comes to one of the three

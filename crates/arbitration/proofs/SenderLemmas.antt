@@ -1,25 +1,30 @@
 -- The outcomes of two participants, in the words of the contract.
-use Rattle.std.proofs.Common.{◌≡◌, Option, Some, List, [], ◌∷◌, ◌++◌, append_assoc, refl, sym, ◌∙◌, subst}
+use Rattle.std.proofs.Common.{◌≡◌, ℕ, ◌<◌, length, Option, Some, List, [], ◌∷◌, ◌++◌, append_assoc, refl, ap, sym, ◌∙◌, subst, inl, inr}
+use Rattle.message_tree.specs.declared.bits.Address.{Address}
 use Rattle.message_tree.specs.declared.bits.Bit.{Bit}
+use Rattle.message_tree.specs.declared.bits.Bit.TheVariants.{One}
 use Rattle.message_tree.specs.declared.items.Item.{Item}
 use Rattle.message_tree.specs.declared.items.Item.TheVariants.{Stop, Claim}
 use Rattle.message_tree.specs.Laws.{EndsWith}
-use Rattle.message_tree.specs.Texts.{Language, Sender, message, interrupt, SenderText}
-use Rattle.message_tree.specs.Trees.{payload_tree}
+use Rattle.message_tree.specs.Patterns.{address_bits}
+use Rattle.message_tree.specs.Texts.{Language, Sender, message, interrupt, SenderText, FrameText}
+use Rattle.message_tree.specs.Trees.{FrameTree}
 use Rattle.message_tree.proofs.TextLaws.{lawful_frame, lawful_interrupt, end_is_last}
-use Rattle.plan_core.specs.Participants.{TextOf}
-use Rattle.arbitration.specs.declared.laid.FirstRead.{FirstRead}
-use Rattle.arbitration.specs.declared.laid.FirstWrite.{FirstWrite}
-use Rattle.arbitration.specs.declared.laid.Opening.{Opening}
-use Rattle.arbitration.specs.declared.laid.Opening.TheVariants.{Write, Read, Interrupt}
+use Rattle.plan_core.specs.Contents.{Contents}
+use Rattle.plan_core.specs.Participants.{TextOf, sender_at}
+use Rattle.arbitration.specs.declared.frames.Entry.{Entry}
+use Rattle.arbitration.specs.declared.senders.Sent.{Sent}
+use Rattle.arbitration.specs.declared.senders.Sent.TheVariants.{Message, Interrupt}
 use Rattle.arbitration.specs.declared.spans.Slots.{Slots}
 use Rattle.arbitration.specs.declared.spans.Outcomes.{Outcomes}
 use Rattle.arbitration.specs.Arbitration.{GoesOn, EndTogether, Wins}
-use Rattle.arbitration.specs.Numbers.{tree_of}
-use Rattle.arbitration.specs.Openings.{read_tree, write_tree, sender_of}
+use Rattle.arbitration.specs.Frames.{Names, Grows, trees_of}
+use Rattle.arbitration.specs.Plans.{AllSend}
+use Rattle.arbitration.specs.Senders.{IsSent}
 use Rattle.arbitration.specs.Spans.{IsSpan}
 use Rattle.arbitration.specs.Ways.{both_end, first_wins, second_wins, Goes, AreOutcomes, ArePartings, header_of}
-use Rattle.arbitration.proofs.Nodes.{write_meets_read, read_meets_write, message_and_interrupt, interrupt_and_message, two_interrupts}
+use Rattle.arbitration.proofs.FrameLemmas.{named_within, name_grown, pushed_at}
+use Rattle.arbitration.proofs.Nodes.{message_and_interrupt, interrupt_and_message, two_interrupts}
 use Rattle.arbitration.proofs.SpanLemmas.{span_same}
 
 -- a STOP is the last item
@@ -56,16 +61,53 @@ module _ (p q : Option Sender) (s t : Sender) (e : p ≡ Some s) (f : q ≡ Some
   first_of_pair h =
       subst (λ (a : Option Sender). IsSpan (Wins (TextOf a) (TextOf q)) o) (sym e) (subst (λ (b : Option Sender). IsSpan (Wins (SenderText s) (TextOf b)) o) (sym f) h)
 
--- two who do not begin with headers of one kind part in the header, or come to nothing
-pub unlike : (v w : Opening) (bs cs : List Bit) (o : Outcomes) → ((x y : FirstWrite) → v ≡ Write x → w ≡ Write y → ⊥) → ((r s : FirstRead) → v ≡ Read r → w ≡ Read s → ⊥) → bs ≡ header_of (sender_of v) → cs ≡ header_of (sender_of w) → ArePartings bs cs o → AreOutcomes (SenderText (sender_of v)) (SenderText (sender_of w)) o
-unlike (Write x) (Write y) bs cs o n m e f h = absurd (n x y refl refl)
-unlike (Write x) (Read s) bs cs o n m e f h =
-    write_meets_read (write_tree x) (read_tree s) x.address s.address bs cs o (payload_tree x.acked.now) s.count (tree_of x.refused) (tree_of s.after) (tree_of s.refused) refl refl e f h
-unlike (Write x) (Interrupt b) bs cs o n m e f h = message_and_interrupt (write_tree x) b bs cs o e f h
-unlike (Read r) (Write y) bs cs o n m e f h =
-    read_meets_write (read_tree r) (write_tree y) r.address y.address bs cs o r.count (payload_tree y.acked.now) (tree_of r.after) (tree_of r.refused) (tree_of y.refused) refl refl e f h
-unlike (Read r) (Read s) bs cs o n m e f h = absurd (m r s refl refl)
-unlike (Read r) (Interrupt b) bs cs o n m e f h = message_and_interrupt (read_tree r) b bs cs o e f h
-unlike (Interrupt a) (Write y) bs cs o n m e f h = interrupt_and_message a (write_tree y) bs cs o e f h
-unlike (Interrupt a) (Read s) bs cs o n m e f h = interrupt_and_message a (read_tree s) bs cs o e f h
-unlike (Interrupt a) (Interrupt b) bs cs o n m e f h = two_interrupts a b bs cs o e f h
+-- two of whom one interrupts part in the header, or come to nothing
+pub interrupted : (known : List FrameTree) (v w : Sent) (s t : Sender) (o : Outcomes) → IsSent known v s → IsSent known w t → ((m n : ℕ) → v ≡ Message m → w ≡ Message n → ⊥) → ArePartings (header_of s) (header_of t) o → AreOutcomes (SenderText s) (SenderText t) o
+interrupted known (Message m) (Message n) s t o i j never h = absurd (never m n refl refl)
+interrupted known (Message m) (Interrupt b) (message x) (message y) o i j never h = absurd j
+interrupted known (Message m) (Interrupt b) (message x) (interrupt y) o i j never h =
+    rw j (message_and_interrupt x b (header_of (message x)) (header_of (interrupt y)) o refl (ap (λ (bits : List Bit). bits ++ One ∷ []) j) h)
+interrupted known (Message m) (Interrupt b) (interrupt x) t o i j never h = absurd i
+interrupted known (Interrupt a) (Message n) (message x) t o i j never h = absurd i
+interrupted known (Interrupt a) (Message n) (interrupt x) (message y) o i j never h =
+    rw i (interrupt_and_message a y (header_of (interrupt x)) (header_of (message y)) o (ap (λ (bits : List Bit). bits ++ One ∷ []) i) refl h)
+interrupted known (Interrupt a) (Message n) (interrupt x) (interrupt y) o i j never h = absurd j
+interrupted known (Interrupt a) (Interrupt b) (message x) t o i j never h = absurd i
+interrupted known (Interrupt a) (Interrupt b) (interrupt x) (message y) o i j never h = absurd j
+interrupted known (Interrupt a) (Interrupt b) (interrupt x) (interrupt y) o i j never h =
+    rw (i, j) (two_interrupts a b (header_of (interrupt x)) (header_of (interrupt y)) o (ap (λ (bits : List Bit). bits ++ One ∷ []) i) (ap (λ (bits : List Bit). bits ++ One ∷ []) j) h)
+
+-- both send messages
+pub both_messages : (known : List FrameTree) (m n : ℕ) (o : Outcomes) → ((f g : FrameTree) → Names known m f → Names known n g → AreOutcomes (FrameText f) (FrameText g) o) → (s t : Sender) → IsSent known (Message m) s → IsSent known (Message n) t → AreOutcomes (SenderText s) (SenderText t) o
+both_messages known m n o h (message f) (message g) i j = h f g i j
+both_messages known m n o h (message f) (interrupt b) i j = absurd j
+both_messages known m n o h (interrupt a) t i j = absurd i
+
+pub named_sender : (known : List FrameTree) (n : ℕ) (s : Sender) → IsSent known (Message n) s → (f : FrameTree) × Names known n f × (s ≡ message f)
+named_sender known n (message f) i = (f, i, refl)
+named_sender known n (interrupt a) i = absurd i
+
+pub sent_within : (es : List Entry) (sent : Sent) (n : ℕ) → sent ≡ Message n → (s : Sender) → IsSent (trees_of es) sent s → n < length es
+sent_within es sent n e s i =
+    let f = named_sender (trees_of es) n s (subst (λ (v : Sent). IsSent (trees_of es) v s) e i) in
+    named_within es n f.0 f.1
+
+pub interrupt_header : (known : List FrameTree) (a : Address) (s : Sender) → IsSent known (Interrupt a) s → address_bits a ++ One ∷ [] ≡ header_of s
+interrupt_header known a (message f) i = absurd i
+interrupt_header known a (interrupt bits) i = rw i refl
+
+-- ---- the participants of a plan
+
+module _ (plan : Contents) (old new : List Entry) (grows : Grows old new) where
+  sent_grown : (v : Sent) (s : Sender) → IsSent (trees_of old) v s → IsSent (trees_of new) v s
+  sent_grown (Message n) (message f) i = name_grown old new grows n f i
+  sent_grown (Message n) (interrupt b) i = absurd i
+  sent_grown (Interrupt a) (message f) i = absurd i
+  sent_grown (Interrupt a) (interrupt b) i = i
+
+  pub one_more_sent : (xs ys : List Sent) (v : Sent) (s : Sender) → ys ≡ xs ++ v ∷ [] → AllSend plan (trees_of old) xs → sender_at plan (length xs) ≡ Some s → IsSent (trees_of new) v s → AllSend plan (trees_of new) ys
+  one_more_sent xs ys v s e all at is p w h =
+      elim (pushed_at xs v w p (rw e at h)) [
+        | inl before ↦ (let o = all p w before in (o.0, o.1, sent_grown w o.0 o.2))
+        | inr here ↦ (s, ap (sender_at plan) here.0 ∙ at, subst (λ (u : Sent). IsSent (trees_of new) u s) (sym here.1) is)
+      ]

@@ -1,9 +1,8 @@
 pub mod Arbitration
 pub mod Spans
+pub mod Choices
 pub mod Ways
 pub mod Laws
-pub mod Numbers
-pub mod Laid
-pub mod Rows
-pub mod Openings
+pub mod Frames
+pub mod Senders
 pub mod Plans

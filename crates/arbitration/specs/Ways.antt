@@ -2,15 +2,15 @@
 use Rattle.std.specs.Prelude.{◌≡◌, ℕ, ◌+◌, ◌*◌, ◌<◌, ◌⊎◌, true, false, Option, Some, List, [], ◌∷◌, ◌++◌, length, slice_get}
 use Rattle.message_tree.specs.declared.bits.Bit.{Bit}
 use Rattle.message_tree.specs.declared.bits.Pattern.{Pattern}
-use Rattle.message_tree.specs.declared.bits.Bit.TheVariants.{Zero, One, Either}
+use Rattle.message_tree.specs.declared.bits.Bit.TheVariants.{One}
 use Rattle.message_tree.specs.declared.counts.Count.{Count}
 use Rattle.message_tree.specs.declared.items.Item.{Item}
 use Rattle.message_tree.specs.declared.items.Item.TheVariants.{Sent, Stop}
-use Rattle.message_tree.specs.Bits.{SplitAt}
+use Rattle.message_tree.specs.Bits.{SplitAt, NeverSplit}
 use Rattle.message_tree.specs.Counts.{InRange, greatest_of}
-use Rattle.message_tree.specs.Texts.{Language, Sender, message, interrupt, Allows, TailText, write_header, read_header}
+use Rattle.message_tree.specs.Texts.{Language, Sender, message, interrupt, Allows, ReadThen, PayloadText, TailText, write_header, read_header}
 use Rattle.message_tree.specs.Patterns.{pattern_bits}
-use Rattle.message_tree.specs.Trees.{write, read, PayloadTree, byte, TailTree, stop}
+use Rattle.message_tree.specs.Trees.{FrameTree, write, read, PayloadTree, byte, TailTree}
 use Rattle.arbitration.specs.declared.beginnings.Beginning.{Beginning}
 use Rattle.arbitration.specs.declared.spans.Slots.{Slots}
 use Rattle.arbitration.specs.declared.spans.Outcomes.{Outcomes}
@@ -52,23 +52,11 @@ AreOutcomes P Q outcomes = (way : Way) → IsSpan (Goes way P Q) (span_of way ou
 abbrev pub AllHaveRoom : ℕ → Outcomes → Type 0
 AllHaveRoom n outcomes = (way : Way) → HasRoom n (span_of way outcomes)
 
--- one of the two bits is known to be 0 and the other to be 1
-abbrev pub Differ : Bit → Bit → Type 0
-Differ b c = ((b ≡ Zero) × (c ≡ One)) ⊎ ((b ≡ One) × (c ≡ Zero))
-
--- no bit is open
-abbrev pub NoneOpen : List Bit → Type 0
-NoneOpen bs = (k : ℕ) → slice_get bs k ≡ Some Either → ⊥
-
 -- at place k one may send 0 and the other 1, and no earlier bit is known in both and different
 pub record WinsAt (bs cs : List Bit) (k : ℕ) : Type 0 where
   pub zero : (b : Bit) × (slice_get bs k ≡ Some b) × Allows b false
   pub one : (c : Bit) × (slice_get cs k ≡ Some c) × Allows c true
   pub before : (j : ℕ) → j < k → SplitAt bs cs j → ⊥
-
--- it is slot k, one of these bits may be sent as 0, and the other as 1
-abbrev pub WinsBit : Bit → Bit → ℕ → ℕ → Type 0
-WinsBit b c k j = (j ≡ k) × Allows b false × Allows c true
 
 abbrev pub PartsAt : Way → List Bit → List Bit → ℕ → Type 0
 PartsAt both_end bs cs k = ⊥
@@ -100,39 +88,45 @@ header_of (message (write address acked refused)) = write_header address
 header_of (message (read address count after refused)) = read_header address
 header_of (interrupt address) = address ++ One ∷ []
 
--- a byte that two messages begin with, and what both write after a refusal of it
+-- what follows an acknowledge of the first header
+abbrev pub AckedText : FrameTree → Language
+AckedText (write address acked refused) = PayloadText acked
+AckedText (read address count after refused) = ReadThen count (TailText after)
+
+-- a byte, and what is written after a refusal of it
 pub record Step : Type 0 where
   pub bits : Pattern
   pub refused : TailTree
 
--- both end after a refusal
-abbrev pub stopped : Pattern → Step
-stopped b = record { bits = b; refused = stop }
+-- these bytes, and what follows them
+abbrev pub with_bytes : List Step → PayloadTree → PayloadTree
+with_bytes [] x = x
+with_bytes (s ∷ ss) x = byte s.bits (with_bytes ss x) s.refused
 
--- x begins with these bytes; x' follows them
-abbrev pub Begins : List Step → PayloadTree → PayloadTree → Type 0
-Begins [] x x' = x ≡ x'
-Begins (s ∷ ss) x x' = (t : PayloadTree) × (x ≡ byte s.bits t s.refused) × Begins ss t x'
+-- these are as many as those, and none of them parts from its fellow for certain
+abbrev pub NeverPart : List Step → List Step → Type 0
+NeverPart [] [] = Unit {0}
+NeverPart [] (t ∷ ts) = ⊥
+NeverPart (s ∷ ss) [] = ⊥
+NeverPart (s ∷ ss) (t ∷ ts) = NeverSplit (pattern_bits s.bits) (pattern_bits t.bits) × NeverPart ss ts
 
--- in slot k two who send this byte go this way: in an open bit, or after a refusal
-abbrev pub GoesInByte : Way → Step → ℕ → Type 0
-GoesInByte way s k =
-    PartsAt way (pattern_bits s.bits) (pattern_bits s.bits) k ⊎ After 9 (Goes way (TailText s.refused) (TailText s.refused)) k
+-- in slot k two who send these bytes go this way: in a bit, or after a refusal
+abbrev pub GoesInByte : Way → Step → Step → ℕ → Type 0
+GoesInByte way s t k =
+    PartsAt way (pattern_bits s.bits) (pattern_bits t.bits) k ⊎ After 9 (Goes way (TailText s.refused) (TailText t.refused)) k
 
 -- these are the outcomes within this byte
-abbrev pub IsInByte : Step → Outcomes → Type 0
-IsInByte s outcomes = (way : Way) → IsSpan (GoesInByte way s) (span_of way outcomes)
+abbrev pub IsInByte : Step → Step → Outcomes → Type 0
+IsInByte s t outcomes = (way : Way) → IsSpan (GoesInByte way s t) (span_of way outcomes)
 
 -- in slot k two who send these bytes go this way
-abbrev pub GoesWithin : Way → List Step → ℕ → Type 0
-GoesWithin way [] k = ⊥
-GoesWithin way (s ∷ ss) k = GoesInByte way s k ⊎ After 9 (GoesWithin way ss) k
+abbrev pub GoesWithin : Way → List Step → List Step → ℕ → Type 0
+GoesWithin way [] ts k = ⊥
+GoesWithin way (s ∷ ss) [] k = ⊥
+GoesWithin way (s ∷ ss) (t ∷ ts) k = GoesInByte way s t k ⊎ After 9 (GoesWithin way ss ts) k
 
 -- the beginning has these bytes, and its outcomes are those within them
-abbrev pub IsBeginning : List Step → Beginning → Type 0
-IsBeginning ss beginning =
-    (length ss ≡ beginning.bytes) × ((way : Way) → IsSpan (GoesWithin way ss) (span_of way beginning.outcomes))
-
--- both begin with the bytes of this beginning, and these two follow
-abbrev pub BeginAlike : Beginning → PayloadTree → PayloadTree → PayloadTree → PayloadTree → Type 0
-BeginAlike beginning x y x' y' = (ss : List Step) × IsBeginning ss beginning × Begins ss x x' × Begins ss y y'
+pub record IsBeginning (ss ts : List Step) (beginning : Beginning) : Type 0 where
+  pub together : NeverPart ss ts
+  pub count : length ss ≡ beginning.bytes
+  pub outcomes : (way : Way) → IsSpan (GoesWithin way ss ts) (span_of way beginning.outcomes)

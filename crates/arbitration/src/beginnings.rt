@@ -1,16 +1,16 @@
-// What two messages may come to while they are alike.
+// What two messages may come to within the bytes that they begin with.
 
 ghost use Rattle.std.specs.Prelude.{◌≡◌, [], ◌∷◌, ◌++◌, ◌+◌, ◌*◌, ◌<◌, ◌^◌, List};
-ghost use Rattle.message_tree.specs.Texts.{TailText};
-ghost use Rattle.message_tree.specs.Trees.{TailTree};
-ghost use Rattle.arbitration.specs.Ways.{AreOutcomes, AllHaveRoom, Step, stopped, IsInByte, IsBeginning};
+ghost use Rattle.message_tree.specs.Patterns.{pattern_bits};
+ghost use Rattle.message_tree.specs.Texts.{TailText, PayloadText};
+ghost use Rattle.message_tree.specs.Trees.{PayloadTree};
+ghost use Rattle.arbitration.specs.Ways.{AreOutcomes, ArePartings, AllHaveRoom};
+ghost use Rattle.arbitration.specs.Ways.{Step, with_bytes, NeverPart, IsInByte, IsBeginning};
 
-use crate::bits::open_bits;
 use crate::spans::Outcomes;
-use message_tree::Pattern;
 
-/// How many bytes two messages have in common, and what the two may come to within them: either may win in an open bit, and
-/// after a refusal of one of them they go on alike, and may end or part.
+/// How many bytes two messages have sent of which none parts them for certain, and what the two may come to within them:
+/// either may win in an open bit, and after a refusal they go on, and may end or part.
 #[derive(Clone, Copy)]
 pub(crate) struct Beginning {
     pub(crate) bytes: u32,
@@ -20,7 +20,7 @@ pub(crate) struct Beginning {
 impl Beginning {
     /// No byte.
     pub(crate) fn none() -> Beginning
-        ensures { IsBeginning [] result }
+        ensures { IsBeginning [] [] result }
     {
         Beginning {
             bytes: 0,
@@ -28,12 +28,12 @@ impl Beginning {
         }
     }
 
-    /// One more byte, within which two come to these.
+    /// One more byte of each, within which two come to these.
     pub(crate) fn and(self, here: Outcomes) -> Beginning
         requires slots { 9 * self.bytes + 9 < 2 ^ 32 }
         requires room { AllHaveRoom (9 * self.bytes) here }
-        ensures longer { (ss : List Step) (s : Step) → IsBeginning ss self → IsInByte s here → IsBeginning (ss ++ s ∷ []) result }
-        ensures bytes { result.bytes ≡ self.bytes + 1 }
+        ensures { (ss ts : List Step) (s t : Step) → IsBeginning ss ts self → NeverPart (s ∷ []) (t ∷ []) →
+            IsInByte s t here → IsBeginning (ss ++ s ∷ []) (ts ++ t ∷ []) result }
     {
         let here = here.after(9 * self.bytes);
         Beginning {
@@ -41,20 +41,24 @@ impl Beginning {
             outcomes: self.outcomes.union(here),
         }
     }
+
+    /// What two messages come to that begin so, and come to these after it.
+    pub(crate) fn followed_by(self, rest: Outcomes) -> Outcomes
+        requires slots { 9 * self.bytes < 2 ^ 32 }
+        requires room { AllHaveRoom (9 * self.bytes) rest }
+        ensures { (ss ts : List Step) (x y : PayloadTree) → IsBeginning ss ts self →
+            AreOutcomes (PayloadText x) (PayloadText y) rest →
+            AreOutcomes (PayloadText (with_bytes ss x)) (PayloadText (with_bytes ts y)) result }
+    {
+        self.outcomes.union(rest.after(9 * self.bytes))
+    }
 }
 
-/// What two may come to in a byte that both send, where they come to `refused` after a refusal of it.
-pub(crate) fn in_byte(bits: &Pattern, refused: Outcomes) -> Outcomes
+/// What two may come to in a byte of each, where the bits part them so and they come to `refused` after a refusal.
+pub(crate) fn in_byte(parted: Outcomes, refused: Outcomes) -> Outcomes
     requires { AllHaveRoom 9 refused }
-    ensures { (r : TailTree) → AreOutcomes (TailText r) (TailText r) refused →
-        IsInByte (record { bits = bits.now; refused = r }) result }
+    ensures { (s t : Step) → ArePartings (pattern_bits s.bits) (pattern_bits t.bits) parted →
+        AreOutcomes (TailText s.refused) (TailText t.refused) refused → IsInByte s t result }
 {
-    open_bits(bits).union(refused.after(9))
-}
-
-/// The same where both end after a refusal.
-pub(crate) fn in_stopped_byte(bits: &Pattern) -> Outcomes
-    ensures { IsInByte (stopped bits.now) result }
-{
-    in_byte(bits, Outcomes::end_at_once())
+    parted.union(refused.after(9))
 }

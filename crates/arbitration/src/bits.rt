@@ -1,18 +1,92 @@
 // Where two headers or two data bytes may part.
 
-ghost use Rattle.std.specs.Prelude.{◌≡◌, ℕ, true, [], ◌∷◌, ◌++◌, ◌↔◌, IsTrue};
-ghost use Rattle.message_tree.specs.declared.bits.Bit.TheVariants.{Either};
+ghost use Rattle.std.specs.Prelude.{◌≡◌, ◌≢◌, ℕ, true, false, None, [], ◌∷◌, ◌++◌, ◌<◌, ◌↔◌, List, IsTrue};
+ghost use Rattle.std.specs.Int.{bit_at};
 ghost use Rattle.message_tree.specs.Bits.{SplitAt};
 ghost use Rattle.message_tree.specs.Patterns.{address_bits, pattern_bits};
 ghost use Rattle.message_tree.specs.Texts.{Allows};
 ghost use Rattle.arbitration.specs.Spans.{IsSpan};
-ghost use Rattle.arbitration.specs.Ways.{Differ, NoneOpen, WinsBit, WinsAt, ArePartings};
+ghost use Rattle.arbitration.specs.Choices.{AreChoices, HasDigit, IsBefore};
+ghost use Rattle.arbitration.specs.Ways.{ArePartings};
 
-use crate::spans::{Outcomes, Slots, union};
+use crate::spans::{Outcomes, Slots};
 use message_tree::{Address, Bit, Pattern};
 
-// The bits of a header: the address and the direction (UM10204, 3.1.10).
-pub(crate) fn header(a: &Address, direction: Bit) -> [Bit; 8]
+/// Which of eight bits may be sent as 0, and which as 1: for the bit at place k the digit of value 2 to the power k.
+#[derive(Clone, Copy)]
+pub(crate) struct Choices {
+    zero: u8,
+    one: u8,
+}
+
+impl Choices {
+    /// Those of a header: the address and the direction (UM10204, 3.1.10).
+    pub(crate) fn of_header(a: &Address, direction: Bit) -> Choices
+        ensures { AreChoices (address_bits a.now ++ direction ∷ []) result }
+    {
+        Choices::of(&header(a, direction))
+    }
+
+    /// Those of a data byte (UM10204, 3.1.5).
+    pub(crate) fn of_byte(p: &Pattern) -> Choices
+        ensures { AreChoices (pattern_bits p.now) result }
+    {
+        Choices::of(&data(p))
+    }
+
+    fn of(bits: &[Bit; 8]) -> Choices
+        ensures { AreChoices bits.now result }
+    {
+        let mut zero = 0;
+        let mut one = 0;
+        for k in 0..8u8 {
+            let bit = bits[k as usize];
+            zero = with_digit(zero, k, may_be(bit, false));
+            one = with_digit(one, k, may_be(bit, true));
+        }
+        Choices { zero, one }
+    }
+
+    // The places at which the two bits are known and different.
+    #[inline(always)]
+    fn splits(self, other: Choices) -> u8
+        ensures { (bs cs : List Bit) → AreChoices bs self → AreChoices cs other →
+            (k : ℕ) → HasDigit result k ↔ SplitAt bs cs k }
+    {
+        !((self.zero & other.zero) | (self.one & other.one))
+    }
+
+    /// The places at which one of the two may win.
+    pub(crate) fn partings(self, other: Choices) -> Outcomes
+        ensures { (bs cs : List Bit) → AreChoices bs self → AreChoices cs other → ArePartings bs cs result }
+    {
+        let before = up_to_first(self.splits(other));
+        Outcomes {
+            both: None,
+            first: places(self.zero & other.one & before),
+            second: places(other.zero & self.one & before),
+        }
+    }
+
+    /// Whether the two always part.
+    pub(crate) fn always_part(self, other: Choices) -> bool
+        ensures { (bs cs : List Bit) → AreChoices bs self → AreChoices cs other →
+            (IsTrue result ↔ ((k : ℕ) × SplitAt bs cs k)) }
+    {
+        self.splits(other) != 0
+    }
+
+    /// Whether the choices are the same.
+    #[inline(always)]
+    pub(crate) fn is_same(self, other: Choices) -> bool
+        ensures { result ≡ true → self ≡ other }
+    {
+        self.zero == other.zero && self.one == other.one
+    }
+}
+
+// The bits of a header.
+fn header(a: &Address, direction: Bit) -> [Bit; 8]
     ensures { result ≡ address_bits a.now ++ direction ∷ [] }
 {
     [
@@ -27,8 +101,8 @@ pub(crate) fn header(a: &Address, direction: Bit) -> [Bit; 8]
     ]
 }
 
-// The bits of a data byte (UM10204, 3.1.5).
-pub(crate) fn data(p: &Pattern) -> [Bit; 8]
+// The bits of a data byte.
+fn data(p: &Pattern) -> [Bit; 8]
     ensures { result ≡ pattern_bits p.now }
 {
     [
@@ -51,39 +125,6 @@ pub(crate) fn is_same(a: &Pattern, b: &Pattern) -> bool
     a == b
 }
 
-/// The places at which one of two may win who send the same byte: its open bits.
-pub(crate) fn open_bits(p: &Pattern) -> Outcomes
-    ensures { ArePartings (pattern_bits p.now) (pattern_bits p.now) result }
-{
-    // most bytes have none
-    if is_known(p) {
-        return Outcomes::none();
-    }
-    let bits = data(p);
-    partings(&bits, &bits)
-}
-
-// Whether no bit is open.
-#[inline(always)]
-fn is_known(p: &Pattern) -> bool
-    ensures { result ≡ true → NoneOpen (pattern_bits p.now) }
-{
-    let mut known = true;
-    for k in 0..8 {
-        // no branch, so that all eight are one comparison
-        known &= !is_open(p.bit(k));
-    }
-    known
-}
-
-// Whether the bit is open.
-#[inline(always)]
-fn is_open(bit: Bit) -> bool
-    ensures { result ≡ true ↔ (bit ≡ Either) }
-{
-    matches!(bit, Bit::Either)
-}
-
 // Whether the bit may be sent so.
 fn may_be(bit: Bit, value: bool) -> bool
     ensures { IsTrue result ↔ Allows bit value }
@@ -95,65 +136,39 @@ fn may_be(bit: Bit, value: bool) -> bool
     }
 }
 
-// Whether one of the two bits is known to be 0 and the other to be 1.
-fn differ(b: Bit, c: Bit) -> bool
-    ensures { IsTrue result ↔ Differ b c }
+// These digits and, where `is` holds, digit `k`.
+#[inline(always)]
+fn with_digit(digits: u8, k: u8, is: bool) -> u8
+    requires { k < 8 }
+    ensures set { is ≡ true → HasDigit result k }
+    ensures same { is ≡ false → result ≡ digits }
+    ensures others { (j : ℕ) → j ≢ k → bit_at result j ≡ bit_at digits j }
 {
-    match (b, c) {
-        (Bit::Zero, Bit::One) | (Bit::One, Bit::Zero) => true,
-        _ => false,
-    }
+    if is { digits | 1 << k } else { digits }
 }
 
-// Slot `k`, where the first may send 0 in it and the second 1.
-fn place(b: Bit, c: Bit, k: u32) -> Option<Slots>
-    ensures { IsSpan (WinsBit b c k) result }
+// The places up to the first of these, and with it.
+#[inline(always)]
+fn up_to_first(places: u8) -> u8
+    ensures { (k : ℕ) → k < 8 → (HasDigit result k ↔ IsBefore places k) }
 {
-    if may_be(b, false) && may_be(c, true) {
-        Some(Slots {
-            earliest: k,
-            latest: k,
-        })
+    if places == 0 {
+        u8::MAX
     } else {
-        None
+        ((2u32 << places.trailing_zeros()) - 1) as u8
     }
 }
 
-// The places at which the first may win.
-fn winning(first: &[Bit; 8], second: &[Bit; 8]) -> Option<Slots>
-    ensures { IsSpan (WinsAt first.now second.now) result }
+// The first and the last of these places.
+#[inline(always)]
+fn places(digits: u8) -> Option<Slots>
+    ensures { IsSpan (HasDigit digits) result }
 {
-    let mut found = None;
-    for k in 0..8u32 {
-        let b = first[k as usize];
-        let c = second[k as usize];
-        found = union(found, place(b, c, k));
-        if differ(b, c) {
-            return found;
-        }
+    if digits == 0 {
+        return None;
     }
-    found
-}
-
-// The places at which one of the two may win.
-pub(crate) fn partings(first: &[Bit; 8], second: &[Bit; 8]) -> Outcomes
-    ensures { ArePartings first.now second.now result }
-{
-    Outcomes {
-        both: None,
-        first: winning(first, second),
-        second: winning(second, first),
-    }
-}
-
-// Whether the two always part.
-pub(crate) fn always_part(first: &[Bit; 8], second: &[Bit; 8]) -> bool
-    ensures { IsTrue result ↔ ((k : ℕ) × SplitAt first.now second.now k) }
-{
-    for k in 0..8 {
-        if differ(first[k], second[k]) {
-            return true;
-        }
-    }
-    false
+    Some(Slots {
+        earliest: digits.trailing_zeros(),
+        latest: 7 - digits.leading_zeros(),
+    })
 }

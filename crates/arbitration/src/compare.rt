@@ -1,195 +1,171 @@
-// The outcomes of two messages, node by node.
+// The outcomes of two frames, by their numbers.
 
-ghost use Rattle.std.specs.Prelude.{◌<◌, ◌^◌, ◌+◌, ◌*◌, max};
+ghost use Rattle.std.specs.Prelude.{◌≡◌, ℕ, ◌<◌, ◌^◌, ◌+◌, ◌*◌, min, length};
+ghost use Rattle.message_tree.specs.Bits.{NeverSplit};
 ghost use Rattle.message_tree.specs.Counts.{greatest_of};
-ghost use Rattle.message_tree.specs.Sizes.{frame_slots, payload_slots, tail_slots};
-ghost use Rattle.message_tree.specs.Texts.{SentThen, AnswerThen, ReadThen, FrameText, PayloadText, TailText};
-ghost use Rattle.message_tree.specs.Trees.{frame_tree, payload_tree, tail_tree, PayloadTree, read};
-ghost use Rattle.arbitration.specs.Ways.{AreOutcomes, BeginAlike, Way, span_of, AllHaveRoom, Answered};
+ghost use Rattle.message_tree.specs.Sizes.{payload_slots, tail_slots};
+ghost use Rattle.message_tree.specs.Texts.{message, ReadThen, FrameText, PayloadText, TailText};
+ghost use Rattle.message_tree.specs.Trees.{FrameTree};
+ghost use Rattle.arbitration.specs.Frames.{AreFrames, IsFrame, IsRow, IsInside, Names};
+ghost use Rattle.arbitration.specs.Frames.{frame_of, next_tree, row_tree, rest_after, trees_of};
+ghost use Rattle.arbitration.specs.Ways.{AreOutcomes, AllHaveRoom, AckedText, Answered, Way, span_of, header_of};
 
-use crate::alike::{Alike, common_bytes};
-use crate::beginnings::Beginning;
-use crate::bits::{always_part, data, header, partings};
+use crate::beginnings::in_byte;
+use crate::frames::{Frames, NumberedFrame, NumberedRead};
 use crate::reads::{reads_apart, reads_met};
+use crate::rows::{Next, Row, same_bytes};
 use crate::spans::Outcomes;
-use message_tree::{Address, Bit, Count, Frame, Payload, Tail};
 
-// Two frames, from their headers on.
-#[cycle(compare)]
-fn frames(f: &Frame, g: &Frame) -> Outcomes
-    requires { frame_slots (frame_tree f.now) < 2 ^ 32 }
-    ensures { AreOutcomes (FrameText (frame_tree f.now)) (FrameText (frame_tree g.now)) result }
-{
-    match f {
-        Frame::Write {
-            address: a,
-            acked: x,
-            refused: r,
-        } => match g {
-            Frame::Write {
-                address: b,
-                acked: y,
-                refused: s,
-            } => bytes(&header(a, Bit::Zero), &header(b, Bit::Zero), x, y, r, s),
-            Frame::Read { address: b, .. } => {
-                partings(&header(a, Bit::Zero), &header(b, Bit::One))
-            }
-        },
-        Frame::Read {
-            address: a,
-            count: c,
-            after: x,
-            refused: r,
-        } => match g {
-            Frame::Write { address: b, .. } => {
-                partings(&header(a, Bit::One), &header(b, Bit::Zero))
-            }
-            Frame::Read {
-                address: b,
-                count: d,
-                after: y,
-                refused: s,
-            } => two_reads(a, b, c, d, x, y, r, s),
-        },
+impl Frames {
+    /// What two may come to who send the frames with these numbers. Who both send one were compared once for all.
+    #[cycle(compare)]
+    pub(crate) fn numbers(&self, first: u32, second: u32) -> Outcomes
+        requires frames { AreFrames self.now.entries.items }
+        requires first { first < length self.now.entries.items }
+        requires second { second < length self.now.entries.items }
+        ensures { (f g : FrameTree) → Names (trees_of self.now.entries.items) first f →
+            Names (trees_of self.now.entries.items) second g → AreOutcomes (FrameText f) (FrameText g) result }
+    {
+        let entry = &self.entries[first as usize];
+        if first == second {
+            return entry.alone;
+        }
+        self.frames(&entry.frame, &self.entries[second as usize].frame)
     }
-}
 
-// Two bytes with these bits, and what is written after each answer to them.
-#[cycle(compare)]
-fn bytes(
-    first: &[Bit; 8],
-    second: &[Bit; 8],
-    x: &Payload,
-    y: &Payload,
-    r: &Tail,
-    s: &Tail,
-) -> Outcomes
-    requires { max (payload_slots (payload_tree x.now)) (tail_slots (tail_tree r.now)) + 9 < 2 ^ 32 }
-    ensures { AreOutcomes
-        (SentThen first.now (AnswerThen (PayloadText (payload_tree x.now)) (TailText (tail_tree r.now))))
-        (SentThen second.now (AnswerThen (PayloadText (payload_tree y.now)) (TailText (tail_tree s.now)))) result }
-{
-    let parted = partings(first, second);
-    if always_part(first, second) {
-        parted
-    } else {
-        answered(parted, payloads(x, y), tails(r, s))
+    /// What two frames may come to, from their headers on.
+    #[cycle(compare)]
+    pub(crate) fn frames(&self, first: &NumberedFrame, second: &NumberedFrame) -> Outcomes
+        requires frames { AreFrames self.now.entries.items }
+        requires first { IsFrame self.now.entries.items first.now }
+        requires second { IsFrame self.now.entries.items second.now }
+        ensures { AreOutcomes (FrameText (frame_of (trees_of self.now.entries.items) first.now))
+            (FrameText (frame_of (trees_of self.now.entries.items) second.now)) result }
+    {
+        let first_bits = first.header();
+        let second_bits = second.header();
+        let parted = first_bits.partings(second_bits);
+        if first_bits.always_part(second_bits) {
+            return parted;
+        }
+        let acked = self.acked(first, second);
+        let refused = self.nexts(first.refused(), second.refused());
+        answered(parted, acked, refused)
     }
-}
 
-// Two read headers, and what follows each answer to them.
-#[cycle(compare)]
-fn two_reads(
-    a: &Address,
-    b: &Address,
-    c: &Count,
-    d: &Count,
-    x: &Tail,
-    y: &Tail,
-    r: &Tail,
-    s: &Tail,
-) -> Outcomes
-    requires { frame_slots (read a.now c.now (tail_tree x.now) (tail_tree r.now)) < 2 ^ 32 }
-    ensures { AreOutcomes (FrameText (read a.now c.now (tail_tree x.now) (tail_tree r.now)))
-        (FrameText (read b.now d.now (tail_tree y.now) (tail_tree s.now))) result }
-{
-    let first = header(a, Bit::One);
-    let second = header(b, Bit::One);
-    let parted = partings(&first, &second);
-    if always_part(&first, &second) {
-        parted
-    } else {
-        answered(parted, reads(c, d, x, y), tails(r, s))
+    // What they come to after an acknowledge. A write and a read have parted.
+    #[cycle(compare)]
+    fn acked(&self, first: &NumberedFrame, second: &NumberedFrame) -> Outcomes
+        requires frames { AreFrames self.now.entries.items }
+        requires first { IsFrame self.now.entries.items first.now }
+        requires second { IsFrame self.now.entries.items second.now }
+        requires together { NeverSplit (header_of (message (frame_of (trees_of self.now.entries.items) first.now)))
+            (header_of (message (frame_of (trees_of self.now.entries.items) second.now))) }
+        ensures { AreOutcomes (AckedText (frame_of (trees_of self.now.entries.items) first.now))
+            (AckedText (frame_of (trees_of self.now.entries.items) second.now)) result }
+    {
+        match first {
+            NumberedFrame::Write(v) => match second {
+                NumberedFrame::Write(w) => self.rows(&v.acked, &w.acked),
+                NumberedFrame::Read(_) => Outcomes::none(),
+            },
+            NumberedFrame::Read(r) => match second {
+                NumberedFrame::Write(_) => Outcomes::none(),
+                NumberedFrame::Read(s) => self.reads(r, s),
+            },
+        }
+    }
+
+    // Two reads, from the first byte on.
+    #[cycle(compare)]
+    fn reads(&self, first: &NumberedRead, second: &NumberedRead) -> Outcomes
+        requires frames { AreFrames self.now.entries.items }
+        requires first { IsInside self.now.entries.items first.now.after }
+        requires second { IsInside self.now.entries.items second.now.after }
+        requires slots { tail_slots (next_tree (trees_of self.now.entries.items) first.now.after) +
+            9 * greatest_of first.now.count < 2 ^ 32 }
+        ensures { AreOutcomes
+            (ReadThen first.now.count (TailText (next_tree (trees_of self.now.entries.items) first.now.after)))
+            (ReadThen second.now.count (TailText (next_tree (trees_of self.now.entries.items) second.now.after))) result }
+    {
+        if first.count.meets(&second.count) {
+            let ended = self.nexts(first.after, second.after);
+            reads_met(&first.count, &second.count, ended)
+        } else {
+            reads_apart(&first.count, &second.count)
+        }
+    }
+
+    // Two rows of bytes: those that they have in common at once, and then byte by byte.
+    #[cycle(compare)]
+    fn rows(&self, first: &Row, second: &Row) -> Outcomes
+        requires frames { AreFrames self.now.entries.items }
+        requires first { IsRow self.now.entries.items first.now }
+        requires second { IsRow self.now.entries.items second.now }
+        requires slots { payload_slots (row_tree (trees_of self.now.entries.items) first.now) < 2 ^ 32 }
+        ensures { AreOutcomes (PayloadText (row_tree (trees_of self.now.entries.items) first.now))
+            (PayloadText (row_tree (trees_of self.now.entries.items) second.now)) result }
+    {
+        let alike = same_bytes(first, second);
+        let mut met = first.beginning(alike);
+        for k in alike..first.bytes.len().min(second.bytes.len()) {
+            let a = &first.bytes[k];
+            let b = &second.bytes[k];
+            let parted = a.choices.partings(b.choices);
+            if a.choices.always_part(b.choices) {
+                return met.followed_by(parted);
+            }
+            let refused = self.nexts(a.refused, b.refused);
+            met = met.and(in_byte(parted, refused));
+        }
+        met.followed_by(self.ends(first, second))
+    }
+
+    // What follows where the first of the two ends.
+    #[cycle(compare)]
+    fn ends(&self, first: &Row, second: &Row) -> Outcomes
+        requires frames { AreFrames self.now.entries.items }
+        requires first { IsInside self.now.entries.items first.now.last }
+        requires second { IsInside self.now.entries.items second.now.last }
+        ensures { (n : ℕ) → n ≡ min (length first.now.bytes.items) (length second.now.bytes.items) → AreOutcomes
+            (PayloadText (rest_after n (trees_of self.now.entries.items) first.now))
+            (PayloadText (rest_after n (trees_of self.now.entries.items) second.now)) result }
+    {
+        if first.bytes.len() == second.bytes.len() {
+            self.nexts(first.last, second.last)
+        } else {
+            Outcomes::none()
+        }
+    }
+
+    /// How two messages go on after their last byte, or after a refusal.
+    #[cycle(compare)]
+    pub(crate) fn nexts(&self, first: Next, second: Next) -> Outcomes
+        requires frames { AreFrames self.now.entries.items }
+        requires first { IsInside self.now.entries.items first }
+        requires second { IsInside self.now.entries.items second }
+        ensures { AreOutcomes (TailText (next_tree (trees_of self.now.entries.items) first))
+            (TailText (next_tree (trees_of self.now.entries.items) second)) result }
+    {
+        match first {
+            Next::Stop => match second {
+                Next::Stop => Outcomes::end_at_once(),
+                Next::Again(_) => Outcomes::none(),
+            },
+            Next::Again(m) => match second {
+                Next::Stop => Outcomes::none(),
+                Next::Again(n) => self.numbers(m, n).after(1),
+            },
+        }
     }
 }
 
 // Eight bits may part two, and slot 8 is the answer to them.
-pub(crate) fn answered(parted: Outcomes, acked: Outcomes, refused: Outcomes) -> Outcomes
+fn answered(parted: Outcomes, acked: Outcomes, refused: Outcomes) -> Outcomes
     requires acked { AllHaveRoom 9 acked }
     requires refused { AllHaveRoom 9 refused }
     ensures { (way : Way) → Answered (span_of way parted) (span_of way acked) (span_of way refused)
         (span_of way result) }
 {
     parted.union(acked.after(9)).union(refused.after(9))
-}
-
-// Two reads, from the first byte on.
-#[cycle(compare)]
-fn reads(c: &Count, d: &Count, x: &Tail, y: &Tail) -> Outcomes
-    requires { tail_slots (tail_tree x.now) + 9 * greatest_of c.now < 2 ^ 32 }
-    ensures { AreOutcomes (ReadThen c.now (TailText (tail_tree x.now))) (ReadThen d.now (TailText (tail_tree y.now)))
-        result }
-{
-    if c.meets(d) {
-        reads_met(c, d, tails(x, y))
-    } else {
-        reads_apart(c, d)
-    }
-}
-
-// What is written after an acknowledge, where the bytes do not stand side by side. Most messages have bytes in common, and
-// end where one is refused.
-#[cycle(compare)]
-fn payloads(x: &Payload, y: &Payload) -> Outcomes
-    requires { payload_slots (payload_tree x.now) < 2 ^ 32 }
-    ensures { AreOutcomes (PayloadText (payload_tree x.now)) (PayloadText (payload_tree y.now)) result }
-{
-    after_alike(common_bytes(x, y, Beginning::none()))
-}
-
-/// What is written after an acknowledge, by what two have in common of it.
-#[cycle(compare)]
-pub(crate) fn after_alike(alike: Alike<'_>) -> Outcomes
-    requires { 9 * alike.beginning.bytes + payload_slots (payload_tree alike.first.now) < 2 ^ 32 }
-    ensures { (x y : PayloadTree) →
-        BeginAlike alike.entry.beginning x y (payload_tree alike.entry.first.now) (payload_tree alike.entry.second.now) →
-        AreOutcomes (PayloadText x) (PayloadText y) result }
-{
-    let rest = apart(alike.first, alike.second);
-    let Beginning { bytes, outcomes } = alike.beginning;
-    outcomes.union(rest.after(9 * bytes))
-}
-
-// The same from there on.
-#[cycle(compare)]
-fn apart(x: &Payload, y: &Payload) -> Outcomes
-    requires { payload_slots (payload_tree x.now) < 2 ^ 32 }
-    ensures { AreOutcomes (PayloadText (payload_tree x.now)) (PayloadText (payload_tree y.now)) result }
-{
-    match x {
-        Payload::Byte {
-            bits: a,
-            acked: x,
-            refused: r,
-        } => match y {
-            Payload::Byte {
-                bits: b,
-                acked: y,
-                refused: s,
-            } => bytes(&data(a), &data(b), x, y, r, s),
-            Payload::Last(_) => Outcomes::none(),
-        },
-        Payload::Last(r) => match y {
-            Payload::Byte { .. } => Outcomes::none(),
-            Payload::Last(s) => tails(r, s),
-        },
-    }
-}
-
-// How two messages go on after their last byte, or after a refusal.
-#[cycle(compare)]
-pub(crate) fn tails(r: &Tail, s: &Tail) -> Outcomes
-    requires { tail_slots (tail_tree r.now) < 2 ^ 32 }
-    ensures { AreOutcomes (TailText (tail_tree r.now)) (TailText (tail_tree s.now)) result }
-{
-    match r {
-        Tail::Stop => match s {
-            Tail::Stop => Outcomes::end_at_once(),
-            Tail::Again(_) => Outcomes::none(),
-        },
-        Tail::Again(f) => match s {
-            Tail::Stop => Outcomes::none(),
-            Tail::Again(g) => frames(f, g).after(1),
-        },
-    }
 }

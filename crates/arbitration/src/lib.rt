@@ -2,21 +2,18 @@
 //! the other has lost, over all runs of the two alone.
 #![tactic(auto)]
 
-mod alike;
 mod beginnings;
 mod bits;
 mod compare;
-mod known_tails;
-mod laid;
+mod frames;
 pub mod laws;
+mod laying;
 mod likeness;
 pub mod pairs;
 mod reads;
 mod rows;
-mod same;
 mod senders;
 pub mod spans;
 
-pub use laid::Laid;
-pub use pairs::{laid_out, of_pair};
+pub use pairs::{LaidOut, laid_out, of_pair};
 pub use spans::{Outcomes, Slots};

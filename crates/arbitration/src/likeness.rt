@@ -1,67 +1,45 @@
-// A number by which equal tails find one another. Nothing rests on it: who has the same one is compared.
+// A number by which equal frames find one another. Nothing rests on it: who has the same one is compared.
 
-use message_tree::{Address, Bit, Count, Frame, Pattern, Payload, Tail};
+use crate::frames::{NumberedFrame, NumberedRead, NumberedWrite};
+use crate::rows::{Next, Row};
+use message_tree::{Address, Bit, Pattern};
 
-const STOP: u64 = 1;
+const WRITE: u64 = 1;
 
-const AGAIN: u64 = 2;
+const READ: u64 = 2;
 
-const WRITE: u64 = 3;
-
-const READ: u64 = 4;
-
-const BYTE: u64 = 5;
-
-const LAST: u64 = 6;
-
-/// The same number for two tails that are equal. Others may have it too.
-pub(crate) fn likeness(tail: &Tail) -> u64 {
-    with_tail(0, tail)
-}
-
-#[cycle(likeness)]
-fn with_tail(code: u64, tail: &Tail) -> u64 {
-    match tail {
-        Tail::Stop => with(code, STOP),
-        Tail::Again(frame) => with_frame(with(code, AGAIN), frame),
-    }
-}
-
-#[cycle(likeness)]
-fn with_frame(code: u64, frame: &Frame) -> u64 {
+/// The same number for two frames that are equal. Others may have it too.
+pub(crate) fn likeness(frame: &NumberedFrame) -> u64 {
     match frame {
-        Frame::Write {
-            address,
-            acked,
-            refused,
-        } => {
-            let code = with_address(with(code, WRITE), address);
-            with_tail(with_payload(code, acked), refused)
-        }
-        Frame::Read {
-            address,
-            count,
-            after,
-            refused,
-        } => {
-            let code = with_count(with_address(with(code, READ), address), count);
-            with_tail(with_tail(code, after), refused)
-        }
+        NumberedFrame::Write(write) => of_write(write),
+        NumberedFrame::Read(read) => of_read(read),
     }
 }
 
-#[cycle(likeness)]
-fn with_payload(code: u64, payload: &Payload) -> u64 {
-    match payload {
-        Payload::Byte {
-            bits,
-            acked,
-            refused,
-        } => {
-            let code = with_pattern(with(code, BYTE), bits);
-            with_payload(with_tail(code, refused), acked)
-        }
-        Payload::Last(tail) => with_tail(with(code, LAST), tail),
+fn of_write(write: &NumberedWrite) -> u64 {
+    let code = with_address(WRITE, &write.address);
+    with_next(with_row(code, &write.acked), write.refused)
+}
+
+fn of_read(read: &NumberedRead) -> u64 {
+    let code = with_address(READ, &read.address);
+    let code = with(code, u64::from(read.count.least()));
+    let code = with(code, u64::from(read.count.greatest()));
+    with_next(with_next(code, read.after), read.refused)
+}
+
+fn with_row(code: u64, row: &Row) -> u64 {
+    let mut code = code;
+    for byte in &row.bytes {
+        code = with_next(with_pattern(code, &byte.bits), byte.refused);
+    }
+    with_next(code, row.last)
+}
+
+fn with_next(code: u64, next: Next) -> u64 {
+    match next {
+        Next::Stop => with(code, 0),
+        Next::Again(n) => with(code, u64::from(n).saturating_add(1)),
     }
 }
 
@@ -79,13 +57,6 @@ fn with_address(code: u64, address: &Address) -> u64 {
         digits = with_bit(digits, address.bit(k));
     }
     with(code, digits)
-}
-
-fn with_count(code: u64, count: &Count) -> u64 {
-    with(
-        with(code, u64::from(count.least())),
-        u64::from(count.greatest()),
-    )
 }
 
 fn with_bit(digits: u64, bit: Bit) -> u64 {

@@ -1,162 +1,131 @@
-// The bytes that a message begins with, as a row in which each tail is a number, so that those of two are compared fast.
+// The bytes that a controller writes after an acknowledge, as a row in which what follows a refusal is a number, so that
+// those of two are compared fast.
 
-ghost use Rattle.std.specs.Prelude.{◌≡◌, true, ◌+◌, ◌*◌, ◌<◌, ◌≤◌, ◌^◌, ◌++◌, [], ◌∷◌, ℕ, List, length, map, take, OnOk, IfOk};
-ghost use Rattle.message_tree.specs.declared.tree.Payload.{Payload};
-ghost use Rattle.message_tree.specs.Sizes.{payload_slots};
-ghost use Rattle.message_tree.specs.Trees.{payload_tree, TailTree};
-ghost use Rattle.arbitration.specs.Laid.{payload_steps, payload_rests, shown, rest_of, AreBeginnings};
-ghost use Rattle.arbitration.specs.Numbers.{AreKnown, IsByte, Keeps, trees_of};
-ghost use Rattle.arbitration.specs.Rows.{IsRow};
-ghost use Rattle.arbitration.specs.Ways.{Step, IsBeginning, BeginAlike};
+ghost use Rattle.std.specs.Prelude.{◌≡◌, true, ◌+◌, ◌*◌, ◌<◌, ◌≤◌, ◌^◌, ◌++◌, [], ◌∷◌, List, length, take, OnOk};
+ghost use Rattle.std.specs.Bool.{OnTrue};
+ghost use Rattle.arbitration.specs.Frames.{AreBeginnings};
+ghost use Rattle.arbitration.specs.Ways.{Step, IsInByte, IsBeginning, AllHaveRoom};
 
-use crate::alike::Alike;
-use crate::beginnings::{Beginning, in_byte};
-use crate::bits::is_same;
-use crate::known_tails::KnownTails;
-use message_tree::{Pattern, Payload};
+use crate::beginnings::Beginning;
+use crate::bits::{Choices, is_same};
+use crate::spans::Outcomes;
+use message_tree::Pattern;
 use std::alloc::{AllocError, Global};
 
-/// A byte, and the number of what is written after a refusal of it.
+/// How a message goes on after its last byte, or after an answer that refuses: by a STOP, or by a repeated START and the
+/// frame with this number.
 #[derive(Clone, Copy)]
-pub(crate) struct FirstByte {
-    pub(crate) bits: Pattern,
-    pub(crate) refused: u32,
+pub(crate) enum Next {
+    Stop,
+    Again(u32),
 }
 
-/// Some bytes, and what is written after each.
+/// A byte, and what follows a refusal of it.
+#[derive(Clone, Copy)]
+pub(crate) struct NumberedByte {
+    pub(crate) bits: Pattern,
+    pub(crate) choices: Choices,
+    pub(crate) refused: Next,
+}
+
+/// Some bytes, and what follows the last of them.
 #[derive(Drop)]
-pub(crate) struct Row<'a> {
-    pub(crate) bytes: Vec<FirstByte>,
-    pub(crate) rests: Vec<&'a Payload>,
+pub(crate) struct Row {
+    pub(crate) bytes: Vec<NumberedByte>,
+    pub(crate) last: Next,
     // what two may come to who both begin with the first byte, with the first two, and so on
     pub(crate) beginnings: Vec<Beginning>,
 }
 
-impl<'a> Row<'a> {
-    /// No bytes.
-    pub(crate) fn new(alloc: Global) -> Row<'a>
-        ensures { (known : List TailTree) → IsRow known [] [] result }
+impl Row {
+    /// No bytes, and a STOP.
+    pub(crate) fn new(alloc: Global) -> Row
+        ensures bytes { result.bytes.items ≡ [] }
+        ensures last { result.last ≡ Next.Stop }
+        ensures begun { AreBeginnings [] result.beginnings.items }
     {
         Row {
             bytes: Vec::new(alloc),
-            rests: Vec::new(alloc),
+            last: Next::Stop,
             beginnings: Vec::new(alloc),
         }
     }
 
-    /// Further bytes, those that a message goes on with after this beginning.
-    pub(crate) fn lay(
-        &mut self,
-        known: &mut KnownTails<'a>,
-        beginning: Beginning,
-        payload: &'a Payload,
-    ) -> Result<(), AllocError>
-        requires known { AreKnown known.old.tails.items }
-        requires slots { 9 * beginning.bytes + payload_slots (payload_tree payload.now) < 2 ^ 32 }
-        ensures known { OnOk result (AreKnown known.new.tails.items) }
-        ensures keeps { OnOk result (Keeps (trees_of known.old.tails.items) (trees_of known.new.tails.items)) }
-        ensures laid { OnOk result ((ss : List Step) (ts : List Payload) → IsBeginning ss beginning →
-            IsRow (trees_of known.old.tails.items) ss ts self.old →
-            IsRow (trees_of known.new.tails.items) (ss ++ payload_steps payload.now) (ts ++ payload_rests payload.now) self.new) }
+    /// The beginning of so many of the bytes.
+    pub(crate) fn beginning(&self, count: usize) -> Beginning
+        requires { count ≤ length self.now.beginnings.items }
+        ensures { (ss : List Step) → AreBeginnings ss self.now.beginnings.items →
+            IsBeginning (take count ss) (take count ss) result }
     {
-        match payload {
-            Payload::Byte {
-                bits,
-                acked,
-                refused,
-            } => {
-                let tail = known.put(refused)?;
-                let longer = beginning.and(in_byte(bits, tail.outcomes));
-                let byte = FirstByte {
-                    bits: *bits,
-                    refused: tail.number,
-                };
-                self.add(byte, acked, longer)?;
-                self.lay(known, longer, acked)
-            }
-            Payload::Last(_) => Ok(()),
+        if count == 0 {
+            return Beginning::none();
         }
+        self.beginnings[count - 1]
     }
 
-    // One more byte, what is written after it, and what two may come to who both begin so.
-    fn add(
-        &mut self,
-        byte: FirstByte,
-        rest: &'a Payload,
-        beginning: Beginning,
-    ) -> Result<(), AllocError>
-        ensures { OnOk result ((known : List TailTree) (ss : List Step) (s : Step) (ts : List Payload) → IsRow known ss ts self.old →
-            IsByte known byte s → IsBeginning (ss ++ s ∷ []) beginning →
-            IsRow known (ss ++ s ∷ []) (ts ++ rest.now ∷ []) self.new) }
+    /// One more byte, within which two who both send it come to these.
+    pub(crate) fn push(&mut self, byte: NumberedByte, here: Outcomes) -> Result<(), AllocError>
+        requires begun { (ss : List Step) × AreBeginnings ss self.old.beginnings.items ×
+            (length ss ≡ length self.old.bytes.items) }
+        requires slots { 9 * length self.old.bytes.items + 9 < 2 ^ 32 }
+        requires room { AllHaveRoom (9 * length self.old.bytes.items) here }
+        ensures bytes { OnOk result (self.new.bytes.items ≡ self.old.bytes.items ++ byte ∷ []) }
+        ensures last { OnOk result (self.new.last ≡ self.old.last) }
+        ensures begun { OnOk result ((ss : List Step) (s : Step) → AreBeginnings ss self.old.beginnings.items →
+            IsInByte s s here → AreBeginnings (ss ++ s ∷ []) self.new.beginnings.items) }
     {
+        let longer = self.beginning(self.bytes.len()).and(here);
         self.bytes.push(byte)?;
-        self.rests.push(rest)?;
-        self.beginnings.push(beginning)?;
+        self.beginnings.push(longer)?;
         Ok(())
     }
 }
 
-/// What the messages have in common that go on with these rows of bytes, and what each writes after it.
-pub(crate) fn common<'a>(
-    x: &'a Payload,
-    y: &'a Payload,
-    first: &Row<'a>,
-    second: &Row<'a>,
-) -> Alike<'a>
-    requires { (known : List TailTree) × IsRow known (payload_steps x.now) (payload_rests x.now) first.now ×
-        IsRow known (payload_steps y.now) (payload_rests y.now) second.now }
-    ensures { BeginAlike result.beginning (payload_tree x.now) (payload_tree y.now) (payload_tree result.first.now)
-        (payload_tree result.second.now) }
+/// Whether two go on alike, by one number.
+#[inline(always)]
+pub(crate) fn is_same_next(a: &Next, b: &Next) -> bool
+    ensures { OnTrue result (a.now ≡ b.now) }
 {
-    let count = same_bytes(first.bytes.as_slice(), second.bytes.as_slice());
-    Alike {
-        beginning: beginning(first.beginnings.as_slice(), count),
-        first: rest(x, first.rests.as_slice(), count),
-        second: rest(y, second.rests.as_slice(), count),
+    match a {
+        Next::Stop => matches!(b, Next::Stop),
+        Next::Again(m) => match b {
+            Next::Stop => false,
+            Next::Again(n) => m == n,
+        },
     }
 }
 
-// Whether two bytes are the same, with one number.
+// Whether two bytes are the same, and what follows a refusal has one number.
 #[inline(always)]
-fn is_one(a: &FirstByte, b: &FirstByte) -> bool
+fn is_one(a: &NumberedByte, b: &NumberedByte) -> bool
     ensures { result ≡ true → a.now ≡ b.now }
 {
-    a.refused == b.refused && is_same(&a.bits, &b.bits)
+    is_same(&a.bits, &b.bits)
+        && a.choices.is_same(b.choices)
+        && is_same_next(&a.refused, &b.refused)
 }
 
-// How many bytes two have in common.
-fn same_bytes(first: &[FirstByte], second: &[FirstByte]) -> usize
-    ensures first { result ≤ length first.now }
-    ensures second { result ≤ length second.now }
-    ensures same { take result first.now ≡ take result second.now }
+/// How many bytes two have in common.
+pub(crate) fn same_bytes(first: &Row, second: &Row) -> usize
+    ensures first { result ≤ length first.now.bytes.items }
+    ensures second { result ≤ length second.now.bytes.items }
+    ensures same { take result first.now.bytes.items ≡ take result second.now.bytes.items }
 {
-    let most = first.len().min(second.len());
+    let most = first.bytes.len().min(second.bytes.len());
     for k in 0..most {
-        if !is_one(&first[k], &second[k]) {
+        if !is_one(&first.bytes[k], &second.bytes[k]) {
             return k;
         }
     }
     most
 }
 
-// The beginning of so many of the bytes.
-fn beginning(beginnings: &[Beginning], count: usize) -> Beginning
-    requires { count ≤ length beginnings.now }
-    ensures { (ss : List Step) → AreBeginnings ss beginnings.now → IsBeginning (take count ss) result }
+/// Whether two rows are the same, with the same numbers.
+pub(crate) fn same_rows(first: &Row, second: &Row) -> bool
+    ensures { OnTrue result ((first.now.bytes.items ≡ second.now.bytes.items) × (first.now.last ≡ second.now.last)) }
 {
-    if count == 0 {
-        return Beginning::none();
-    }
-    beginnings[count - 1]
-}
-
-// What is written after so many of the bytes.
-fn rest<'a>(x: &'a Payload, rests: &[&'a Payload], count: usize) -> &'a Payload
-    requires { count ≤ length rests.now }
-    ensures { result.now ≡ rest_of count x.now (map shown rests.now) }
-{
-    if count == 0 {
-        return x;
-    }
-    rests[count - 1]
+    let count = first.bytes.len();
+    count == second.bytes.len()
+        && is_same_next(&first.last, &second.last)
+        && same_bytes(first, second) == count
 }

@@ -4,7 +4,7 @@
 ghost use Rattle.plan_core.specs.PlanContents.{plan_contents};
 ghost use Rattle.arbitration.specs.Plans.{AreLaid};
 
-use arbitration::{Laid, Outcomes, of_pair};
+use arbitration::{LaidOut, Outcomes, of_pair};
 use plan_core::{Participant, Plan};
 use std::alloc::{AllocError, Global};
 
@@ -27,7 +27,7 @@ impl Known {
     }
 
     /// The outcomes of these two participants.
-    pub(crate) fn of(&mut self, plan: &Plan, laid: &[Laid<'_>], x: u32, y: u32) -> Option<Outcomes>
+    pub(crate) fn of(&mut self, plan: &Plan, laid: &LaidOut, x: u32, y: u32) -> Option<Outcomes>
         requires { AreLaid (plan_contents plan.now) laid.now }
     {
         let first = sender(plan, x)?;
@@ -44,7 +44,7 @@ impl Known {
     fn at(
         &mut self,
         plan: &Plan,
-        laid: &[Laid<'_>],
+        laid: &LaidOut,
         senders: (usize, usize),
         by: (u32, u32),
     ) -> Option<Outcomes>
@@ -87,7 +87,7 @@ fn sender(plan: &Plan, p: u32) -> Option<usize> {
     })
 }
 
-fn found(plan: &Plan, laid: &[Laid<'_>], x: u32, y: u32) -> Option<Outcomes>
+fn found(plan: &Plan, laid: &LaidOut, x: u32, y: u32) -> Option<Outcomes>
     requires { AreLaid (plan_contents plan.now) laid.now }
 {
     if plan.participants() <= x || plan.participants() <= y {

@@ -15,7 +15,6 @@ pub(crate) fn order_report(
 ) -> Result<String, AllocError> {
     let labels = labels_of(alloc, plan)?;
     let laid = laid_out(alloc, plan)?;
-    let laid = laid.as_slice();
     let mut known = Known::new(alloc, plan)?;
     let mut totals = Totals::new(alloc, plan.participants())?;
     let mut report = String::new(alloc);
@@ -30,7 +29,7 @@ pub(crate) fn order_report(
         if is_next(faults, met, i) {
             met = met.saturating_add(1);
             push_unsafe(&mut report, names)?;
-        } else if let Some(outcomes) = known.of(plan, laid, x, y) {
+        } else if let Some(outcomes) = known.of(plan, &laid, x, y) {
             totals.count(x, y, &outcomes);
             push_outcomes(&mut report, names, &outcomes)?;
         }
