@@ -3,14 +3,14 @@
 //
 // Nothing here decides anything. A refusal is the caller's, and the file is read once more, in blocks, to find its place:
 // `dumps` follows it token by token (`judging`), and `naming` lists the signals that it declares, or `scoping` the scopes
-// of a name. After a report `silence` counts what was seen of the bus, `exchanging` looks at it with the two lines
-// exchanged, and `choosing` at names that several signals have. Where the file cannot be read once more, or has changed,
-// only the words are left (`wording`).
+// of a name. After a report `silence` tells what was seen of the bus (`looking`), also with the two lines exchanged, and
+// `choosing` looks at names that several signals have. Where the file cannot be read once more, or has changed, only the
+// words are left (`wording`).
 
 mod choosing;
 mod dumps;
-mod exchanging;
 mod judging;
+mod looking;
 mod naming;
 mod scoping;
 mod silence;
@@ -18,6 +18,5 @@ mod wording;
 
 pub use choosing::on_choice;
 pub use dumps::on_dump;
-pub use exchanging::on_unexplained;
 pub use naming::Names;
-pub use silence::on_silence;
+pub use silence::{on_silence, on_unexplained};

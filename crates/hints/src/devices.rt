@@ -2,6 +2,7 @@
 
 use crate::lines::Lines;
 use std::alloc::{AllocError, Global};
+use std::fmt::Display;
 use std::io::Error;
 
 /// A file that the command line names: by which argument, what it is to be, and its path.
@@ -20,10 +21,10 @@ pub fn on_opening(alloc: Global, file: Named<'_>, error: &Error) -> Result<Strin
 /// After standard input, where it is closed.
 pub fn on_closed_input(alloc: Global, file: Named<'_>) -> Result<String, AllocError> {
     let Named { argument, what, .. } = file;
-    let line = format!(in alloc;
+    let words = format_args!(
         "{argument}, the {what}, is to come from standard input, which is closed"
-    )?;
-    said(alloc, line.as_str(), None)
+    );
+    said(alloc, words, None)
 }
 
 /// After a file that was opened and cannot be read to its end. Where it failed once more there is the error of the system.
@@ -46,11 +47,17 @@ pub fn on_writing(
     error: Option<&Error>,
 ) -> Result<String, AllocError> {
     let end = if error.is_some() { ":" } else { "" };
-    let line = match output {
-        Some(path) => format!(in alloc; "the output {path:?} was not written{end}")?,
-        None => format!(in alloc; "standard output did not take the whole report{end}")?,
-    };
-    said(alloc, line.as_str(), error)
+    match output {
+        Some(path) => said(
+            alloc,
+            format_args!("the output {path:?} was not written{end}"),
+            error,
+        ),
+        None => {
+            let words = format_args!("standard output did not take the whole report{end}");
+            said(alloc, words, error)
+        }
+    }
 }
 
 /// After a number of workers that is refused.
@@ -78,21 +85,27 @@ fn on_file(
         what,
         path,
     } = file;
-    let line = if path == "-" {
-        format!(in alloc; "{argument}, the {what} from standard input, {words}")?
-    } else {
-        format!(in alloc; "{argument}, the {what} {path:?}, {words}")?
-    };
-    said(alloc, line.as_str(), error)
+    if path == "-" {
+        let words = format_args!("{argument}, the {what} from standard input, {words}");
+        return said(alloc, words, error);
+    }
+    said(
+        alloc,
+        format_args!("{argument}, the {what} {path:?}, {words}"),
+        error,
+    )
 }
 
 // A sentence, and the words of the system.
-fn said(alloc: Global, words: &str, error: Option<&Error>) -> Result<String, AllocError> {
+fn said<W: Display + Drop>(
+    alloc: Global,
+    words: W,
+    error: Option<&Error>,
+) -> Result<String, AllocError> {
     let mut lines = Lines::new(alloc);
-    lines.say(words)?;
+    lines.say(words);
     if let Some(error) = error {
-        let words = format!(in alloc; "{error}")?;
-        lines.say(words.as_str())?;
+        lines.say(error);
     }
-    Ok(lines.finish())
+    lines.finish()
 }

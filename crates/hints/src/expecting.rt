@@ -1,6 +1,7 @@
 // What could stand in a place of a text: the reader of its language is asked about one word after another.
 
 use crate::languages::Language;
+use crate::lines::Lines;
 use crate::pieces::last_line_number;
 use plan_text::PlanError;
 use std::alloc::{AllocError, Global};
@@ -24,7 +25,15 @@ const PLAN_WORDS: [(&str, &str); 12] = [
     ("0000000x", "a data byte (eight of '0', '1' and 'x')"),
 ];
 
-// The same of a brief. The addresses and the numbers come last, since what they can be depends on the place.
+// An address or a count of a plan. What these can be depends on the place: the first that can stand there says it.
+const PLAN_NUMBERS: [(&str, &str); 4] = [
+    ("000000x", "an address (seven of '0', '1' and 'x')"),
+    ("1..2", "a count from 1 to 255, or two of them as '2..4'"),
+    ("1", "a count from 1 to 255"),
+    ("0000001", "an address (seven of '0' and '1')"),
+];
+
+// The same of a brief.
 const BRIEF_WORDS: [(&str, &str); 17] = [
     ("device", "'device'"),
     ("byte", "'byte'"),
@@ -51,65 +60,78 @@ const BRIEF_WORDS: [(&str, &str); 17] = [
     ),
 ];
 
-/// What can stand after these beginnings of a text, in words. There are none where they are no beginning of one.
-pub(crate) fn expected(
+const BRIEF_NUMBERS: [(&str, &str); 4] = [
+    (
+        "0b000000x",
+        "an address ('0x' and two digits, at most 0x7F, or '0b' and seven of '0', '1' and 'x')",
+    ),
+    ("1..2", "a count from 1 to 255, or two of them as '2..4'"),
+    ("1", "a number from 1 to 255"),
+    (
+        "0b0000001",
+        "an address ('0x' and two digits, at most 0x7F, or '0b' and seven of '0' and '1')",
+    ),
+];
+
+/// Says what can stand after this beginning of a text, if there is such a thing. Whether there is.
+pub(crate) fn push_expected(
     alloc: Global,
+    lines: &mut Lines,
     language: Language,
     before: &[u8],
-) -> Result<Option<String>, AllocError> {
-    let words = match language {
-        Language::Plan => PLAN_WORDS.as_slice(),
-        Language::Brief => BRIEF_WORDS.as_slice(),
+) -> Result<bool, AllocError> {
+    let (words, numbers) = match language {
+        Language::Plan => (PLAN_WORDS.as_slice(), PLAN_NUMBERS.as_slice()),
+        Language::Brief => (BRIEF_WORDS.as_slice(), BRIEF_NUMBERS.as_slice()),
     };
-    let mut names = Vec::new(alloc);
+    let mut list = List {
+        last: None,
+        count: 0,
+    };
     for (word, name) in words {
         if allows(alloc, language, before, word)? {
-            names.push(*name)?;
+            list.add(lines, name);
         }
     }
-    let bits = match language {
-        Language::Plan => expected_bits(alloc, before)?,
-        Language::Brief => expected_number(alloc, before)?,
-    };
-    if let Some(name) = bits {
-        names.push(name)?;
+    for (number, name) in numbers {
+        if allows(alloc, language, before, number)? {
+            list.add(lines, name);
+            break;
+        }
     }
-    joined(alloc, names.as_slice())
+    Ok(list.end(lines))
 }
 
-// An address or a count of a plan, if one can stand there.
-fn expected_bits(alloc: Global, before: &[u8]) -> Result<Option<&'static str>, AllocError> {
-    let plan = Language::Plan;
-    Ok(if allows(alloc, plan, before, "000000x")? {
-        Some("an address (seven of '0', '1' and 'x')")
-    } else if allows(alloc, plan, before, "1..2")? {
-        Some("a count from 1 to 255, or two of them as '2..4'")
-    } else if allows(alloc, plan, before, "1")? {
-        Some("a count from 1 to 255")
-    } else if allows(alloc, plan, before, "0000001")? {
-        Some("an address (seven of '0' and '1')")
-    } else {
-        None
-    })
+// What can stand in a place, as it is said: `A`, `A or B`, `A, B or C`.
+#[derive(Clone, Copy)]
+struct List {
+    // the last one, which is not said yet
+    last: Option<&'static str>,
+    count: u32,
 }
 
-// An address, a count or a number of a brief, if one can stand there.
-fn expected_number(alloc: Global, before: &[u8]) -> Result<Option<&'static str>, AllocError> {
-    let brief = Language::Brief;
-    Ok(if allows(alloc, brief, before, "0b000000x")? {
-        Some(
-            "an address ('0x' and two digits, at most 0x7F, or '0b' and seven of '0', '1' and 'x')",
-        )
-    } else if allows(alloc, brief, before, "1..2")? {
-        Some("a count from 1 to 255, or two of them as '2..4'")
-    } else if allows(alloc, brief, before, "1")? {
-        Some("a number from 1 to 255")
-    } else if allows(alloc, brief, before, "0b0000001")? {
-        Some("an address ('0x' and two digits, at most 0x7F, or '0b' and seven of '0' and '1')")
-    } else {
-        None
-    })
+impl List {
+    fn add(&mut self, lines: &mut Lines, name: &'static str) {
+        if let Some(last) = self.last {
+            lines.part(if self.count == 1 { BEFORE } else { ", " });
+            lines.part(last);
+        }
+        self.last = Some(name);
+        self.count = self.count.saturating_add(1);
+    }
+
+    // Whether there was one.
+    fn end(&self, lines: &mut Lines) -> bool {
+        let Some(last) = self.last else {
+            return false;
+        };
+        lines.part(if self.count == 1 { BEFORE } else { " or " });
+        lines.say(last);
+        true
+    }
 }
+
+const BEFORE: &str = "expected here: ";
 
 /// Whether this word can stand on a line of its own after the beginning of a text.
 pub(crate) fn allows(
@@ -118,32 +140,10 @@ pub(crate) fn allows(
     before: &[u8],
     word: &str,
 ) -> Result<bool, AllocError> {
-    let mut text = before.to_vec(alloc)?;
-    text.push(b'\n')?;
-    let line = last_line_number(text.as_slice());
-    text.extend_from_slice(word.as_bytes())?;
-    text.push(b'\n')?;
+    let line = last_line_number(before).saturating_add(1);
+    let text = [before, b"\n", word.as_bytes(), b"\n"].concat(alloc)?;
     match language.refusal(alloc, text.as_slice())? {
         Some(PlanError::Unexpected(at) | PlanError::Version(at)) => Ok(at != line),
         _ => Ok(true),
     }
-}
-
-// `A`, `A or B`, `A, B or C`.
-fn joined(alloc: Global, names: &[&str]) -> Result<Option<String>, AllocError> {
-    let Some((last, others)) = names.split_last() else {
-        return Ok(None);
-    };
-    let mut text = String::from_str(alloc, "expected here: ")?;
-    for (k, name) in others.iter().enumerate() {
-        if k != 0 {
-            text.push_str(", ")?;
-        }
-        text.push_str(name)?;
-    }
-    if !others.is_empty() {
-        text.push_str(" or ")?;
-    }
-    text.push_str(last)?;
-    Ok(Some(text))
 }

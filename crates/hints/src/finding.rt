@@ -1,6 +1,7 @@
 // One line of a file, which is read until its end.
 
 use crate::kinds::LOOKED_AT;
+use crate::marking::first_line;
 use dump_tokens::reading::Reading;
 use std::alloc::Global;
 use std::io;
@@ -12,7 +13,7 @@ const LONGEST: usize = 65_536;
 #[derive(Drop)]
 pub(crate) struct LineFinder {
     wanted: u64,
-    // the number of the line that the next byte is of
+    // the number of the line that has been come to
     number: u64,
     head: Vec<u8>,
     line: Vec<u8>,
@@ -63,32 +64,37 @@ impl LineFinder {
         self.head.as_slice()
     }
 
-    fn byte(&mut self, byte: u8) -> io::Result<()> {
-        if self.head.len() < LOOKED_AT {
-            self.head.push(byte)?;
-        }
-        if byte == b'\n' {
-            self.is_ended = self.number == self.wanted;
-            self.number = self.number.saturating_add(1);
-        } else if self.number == self.wanted {
-            if self.line.len() < LONGEST {
-                self.line.push(byte)?;
-            } else {
-                self.is_long = true;
+    // What stands after the lines before that one.
+    fn skip<'a>(&mut self, block: &'a [u8]) -> &'a [u8] {
+        let mut from = 0usize;
+        for byte in block {
+            if self.is_found() {
+                break;
             }
+            if *byte == b'\n' {
+                self.number = self.number.saturating_add(1);
+            }
+            from = from.saturating_add(1);
         }
-        Ok(())
+        block.get(from..).unwrap_or(&[])
     }
 }
 
 impl Reading for LineFinder {
     fn block(&mut self, block: &[u8]) -> io::Result<bool> {
-        for byte in block {
-            self.byte(*byte)?;
-            if self.is_ended {
-                return Ok(false);
-            }
-        }
-        Ok(true)
+        let room = LOOKED_AT.saturating_sub(self.head.len());
+        self.head.extend_from_slice(first(block, room))?;
+        let rest = self.skip(block);
+        let part = first_line(rest);
+        let room = LONGEST.saturating_sub(self.line.len());
+        self.line.extend_from_slice(first(part, room))?;
+        self.is_long = self.is_long || part.len() > room;
+        self.is_ended = part.len() < rest.len();
+        Ok(!self.is_ended)
     }
+}
+
+// The first bytes of these, so many at most.
+fn first(bytes: &[u8], most: usize) -> &[u8] {
+    bytes.get(..most).unwrap_or(bytes)
 }

@@ -1,8 +1,9 @@
 // What a file is that stands in the place of another: its first bytes tell.
 
 use crate::lines::Lines;
+use crate::marking::first_line;
 use dump_tokens::reading::part;
-use std::alloc::{AllocError, Global};
+use std::alloc::Global;
 use std::io::{Read, Seek};
 
 /// How many of the first bytes of a file are looked at.
@@ -23,14 +24,6 @@ pub enum Kind {
 }
 
 impl Kind {
-    /// Whether the file is no text of ASCII, so that no place in it says more.
-    pub fn is_binary(self) -> bool {
-        !matches!(
-            self,
-            Kind::Plan | Kind::Brief | Kind::Certificate | Kind::Dump
-        )
-    }
-
     fn words(self) -> &'static str {
         match self {
             Kind::Plan => "this is a plan: commands that read a plan take it as it is",
@@ -56,11 +49,19 @@ impl Kind {
     }
 }
 
+/// Whether the file is no text of ASCII, so that no place in it says more.
+pub fn is_binary(found: Option<Kind>) -> bool {
+    !matches!(
+        found,
+        None | Some(Kind::Plan | Kind::Brief | Kind::Certificate | Kind::Dump)
+    )
+}
+
 /// Says what the file is, where it is not what was expected.
-pub fn push_kind(lines: &mut Lines, found: Option<Kind>, expected: Kind) -> Result<(), AllocError> {
+pub fn push_kind(lines: &mut Lines, found: Option<Kind>, expected: Kind) {
     match found {
         Some(kind) if kind != expected => lines.say(kind.words()),
-        _ => Ok(()),
+        _ => {}
     }
 }
 
@@ -73,41 +74,62 @@ pub fn kind_of_file<F: Read + Seek>(alloc: Global, file: &mut Option<F>) -> Opti
     }
 }
 
+// What files begin with that are packed, and texts that are none of ASCII.
+const PACKED: [(&[u8], Kind); 6] = [
+    (b"\x1f\x8b", Kind::Gzip),
+    (b"PK\x03\x04", Kind::Zip),
+    (b"BZh", Kind::Archive),
+    (b"\xfd7zXZ\x00", Kind::Archive),
+    (b"\x28\xb5\x2f\xfd", Kind::Archive),
+    (b"7z\xbc\xaf\x27\x1c", Kind::Archive),
+];
+
+const ENCODED: [(&[u8], Kind); 3] = [
+    (b"\xef\xbb\xbf", Kind::ByteOrderMark),
+    (b"\xff\xfe", Kind::Utf16),
+    (b"\xfe\xff", Kind::Utf16),
+];
+
+// The words that texts begin with, and the commands of dumps.
+const WORDS: [(&[u8], Kind); 3] = [
+    (b"plan", Kind::Plan),
+    (b"brief", Kind::Brief),
+    (b"cert", Kind::Certificate),
+];
+
+const COMMANDS: [(&[u8], Kind); 7] = [
+    (b"$date", Kind::Dump),
+    (b"$version", Kind::Dump),
+    (b"$timescale", Kind::Dump),
+    (b"$comment", Kind::Dump),
+    (b"$scope", Kind::Dump),
+    (b"$var", Kind::Dump),
+    (b"$enddefinitions", Kind::Dump),
+];
+
 /// What the first bytes of a file tell, if they do.
 pub fn kind_of(head: &[u8]) -> Option<Kind> {
-    packed(head)
-        .or_else(|| encoded(head))
-        .or_else(|| text(head))
-}
-
-fn packed(head: &[u8]) -> Option<Kind> {
-    if head.starts_with(b"\x1f\x8b") {
-        Some(Kind::Gzip)
-    } else if head.starts_with(b"PK\x03\x04") {
-        Some(Kind::Zip)
-    } else if is_archive(head) {
-        Some(Kind::Archive)
-    } else {
-        None
+    if let Some(kind) = marked(head, PACKED.as_slice()) {
+        return Some(kind);
     }
-}
-
-// bzip2, xz, zstd, 7z, and tar.
-fn is_archive(head: &[u8]) -> bool {
-    head.starts_with(b"BZh")
-        || head.starts_with(b"\xfd7zXZ\x00")
-        || head.starts_with(b"\x28\xb5\x2f\xfd")
-        || head.starts_with(b"7z\xbc\xaf\x27\x1c")
-        || head.get(257..262) == Some(b"ustar".as_slice())
-}
-
-fn encoded(head: &[u8]) -> Option<Kind> {
-    if head.starts_with(b"\xef\xbb\xbf") {
-        return Some(Kind::ByteOrderMark);
+    if head.get(257..262) == Some(b"ustar".as_slice()) {
+        return Some(Kind::Archive);
     }
-    let has_mark = head.starts_with(b"\xff\xfe") || head.starts_with(b"\xfe\xff");
-    if has_mark || is_wide(head) {
+    if let Some(kind) = marked(head, ENCODED.as_slice()) {
+        return Some(kind);
+    }
+    if is_wide(head) {
         return Some(Kind::Utf16);
+    }
+    text(after_comments(head))
+}
+
+// The kind of files that begin as this one does.
+fn marked(head: &[u8], marks: &[(&[u8], Kind)]) -> Option<Kind> {
+    for (mark, kind) in marks {
+        if head.starts_with(mark) {
+            return Some(*kind);
+        }
     }
     None
 }
@@ -125,18 +147,12 @@ fn is_printed(byte: u8) -> bool {
 }
 
 fn text(head: &[u8]) -> Option<Kind> {
-    let head = after_comments(head);
-    if has_word(head, b"plan") {
-        Some(Kind::Plan)
-    } else if has_word(head, b"brief") {
-        Some(Kind::Brief)
-    } else if has_word(head, b"cert") {
-        Some(Kind::Certificate)
-    } else if is_dump(head) {
-        Some(Kind::Dump)
-    } else {
-        None
+    for (word, kind) in WORDS {
+        if has_word(head, word) {
+            return Some(kind);
+        }
     }
+    marked(head, COMMANDS.as_slice())
 }
 
 // What stands after blanks and comments of a plan.
@@ -146,11 +162,9 @@ fn after_comments(head: &[u8]) -> &[u8] {
         if !rest.starts_with(b"#") {
             break;
         }
-        let end = rest.iter().position(|byte| *byte == b'\n');
-        rest = rest
-            .get(end.unwrap_or(rest.len())..)
-            .unwrap_or(&[])
-            .trim_ascii_start();
+        let comment = first_line(rest);
+        let after = rest.get(comment.len()..).unwrap_or(&[]);
+        rest = after.trim_ascii_start();
     }
     rest
 }
@@ -161,17 +175,4 @@ fn has_word(head: &[u8], word: &[u8]) -> bool {
         Some([blank, digit, ..]) => blank.is_ascii_whitespace() && digit.is_ascii_digit(),
         _ => false,
     }
-}
-
-fn is_dump(head: &[u8]) -> bool {
-    const COMMANDS: [&[u8]; 7] = [
-        b"$date",
-        b"$version",
-        b"$timescale",
-        b"$comment",
-        b"$scope",
-        b"$var",
-        b"$enddefinitions",
-    ];
-    COMMANDS.iter().any(|command| head.starts_with(command))
 }

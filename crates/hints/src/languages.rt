@@ -59,10 +59,9 @@ impl Language {
             Language::Plan => read_plan(alloc, text),
             Language::Brief => expand_brief(alloc, text),
         };
-        match read {
-            Ok(_) => Ok(None),
-            Err(PlanError::NoMemory) => Err(AllocError),
-            Err(refusal) => Ok(Some(refusal)),
+        match read.err() {
+            Some(PlanError::NoMemory) => Err(AllocError),
+            refusal => Ok(refusal),
         }
     }
 
@@ -80,6 +79,11 @@ impl Language {
             Language::Plan => PLAN_WORDS.as_slice(),
             Language::Brief => BRIEF_WORDS.as_slice(),
         };
-        words.iter().copied().find(|known| known.as_bytes() == word)
+        for known in words {
+            if known.as_bytes() == word {
+                return Some(*known);
+            }
+        }
+        None
     }
 }

@@ -22,42 +22,61 @@ struct Near {
 
 /// The names that are nearest to a wanted one.
 #[derive(Drop)]
-pub struct Nearest {
-    wanted: Vec<u8>,
+pub struct Nearest<'a> {
+    wanted: &'a [u8],
     // the nearest first
     found: Vec<Near>,
     others: u64,
 }
 
-impl Nearest {
+impl<'a> Nearest<'a> {
     /// No name yet.
-    pub fn new(alloc: Global, wanted: &[u8]) -> Result<Nearest, AllocError> {
-        Ok(Nearest {
-            wanted: wanted.to_vec(alloc)?,
+    pub fn new(alloc: Global, wanted: &'a [u8]) -> Nearest<'a> {
+        Nearest {
+            wanted,
             found: Vec::new(alloc),
             others: 0,
-        })
+        }
     }
 
     /// One more name. One that is there already is not kept twice.
     pub fn add(&mut self, alloc: Global, name: &[u8]) -> Result<(), AllocError> {
-        if self.found.iter().any(|known| known.name.as_slice() == name) {
+        if self.has(name) {
             return Ok(());
         }
-        let far = distance(alloc, self.wanted.as_slice(), name)?;
-        let at = self.found.iter().position(|known| far < known.far);
-        let at = at.unwrap_or(self.found.len());
+        let far = distance(alloc, self.wanted, name)?;
+        let at = self.place_of(far);
         if at < MOST && at <= self.found.len() {
             let name = name.to_vec(alloc)?;
             self.found.insert(at, Near { name, far })?;
-        } else {
-            self.others = self.others.saturating_add(1);
-        }
-        if self.found.len() > MOST {
+            if self.found.len() <= MOST {
+                return Ok(());
+            }
             let _ = self.found.pop();
-            self.others = self.others.saturating_add(1);
         }
+        self.others = self.others.saturating_add(1);
         Ok(())
+    }
+
+    fn has(&self, name: &[u8]) -> bool {
+        for near in self.found.iter() {
+            if near.name.as_slice() == name {
+                return true;
+            }
+        }
+        false
+    }
+
+    // Where a name belongs that is so far from the wanted one: after all that are as near.
+    fn place_of(&self, far: usize) -> usize {
+        let mut at = 0usize;
+        for near in self.found.iter() {
+            if far < near.far {
+                break;
+            }
+            at = at.saturating_add(1);
+        }
+        at
     }
 
     /// Whether no name was added.
@@ -66,14 +85,13 @@ impl Nearest {
     }
 
     /// Tells the nearest names, each on a line of its own.
-    pub fn tell(&self, alloc: Global, lines: &mut Lines) -> Result<(), AllocError> {
+    pub fn tell(&self, lines: &mut Lines) {
         for near in self.found.iter() {
-            push_quoted(alloc, lines, near.name.as_slice())?;
+            push_quoted(lines, near.name.as_slice());
         }
         if self.others != 0 {
-            return lines.detail("..");
+            lines.detail("..");
         }
-        Ok(())
     }
 }
 
@@ -109,9 +127,7 @@ fn edits(alloc: Global, wanted: &[u8], name: &[u8]) -> Result<usize, AllocError>
 
 // What is compared of a name.
 fn compared(alloc: Global, name: &[u8]) -> Result<Vec<u8>, AllocError> {
-    let mut letters = Vec::new(alloc);
-    for byte in name.iter().take(COMPARED) {
-        letters.push(byte.to_ascii_lowercase())?;
-    }
+    let mut letters = name.get(..COMPARED).unwrap_or(name).to_vec(alloc)?;
+    letters.as_mut_slice().make_ascii_lowercase();
     Ok(letters)
 }

@@ -1,6 +1,8 @@
 // Lines for people.
 
+use growing_text::{COLUMNS, Text};
 use std::alloc::{AllocError, Global};
+use std::fmt::Display;
 
 // What each line begins with.
 const HEAD: &str = "hint:";
@@ -9,69 +11,92 @@ const ITEM_HEAD: &str = "hint:  ";
 
 const DETAIL_HEAD: &str = "hint:   ";
 
-// The columns of a terminal.
-const COLUMNS: usize = 80;
-
 /// How many columns a detail has.
 pub const DETAIL: usize = COLUMNS - DETAIL_HEAD.len();
 
-/// Lines of text, each of which begins with `hint:` and fits 80 columns, unless one word is longer.
+/// Lines of text, each of which begins with `hint:` and fits 80 columns, unless one word is longer. That memory was refused
+/// for one of them is told once, by `finish`.
 #[derive(Drop)]
 pub struct Lines {
-    text: String,
+    alloc: Global,
+    text: Text,
+    // the parts of the line that has not ended
+    parts: String,
+    is_whole: bool,
 }
 
 impl Lines {
     /// No line yet.
     pub fn new(alloc: Global) -> Lines {
         Lines {
-            text: String::new(alloc),
+            alloc,
+            text: Text::new(alloc),
+            parts: String::new(alloc),
+            is_whole: true,
         }
     }
 
     /// One more sentence, on as many lines as it takes.
-    pub fn say(&mut self, words: &str) -> Result<(), AllocError> {
-        self.break_up(HEAD, words)
-    }
-
-    /// The same, of words that were made for it.
-    pub fn say_made(&mut self, words: String) -> Result<(), AllocError> {
-        self.say(words.as_str())
+    pub fn say<W: Display + Drop>(&mut self, words: W) {
+        self.part(words);
+        self.end();
     }
 
     /// One more sentence, which belongs to the one before.
-    pub fn item(&mut self, words: &str) -> Result<(), AllocError> {
-        self.break_up(ITEM_HEAD, words)
-    }
-
-    // The words, on lines that begin so.
-    fn break_up(&mut self, head: &str, words: &str) -> Result<(), AllocError> {
-        self.text.push_str(head)?;
-        let mut column = head.len();
-        for word in words.split(' ') {
-            let width = word.chars().count().saturating_add(1);
-            if column > head.len() && column.saturating_add(width) > COLUMNS {
-                self.text.push('\n')?;
-                self.text.push_str(head)?;
-                column = head.len();
-            }
-            self.text.push(' ')?;
-            self.text.push_str(word)?;
-            column = column.saturating_add(width);
-        }
-        self.text.push('\n')
+    pub fn item(&mut self, words: &str) {
+        self.part(words);
+        self.break_up(ITEM_HEAD);
     }
 
     /// One more line, which belongs to the one before. It is not broken.
-    pub fn detail(&mut self, words: &str) -> Result<(), AllocError> {
-        self.text.push_str(DETAIL_HEAD)?;
-        self.text.push_str(words)?;
-        self.text.push('\n')
+    pub fn detail<W: Display + Drop>(&mut self, words: W) {
+        self.part(words);
+        self.end_detail();
+    }
+
+    /// A part of a sentence or of a detail, which is said where that ends.
+    pub fn part<W: Display + Drop>(&mut self, words: W) {
+        if write!(self.parts, "{words}").is_err() {
+            self.is_whole = false;
+        }
+    }
+
+    /// Ends a sentence, which is said on as many lines as it takes.
+    pub fn end(&mut self) {
+        self.break_up(HEAD);
+    }
+
+    // Says the parts on lines that begin so.
+    fn break_up(&mut self, head: &'static str) {
+        let mut lines = growing_text::Lines::new(self.alloc);
+        lines.begin(head, head);
+        lines.words(self.parts.as_str());
+        lines.end();
+        self.parts.clear();
+        match lines.finish() {
+            Ok(text) => self.text.push(text.as_str()),
+            Err(_) => self.is_whole = false,
+        }
+    }
+
+    /// Ends a detail.
+    pub fn end_detail(&mut self) {
+        self.text.push(DETAIL_HEAD);
+        self.text.push(self.parts.as_str());
+        self.text.push("\n");
+        self.parts.clear();
     }
 
     /// All lines.
-    pub fn finish(self) -> String {
-        let Lines { text } = self;
-        text
+    ///
+    /// # Errors
+    ///
+    /// Where memory was refused for one of them.
+    pub fn finish(self) -> Result<String, AllocError> {
+        if self.is_whole {
+            self.text.finish()
+        } else {
+            Err(AllocError)
+        }
     }
 }

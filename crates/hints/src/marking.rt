@@ -1,7 +1,6 @@
 // A place of a file, shown in its line.
 
 use crate::lines::{DETAIL, Lines};
-use std::alloc::{AllocError, Global};
 
 // How many columns the place itself has, and what follows it at least, where there is so much of them.
 const PLACE: usize = 30;
@@ -19,90 +18,80 @@ const CUT: &str = "..";
 
 /// Shows the bytes of one line before the place, the place, and what follows it in the line, and below it what is meant.
 /// What is too long for a terminal is cut, and what does not print is written as `\x` and two digits.
-pub fn push_marked(
-    alloc: Global,
-    lines: &mut Lines,
-    before: &[u8],
-    place: &[u8],
-    after: &[u8],
-) -> Result<(), AllocError> {
+pub fn push_marked(lines: &mut Lines, before: &[u8], place: &[u8], after: &[u8]) {
     let after = after.trim_ascii_end();
     let left = DETAIL.saturating_sub(columns(place).min(PLACE));
     let room = left.saturating_sub(columns(after).min(AFTER));
-    let mut shown = String::new(alloc);
-    push_last(&mut shown, before, room)?;
-    let column = shown.len();
-    push_first(&mut shown, place, PLACE)?;
-    let width = shown.len().saturating_sub(column);
-    let left = DETAIL.saturating_sub(shown.len());
-    push_first(&mut shown, after, left)?;
-    lines.detail(shown.as_str())?;
-    let mut marks = String::new(alloc);
-    push_times(&mut marks, ' ', column)?;
-    push_times(&mut marks, '^', width.max(1))?;
-    lines.detail(marks.as_str())
+    let column = push_last(lines, before, room);
+    let width = push_first(lines, place, PLACE);
+    let left = DETAIL.saturating_sub(column.saturating_add(width));
+    push_first(lines, after, left);
+    lines.end_detail();
+    let width = width.max(1);
+    lines.detail(format_args!("{:column$}{:^<width$}", "", ""));
 }
 
-/// The bytes as text, cut where they are many.
-pub fn quoted(alloc: Global, bytes: &[u8]) -> Result<String, AllocError> {
-    let mut shown = String::new(alloc);
-    push_name(&mut shown, bytes)?;
-    Ok(shown)
+/// The bytes as a part of a line, cut where they are many.
+pub fn push_name(lines: &mut Lines, bytes: &[u8]) {
+    push_first(lines, bytes, QUOTED);
 }
 
-/// The same, at the end of a text.
-pub fn push_name(text: &mut String, bytes: &[u8]) -> Result<(), AllocError> {
-    push_first(text, bytes, QUOTED)
+/// The bytes on a line of their own, cut where they are many.
+pub fn push_quoted(lines: &mut Lines, bytes: &[u8]) {
+    push_name(lines, bytes);
+    lines.end_detail();
 }
 
-/// The bytes as text on a line of their own, cut where they are many.
-pub fn push_quoted(alloc: Global, lines: &mut Lines, bytes: &[u8]) -> Result<(), AllocError> {
-    let shown = quoted(alloc, bytes)?;
-    lines.detail(shown.as_str())
-}
-
-// The last of the bytes before a place, in so many columns.
-fn push_last(shown: &mut String, bytes: &[u8], most: usize) -> Result<(), AllocError> {
-    if columns(bytes) <= most {
-        return push_all(shown, bytes);
+// The last of the bytes before a place, in so many columns. How many they took.
+fn push_last(lines: &mut Lines, bytes: &[u8], most: usize) -> usize {
+    let mut taken = columns(bytes);
+    if taken <= most {
+        push_all(lines, bytes);
+        return taken;
     }
-    shown.push_str(CUT)?;
-    let mut left = most.saturating_sub(CUT.len());
-    let mut count = 0usize;
+    let room = most.saturating_sub(CUT.len());
+    let mut from = 0usize;
+    for byte in bytes {
+        if taken <= room {
+            break;
+        }
+        taken = taken.saturating_sub(width(*byte));
+        from = from.saturating_add(1);
+    }
+    lines.part(CUT);
+    push_all(lines, bytes.get(from..).unwrap_or(&[]));
+    taken.saturating_add(CUT.len())
+}
+
+// The first bytes of a place, or of what follows it, in so many columns. How many they took.
+fn push_first(lines: &mut Lines, bytes: &[u8], most: usize) -> usize {
+    let mut taken = columns(bytes);
+    if taken <= most {
+        push_all(lines, bytes);
+        return taken;
+    }
+    let room = most.saturating_sub(CUT.len());
+    let mut end = bytes.len();
     for byte in bytes.iter().rev() {
-        let width = width(*byte);
-        if width > left {
+        if taken <= room {
             break;
         }
-        left = left.saturating_sub(width);
-        count = count.saturating_add(1);
+        taken = taken.saturating_sub(width(*byte));
+        end = end.saturating_sub(1);
     }
-    let from = bytes.len().saturating_sub(count);
-    push_all(shown, bytes.get(from..).unwrap_or(b"".as_slice()))
+    push_all(lines, bytes.get(..end).unwrap_or(&[]));
+    lines.part(CUT);
+    taken.saturating_add(CUT.len())
 }
 
-// The first bytes of a place, or of what follows it, in so many columns.
-fn push_first(shown: &mut String, bytes: &[u8], most: usize) -> Result<(), AllocError> {
-    if columns(bytes) <= most {
-        return push_all(shown, bytes);
-    }
-    let mut left = most.saturating_sub(CUT.len());
+fn push_all(lines: &mut Lines, bytes: &[u8]) {
     for byte in bytes {
-        let width = width(*byte);
-        if width > left {
-            break;
+        match *byte {
+            b' '..=b'~' => lines.part(char::from(*byte)),
+            b'\t' => lines.part("\\t"),
+            _ => lines.part(format_args!("\\x{byte:02x}")),
         }
-        left = left.saturating_sub(width);
-        push_byte(shown, *byte)?;
     }
-    shown.push_str(CUT)
-}
-
-fn push_all(shown: &mut String, bytes: &[u8]) -> Result<(), AllocError> {
-    for byte in bytes {
-        push_byte(shown, *byte)?;
-    }
-    Ok(())
 }
 
 // How many columns the bytes take.
@@ -122,33 +111,26 @@ fn width(byte: u8) -> usize {
     }
 }
 
-fn push_byte(shown: &mut String, byte: u8) -> Result<(), AllocError> {
-    match byte {
-        b' '..=b'~' => shown.push(char::from(byte)),
-        b'\t' => shown.push_str("\\t"),
-        _ => write!(shown, "\\x{byte:02x}"),
-    }
-}
-
-fn push_times(text: &mut String, mark: char, times: usize) -> Result<(), AllocError> {
-    for _ in 0..times {
-        text.push(mark)?;
-    }
-    Ok(())
-}
-
 /// The end of these bytes that stands on their last line.
 pub fn last_line(bytes: &[u8]) -> &[u8] {
-    match bytes.iter().rposition(|byte| *byte == b'\n') {
-        Some(at) => bytes.get(at.saturating_add(1)..).unwrap_or(bytes),
-        None => bytes,
+    let mut from = bytes.len();
+    for byte in bytes.iter().rev() {
+        if *byte == b'\n' {
+            break;
+        }
+        from = from.saturating_sub(1);
     }
+    bytes.get(from..).unwrap_or(bytes)
 }
 
 /// The beginning of these bytes that stands on their first line.
 pub fn first_line(bytes: &[u8]) -> &[u8] {
-    match bytes.iter().position(|byte| *byte == b'\n') {
-        Some(at) => bytes.get(..at).unwrap_or(bytes),
-        None => bytes,
+    let mut end = 0usize;
+    for byte in bytes {
+        if *byte == b'\n' {
+            break;
+        }
+        end = end.saturating_add(1);
     }
+    bytes.get(..end).unwrap_or(bytes)
 }

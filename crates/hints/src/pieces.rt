@@ -11,35 +11,26 @@ pub(crate) struct Piece {
 
 /// The pieces of a line that begins at this place of its text, outside of comments.
 pub(crate) fn pieces(alloc: Global, line: &[u8], from: usize) -> Result<Vec<Piece>, AllocError> {
-    let mut found = Vec::new(alloc);
-    let mut word = None;
-    let mut at = from;
+    let mut found: Vec<Piece> = Vec::new(alloc);
+    let mut is_in_word = false;
+    let mut start = from;
     for byte in line {
-        if !is_of_a_word(*byte) {
-            push_word(&mut found, word, at)?;
-            word = None;
-            if *byte == b'#' {
-                return Ok(found);
-            }
-            if !is_blank(*byte) {
-                let end = at.saturating_add(1);
-                found.push(Piece { start: at, end })?;
-            }
-        } else if word.is_none() {
-            word = Some(at);
+        if *byte == b'#' {
+            break;
         }
-        at = at.saturating_add(1);
+        let end = start.saturating_add(1);
+        let is_letter = is_of_a_word(*byte);
+        if is_in_word && is_letter {
+            if let Some(word) = found.last_mut() {
+                word.end = end;
+            }
+        } else if !is_blank(*byte) {
+            found.push(Piece { start, end })?;
+        }
+        is_in_word = is_letter;
+        start = end;
     }
-    push_word(&mut found, word, at)?;
     Ok(found)
-}
-
-// The word that ends here, if one has begun.
-fn push_word(found: &mut Vec<Piece>, word: Option<usize>, end: usize) -> Result<(), AllocError> {
-    if let Some(start) = word {
-        found.push(Piece { start, end })?;
-    }
-    Ok(())
 }
 
 // The letters of words, and the dots of ranges.
@@ -54,18 +45,17 @@ fn is_blank(byte: u8) -> bool {
 /// Where the line with this number begins, if the text has so many lines.
 pub(crate) fn line_start(text: &[u8], line: u64) -> Option<usize> {
     let mut left = line.checked_sub(1)?;
-    if left == 0 {
-        return Some(0);
-    }
-    for (at, byte) in text.iter().enumerate() {
+    let mut at = 0usize;
+    for byte in text {
+        if left == 0 {
+            break;
+        }
         if *byte == b'\n' {
             left = left.saturating_sub(1);
-            if left == 0 {
-                return Some(at.saturating_add(1));
-            }
         }
+        at = at.saturating_add(1);
     }
-    None
+    if left == 0 { Some(at) } else { None }
 }
 
 /// The number of the last line of a text.

@@ -1,7 +1,7 @@
 // After the refusal of a plan or of a brief, and after a plan that has no brief.
 
-use crate::expecting::expected;
-use crate::kinds::{Kind, kind_of_file, push_kind};
+use crate::expecting::push_expected;
+use crate::kinds::{Kind, is_binary, kind_of_file, push_kind};
 use crate::languages::Language;
 use crate::lines::Lines;
 use crate::marking::{first_line, last_line, push_marked};
@@ -42,35 +42,28 @@ pub fn on_no_brief<F: Read + Seek + Drop>(
     file: Option<F>,
 ) -> Result<String, AllocError> {
     let plan = plan_of(alloc, file);
-    say_no_brief(alloc, plan.as_ref())
-}
-
-fn say_no_brief(alloc: Global, plan: Option<&Plan>) -> Result<String, AllocError> {
     let mut lines = Lines::new(alloc);
-    push_brief_word(alloc, &mut lines, plan)?;
-    Ok(lines.finish())
+    push_brief_word(&mut lines, plan.as_ref());
+    lines.finish()
 }
 
-fn push_brief_word(
-    alloc: Global,
-    lines: &mut Lines,
-    plan: Option<&Plan>,
-) -> Result<(), AllocError> {
+fn push_brief_word(lines: &mut Lines, plan: Option<&Plan>) {
     if let Some(plan) = plan {
         if let Some(name) = brief_word(plan) {
             let name = name.as_str();
-            return lines.say_made(format!(in alloc;
-                "the plan has the name '{name}', which is a word of briefs"
-            )?);
+            lines.say(format_args!("the plan has the name '{name}', which is a word of briefs"));
+            return;
         }
     }
-    lines.say("no name in a brief is 'brief', 'device', 'byte' or 'any': these are its words")
+    lines.say("no name in a brief is 'brief', 'device', 'byte' or 'any': these are its words");
 }
 
 /// The plan of a file, where it can be read once more, is not too long and is one.
 pub(crate) fn plan_of<F: Read + Seek + Drop>(alloc: Global, file: Option<F>) -> Option<Plan> {
-    let text = read_once_more(alloc, file)?;
-    read_plan(alloc, text.as_slice()).ok()
+    match read_once_more(alloc, file) {
+        Some(text) => read_plan(alloc, text.as_slice()).ok(),
+        None => None,
+    }
 }
 
 // The whole text, where it can be read once more and is not too long.
@@ -82,100 +75,94 @@ fn read_once_more<F: Read + Seek + Drop>(alloc: Global, file: Option<F>) -> Opti
     }
 }
 
+// How a text was refused, on which line, and what that means.
+#[derive(Clone, Copy)]
+struct Refused {
+    language: Language,
+    refusal: PlanError,
+    line: u64,
+    words: &'static str,
+}
+
 fn on_text<F: Read + Seek + Drop>(
     alloc: Global,
     language: Language,
     mut file: Option<F>,
     refusal: PlanError,
 ) -> Result<String, AllocError> {
-    let mut lines = Lines::new(alloc);
-    let Some(words) = of_text(language, refusal) else {
-        return Ok(lines.finish());
-    };
     let kind = kind_of_file(alloc, &mut file);
-    let is_binary = kind.is_some_and(Kind::is_binary);
-    if !is_binary {
-        push_refused(alloc, &mut lines, language, file, refusal, words)?;
+    let text = read_once_more(alloc, file);
+    let text = text.as_ref().map(Vec::as_slice);
+    match (line_of(refusal), of_text(language, refusal)) {
+        (Some(line), Some(words)) => {
+            let refused = Refused {
+                language,
+                refusal,
+                line,
+                words,
+            };
+            say_refused(alloc, refused, kind, text)
+        }
+        _ => Ok(String::new(alloc)),
     }
-    push_kind(&mut lines, kind, language.kind())?;
-    Ok(lines.finish())
+}
+
+fn say_refused(
+    alloc: Global,
+    refused: Refused,
+    kind: Option<Kind>,
+    text: Option<&[u8]>,
+) -> Result<String, AllocError> {
+    let mut lines = Lines::new(alloc);
+    if !is_binary(kind) {
+        push_refused(alloc, &mut lines, refused, text)?;
+    }
+    push_kind(&mut lines, kind, refused.language.kind());
+    lines.finish()
 }
 
 // The place of the refusal, where the text can be read once more, and what it means.
-fn push_refused<F: Read + Seek + Drop>(
+fn push_refused(
     alloc: Global,
     lines: &mut Lines,
-    language: Language,
-    file: Option<F>,
-    refusal: PlanError,
-    words: &str,
+    refused: Refused,
+    text: Option<&[u8]>,
 ) -> Result<(), AllocError> {
-    if let Some(text) = read_once_more(alloc, file) {
-        let text = text.as_slice();
-        if let Some(place) = found_place(alloc, language, text, refusal)? {
-            return push_place(alloc, lines, language, text, refusal, place);
+    if let Some(text) = text {
+        if let Some(place) = found_place(alloc, text, refused)? {
+            return push_place(alloc, lines, refused, text, place);
         }
     }
-    lines.say(words)
-}
-
-// Where the refusal stands, if the text is still refused so.
-fn found_place(
-    alloc: Global,
-    language: Language,
-    text: &[u8],
-    refusal: PlanError,
-) -> Result<Option<Piece>, AllocError> {
-    if !refuses(alloc, language, text, refusal)? {
-        return Ok(None);
-    }
-    match line_of(refusal) {
-        Some(line) => place_of(alloc, language, text, refusal, line),
-        None => Ok(None),
-    }
+    lines.say(refused.words);
+    Ok(())
 }
 
 // The place of the refusal, and what could stand there.
 fn push_place(
     alloc: Global,
     lines: &mut Lines,
-    language: Language,
+    refused: Refused,
     text: &[u8],
-    refusal: PlanError,
     place: Piece,
 ) -> Result<(), AllocError> {
-    let (Some(line), Some(words)) = (line_of(refusal), of_text(language, refusal)) else {
-        return Ok(());
-    };
+    let Refused { language, line, .. } = refused;
     let what = language.name();
-    lines.say_made(format!(in alloc; "line {line} of the {what}:")?)?;
-    let before = text.get(..place.start).unwrap_or(b"".as_slice());
-    let at = text.get(place.start..place.end).unwrap_or(b"".as_slice());
-    let after = text.get(place.end..).unwrap_or(b"".as_slice());
-    push_marked(alloc, lines, last_line(before), at, first_line(after))?;
+    lines.say(format_args!("line {line} of the {what}:"));
+    let before = text.get(..place.start).unwrap_or(&[]);
+    let at = text.get(place.start..place.end).unwrap_or(&[]);
+    let after = text.get(place.end..).unwrap_or(&[]);
+    push_marked(lines, last_line(before), at, first_line(after));
     if at.is_empty() {
-        lines.say("the text ends here")?;
+        lines.say("the text ends here");
     }
-    if let PlanError::Unexpected(_) = refusal {
-        return push_expected(alloc, lines, language, before, at, words);
+    if let PlanError::Unexpected(_) = refused.refusal {
+        push_word(alloc, lines, language, before, at)?;
+        if push_expected(alloc, lines, language, before)? {
+            return Ok(());
+        }
     }
-    lines.say(words)
-}
-
-// What could stand in a place, and why this word cannot.
-fn push_expected(
-    alloc: Global,
-    lines: &mut Lines,
-    language: Language,
-    before: &[u8],
-    at: &[u8],
-    words: &str,
-) -> Result<(), AllocError> {
-    push_word(alloc, lines, language, before, at)?;
-    match expected(alloc, language, before)? {
-        Some(words) => lines.say(words.as_str()),
-        None => lines.say(words),
-    }
+    lines.say(refused.words);
+    Ok(())
 }
 
 fn line_of(refusal: PlanError) -> Option<u64> {
@@ -192,27 +179,22 @@ fn line_of(refusal: PlanError) -> Option<u64> {
     }
 }
 
-// Where the refusal stands in its line, or the end of the text.
-fn place_of(
-    alloc: Global,
-    language: Language,
-    text: &[u8],
-    refusal: PlanError,
-    line: u64,
-) -> Result<Option<Piece>, AllocError> {
-    if let PlanError::NotAscii(_) = refusal {
+// Where the refusal stands in its line, or the end of the text, if the text is still refused so.
+fn found_place(alloc: Global, text: &[u8], refused: Refused) -> Result<Option<Piece>, AllocError> {
+    if !refuses(alloc, text, refused)? {
+        return Ok(None);
+    }
+    if let PlanError::NotAscii(_) = refused.refusal {
         return Ok(foreign_bytes(text));
     }
-    let Some(start) = line_start(text, line) else {
+    let Some(start) = line_start(text, refused.line) else {
         return Ok(None);
     };
-    let rest = first_line(text.get(start..).unwrap_or(b"".as_slice()));
+    let rest = first_line(text.get(start..).unwrap_or(&[]));
     let pieces = pieces(alloc, rest, start)?;
-    if let Some(piece) = first_refused(alloc, language, text, pieces.as_slice(), refusal)? {
-        return Ok(Some(piece));
-    }
-    if line != last_line_number(text) {
-        return Ok(None);
+    let place = first_refused(alloc, text, pieces.as_slice(), refused)?;
+    if place.is_some() || refused.line != last_line_number(text) {
+        return Ok(place);
     }
     let end = text.len();
     Ok(Some(Piece { start: end, end }))
@@ -220,20 +202,25 @@ fn place_of(
 
 // The first bytes that are not ASCII.
 fn foreign_bytes(text: &[u8]) -> Option<Piece> {
-    let start = text.iter().position(|byte| !byte.is_ascii())?;
-    let rest = text.get(start..)?;
-    let count = rest.iter().position(|byte| byte.is_ascii());
-    let end = start.saturating_add(count.unwrap_or(rest.len()));
-    Some(Piece { start, end })
+    let mut start = None;
+    let mut end = 0usize;
+    for byte in text {
+        if !byte.is_ascii() {
+            start = start.or(Some(end));
+        } else if start.is_some() {
+            break;
+        }
+        end = end.saturating_add(1);
+    }
+    Some(Piece { start: start?, end })
 }
 
 // The first of the pieces with which the text is refused: before it the text goes on to the next line.
 fn first_refused(
     alloc: Global,
-    language: Language,
     text: &[u8],
     pieces: &[Piece],
-    refusal: PlanError,
+    refused: Refused,
 ) -> Result<Option<Piece>, AllocError> {
     let mut low = 0;
     let mut high = pieces.len();
@@ -246,9 +233,7 @@ fn first_refused(
             break;
         };
         let beginning = text.get(..piece.end).unwrap_or(text);
-        let mut beginning = beginning.to_vec(alloc)?;
-        beginning.push(b'\n')?;
-        if refuses(alloc, language, beginning.as_slice(), refusal)? {
+        if is_refused_at(alloc, beginning, refused)? {
             high = middle;
         } else {
             low = middle.saturating_add(1);
@@ -257,15 +242,14 @@ fn first_refused(
     Ok(pieces.get(low).copied())
 }
 
+// Whether a text that ends here with its line is refused so.
+fn is_refused_at(alloc: Global, beginning: &[u8], refused: Refused) -> Result<bool, AllocError> {
+    let text = [beginning, b"\n"].concat(alloc)?;
+    refuses(alloc, text.as_slice(), refused)
+}
+
 // Whether the text is refused so.
-fn refuses(
-    alloc: Global,
-    language: Language,
-    text: &[u8],
-    refusal: PlanError,
-) -> Result<bool, AllocError> {
-    match language.refusal(alloc, text)? {
-        Some(found) => Ok(found == refusal),
-        None => Ok(false),
-    }
+fn refuses(alloc: Global, text: &[u8], refused: Refused) -> Result<bool, AllocError> {
+    let found = refused.language.refusal(alloc, text)?;
+    Ok(found == Some(refused.refusal))
 }

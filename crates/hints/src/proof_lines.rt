@@ -21,11 +21,13 @@ pub(crate) fn flaw_in(
     text: &[u8],
     is_ended: bool,
 ) -> Result<Flaw, AllocError> {
+    let tokens = tokens(alloc, line)?;
+    let tokens = tokens.as_slice();
     let found = match number {
         1 => first_flaw(line),
-        2 => second_flaw(alloc, line)?,
+        2 => second_flaw(line, tokens),
         _ if is_fault(text) => Some(whole(line, "the text goes on after the fault")),
-        _ => proof_flaw(alloc, line)?,
+        _ => proof_flaw(alloc, line, tokens)?,
     };
     Ok(match found {
         Some(flaw) => flaw,
@@ -67,32 +69,29 @@ fn is_fault(text: &[u8]) -> bool {
     text.starts_with(b"cert 1\nfault ")
 }
 
-fn second_flaw(alloc: Global, line: &[u8]) -> Result<Option<Flaw>, AllocError> {
-    let tokens = tokens(alloc, line)?;
-    let tokens = tokens.as_slice();
-    let Some((first, rest)) = tokens.split_first() else {
-        return Ok(None);
-    };
-    Ok(if text_of(line, *first) == b"pairs".as_slice() {
+fn second_flaw(line: &[u8], tokens: &[Piece]) -> Option<Flaw> {
+    let (first, rest) = tokens.split_first()?;
+    let word = text_of(line, *first);
+    if word == b"pairs".as_slice() {
         pairs_flaw(line, rest)
-    } else if text_of(line, *first) == b"fault".as_slice() {
+    } else if word == b"fault".as_slice() {
         fault_flaw(line, rest)
     } else {
-        Some(Flaw {
-            place: *first,
-            words: "expected here: 'pairs' and their number, or 'fault'",
-        })
-    })
+        flaw_at(
+            *first,
+            "expected here: 'pairs' and their number, or 'fault'",
+        )
+    }
 }
 
 fn pairs_flaw(line: &[u8], rest: &[Piece]) -> Option<Flaw> {
     match rest {
         [] => Some(at_end(line, "the number of pairs is missing")),
         [number] => number_flaw(line, *number),
-        [number, next, ..] => number_flaw(line, *number).or(Some(Flaw {
-            place: *next,
-            words: "nothing follows the number of pairs in its line",
-        })),
+        [number, next, ..] => number_flaw(line, *number).or(flaw_at(
+            *next,
+            "nothing follows the number of pairs in its line",
+        )),
     }
 }
 
@@ -101,81 +100,92 @@ fn fault_flaw(line: &[u8], rest: &[Piece]) -> Option<Flaw> {
         "a fault has the number of its pair, the wire, and two kinds: 'fault 0 10010000l stop data'";
     match rest {
         [number, wire, first, second] => number_flaw(line, *number)
-            .or_else(|| wire_flaw(line, *wire))
-            .or_else(|| kind_flaw(line, *first))
-            .or_else(|| kind_flaw(line, *second)),
+            .or(wire_flaw(line, *wire))
+            .or(kind_flaw(line, *first))
+            .or(kind_flaw(line, *second)),
         _ => Some(whole(line, FORM)),
     }
 }
 
 fn number_flaw(line: &[u8], place: Piece) -> Option<Flaw> {
-    let digits = text_of(line, place);
-    let is_number = match digits {
+    let is_number = match text_of(line, place) {
         [b'0'] => true,
-        [b'1'..=b'9', rest @ ..] => {
-            rest.len() < 10 && rest.iter().all(|byte| byte.is_ascii_digit())
-        }
+        [b'1'..=b'9', rest @ ..] => rest.len() < 10 && has_only(rest, b"0123456789"),
         _ => false,
     };
     if is_number {
         return None;
     }
-    Some(Flaw {
+    flaw_at(
         place,
-        words: "a number here has no sign and no leading zeros, and is at most 4294967295",
-    })
+        "a number here has no sign and no leading zeros, and is at most 4294967295",
+    )
 }
 
 fn wire_flaw(line: &[u8], place: Piece) -> Option<Flaw> {
     let wire = text_of(line, place);
-    if !wire.is_empty() && wire.iter().all(|byte| b"01lhr".contains(byte)) {
+    if !wire.is_empty() && has_only(wire, b"01lhr") {
         return None;
     }
-    Some(Flaw {
+    flaw_at(
         place,
-        words: "the wire of a fault has '0', '1', 'l', 'h' and 'r' alone",
-    })
+        "the wire of a fault has '0', '1', 'l', 'h' and 'r' alone",
+    )
+}
+
+// Whether each byte is one of these letters.
+fn has_only(bytes: &[u8], letters: &[u8]) -> bool {
+    for byte in bytes {
+        if !letters.contains(byte) {
+            return false;
+        }
+    }
+    true
 }
 
 fn kind_flaw(line: &[u8], place: Piece) -> Option<Flaw> {
     const KINDS: [&[u8]; 5] = [b"data", b"answer", b"restart", b"stop", b"claim"];
-    let kind = text_of(line, place);
-    if KINDS.iter().any(|known| *known == kind) {
+    if KINDS.contains(&text_of(line, place)) {
         return None;
     }
-    Some(Flaw {
+    flaw_at(
         place,
-        words: "a kind is 'data', 'answer', 'restart', 'stop' or 'claim'",
-    })
+        "a kind is 'data', 'answer', 'restart', 'stop' or 'claim'",
+    )
 }
 
 // Follows the tokens of a proof, which comes to its end where no part of it is missing.
-fn proof_flaw(alloc: Global, line: &[u8]) -> Result<Option<Flaw>, AllocError> {
+fn proof_flaw(alloc: Global, line: &[u8], tokens: &[Piece]) -> Result<Option<Flaw>, AllocError> {
     // how deep each part is that is still missing, the next one last
     let mut missing: Vec<u32> = Vec::new(alloc);
     missing.push(1)?;
-    for place in tokens(alloc, line)? {
+    for place in tokens {
         let Some(depth) = missing.pop() else {
-            return Ok(flaw_at(place, "the proof of the pair has ended before this"));
+            return Ok(flaw_at(*place, "the proof of the pair has ended before this"));
         };
-        let below = depth.saturating_add(1);
-        match text_of(line, place) {
-            [b'P', b'0'..=b'7'] | [b'R'] | [b'.'] => {}
-            [b'S'] => missing.push(below)?,
-            [b'B'] | [b'D'] => {
-                missing.push(below)?;
-                missing.push(below)?;
-            }
-            _ => return Ok(flaw_at(place, UNKNOWN)),
-        }
+        let Some(parts) = parts_of(text_of(line, *place)) else {
+            return Ok(flaw_at(*place, UNKNOWN));
+        };
         if depth > DEPTH {
-            return Ok(flaw_at(place, "this is more than 512 nodes deep in its proof"));
+            return Ok(flaw_at(*place, "this is more than 512 nodes deep in its proof"));
         }
+        let below = [depth.saturating_add(1); 2];
+        missing.extend_from_slice(below.get(..parts).unwrap_or(&[]))?;
     }
     if missing.is_empty() {
         return Ok(None);
     }
     Ok(Some(at_end(line, "the line ends before its proof does")))
+}
+
+// How many parts follow this token of a proof.
+fn parts_of(token: &[u8]) -> Option<usize> {
+    match token {
+        [b'P', b'0'..=b'7'] | [b'R'] | [b'.'] => Some(0),
+        [b'S'] => Some(1),
+        [b'B'] | [b'D'] => Some(2),
+        _ => None,
+    }
 }
 
 const UNKNOWN: &str =

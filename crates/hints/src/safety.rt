@@ -23,37 +23,43 @@ pub fn on_safe<F: Read + Seek + Drop>(
 
 fn say_safe(alloc: Global, plan: &Plan) -> Result<String, AllocError> {
     let mut lines = Lines::new(alloc);
-    push_unsent(alloc, &mut lines, plan)?;
-    push_nevers(alloc, &mut lines, plan)?;
+    push_unsent(&mut lines, plan);
+    push_nevers(&mut lines, plan);
     if plan.pair_count() == 0 {
         lines.say(
             "the plan has no two participants that may start together: no pair was looked at",
-        )?;
+        );
     }
-    Ok(lines.finish())
+    lines.finish()
 }
 
-fn push_unsent(alloc: Global, lines: &mut Lines, plan: &Plan) -> Result<(), AllocError> {
-    let mut count = 0u32;
-    let mut names = String::new(alloc);
-    for k in 0..plan.messages() {
-        if is_sent(plan, k) {
-            continue;
-        }
-        if count < MOST {
-            names.push(' ')?;
-            names.push_str(plan.message_name(k).as_str())?;
-        }
-        count = count.saturating_add(1);
-    }
+fn push_unsent(lines: &mut Lines, plan: &Plan) {
+    let count = unsent_count(plan);
     if count == 0 {
-        return Ok(());
+        return;
     }
-    let more = if count > MOST { " .." } else { "" };
-    let line = format!(in alloc;
-        "messages that no controller lists, which were not looked at: {count}:{names}{more}"
-    )?;
-    lines.say(line.as_str())
+    lines.part(format_args!(
+        "messages that no controller lists, which were not looked at: {count}:"
+    ));
+    let mut told = 0;
+    for k in 0..plan.messages() {
+        if told < MOST && !is_sent(plan, k) {
+            let name = plan.message_name(k).as_str();
+            lines.part(format_args!(" {name}"));
+            told += 1;
+        }
+    }
+    lines.say(if count > MOST { " .." } else { "" });
+}
+
+fn unsent_count(plan: &Plan) -> u32 {
+    let mut count = 0u32;
+    for k in 0..plan.messages() {
+        if !is_sent(plan, k) {
+            count = count.saturating_add(1);
+        }
+    }
+    count
 }
 
 fn is_sent(plan: &Plan, message: u32) -> bool {
@@ -65,20 +71,19 @@ fn is_sent(plan: &Plan, message: u32) -> bool {
     false
 }
 
-fn push_nevers(alloc: Global, lines: &mut Lines, plan: &Plan) -> Result<(), AllocError> {
+fn push_nevers(lines: &mut Lines, plan: &Plan) {
     for k in 0..plan.nevers() {
-        let (one, other) = plan.never(k);
-        let count = sendings(plan, one).saturating_mul(sendings(plan, other));
         if k == MOST {
             let more = plan.nevers().saturating_sub(MOST);
-            let line = format!(in alloc; "and {more} more items 'never'")?;
-            return lines.say(line.as_str());
+            lines.say(format_args!("and {more} more items 'never'"));
+            return;
         }
+        let (one, other) = plan.never(k);
+        let count = sendings(plan, one).saturating_mul(sendings(plan, other));
         let one = plan.controller_name(one).as_str();
         let other = plan.controller_name(other).as_str();
-        lines.say_made(format!(in alloc; "'never {one} {other} ;' leaves out pairs: {count}")?)?;
+        lines.say(format_args!("'never {one} {other} ;' leaves out pairs: {count}"));
     }
-    Ok(())
 }
 
 fn sendings(plan: &Plan, controller: u32) -> usize {

@@ -2,7 +2,7 @@
 
 use crate::likeness::Nearest;
 use crate::lines::Lines;
-use crate::marking::quoted;
+use crate::marking::push_name;
 use crate::plans::plan_of;
 use plan_core::{Participant, Plan};
 use plays::OpenError;
@@ -29,21 +29,18 @@ fn say_refused(
 ) -> Result<String, AllocError> {
     let mut lines = Lines::new(alloc);
     match refusal {
-        OpenError::NoStarter => push_none(alloc, &mut lines, plan)?,
+        OpenError::NoStarter => {
+            lines.say("no starter is named: give labels, joined by commas");
+            if let Some(plan) = plan {
+                push_nearest(alloc, &mut lines, plan, "")?;
+            }
+        }
         OpenError::Unknown => push_unknown(alloc, &mut lines, plan, starters)?,
-        OpenError::SameController => push_same(alloc, &mut lines, plan, starters)?,
-        OpenError::Never => push_never(alloc, &mut lines, plan, starters)?,
+        OpenError::SameController => push_same(&mut lines, plan, starters),
+        OpenError::Never => push_never(&mut lines, plan, starters),
         OpenError::NoMemory => {}
     }
-    Ok(lines.finish())
-}
-
-fn push_none(alloc: Global, lines: &mut Lines, plan: Option<&Plan>) -> Result<(), AllocError> {
-    lines.say("no starter is named: give labels, joined by commas")?;
-    match plan {
-        Some(plan) => push_nearest(alloc, lines, plan, ""),
-        None => Ok(()),
-    }
+    lines.finish()
 }
 
 // The first label that the plan does not have, and those that are like it.
@@ -54,17 +51,24 @@ fn push_unknown(
     starters: &str,
 ) -> Result<(), AllocError> {
     if let Some(plan) = plan {
-        if let Some(label) = starters.split(',').find(|label| plan.find(label).is_none()) {
-            push_absent(alloc, lines, label)?;
+        if let Some(label) = first_absent(plan, starters) {
+            lines.part("no participant of the plan has the label '");
+            push_name(lines, label.as_bytes());
+            lines.say("'");
             return push_nearest(alloc, lines, plan, label);
         }
     }
-    lines.say("a label is 'controller/message' or '!interrupt', with names of the plan")
+    lines.say("a label is 'controller/message' or '!interrupt', with names of the plan");
+    Ok(())
 }
 
-fn push_absent(alloc: Global, lines: &mut Lines, label: &str) -> Result<(), AllocError> {
-    let name = quoted(alloc, label.as_bytes())?;
-    lines.say_made(format!(in alloc; "no participant of the plan has the label '{name}'")?)
+fn first_absent<'a>(plan: &Plan, starters: &'a str) -> Option<&'a str> {
+    for label in starters.split(',') {
+        if plan.find(label).is_none() {
+            return Some(label);
+        }
+    }
+    None
 }
 
 fn push_nearest(
@@ -74,91 +78,89 @@ fn push_nearest(
     wanted: &str,
 ) -> Result<(), AllocError> {
     if plan.participants() == 0 {
-        return lines.say("the plan has no participants");
+        lines.say("the plan has no participants");
+        return Ok(());
     }
     if wanted.is_empty() {
-        lines.say("labels of the plan:")?;
+        lines.say("labels of the plan:");
     } else {
-        lines.say("labels of the plan, the nearest first:")?;
+        lines.say("labels of the plan, the nearest first:");
     }
-    let nearest = nearest_labels(alloc, plan, wanted)?;
-    nearest.tell(alloc, lines)
-}
-
-fn nearest_labels(alloc: Global, plan: &Plan, wanted: &str) -> Result<Nearest, AllocError> {
-    let mut nearest = Nearest::new(alloc, wanted.as_bytes())?;
+    let mut nearest = Nearest::new(alloc, wanted.as_bytes());
     for i in 0..plan.participants() {
         add_label(alloc, &mut nearest, plan, i)?;
     }
-    Ok(nearest)
+    nearest.tell(lines);
+    Ok(())
 }
 
-fn add_label(alloc: Global, nearest: &mut Nearest, plan: &Plan, i: u32) -> Result<(), AllocError> {
-    let label = label_of(alloc, plan, i)?;
-    nearest.add(alloc, label.as_bytes())
-}
-
-fn push_same(
+fn add_label(
     alloc: Global,
-    lines: &mut Lines,
-    plan: Option<&Plan>,
-    starters: &str,
+    nearest: &mut Nearest<'_>,
+    plan: &Plan,
+    i: u32,
 ) -> Result<(), AllocError> {
+    if i < plan.participants() {
+        let label = plan.label(alloc, i)?;
+        nearest.add(alloc, label.as_bytes())?;
+    }
+    Ok(())
+}
+
+fn push_same(lines: &mut Lines, plan: Option<&Plan>, starters: &str) {
     if let Some(plan) = plan {
         if let Some((first, second)) = first_two(plan, starters, Clash::OneController) {
-            push_two(alloc, lines, plan, first, second)?;
+            push_two(lines, plan, first, second);
         }
     }
-    lines.say("a controller starts one message at a time")
+    lines.say("a controller starts one message at a time");
 }
 
 // Two starters of one controller, or one that stands there twice.
-fn push_two(
-    alloc: Global,
-    lines: &mut Lines,
-    plan: &Plan,
-    first: u32,
-    second: u32,
-) -> Result<(), AllocError> {
-    let label = label_of(alloc, plan, first)?;
+fn push_two(lines: &mut Lines, plan: &Plan, first: u32, second: u32) {
+    push_label(lines, plan, first);
     if first == second {
-        return lines.say_made(format!(in alloc; "'{label}' stands there twice")?);
+        lines.say(" stands there twice");
+        return;
     }
-    let other = label_of(alloc, plan, second)?;
-    lines.say_made(format!(in alloc; "'{label}' and '{other}' are of one controller")?)
+    lines.part(" and ");
+    push_label(lines, plan, second);
+    lines.say(" are of one controller");
 }
 
-// The label of a participant, and nothing for a number that is none.
-fn label_of(alloc: Global, plan: &Plan, i: u32) -> Result<String, AllocError> {
-    if i < plan.participants() {
-        plan.label(alloc, i)
-    } else {
-        Ok(String::new(alloc))
+// The label of a participant in quotation marks.
+fn push_label(lines: &mut Lines, plan: &Plan, i: u32) {
+    if i >= plan.participants() {
+        return;
     }
-}
-
-fn push_never(
-    alloc: Global,
-    lines: &mut Lines,
-    plan: Option<&Plan>,
-    starters: &str,
-) -> Result<(), AllocError> {
-    if let Some(plan) = plan {
-        if let Some((first, second)) = first_two(plan, starters, Clash::Never) {
-            return push_item(alloc, lines, plan, first, second);
+    match plan.participant(i) {
+        Participant::Sending {
+            controller,
+            message,
+        } => {
+            let controller = plan.controller_name(controller).as_str();
+            let message = plan.message_name(message).as_str();
+            lines.part(format_args!("'{controller}/{message}'"));
+        }
+        Participant::Interrupt(k) => {
+            let name = plan.interrupt_name(k).as_str();
+            lines.part(format_args!("'!{name}'"));
         }
     }
-    lines.say("two of these starters are of controllers that a 'never' of the plan keeps apart")
+}
+
+fn push_never(lines: &mut Lines, plan: Option<&Plan>, starters: &str) {
+    if let Some(plan) = plan {
+        if let Some((first, second)) = first_two(plan, starters, Clash::Never) {
+            push_item(lines, plan, first, second);
+            return;
+        }
+    }
+    lines.say("two of these starters are of controllers that a 'never' of the plan keeps apart");
 }
 
 // The item that keeps these two apart.
-fn push_item(
-    alloc: Global,
-    lines: &mut Lines,
-    plan: &Plan,
-    first: u32,
-    second: u32,
-) -> Result<(), AllocError> {
+fn push_item(lines: &mut Lines, plan: &Plan, first: u32, second: u32) {
     for k in 0..plan.nevers() {
         let (one, other) = plan.never(k);
         if is_of(plan, first, one) && is_of(plan, second, other)
@@ -166,12 +168,12 @@ fn push_item(
         {
             let one = plan.controller_name(one).as_str();
             let other = plan.controller_name(other).as_str();
-            return lines.say_made(format!(in alloc;
+            lines.say(format_args!(
                 "the plan has 'never {one} {other} ;': these two never start together"
-            )?);
+            ));
+            return;
         }
     }
-    Ok(())
 }
 
 // Whether this participant is a sending of this controller.

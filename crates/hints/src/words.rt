@@ -16,30 +16,27 @@ pub(crate) fn push_word(
 ) -> Result<(), AllocError> {
     if let Language::Plan = language {
         if word == b"never".as_slice() && allows(alloc, language, before, "message")? {
-            return lines.say("'never' is of 'plan 2': let the text begin with that");
+            lines.say("'never' is of 'plan 2': let the text begin with that");
+            return Ok(());
         }
         if is_range(word) && allows(alloc, language, before, "1")? {
-            return lines.say("ranges, as '2..4', are of 'plan 2': let the text begin with that");
+            lines.say("ranges, as '2..4', are of 'plan 2': let the text begin with that");
+            return Ok(());
         }
     }
-    if let Some(address) = without_direction(alloc, language, word)? {
-        let address = address.as_str();
+    if let Some(address) = without_direction(language, word) {
         if takes_address(alloc, language, before)? {
-            let line = format!(in alloc;
-                "an address has seven bits; without the direction bit this is {address}"
-            )?;
-            return lines.say(line.as_str());
+            push_address(lines, address);
+            return Ok(());
         }
     }
-    let Some(reserved) = language.reserved(word) else {
-        return Ok(());
-    };
-    if !allows(alloc, language, before, "a")? {
-        return Ok(());
+    if let Some(reserved) = language.reserved(word) {
+        if allows(alloc, language, before, "a")? {
+            let what = language.name();
+            lines.say(format_args!("'{reserved}' is a word of every {what}, and cannot be a name"));
+        }
     }
-    let what = language.name();
-    let line = format!(in alloc; "'{reserved}' is a word of every {what}, and cannot be a name")?;
-    lines.say(line.as_str())
+    Ok(())
 }
 
 // Two numbers with two dots between them.
@@ -57,73 +54,59 @@ fn is_range(word: &[u8]) -> bool {
 
 // Whether an address can stand here.
 fn takes_address(alloc: Global, language: Language, before: &[u8]) -> Result<bool, AllocError> {
-    let addresses = match language {
-        Language::Plan => ["000000x", "0000001"],
-        Language::Brief => ["0b000000x", "0b0000001"],
+    let (any, read) = match language {
+        Language::Plan => ("000000x", "0000001"),
+        Language::Brief => ("0b000000x", "0b0000001"),
     };
-    for address in addresses {
-        if allows(alloc, language, before, address)? {
-            return Ok(true);
-        }
+    Ok(allows(alloc, language, before, any)? || allows(alloc, language, before, read)?)
+}
+
+// An address of seven bits.
+#[derive(Clone, Copy)]
+enum Address<'a> {
+    // its bits, after what a language has before them
+    Bits(&'static str, &'a str),
+    Number(u8),
+}
+
+fn push_address(lines: &mut Lines, address: Address<'_>) {
+    lines.part("an address has seven bits; without the direction bit this is ");
+    match address {
+        Address::Bits(before, bits) => lines.say(format_args!("{before}{bits}")),
+        Address::Number(number) => lines.say(format_args!("0x{number:02X}")),
     }
-    Ok(false)
 }
 
 // The address whose header this word writes, with the direction bit at the end (UM10204, 3.1.10).
-fn without_direction(
-    alloc: Global,
-    language: Language,
-    word: &[u8],
-) -> Result<Option<String>, AllocError> {
-    let Ok(word) = str::from_utf8(word) else {
-        return Ok(None);
-    };
+fn without_direction(language: Language, word: &[u8]) -> Option<Address<'_>> {
+    let word = str::from_utf8(word).ok()?;
     if let Language::Plan = language {
-        return seven_bits(alloc, "", word);
+        return seven_bits("", word);
     }
     if let Some(bits) = word.strip_prefix("0b") {
-        return seven_bits(alloc, "0b", bits);
+        return seven_bits("0b", bits);
     }
-    match word.strip_prefix("0x") {
-        Some(digits) => half(alloc, digits),
-        None => Ok(None),
-    }
+    half(word.strip_prefix("0x")?)
 }
 
 // The first seven of eight bits.
-fn seven_bits(alloc: Global, before: &str, bits: &str) -> Result<Option<String>, AllocError> {
-    if bits.len() != 8
-        || !bits
-            .bytes()
-            .all(|bit| bit == b'0' || bit == b'1' || bit == b'x')
-    {
-        return Ok(None);
+fn seven_bits<'a>(before: &'static str, bits: &'a str) -> Option<Address<'a>> {
+    if bits.len() != 8 {
+        return None;
     }
-    let bits = bits.get(..7).unwrap_or("");
-    Ok(Some(format!(in alloc; "{before}{bits}")?))
+    for bit in bits.bytes() {
+        if !matches!(bit, b'0' | b'1' | b'x') {
+            return None;
+        }
+    }
+    Some(Address::Bits(before, bits.get(..7)?))
 }
 
 // The byte of two digits without its last bit.
-fn half(alloc: Global, digits: &str) -> Result<Option<String>, AllocError> {
-    if digits.len() != 2 {
-        return Ok(None);
+fn half(digits: &str) -> Option<Address<'_>> {
+    if digits.len() != 2 || digits.starts_with('+') {
+        return None;
     }
-    let mut value = 0u32;
-    for digit in digits.bytes() {
-        let Some(digit) = digit_of(digit) else {
-            return Ok(None);
-        };
-        value = value.wrapping_mul(16).wrapping_add(digit);
-    }
-    let value = value / 2;
-    Ok(Some(format!(in alloc; "0x{value:02X}")?))
-}
-
-fn digit_of(digit: u8) -> Option<u32> {
-    match digit {
-        b'0'..=b'9' => Some(u32::from(digit) - 48),
-        b'a'..=b'f' => Some(u32::from(digit) - 87),
-        b'A'..=b'F' => Some(u32::from(digit) - 55),
-        _ => None,
-    }
+    let value = u8::from_str_radix(digits, 16).ok()?;
+    Some(Address::Number(value / 2))
 }

@@ -2,7 +2,7 @@
 
 use crate::captures::naming::{Names, word_of};
 use crate::lines::Lines;
-use crate::marking::{push_name, quoted};
+use crate::marking::{push_name, push_quoted};
 use run_parts::Watched;
 use signals::{Found, Listing, read_beginning};
 use std::alloc::{AllocError, Global};
@@ -21,9 +21,9 @@ pub fn on_choice<F: Read + Seek + Drop>(
 ) -> Result<String, AllocError> {
     let mut lines = Lines::new(alloc);
     if let Some(mut file) = file {
-        push_twins(alloc, &mut lines, &mut file, names)?;
+        push_twins(alloc, &mut lines, &mut file, names);
     }
-    Ok(lines.finish())
+    lines.finish()
 }
 
 /// The same, among other lines.
@@ -32,19 +32,18 @@ pub(crate) fn push_twins<F: Read + Seek + Drop>(
     lines: &mut Lines,
     file: &mut F,
     names: Names<'_>,
-) -> Result<(), AllocError> {
+) {
     if names.scope.is_some() || file.seek(SeekFrom::Start(0)).is_err() {
-        return Ok(());
+        return;
     }
     let twins = Twins {
         alloc,
-        scl: Twin::new(alloc, names.scl)?,
-        sda: Twin::new(alloc, names.sda)?,
+        scl: Twin::new(alloc, names.scl),
+        sda: Twin::new(alloc, names.sda),
     };
-    let Ok((_, twins, _)) = read_beginning(alloc, &mut Watched::new(file), twins) else {
-        return Ok(());
-    };
-    twins.push_to(alloc, lines, names)
+    if let Ok((_, twins, _)) = read_beginning(alloc, &mut Watched::new(file), twins) {
+        twins.push_to(lines, names);
+    }
 }
 
 // A signal that is told.
@@ -61,49 +60,40 @@ impl Told {
         Ok(Told { scope, code })
     }
 
-    fn push_to(&self, alloc: Global, lines: &mut Lines) -> Result<(), AllocError> {
-        let mut line = String::new(alloc);
+    fn push_to(&self, lines: &mut Lines) {
         if self.scope.is_empty() {
-            line.push_str("outside all scopes")?;
+            lines.part("outside all scopes");
         } else {
-            line.push_str("in scope ")?;
-            push_name(&mut line, self.scope.as_slice())?;
+            lines.part("in scope ");
+            push_name(lines, self.scope.as_slice());
         }
-        line.push_str(", code ")?;
-        push_name(&mut line, self.code.as_slice())?;
-        lines.detail(line.as_str())
+        lines.part(", code ");
+        push_quoted(lines, self.code.as_slice());
     }
 }
 
 // The signals that have the name of one of the lines.
 #[derive(Drop)]
-struct Twin {
-    name: Vec<u8>,
+struct Twin<'a> {
+    name: &'a [u8],
     is_named: bool,
     count: u64,
     // the first of them: signals of one code are one
     told: Vec<Told>,
 }
 
-impl Twin {
-    fn new(alloc: Global, probe: Probe<'_>) -> Result<Twin, AllocError> {
-        Ok(Twin {
-            name: word_of(probe).as_bytes().to_vec(alloc)?,
+impl<'a> Twin<'a> {
+    fn new(alloc: Global, probe: Probe<'a>) -> Twin<'a> {
+        Twin {
+            name: word_of(probe).as_bytes(),
             is_named: matches!(probe, Probe::Named(_)),
             count: 0,
             told: Vec::new(alloc),
-        })
+        }
     }
 
     fn see(&mut self, alloc: Global, found: Found<'_>) -> Result<(), AllocError> {
-        if !self.is_named || found.reference != self.name.as_slice() {
-            return Ok(());
-        }
-        if self
-            .told
-            .iter()
-            .any(|told| told.code.as_slice() == found.code)
-        {
+        if !self.is_named || found.reference != self.name || self.has(found.code) {
             return Ok(());
         }
         self.count = self.count.saturating_add(1);
@@ -113,59 +103,57 @@ impl Twin {
         Ok(())
     }
 
-    fn push_to(&self, alloc: Global, lines: &mut Lines) -> Result<(), AllocError> {
-        if self.count < 2 {
-            return Ok(());
-        }
-        self.push_count(alloc, lines)?;
+    fn has(&self, code: &[u8]) -> bool {
         for told in self.told.iter() {
-            told.push_to(alloc, lines)?;
+            if told.code.as_slice() == code {
+                return true;
+            }
         }
-        if self.count > self.told.len() as u64 {
-            return lines.detail("..");
-        }
-        Ok(())
+        false
     }
 
-    fn push_count(&self, alloc: Global, lines: &mut Lines) -> Result<(), AllocError> {
+    fn push_to(&self, lines: &mut Lines) {
+        if self.count < 2 {
+            return;
+        }
         let count = self.count;
-        let name = quoted(alloc, self.name.as_slice())?;
-        lines.say_made(format!(in alloc;
-            "{count} signals of one bit have the name '{name}', and the first of them counts"
-        )?)
+        lines.part(format_args!("{count} signals of one bit have the name '"));
+        push_name(lines, self.name);
+        lines.say("', and the first of them counts");
+        for told in self.told.iter() {
+            told.push_to(lines);
+        }
+        if self.count > self.told.len() as u64 {
+            lines.detail("..");
+        }
     }
 }
 
 // Both lines.
 #[derive(Drop)]
-struct Twins {
+struct Twins<'a> {
     alloc: Global,
-    scl: Twin,
-    sda: Twin,
+    scl: Twin<'a>,
+    sda: Twin<'a>,
 }
 
-impl Twins {
-    fn push_to(
-        &self,
-        alloc: Global,
-        lines: &mut Lines,
-        names: Names<'_>,
-    ) -> Result<(), AllocError> {
-        self.scl.push_to(alloc, lines)?;
+impl Twins<'_> {
+    fn push_to(&self, lines: &mut Lines, names: Names<'_>) {
+        self.scl.push_to(lines);
         if word_of(names.scl) != word_of(names.sda) {
-            self.sda.push_to(alloc, lines)?;
+            self.sda.push_to(lines);
         }
         if self.scl.count < 2 && self.sda.count < 2 {
-            return Ok(());
+            return;
         }
         let vcd = names.vcd;
-        lines.say_made(format!(in alloc;
+        lines.say(format_args!(
             "choose with --scope PATH, or by codes with --scl-code and --sda-code; 'twire signals {vcd}' shows what each does"
-        )?)
+        ));
     }
 }
 
-impl Listing for Twins {
+impl Listing for Twins<'_> {
     fn signal(&mut self, found: Found<'_>) -> Result<(), AllocError> {
         self.scl.see(self.alloc, found)?;
         self.sda.see(self.alloc, found)

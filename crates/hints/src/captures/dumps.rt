@@ -2,14 +2,14 @@
 
 use crate::captures::judging::{Judge, Said, Wrong};
 use crate::captures::naming::{Names, push_names};
-use crate::captures::wording::{of_dump, of_token};
-use crate::kinds::{Kind, kind_of_file, push_kind};
+use crate::captures::wording::{push_dump, push_token};
+use crate::kinds::{Kind, is_binary, kind_of_file, push_kind};
 use crate::lines::Lines;
 use crate::marking::{MARGIN, first_line, last_line, push_marked};
 use dump_tokens::reading::{part, read_again};
 use dump_tokens::tokens::{Cutter, Place, Sink, is_white};
 use std::alloc::{AllocError, Global};
-use std::io::{self, Read, Seek};
+use std::io::{Read, Seek};
 use vcd_read::VcdError;
 
 /// What to say after the refusal of a dump. The file is the one that was refused, where it can be read once more.
@@ -21,35 +21,18 @@ pub fn on_dump<F: Read + Seek + Drop>(
 ) -> Result<String, AllocError> {
     let mut lines = Lines::new(alloc);
     let kind = kind_of_file(alloc, &mut file);
-    if kind.is_some_and(Kind::is_binary) {
+    if is_binary(kind) {
         // no line of it says more
     } else if let VcdError::NoSignal(signal) = refusal {
-        push_names(alloc, &mut lines, file, names, signal)?;
+        push_names(alloc, &mut lines, file, names, signal);
     } else {
-        push_wrong(alloc, &mut lines, file, refusal)?;
-    }
-    push_kind(&mut lines, kind, Kind::Dump)?;
-    Ok(lines.finish())
-}
-
-// The token that is wrong, marked in its line, or what the refusal means where it is not found.
-fn push_wrong<F: Read + Seek + Drop>(
-    alloc: Global,
-    lines: &mut Lines,
-    file: Option<F>,
-    refusal: VcdError,
-) -> Result<(), AllocError> {
-    if let Some(file) = file {
-        if let Ok(Some(found)) = find(alloc, file, refusal) {
-            push_found(alloc, lines, &found)?;
-            let words = of_token(alloc, found.wrong)?;
-            return lines.say(words.as_str());
+        match find(alloc, file, refusal) {
+            Some(found) => push_found(&mut lines, &found),
+            None => push_dump(&mut lines, refusal),
         }
     }
-    match of_dump(alloc, refusal)? {
-        Some(words) => lines.say(words.as_str()),
-        None => Ok(()),
-    }
+    push_kind(&mut lines, kind, Kind::Dump);
+    lines.finish()
 }
 
 // A token that is wrong, and the part of the file in which it stands.
@@ -62,38 +45,48 @@ struct Found {
     part: Vec<u8>,
 }
 
-fn push_found(alloc: Global, lines: &mut Lines, found: &Found) -> Result<(), AllocError> {
+// The token, marked in its line, and what is wrong with it.
+fn push_found(lines: &mut Lines, found: &Found) {
     let line = found.place.line;
-    lines.say_made(format!(in alloc; "line {line} of the capture:")?)?;
+    lines.say(format_args!("line {line} of the capture:"));
     let part = found.part.as_slice();
     let (before, rest) = part.split_at(found.before.min(part.len()));
     let rest = first_line(rest);
-    let end = rest.iter().position(|byte| is_white(*byte));
-    let (token, after) = rest.split_at(end.unwrap_or(rest.len()).min(rest.len()));
-    push_marked(alloc, lines, last_line(before), token, after)
+    let (token, after) = rest.split_at(word_length(rest).min(rest.len()));
+    push_marked(lines, last_line(before), token, after);
+    push_token(lines, found.wrong);
 }
 
-// The first token that is wrong, if it is the one that was refused.
-fn find<F: Read + Seek + Drop>(
-    alloc: Global,
-    mut file: F,
-    refusal: VcdError,
-) -> io::Result<Option<Found>> {
-    let Some((wrong, place)) = trace(alloc, &mut file)? else {
-        return Ok(None);
-    };
+// How many bytes stand before the first white one.
+fn word_length(bytes: &[u8]) -> usize {
+    let mut length = 0usize;
+    for byte in bytes {
+        if is_white(*byte) {
+            break;
+        }
+        length = length.saturating_add(1);
+    }
+    length
+}
+
+// The first token that is wrong, if it is the one that was refused and the file can be read once more.
+fn find<F: Read + Seek + Drop>(alloc: Global, file: Option<F>, refusal: VcdError) -> Option<Found> {
+    let mut file = file?;
+    let (wrong, place) = trace(alloc, &mut file)?;
     if !is_of(wrong, place, refusal) {
-        return Ok(None);
+        return None;
     }
     let from = place.offset.saturating_sub(MARGIN as u64);
     let before = place.offset.min(MARGIN as u64);
-    let part = part(alloc, &mut file, from, MARGIN.saturating_mul(2))?;
-    Ok(Some(Found {
-        wrong,
-        place,
-        before: usize::try_from(before).unwrap_or(0),
-        part,
-    }))
+    match part(alloc, &mut file, from, MARGIN.saturating_mul(2)) {
+        Ok(part) => Some(Found {
+            wrong,
+            place,
+            before: before as usize,
+            part,
+        }),
+        Err(_) => None,
+    }
 }
 
 // Whether a token that is wrong in this way on its line is refused so.
@@ -123,19 +116,17 @@ impl Sink for Tracer {
     }
 }
 
-fn trace<F: Read + Seek>(alloc: Global, file: &mut F) -> io::Result<Option<(Wrong, Place)>> {
+fn trace<F: Read + Seek>(alloc: Global, file: &mut F) -> Option<(Wrong, Place)> {
     let tracer = Tracer {
         judge: Judge::new(),
         found: None,
     };
     let mut cutter = Cutter::new(alloc, tracer);
-    let at_end = read_again(alloc, file, &mut cutter)?;
-    let (tracer, _) = cutter.finish()?;
+    let at_end = read_again(alloc, file, &mut cutter).ok()?;
+    let (tracer, _) = cutter.finish().ok()?;
     if tracer.found.is_some() || !at_end {
-        return Ok(tracer.found);
+        return tracer.found;
     }
-    Ok(match tracer.judge.open() {
-        Some((opened, place)) => Some((Wrong::Unended(opened), place)),
-        None => None,
-    })
+    let (opened, place) = tracer.judge.open()?;
+    Some((Wrong::Unended(opened), place))
 }

@@ -241,10 +241,8 @@ fn is_end(token: &[u8]) -> bool {
 }
 
 fn is_block(token: &[u8]) -> bool {
-    token == b"$dumpvars".as_slice()
-        || token == b"$dumpall".as_slice()
-        || token == b"$dumpoff".as_slice()
-        || token == b"$dumpon".as_slice()
+    const BLOCKS: [&[u8]; 4] = [b"$dumpvars", b"$dumpall", b"$dumpoff", b"$dumpon"];
+    BLOCKS.contains(&token)
 }
 
 fn is_level(letter: u8) -> bool {
@@ -260,7 +258,12 @@ fn is_further_state(letter: u8) -> bool {
 }
 
 fn is_code(token: &[u8]) -> bool {
-    !token.is_empty() && token.iter().all(|byte| matches!(*byte, b'!'..=b'~'))
+    for byte in token {
+        if !matches!(*byte, b'!'..=b'~') {
+            return false;
+        }
+    }
+    !token.is_empty()
 }
 
 // What follows a level, or a vector, real or string change.

@@ -10,7 +10,7 @@ use dump_tokens::tokens::{Cutter, Place, Sink};
 use run_parts::Watched;
 use signals::{Picked, bus_options, needs_picking, pick};
 use std::alloc::{AllocError, Global};
-use std::io::{self, Read, Seek, SeekFrom};
+use std::io::{Read, Seek, SeekFrom};
 use vcd_read::{Probe, Reader, Signal};
 
 /// What to say of a dump whose definitions have no end.
@@ -53,7 +53,7 @@ pub(crate) fn reader_of<F: Read + Seek>(
     alloc: Global,
     file: &mut F,
     names: Names<'_>,
-) -> io::Result<Option<Reader>> {
+) -> Option<Reader> {
     let Names {
         scl,
         sda,
@@ -61,40 +61,42 @@ pub(crate) fn reader_of<F: Read + Seek>(
         ..
     } = names;
     if !needs_picking(scl, sda, scope) {
-        return Ok(Some(Reader::of(alloc, scl, sda)?));
+        return Reader::of(alloc, scl, sda).ok();
     }
-    file.seek(SeekFrom::Start(0))?;
+    if file.seek(SeekFrom::Start(0)).is_err() {
+        return None;
+    }
     let mut input = Watched::new(file);
     let Ok((_, picked)) = pick(alloc, &mut input, scl, sda, scope) else {
-        return Ok(None);
+        return None;
     };
-    Ok(Some(reader_with(alloc, &picked)?))
+    reader_with(alloc, &picked)
 }
 
-fn reader_with(alloc: Global, picked: &Picked) -> Result<Reader, AllocError> {
-    Reader::of(alloc, picked.scl(), picked.sda())
+fn reader_with(alloc: Global, picked: &Picked) -> Option<Reader> {
+    Reader::of(alloc, picked.scl(), picked.sda()).ok()
 }
 
 // One of the two lines, as it is looked for.
-#[derive(Drop)]
-struct Wanted {
-    word: Vec<u8>,
+#[derive(Clone, Copy)]
+struct Wanted<'a> {
+    word: &'a [u8],
     // whether a signal of one bit has the name, or one of another size
     is_there: bool,
     is_wide: bool,
 }
 
-impl Wanted {
-    fn new(alloc: Global, probe: Probe<'_>) -> Result<Wanted, AllocError> {
-        Ok(Wanted {
-            word: word_of(probe).as_bytes().to_vec(alloc)?,
+impl<'a> Wanted<'a> {
+    fn new(probe: Probe<'a>) -> Wanted<'a> {
+        Wanted {
+            word: word_of(probe).as_bytes(),
             is_there: false,
             is_wide: false,
-        })
+        }
     }
 
     fn see(&mut self, name: &[u8], one_bit: bool) {
-        if name == self.word.as_slice() {
+        if name == self.word {
             self.is_there = self.is_there || one_bit;
             self.is_wide = self.is_wide || !one_bit;
         }
@@ -103,54 +105,54 @@ impl Wanted {
 
 // The signals of one bit that a dump declares.
 #[derive(Drop)]
-struct Declared {
+struct Declared<'a> {
     alloc: Global,
     judge: Judge,
-    scl: Wanted,
-    sda: Wanted,
-    nearest: Nearest,
+    scl: Wanted<'a>,
+    sda: Wanted<'a>,
+    nearest: Nearest<'a>,
     // whether the definitions come to their end
     have_ended: bool,
 }
 
-impl Declared {
-    fn new(alloc: Global, names: Names<'_>, signal: Signal) -> Result<Declared, AllocError> {
-        Ok(Declared {
+impl<'a> Declared<'a> {
+    fn new(alloc: Global, names: Names<'a>, signal: Signal) -> Declared<'a> {
+        Declared {
             alloc,
             judge: Judge::new(),
-            scl: Wanted::new(alloc, names.scl)?,
-            sda: Wanted::new(alloc, names.sda)?,
-            nearest: Nearest::new(alloc, word_of(names.of(signal)).as_bytes())?,
+            scl: Wanted::new(names.scl),
+            sda: Wanted::new(names.sda),
+            nearest: Nearest::new(alloc, word_of(names.of(signal)).as_bytes()),
             have_ended: false,
-        })
+        }
     }
 
-    fn wanted(&self, signal: Signal) -> &Wanted {
+    fn is_wide(&self, signal: Signal) -> bool {
         match signal {
-            Signal::Scl => &self.scl,
-            Signal::Sda => &self.sda,
+            Signal::Scl => self.scl.is_wide,
+            Signal::Sda => self.sda.is_wide,
         }
     }
 }
 
-impl Sink for Declared {
+impl Sink for Declared<'_> {
     fn token(&mut self, token: &[u8], place: Place) -> Result<bool, AllocError> {
         match self.judge.token(token, place) {
-            Said::Nothing => {}
+            Said::Nothing => Ok(true),
             Said::Name { one_bit } => {
                 self.scl.see(token, one_bit);
                 self.sda.see(token, one_bit);
                 if one_bit {
                     self.nearest.add(self.alloc, token)?;
                 }
+                Ok(true)
             }
             Said::Defined => {
                 self.have_ended = true;
-                return Ok(false);
+                Ok(false)
             }
-            Said::Wrong(_) => return Ok(false),
+            Said::Wrong(_) => Ok(false),
         }
-        Ok(true)
     }
 }
 
@@ -161,18 +163,22 @@ pub(crate) fn push_names<F: Read + Seek + Drop>(
     file: Option<F>,
     names: Names<'_>,
     signal: Signal,
-) -> Result<(), AllocError> {
+) {
     if let Probe::Coded("") = names.of(signal) {
-        return lines.say("the capture declares no signal of one bit");
+        lines.say("the capture declares no signal of one bit");
+        return;
     }
-    let Some(mut file) = file else {
-        push_missing(alloc, lines, names, signal, None)?;
-        return push_how(alloc, lines, names, signal, None);
-    };
-    if push_read(alloc, lines, &mut file, names, signal)? {
-        return Ok(());
+    match file {
+        Some(mut file) => {
+            if !push_read(alloc, lines, &mut file, names, signal) {
+                push_command(alloc, lines, file, names);
+            }
+        }
+        None => {
+            push_missing(lines, names, signal, false);
+            push_how(lines, signal, false);
+        }
     }
-    push_command(alloc, lines, file, names)
 }
 
 // The same of a file that can be read once more, without the command. Whether the scope alone was wrong.
@@ -182,32 +188,34 @@ fn push_read<F: Read + Seek + Drop>(
     file: &mut F,
     names: Names<'_>,
     signal: Signal,
-) -> Result<bool, AllocError> {
-    let declared = read_declared(alloc, file, names, signal).ok();
-    push_missing(alloc, lines, names, signal, declared.as_ref())?;
-    if let Some(declared) = &declared {
-        push_unended(lines, declared)?;
+) -> bool {
+    let declared = read_declared(alloc, file, names, signal);
+    let declared = declared.as_ref();
+    let are_both = misses_both(names, signal, declared);
+    push_missing(lines, names, signal, are_both);
+    push_unended(lines, declared);
+    if push_scopes(alloc, lines, file, names, signal) {
+        return true;
     }
-    if push_scopes(alloc, lines, file, names, signal)? {
-        return Ok(true);
-    }
-    if let Some(declared) = &declared {
-        push_declared(lines, alloc, declared, signal)?;
-    }
-    push_how(alloc, lines, names, signal, declared.as_ref())?;
-    Ok(false)
+    push_declared(lines, declared, signal);
+    push_how(lines, signal, are_both);
+    false
 }
 
-fn read_declared<F: Read + Seek + Drop>(
+fn read_declared<'a, F: Read + Seek + Drop>(
     alloc: Global,
     file: &mut F,
-    names: Names<'_>,
+    names: Names<'a>,
     signal: Signal,
-) -> io::Result<Declared> {
-    let mut cutter = Cutter::new(alloc, Declared::new(alloc, names, signal)?);
-    read_again(alloc, file, &mut cutter)?;
-    let (declared, _) = cutter.finish()?;
-    Ok(declared)
+) -> Option<Declared<'a>> {
+    let mut cutter = Cutter::new(alloc, Declared::new(alloc, names, signal));
+    if read_again(alloc, file, &mut cutter).is_err() {
+        return None;
+    }
+    match cutter.finish() {
+        Ok((declared, _)) => Some(declared),
+        Err(_) => None,
+    }
 }
 
 /// Whether the definitions of a dump have no end, where it can be read once more.
@@ -217,13 +225,13 @@ pub(crate) fn breaks_off<F: Read + Seek + Drop>(
     names: Names<'_>,
 ) -> bool {
     match read_declared(alloc, file, names, Signal::Scl) {
-        Ok(declared) => !declared.have_ended,
-        Err(_) => false,
+        Some(declared) => !declared.have_ended,
+        None => false,
     }
 }
 
 // Whether SDA is missing too, where SCL is.
-fn misses_both(names: Names<'_>, signal: Signal, declared: Option<&Declared>) -> bool {
+fn misses_both(names: Names<'_>, signal: Signal, declared: Option<&Declared<'_>>) -> bool {
     let Some(declared) = declared else {
         return false;
     };
@@ -234,81 +242,61 @@ fn misses_both(names: Names<'_>, signal: Signal, declared: Option<&Declared>) ->
         && !declared.sda.is_there
 }
 
-// What is not there.
-fn push_missing(
-    alloc: Global,
-    lines: &mut Lines,
-    names: Names<'_>,
-    signal: Signal,
-    declared: Option<&Declared>,
-) -> Result<(), AllocError> {
+// What is not there: this line, or both.
+fn push_missing(lines: &mut Lines, names: Names<'_>, signal: Signal, are_both: bool) {
     let probe = names.of(signal);
-    let mut line = String::from_str(alloc, "no signal of one bit has the ")?;
-    let name = match probe {
-        Probe::Named(_) => "name",
-        Probe::Coded(_) => "code",
-    };
-    line.push_str(name)?;
-    push_word(&mut line, word_of(probe))?;
+    match probe {
+        Probe::Named(_) => push_word(lines, "no signal of one bit has the name", word_of(probe)),
+        Probe::Coded(_) => push_word(lines, "no signal of one bit has the code", word_of(probe)),
+    }
     if let (Some(scope), Probe::Named(_)) = (names.scope, probe) {
-        line.push_str(" in the scope")?;
-        push_word(&mut line, scope)?;
+        push_word(lines, " in the scope", scope);
     }
-    if misses_both(names, signal, declared) {
-        line.push_str(", and none has the name")?;
-        push_word(&mut line, word_of(names.sda))?;
+    if are_both {
+        push_word(lines, ", and none has the name", word_of(names.sda));
     }
-    lines.say(line.as_str())
+    lines.end();
 }
 
-// A word in quotation marks.
-fn push_word(line: &mut String, word: &str) -> Result<(), AllocError> {
-    line.push_str(" '")?;
-    push_name(line, word.as_bytes())?;
-    line.push('\'')
+// These words, and one more in quotation marks.
+fn push_word(lines: &mut Lines, before: &str, word: &str) {
+    lines.part(before);
+    lines.part(" '");
+    push_name(lines, word.as_bytes());
+    lines.part("'");
 }
 
-fn push_unended(lines: &mut Lines, declared: &Declared) -> Result<(), AllocError> {
-    if declared.have_ended {
-        return Ok(());
+fn push_unended(lines: &mut Lines, declared: Option<&Declared<'_>>) {
+    match declared {
+        Some(declared) if !declared.have_ended => lines.say(BREAKS_OFF),
+        _ => {}
     }
-    lines.say(BREAKS_OFF)
 }
 
-fn push_declared(
-    lines: &mut Lines,
-    alloc: Global,
-    declared: &Declared,
-    signal: Signal,
-) -> Result<(), AllocError> {
-    if declared.wanted(signal).is_wide {
+fn push_declared(lines: &mut Lines, declared: Option<&Declared<'_>>, signal: Signal) {
+    let Some(declared) = declared else {
+        return;
+    };
+    if declared.is_wide(signal) {
         lines.say(
             "a signal of this name is there, and has another size: each line is to be a signal of its own",
-        )?;
-    }
-    if declared.nearest.is_empty() {
-        return lines.say("the file declares no signal of one bit: is it a value change dump?");
-    }
-    lines.say("these signals have one bit, the nearest names first:")?;
-    declared.nearest.tell(alloc, lines)
-}
-
-// How the lines are given.
-fn push_how(
-    alloc: Global,
-    lines: &mut Lines,
-    names: Names<'_>,
-    signal: Signal,
-    declared: Option<&Declared>,
-) -> Result<(), AllocError> {
-    if misses_both(names, signal, declared) {
-        return lines.say(
-            "give the names that the lines have in the file with --scl NAME --sda NAME",
         );
     }
-    lines.say_made(format!(in alloc;
-        "give the name that the line has in the file with --{signal} NAME"
-    )?)
+    if declared.nearest.is_empty() {
+        lines.say("the file declares no signal of one bit: is it a value change dump?");
+    } else {
+        lines.say("these signals have one bit, the nearest names first:");
+        declared.nearest.tell(lines);
+    }
+}
+
+// How the line is given, or both.
+fn push_how(lines: &mut Lines, signal: Signal, are_both: bool) {
+    if are_both {
+        lines.say("give the names that the lines have in the file with --scl NAME --sda NAME");
+    } else {
+        lines.say(format_args!("give the name that the line has in the file with --{signal} NAME"));
+    }
 }
 
 // A command to try: with the two lines that look like a bus, or else the one that lists the signals.
@@ -317,19 +305,17 @@ fn push_command<F: Read + Seek + Drop>(
     lines: &mut Lines,
     mut file: F,
     names: Names<'_>,
-) -> Result<(), AllocError> {
-    if names.command.is_empty() {
-        return Ok(());
+) {
+    let Names { command, vcd, .. } = names;
+    if command.is_empty() {
+        return;
     }
-    let command = names.command;
-    let vcd = names.vcd;
     if file.seek(SeekFrom::Start(0)).is_ok() {
         if let Ok(Some(options)) = bus_options(alloc, &mut Watched::new(file)) {
-            let options = options.as_str();
-            lines.say("two signals look like a bus; try")?;
-            let line = format!(in alloc; "{command} {options}")?;
-            return lines.detail(line.as_str());
+            lines.say("two signals look like a bus; try");
+            lines.detail(format_args!("{command} {options}"));
+            return;
         }
     }
-    lines.say_made(format!(in alloc; "this lists the signals: twire signals {vcd}")?)
+    lines.say(format_args!("this lists the signals: twire signals {vcd}"));
 }

@@ -19,32 +19,32 @@ pub(crate) fn push_scopes<F: Read + Seek>(
     file: &mut F,
     names: Names<'_>,
     signal: Signal,
-) -> Result<bool, AllocError> {
+) -> bool {
     let probe = names.of(signal);
     if names.scope.is_none() || !matches!(probe, Probe::Named(_)) {
-        return Ok(false);
+        return false;
     }
     if file.seek(SeekFrom::Start(0)).is_err() {
-        return Ok(false);
+        return false;
     }
     let scopes = Scopes {
         alloc,
-        name: word_of(probe).as_bytes().to_vec(alloc)?,
+        name: word_of(probe).as_bytes(),
         told: Vec::new(alloc),
         is_outside: false,
         are_more: false,
     };
-    let Ok((_, scopes, _)) = read_beginning(alloc, &mut Watched::new(file), scopes) else {
-        return Ok(false);
-    };
-    scopes.push_to(alloc, lines)
+    match read_beginning(alloc, &mut Watched::new(file), scopes) {
+        Ok((_, scopes, _)) => scopes.push_to(lines),
+        Err(_) => false,
+    }
 }
 
 // The scopes that have a signal of this name.
 #[derive(Drop)]
-struct Scopes {
+struct Scopes<'a> {
     alloc: Global,
-    name: Vec<u8>,
+    name: &'a [u8],
     // the first of them
     told: Vec<Vec<u8>>,
     // whether one stands outside all scopes
@@ -52,58 +52,60 @@ struct Scopes {
     are_more: bool,
 }
 
-impl Scopes {
+impl Scopes<'_> {
     // Whether there was one.
-    fn push_to(&self, alloc: Global, lines: &mut Lines) -> Result<bool, AllocError> {
-        let mut line = String::new(alloc);
-        push_name(&mut line, self.name.as_slice())?;
-        if !self.told.is_empty() {
-            self.push_told(&mut line)?;
-            lines.say(line.as_str())?;
-            return Ok(true);
+    fn push_to(&self, lines: &mut Lines) -> bool {
+        let has_told = !self.told.is_empty();
+        if has_told {
+            push_name(lines, self.name);
+            self.push_told(lines);
+        } else if self.is_outside {
+            push_name(lines, self.name);
+            lines.say(" stands outside all scopes: leave --scope out");
         }
-        if self.is_outside {
-            line.push_str(" stands outside all scopes: leave --scope out")?;
-            lines.say(line.as_str())?;
-        }
-        Ok(self.is_outside)
+        has_told || self.is_outside
     }
 
-    fn push_told(&self, line: &mut String) -> Result<(), AllocError> {
+    fn push_told(&self, lines: &mut Lines) {
         let mut before = if self.told.len() == 1 {
             " is in this scope: "
         } else {
             " is in these scopes: "
         };
         for scope in self.told.iter() {
-            line.push_str(before)?;
-            push_name(line, scope.as_slice())?;
+            lines.part(before);
+            push_name(lines, scope.as_slice());
             before = ", ";
         }
         if self.are_more {
-            line.push_str(", ..")?;
+            lines.part(", ..");
         }
-        line.push_str("; the whole path has to be given")
+        lines.say("; the whole path has to be given");
+    }
+
+    fn has(&self, scope: &[u8]) -> bool {
+        for told in self.told.iter() {
+            if told.as_slice() == scope {
+                return true;
+            }
+        }
+        false
     }
 }
 
-impl Listing for Scopes {
+impl Listing for Scopes<'_> {
     fn signal(&mut self, found: Found<'_>) -> Result<(), AllocError> {
-        let name = self.name.as_slice();
-        if found.reference != name && found.name != name {
+        if found.reference != self.name && found.name != self.name {
             return Ok(());
         }
         if found.scope.is_empty() {
             self.is_outside = true;
-            return Ok(());
-        }
-        if self.told.iter().any(|told| told.as_slice() == found.scope) {
-            return Ok(());
-        }
-        if self.told.len() < TOLD {
-            self.told.push(found.scope.to_vec(self.alloc)?)?;
-        } else {
-            self.are_more = true;
+        } else if !self.has(found.scope) {
+            if self.told.len() < TOLD {
+                self.told.push(found.scope.to_vec(self.alloc)?)?;
+            } else {
+                self.are_more = true;
+            }
         }
         Ok(())
     }

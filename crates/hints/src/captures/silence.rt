@@ -1,14 +1,11 @@
-// After a report on a capture that has no transaction.
+// After a report on a capture that has no transaction, or of which nobody explains one.
 
 use crate::captures::choosing::push_twins;
-use crate::captures::exchanging::exchanged;
-use crate::captures::naming::{BREAKS_OFF, Names, breaks_off, reader_of};
+use crate::captures::looking::{Seen, look};
+use crate::captures::naming::{BREAKS_OFF, Names, breaks_off};
 use crate::lines::Lines;
-use capture_check::Follower;
-use dump_tokens::reading::{Reading, read_again};
 use std::alloc::{AllocError, Global};
-use std::io::{self, Read, Seek};
-use vcd_read::{Level, Reader, Sample};
+use std::io::{Read, Seek};
 
 /// What to say after a report that tells of no transaction. The file is the dump, where it can be read once more.
 pub fn on_silence<F: Read + Seek + Drop>(
@@ -18,73 +15,91 @@ pub fn on_silence<F: Read + Seek + Drop>(
 ) -> Result<String, AllocError> {
     let mut lines = Lines::new(alloc);
     match file {
-        Some(mut file) => match look(alloc, &mut file, names) {
-            Ok(Some(seen)) => push_seen(alloc, &mut lines, names, &seen, &mut file)?,
-            _ => push_causes(&mut lines, names)?,
-        },
-        None => push_causes(&mut lines, names)?,
+        Some(mut file) => push_looked(alloc, &mut lines, names, &mut file),
+        None => push_causes(&mut lines, names),
     }
-    Ok(lines.finish())
+    lines.finish()
 }
 
-// What the capture shows of the two lines.
-#[derive(Clone, Copy)]
-struct Seen {
-    samples: u64,
-    // samples with both levels known, and with both HIGH
-    known: u64,
-    idle: u64,
-    // transactions that there would be with the two lines exchanged
-    exchanged: u64,
-}
-
-fn push_causes(lines: &mut Lines, names: Names<'_>) -> Result<(), AllocError> {
-    push_one_for_both(lines, names)?;
-    lines.say("no START on a free bus was seen in the capture. The usual causes:")?;
-    lines.item("the names are those of other signals: of several with one name the first counts")?;
-    lines.item("the two names are exchanged")?;
-    lines.item("the two lines are never HIGH together, so the bus is never known to be free")?;
-    lines.item("a level is 'x' all the time")
-}
-
-/// One name for both lines, which is never meant.
-pub(crate) fn push_one_for_both(lines: &mut Lines, names: Names<'_>) -> Result<(), AllocError> {
-    if names.scl != names.sda {
-        return Ok(());
+/// What to say after a report that explains nothing. The file is the dump, where it can be read once more.
+pub fn on_unexplained<F: Read + Seek + Drop>(
+    alloc: Global,
+    file: Option<F>,
+    names: Names<'_>,
+) -> Result<String, AllocError> {
+    let mut lines = Lines::new(alloc);
+    push_one_for_both(&mut lines, names);
+    if let Some(mut file) = file {
+        if let Some(seen) = look(alloc, &mut file, names) {
+            push_exchanged(&mut lines, seen.whole, seen.exchanged_whole);
+        }
+        push_twins(alloc, &mut lines, &mut file, names);
     }
-    lines.say("SCL and SDA are to be one and the same signal: each line is to be one of its own")
+    lines.finish()
 }
 
-fn push_seen<F: Read + Seek + Drop>(
+fn push_exchanged(lines: &mut Lines, whole: u64, exchanged: u64) {
+    if exchanged > whole {
+        lines.say(format_args!(
+            "{whole} of the transactions have whole bytes; with the two lines exchanged {exchanged} would: are SCL and SDA exchanged?"
+        ));
+    }
+}
+
+fn push_causes(lines: &mut Lines, names: Names<'_>) {
+    push_one_for_both(lines, names);
+    lines.say("no START on a free bus was seen in the capture. The usual causes:");
+    lines.item("the names are those of other signals: of several with one name the first counts");
+    lines.item("the two names are exchanged");
+    lines.item("the two lines are never HIGH together, so the bus is never known to be free");
+    lines.item("a level is 'x' all the time");
+}
+
+// One name for both lines, which is never meant.
+fn push_one_for_both(lines: &mut Lines, names: Names<'_>) {
+    if names.scl == names.sda {
+        lines.say(
+            "SCL and SDA are to be one and the same signal: each line is to be one of its own",
+        );
+    }
+}
+
+fn push_looked<F: Read + Seek + Drop>(
     alloc: Global,
     lines: &mut Lines,
     names: Names<'_>,
-    seen: &Seen,
     file: &mut F,
-) -> Result<(), AllocError> {
-    let samples = seen.samples;
-    lines.say_made(format!(in alloc;
-        "the capture has {samples} samples of the two lines, and no START on a free bus"
-    )?)?;
-    if seen.exchanged != 0 {
-        let count = seen.exchanged;
-        lines.say_made(format!(in alloc;
-            "with the two names exchanged there would be transactions: {count}"
-        )?)?;
-    }
-    push_one_for_both(lines, names)?;
+) {
+    let Some(seen) = look(alloc, file, names) else {
+        push_causes(lines, names);
+        return;
+    };
+    push_counts(lines, seen.samples, seen.exchanged);
+    push_one_for_both(lines, names);
     if seen.samples == 0 && breaks_off(alloc, file, names) {
-        return lines.say(BREAKS_OFF);
+        lines.say(BREAKS_OFF);
+        return;
     }
     if let Some(words) = cause(seen) {
-        lines.say(words)?;
+        lines.say(words);
     }
-    push_twins(alloc, lines, file, names)?;
-    lines.say("the names of the two lines are given with --scl NAME and --sda NAME")
+    push_twins(alloc, lines, file, names);
+    lines.say("the names of the two lines are given with --scl NAME and --sda NAME");
+}
+
+fn push_counts(lines: &mut Lines, samples: u64, exchanged: u64) {
+    lines.say(format_args!(
+        "the capture has {samples} samples of the two lines, and no START on a free bus"
+    ));
+    if exchanged != 0 {
+        lines.say(format_args!(
+            "with the two names exchanged there would be transactions: {exchanged}"
+        ));
+    }
 }
 
 // Why no START was seen, as far as the samples tell it.
-fn cause(seen: &Seen) -> Option<&'static str> {
+fn cause(seen: Seen) -> Option<&'static str> {
     if seen.samples == 0 {
         Some("neither line changes in the capture: the names may be those of other signals")
     } else if seen.known == 0 {
@@ -95,100 +110,5 @@ fn cause(seen: &Seen) -> Option<&'static str> {
         Some("the bus is free at times, but SDA never falls there while SCL stays HIGH")
     } else {
         None
-    }
-}
-
-// Reads the capture once more.
-fn look<F: Read + Seek>(alloc: Global, file: &mut F, names: Names<'_>) -> io::Result<Option<Seen>> {
-    let Some(reader) = reader_of(alloc, file, names)? else {
-        return Ok(None);
-    };
-    let mut looking = Looking::new(alloc, reader);
-    if !read_again(alloc, file, &mut looking)? {
-        return Ok(None);
-    }
-    Ok(looking.finish()?)
-}
-
-// The samples of a capture, counted and followed with the two lines exchanged.
-#[derive(Drop)]
-struct Looking {
-    alloc: Global,
-    reader: Reader,
-    exchanged: Follower,
-    seen: Seen,
-}
-
-impl Looking {
-    fn new(alloc: Global, reader: Reader) -> Looking {
-        Looking {
-            alloc,
-            reader,
-            exchanged: Follower::new(),
-            seen: Seen {
-                samples: 0,
-                known: 0,
-                idle: 0,
-                exchanged: 0,
-            },
-        }
-    }
-
-    fn finish(self) -> Result<Option<Seen>, AllocError> {
-        let Looking {
-            alloc,
-            reader,
-            mut exchanged,
-            mut seen,
-        } = self;
-        match reader.end() {
-            Ok(samples) => {
-                take(alloc, &mut exchanged, &mut seen, samples.as_slice())?;
-                Ok(Some(seen))
-            }
-            Err(_) => Ok(None),
-        }
-    }
-}
-
-impl Reading for Looking {
-    fn block(&mut self, block: &[u8]) -> io::Result<bool> {
-        if self.reader.feed(block).is_err() {
-            return Ok(false);
-        }
-        take(
-            self.alloc,
-            &mut self.exchanged,
-            &mut self.seen,
-            self.reader.samples(),
-        )?;
-        self.reader.clear_samples();
-        Ok(true)
-    }
-}
-
-// Counts these samples, and follows them with the two lines exchanged.
-fn take(
-    alloc: Global,
-    follower: &mut Follower,
-    seen: &mut Seen,
-    samples: &[Sample],
-) -> Result<(), AllocError> {
-    for sample in samples {
-        count(seen, sample.scl, sample.sda);
-    }
-    let others = exchanged(alloc, samples)?;
-    let found = follower.follow(alloc, others.as_slice())?;
-    seen.exchanged = seen.exchanged.saturating_add(found.len() as u64);
-    Ok(())
-}
-
-fn count(seen: &mut Seen, scl: Level, sda: Level) {
-    seen.samples = seen.samples.saturating_add(1);
-    if scl != Level::Unknown && sda != Level::Unknown {
-        seen.known = seen.known.saturating_add(1);
-    }
-    if scl == Level::High && sda == Level::High {
-        seen.idle = seen.idle.saturating_add(1);
     }
 }

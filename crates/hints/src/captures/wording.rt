@@ -1,15 +1,17 @@
 // What is wrong, in words.
 
 use crate::captures::judging::{Opened, Wrong};
-use std::alloc::{AllocError, Global};
+use crate::lines::Lines;
 use vcd_read::VcdError;
 
-/// Why a token of a dump cannot stand in its place, and what could.
-pub(crate) fn of_token(alloc: Global, wrong: Wrong) -> Result<String, AllocError> {
-    if let Wrong::TimeBack(last) = wrong {
-        return format!(in alloc; "the last time was {last}, and times never go back");
+/// Says why a token of a dump cannot stand in its place, and what could.
+pub(crate) fn push_token(lines: &mut Lines, wrong: Wrong) {
+    match wrong {
+        Wrong::TimeBack(last) => {
+            lines.say(format_args!("the last time was {last}, and times never go back"));
+        }
+        _ => lines.say(fixed(wrong)),
     }
-    String::from_str(alloc, fixed(wrong))
 }
 
 fn fixed(wrong: Wrong) -> &'static str {
@@ -58,24 +60,19 @@ fn unended(opened: Opened) -> &'static str {
     }
 }
 
-/// What the refusal of a dump means, where the token is not known. There is nothing to say of a missing signal here, nor of
-/// want of memory.
-pub(crate) fn of_dump(alloc: Global, refusal: VcdError) -> Result<Option<String>, AllocError> {
-    let words = match refusal {
-        VcdError::BadToken(line) => {
-            format!(in alloc;
-                "on line {line} of the capture something stands that cannot stand in its place"
-            )?
-        }
-        VcdError::TimeBack(line) => {
-            format!(in alloc; "on line {line} of the capture a time is below the one before it")?
-        }
-        VcdError::Unended(line) => {
-            format!(in alloc;
-                "what begins on line {line} of the capture has no end: an '$end' is missing, or the capture was cut short"
-            )?
-        }
-        VcdError::NoSignal(_) | VcdError::NoMemory => return Ok(None),
-    };
-    Ok(Some(words))
+/// Says what the refusal of a dump means, where the token is not known. There is nothing to say of a missing signal here,
+/// nor of want of memory.
+pub(crate) fn push_dump(lines: &mut Lines, refusal: VcdError) {
+    match refusal {
+        VcdError::BadToken(line) => lines.say(format_args!(
+            "on line {line} of the capture something stands that cannot stand in its place"
+        )),
+        VcdError::TimeBack(line) => lines.say(format_args!(
+            "on line {line} of the capture a time is below the one before it"
+        )),
+        VcdError::Unended(line) => lines.say(format_args!(
+            "what begins on line {line} of the capture has no end: an '$end' is missing, or the capture was cut short"
+        )),
+        VcdError::NoSignal(_) | VcdError::NoMemory => {}
+    }
 }
