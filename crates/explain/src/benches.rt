@@ -1,10 +1,10 @@
 // Below the wire of a rehearsal.
 
-use crate::below::{Below, room_after};
-use crate::cells::{Cell, cells_of, pad};
+use crate::below::{begin_titled, pad, put, room_after};
+use crate::cells::{Cell, cells_of};
 use crate::sending::after;
 use crate::wires::items_of;
-use crate::words::known;
+use growing_text::{Lines, Text};
 use message_tree::{Bit, Item};
 use places::{Offered, Place};
 use plan_core::Plan;
@@ -23,30 +23,9 @@ pub fn below_wire(
     fill: bool,
     wire: &str,
 ) -> Result<String, AllocError> {
-    let wire = items_of(alloc, wire)?;
-    below_items(alloc, plan, starters, fill, wire.as_slice())
-}
-
-fn below_items(
-    alloc: Global,
-    plan: &Plan,
-    starters: &str,
-    fill: bool,
-    wire: &[Item],
-) -> Result<String, AllocError> {
-    let mut rows = Vec::new(alloc);
-    for label in starters.split(',') {
-        if let Some(p) = plan.find(label) {
-            rows.push(row_of(alloc, plan, p, label, fill, wire)?)?;
-        }
-    }
-    below_rows(alloc, wire, rows.as_slice())
-}
-
-fn below_rows(alloc: Global, wire: &[Item], rows: &[Row<'_>]) -> Result<String, AllocError> {
-    let mut below = Below::new(alloc);
-    push_blocks(alloc, &mut below, wire, rows)?;
-    Ok(below.finish())
+    let items = items_of(alloc, wire)?;
+    let rows = rows_of(alloc, plan, starters, fill, items.as_slice())?;
+    below_rows(alloc, wire, items.as_slice(), rows.as_slice())
 }
 
 // What a starter puts in each slot up to its end, as symbols.
@@ -58,43 +37,40 @@ struct Row<'a> {
     lost: Option<usize>,
 }
 
-fn row_of<'a>(
+fn rows_of<'a>(
     alloc: Global,
     plan: &Plan,
-    p: u32,
-    label: &'a str,
+    starters: &'a str,
     fill: bool,
     wire: &[Item],
-) -> Result<Row<'a>, AllocError> {
-    let mut symbols = String::new(alloc);
-    let mut lost = None;
-    if p < plan.participants() {
-        lost = push_symbols(&mut symbols, Place::start(plan.sends(p)), fill, wire)?;
+) -> Result<Vec<Row<'a>>, AllocError> {
+    let mut rows = Vec::new(alloc);
+    for label in starters.split(',') {
+        if let Some(p) = plan.find(label) {
+            let mut symbols = Text::new(alloc);
+            let lost = push_symbols(&mut symbols, Place::start(plan.sends(p)), fill, wire);
+            rows.push(Row {
+                label,
+                symbols: symbols.finish()?,
+                lost,
+            })?;
+        }
     }
-    Ok(Row {
-        label,
-        symbols,
-        lost,
-    })
+    Ok(rows)
 }
 
 // The symbols, and the slot in which the starter loses.
-fn push_symbols(
-    symbols: &mut String,
-    start: Place<'_>,
-    fill: bool,
-    wire: &[Item],
-) -> Result<Option<usize>, AllocError> {
+fn push_symbols(symbols: &mut Text, start: Place<'_>, fill: bool, wire: &[Item]) -> Option<usize> {
     let mut place = start;
     for (slot, item) in wire.iter().enumerate() {
         let put = put_for(place.offered(), fill);
-        symbols.push(put.map_or('.', |it| it.symbol()))?;
+        symbols.push_char(put.map_or('.', |it| it.symbol()));
         match after(&place, *item) {
             Some(next) if put.is_none_or(|it| it == *item) => place = next,
-            _ => return Ok(Some(slot)),
+            _ => return Some(slot),
         }
     }
-    Ok(None)
+    None
 }
 
 // What is put where this is offered, and None where the starter listens.
@@ -111,15 +87,16 @@ fn put_for(offered: Offered, fill: bool) -> Option<Item> {
 }
 
 // The blocks of the wire, one below the other.
-fn push_blocks(
+fn below_rows(
     alloc: Global,
-    below: &mut Below,
-    wire: &[Item],
+    wire: &str,
+    items: &[Item],
     rows: &[Row<'_>],
-) -> Result<(), AllocError> {
+) -> Result<String, AllocError> {
     let longest = rows.iter().map(|it| it.label.len()).max().unwrap_or(0);
     let columns = longest.saturating_add(2).clamp(6, LABELS);
-    let cells = cells_of(alloc, wire)?;
+    let cells = cells_of(alloc, items)?;
+    let mut lines = Lines::new(alloc);
     let mut rest = cells.as_slice();
     for _ in 0..cells.len() {
         if rest.is_empty() {
@@ -127,10 +104,14 @@ fn push_blocks(
         }
         let count = fitting(rest, room_after(columns)).max(1);
         let (block, after) = rest.split_at(count.min(rest.len()));
-        push_block(alloc, below, columns, wire, block, rows)?;
+        tell_slots(alloc, &mut lines, columns, block);
+        tell_bytes(alloc, &mut lines, columns, items, block);
+        tell_symbols(alloc, &mut lines, "wire", columns, wire, block);
+        lines.end();
+        tell_rows(alloc, &mut lines, columns, block, rows, after.is_empty());
         rest = after;
     }
-    Ok(())
+    lines.finish()
 }
 
 // How many of the cells fit into so many columns.
@@ -147,150 +128,84 @@ fn fitting(cells: &[Cell], room: usize) -> usize {
     count
 }
 
-fn push_block(
-    alloc: Global,
-    below: &mut Below,
-    columns: usize,
-    wire: &[Item],
-    block: &[Cell],
-    rows: &[Row<'_>],
-) -> Result<(), AllocError> {
-    push_slots(alloc, below, columns, block)?;
-    push_bytes(alloc, below, columns, wire, block)?;
-    push_wire(alloc, below, columns, wire, block)?;
-    let first = block.first().map_or(0, |it| it.from);
-    let is_last = block.last().is_some_and(|it| wire.len() <= it.end());
-    for row in rows {
-        if row.lost.is_none_or(|slot| first <= slot) {
-            push_row(alloc, below, columns, block, row, is_last)?;
+fn tell_slots(alloc: Global, lines: &mut Lines, columns: usize, block: &[Cell]) {
+    let mut line = Text::new(alloc);
+    let mut column = 0usize;
+    for cell in block {
+        if cell.is_byte() {
+            pad(&mut line, column);
+            line.push_number(cell.from as u64);
         }
+        column = column.saturating_add(cell.size).saturating_add(1);
     }
-    Ok(())
+    begin_titled(lines, "slot", columns);
+    lines.words_made(line.finish());
+    lines.end();
 }
 
-fn push_slots(
-    alloc: Global,
-    below: &mut Below,
-    columns: usize,
-    block: &[Cell],
-) -> Result<(), AllocError> {
-    let mut line = String::new(alloc);
+fn tell_bytes(alloc: Global, lines: &mut Lines, columns: usize, wire: &[Item], block: &[Cell]) {
+    let mut line = Text::new(alloc);
+    let mut column = 0usize;
     for cell in block {
-        push_slot(alloc, &mut line, cell)?;
+        cell.push_to(alloc, &mut line, column, wire);
+        column = column.saturating_add(cell.size).saturating_add(1);
     }
-    below.hang("slot", columns, line.as_str().trim_end())
+    begin_titled(lines, "byte", columns);
+    lines.words_made(line.finish());
+    lines.end();
 }
 
-fn push_slot(alloc: Global, line: &mut String, cell: &Cell) -> Result<(), AllocError> {
-    if !cell.is_byte() {
-        return pad(line, "", cell.size);
-    }
-    let number = format!(in alloc; "{}", cell.from)?;
-    pad(line, number.as_str(), cell.size)
-}
-
-fn push_bytes(
+// Begins a line with those of the symbols that stand in the block.
+fn tell_symbols(
     alloc: Global,
-    below: &mut Below,
-    columns: usize,
-    wire: &[Item],
-    block: &[Cell],
-) -> Result<(), AllocError> {
-    let mut line = String::new(alloc);
-    for cell in block {
-        push_words(alloc, &mut line, wire, cell)?;
-    }
-    below.hang("byte", columns, line.as_str().trim_end())
-}
-
-fn push_words(
-    alloc: Global,
-    line: &mut String,
-    wire: &[Item],
-    cell: &Cell,
-) -> Result<(), AllocError> {
-    let words = cell.words(alloc, wire)?;
-    pad(line, words.as_str(), cell.size)
-}
-
-fn push_wire(
-    alloc: Global,
-    below: &mut Below,
-    columns: usize,
-    wire: &[Item],
-    block: &[Cell],
-) -> Result<(), AllocError> {
-    let symbols = wire_symbols(alloc, wire)?;
-    push_symbols_of(alloc, below, columns, symbols.as_str(), block)
-}
-
-fn wire_symbols(alloc: Global, wire: &[Item]) -> Result<String, AllocError> {
-    let mut symbols = String::new(alloc);
-    for item in wire {
-        symbols.push(item.symbol())?;
-    }
-    Ok(symbols)
-}
-
-fn push_symbols_of(
-    alloc: Global,
-    below: &mut Below,
+    lines: &mut Lines,
+    title: &str,
     columns: usize,
     symbols: &str,
     block: &[Cell],
-) -> Result<(), AllocError> {
-    let line = symbols_line(alloc, symbols, block)?;
-    below.hang("wire", columns, line.as_str().trim_end())
-}
-
-fn symbols_line(alloc: Global, symbols: &str, block: &[Cell]) -> Result<String, AllocError> {
-    let mut line = String::new(alloc);
+) {
+    let mut line = Text::new(alloc);
+    let mut column = 0usize;
     for cell in block {
-        let shown = symbols
-            .get(cell.from..cell.end().min(symbols.len()))
-            .unwrap_or("");
-        pad(&mut line, shown, cell.size)?;
+        let shown = symbols.get(cell.from..cell.end().min(symbols.len()));
+        put(&mut line, column, shown.unwrap_or(""));
+        column = column.saturating_add(cell.size).saturating_add(1);
     }
-    Ok(line)
+    begin_titled(lines, title, columns);
+    lines.words_made(line.finish());
 }
 
-fn push_row(
+// What those put that had not lost before the block, and where they lose or that they win.
+fn tell_rows(
     alloc: Global,
-    below: &mut Below,
+    lines: &mut Lines,
     columns: usize,
     block: &[Cell],
-    row: &Row<'_>,
+    rows: &[Row<'_>],
     is_last: bool,
-) -> Result<(), AllocError> {
-    let line = symbols_line(alloc, row.symbols.as_str(), block)?;
-    let shown = line.as_str().trim_end();
+) {
+    let first = block.first().map_or(0, |it| it.from);
     let end = block.last().map_or(0, |it| it.end());
-    match row.lost {
-        Some(slot) if slot < end => push_lost(alloc, below, columns, row.label, shown, slot),
-        None if is_last => push_won(alloc, below, columns, row.label, shown),
-        _ => below.hang(row.label, columns, shown),
+    for row in rows {
+        if row.lost.is_some_and(|slot| slot < first) {
+            continue;
+        }
+        tell_symbols(
+            alloc,
+            lines,
+            row.label,
+            columns,
+            row.symbols.as_str(),
+            block,
+        );
+        match row.lost {
+            Some(slot) if slot < end => {
+                lines.words(" lost in slot");
+                lines.number(slot as u64, "");
+            }
+            None if is_last => lines.words(" won"),
+            _ => {}
+        }
+        lines.end();
     }
-}
-
-fn push_lost(
-    alloc: Global,
-    below: &mut Below,
-    columns: usize,
-    label: &str,
-    shown: &str,
-    slot: usize,
-) -> Result<(), AllocError> {
-    let words = format!(in alloc; "{shown}  lost in slot {slot}")?;
-    below.hang(label, columns, words.as_str())
-}
-
-fn push_won(
-    alloc: Global,
-    below: &mut Below,
-    columns: usize,
-    label: &str,
-    shown: &str,
-) -> Result<(), AllocError> {
-    let words = format!(in alloc; "{shown}  won")?;
-    below.hang(label, columns, words.as_str())
 }

@@ -1,5 +1,6 @@
 // Where a line of a certificate does not prove its pair.
 
+use crate::meeting::Pair;
 use crate::sending::after;
 use message_tree::{Bit, Item};
 use places::{Offered, Place};
@@ -22,42 +23,26 @@ struct Both<'a> {
     are_reads: bool,
 }
 
-/// The first word of a proof that does not prove what it stands for, by its number, and why.
-pub(crate) fn where_it_breaks(
-    alloc: Global,
-    plan: &Plan,
-    x: u32,
-    y: u32,
-    line: &[u8],
-) -> Result<String, AllocError> {
-    match break_of(alloc, plan, x, y, line)? {
-        Some(Break { word, slot, reason }) => {
-            format!(in alloc; "it breaks off at word {word}, in slot {slot}: {reason}")
-        }
-        None => String::from_str(alloc, "it breaks off at its end"),
-    }
-}
-
-// A word that does not prove what it stands for, by its number.
+/// A word that does not prove what it stands for, by its number, and why.
 #[derive(Clone, Copy)]
-struct Break {
-    word: u32,
-    slot: u32,
-    reason: Reason,
+pub(crate) struct Break {
+    pub(crate) word: u32,
+    pub(crate) slot: u32,
+    pub(crate) reason: Reason,
 }
 
-fn break_of(
+/// The first such word of the proof of a pair. None where each of its words proves something, and further ones are wanting.
+pub(crate) fn break_of(
     alloc: Global,
     plan: &Plan,
-    x: u32,
-    y: u32,
+    pair: Pair,
     line: &[u8],
 ) -> Result<Option<Break>, AllocError> {
     let mut left = Vec::new(alloc);
-    if x < plan.participants() && y < plan.participants() {
+    if pair.first < plan.participants() && pair.second < plan.participants() {
         left.push(Both {
-            first: Place::start(plan.sends(x)),
-            second: Place::start(plan.sends(y)),
+            first: Place::start(plan.sends(pair.first)),
+            second: Place::start(plan.sends(pair.second)),
             slot: 0,
             are_reads: false,
         })?;
@@ -100,7 +85,7 @@ fn broken<'a>(
 }
 
 // Why a word does not prove what it stands for, where it does not.
-type Reason = &'static str;
+pub(crate) type Reason = &'static str;
 
 fn at(slot: u32, reason: Option<Reason>) -> Option<(u32, Reason)> {
     Some((slot, reason?))

@@ -40,16 +40,16 @@ impl Notes {
 
     /// Reads a piece of the dump, which follows those before.
     pub fn feed(&mut self, piece: &[u8]) -> Result<(), AllocError> {
-        let Some(mut dump) = self.dump.take() else {
+        let Some(dump) = &mut self.dump else {
             return Ok(());
         };
         if dump.feed(piece).is_err() {
+            self.dump = None;
             return Ok(());
         }
-        hear(&mut self.ear, &mut self.pulses, dump.samples())?;
+        let heard = hear(&mut self.ear, &mut self.pulses, dump.samples());
         dump.clear_samples();
-        self.dump = Some(dump);
-        Ok(())
+        heard
     }
 
     /// The transactions of the whole dump, in order, and how many levels were left out.

@@ -1,7 +1,5 @@
-// The line of an unsafe pair, taken apart.
+// The pair that a line of a report tells of.
 
-use crate::wires::items_of;
-use message_tree::Item;
 use plan_core::Plan;
 use std::alloc::{AllocError, Global};
 
@@ -11,27 +9,6 @@ pub(crate) struct Pair {
     pub(crate) number: u32,
     pub(crate) first: u32,
     pub(crate) second: u32,
-}
-
-/// Two participants and the wire after which they clash.
-#[derive(Drop)]
-pub(crate) struct Meeting {
-    pub(crate) pair: Pair,
-    pub(crate) wire: Vec<Item>,
-}
-
-/// What `pair I X Y: KIND against KIND after WIRE` says, and None for another line, and where the plan has no such pair.
-pub(crate) fn meeting_of(
-    alloc: Global,
-    plan: &Plan,
-    line: &str,
-) -> Result<Option<Meeting>, AllocError> {
-    let Some(pair) = pair_of(plan, line) else {
-        return Ok(None);
-    };
-    let symbols = line.rsplit(' ').next().unwrap_or("");
-    let wire = items_of(alloc, symbols)?;
-    Ok(Some(Meeting { pair, wire }))
 }
 
 /// The pair that a line of a report tells of by the word after `pair`, and its participants.

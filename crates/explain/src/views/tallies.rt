@@ -1,6 +1,7 @@
 // How often each participant explains a transaction.
 
 use crate::views::lines::What;
+use growing_text::Text;
 use plan_core::Plan;
 use std::alloc::{AllocError, Global};
 use std::collections::BTreeMap;
@@ -80,28 +81,21 @@ impl Tallies {
     }
 
     /// The lines of the summary.
-    pub(crate) fn push_to(&self, text: &mut String) -> Result<(), AllocError> {
+    pub(crate) fn push_to(&self, text: &mut Text) {
         for sender in self.senders.iter() {
-            sender.push_to(text)?;
+            text.push(sender.label.as_str());
+            push_count(text, " ", sender.alone);
+            push_count(text, " alone, ", sender.with_others);
+            text.push(" with others\n");
         }
-        let Tallies {
-            unexplained,
-            cut,
-            unfinished,
-            ..
-        } = self;
-        write!(
-            text,
-            "unexplained {unexplained}\ncut {cut}\nunfinished {unfinished}\n"
-        )
+        push_count(text, "unexplained ", self.unexplained);
+        push_count(text, "\ncut ", self.cut);
+        push_count(text, "\nunfinished ", self.unfinished);
+        text.push("\n");
     }
 }
 
-impl Sender {
-    fn push_to(&self, text: &mut String) -> Result<(), AllocError> {
-        let label = self.label.as_str();
-        let alone = self.alone;
-        let with_others = self.with_others;
-        writeln!(text, "{label} {alone} alone, {with_others} with others")
-    }
+fn push_count(text: &mut Text, before: &str, count: u64) {
+    text.push(before);
+    text.push_number(count);
 }
