@@ -1,8 +1,8 @@
 // Below the wire of a rehearsal.
 
-use crate::below::{begin_titled, pad, put, room_after};
+use crate::below::{begin_titled, pad, room_after};
 use crate::cells::{Cell, cells_of};
-use crate::sending::after;
+use crate::sending::pass;
 use crate::wires::items_of;
 use growing_text::{Lines, Text};
 use message_tree::{Bit, Item};
@@ -23,95 +23,75 @@ pub fn below_wire(
     fill: bool,
     wire: &str,
 ) -> Result<String, AllocError> {
-    let items = items_of(alloc, wire)?;
-    let rows = rows_of(alloc, plan, starters, fill, items.as_slice())?;
-    below_rows(alloc, wire, items.as_slice(), rows.as_slice())
+    let wire = items_of(alloc, wire)?;
+    let mut rows = rows_of(alloc, plan, starters)?;
+    below_rows(alloc, wire.as_slice(), fill, rows.as_mut_slice())
 }
 
-// What a starter puts in each slot up to its end, as symbols.
-#[derive(Drop)]
+// A starter, on its way along the wire.
+#[derive(Clone, Copy)]
 struct Row<'a> {
     label: &'a str,
-    symbols: String,
-    // the slot in which it loses
+    place: Place<'a>,
+    // the slot in which it has lost
     lost: Option<usize>,
 }
 
 fn rows_of<'a>(
     alloc: Global,
-    plan: &Plan,
+    plan: &'a Plan,
     starters: &'a str,
-    fill: bool,
-    wire: &[Item],
 ) -> Result<Vec<Row<'a>>, AllocError> {
     let mut rows = Vec::new(alloc);
     for label in starters.split(',') {
         if let Some(p) = plan.find(label) {
-            let mut symbols = Text::new(alloc);
-            let lost = push_symbols(&mut symbols, Place::start(plan.sends(p)), fill, wire);
             rows.push(Row {
                 label,
-                symbols: symbols.finish()?,
-                lost,
+                place: Place::start(plan.sends(p)),
+                lost: None,
             })?;
         }
     }
     Ok(rows)
 }
 
-// The symbols, and the slot in which the starter loses.
-fn push_symbols(symbols: &mut Text, start: Place<'_>, fill: bool, wire: &[Item]) -> Option<usize> {
-    let mut place = start;
-    for (slot, item) in wire.iter().enumerate() {
-        let put = put_for(place.offered(), fill);
-        symbols.push_char(put.map_or('.', |it| it.symbol()));
-        match after(&place, *item) {
-            Some(next) if put.is_none_or(|it| it == *item) => place = next,
-            _ => return Some(slot),
-        }
-    }
-    None
-}
-
-// What is put where this is offered, and None where the starter listens.
-fn put_for(offered: Offered, fill: bool) -> Option<Item> {
-    match offered {
-        Offered::Bit(Bit::Zero) => Some(Item::Sent(false)),
-        Offered::Bit(Bit::One) => Some(Item::Sent(true)),
-        Offered::Bit(Bit::Either) => Some(Item::Sent(fill)),
-        Offered::Again => Some(Item::Again),
-        Offered::Stop => Some(Item::Stop),
-        Offered::Claim => Some(Item::Claim),
-        Offered::Listen | Offered::Nothing => None,
-    }
-}
-
 // The blocks of the wire, one below the other.
 fn below_rows(
     alloc: Global,
-    wire: &str,
-    items: &[Item],
-    rows: &[Row<'_>],
+    wire: &[Item],
+    fill: bool,
+    rows: &mut [Row<'_>],
 ) -> Result<String, AllocError> {
-    let longest = rows.iter().map(|it| it.label.len()).max().unwrap_or(0);
-    let columns = longest.saturating_add(2).clamp(6, LABELS);
-    let cells = cells_of(alloc, items)?;
+    let cells = cells_of(alloc, wire)?;
+    let columns = columns_for(rows);
     let mut lines = Lines::new(alloc);
     let mut rest = cells.as_slice();
     for _ in 0..cells.len() {
         if rest.is_empty() {
             break;
         }
-        let count = fitting(rest, room_after(columns)).max(1);
-        let (block, after) = rest.split_at(count.min(rest.len()));
+        let count = fitting(rest, room_after(columns)).max(1).min(rest.len());
+        let (block, after) = rest.split_at(count);
         tell_slots(alloc, &mut lines, columns, block);
-        tell_bytes(alloc, &mut lines, columns, items, block);
-        tell_symbols(alloc, &mut lines, "wire", columns, wire, block);
-        lines.end();
-        tell_rows(alloc, &mut lines, columns, block, rows, after.is_empty());
+        tell_bytes(alloc, &mut lines, columns, wire, block);
+        tell_wire(alloc, &mut lines, columns, wire, block);
+        for row in rows.iter_mut() {
+            if row.lost.is_none() {
+                row.tell(alloc, &mut lines, columns, wire, fill, block);
+                row.tell_end(&mut lines, after.is_empty());
+            }
+        }
         rest = after;
     }
     lines.finish()
+}
+
+fn columns_for(rows: &[Row<'_>]) -> usize {
+    let mut longest = 0usize;
+    for row in rows {
+        longest = longest.max(row.label.len());
+    }
+    longest.saturating_add(2).clamp(6, LABELS)
 }
 
 // How many of the cells fit into so many columns.
@@ -155,57 +135,83 @@ fn tell_bytes(alloc: Global, lines: &mut Lines, columns: usize, wire: &[Item], b
     lines.end();
 }
 
-// Begins a line with those of the symbols that stand in the block.
-fn tell_symbols(
-    alloc: Global,
-    lines: &mut Lines,
-    title: &str,
-    columns: usize,
-    symbols: &str,
-    block: &[Cell],
-) {
+fn tell_wire(alloc: Global, lines: &mut Lines, columns: usize, wire: &[Item], block: &[Cell]) {
     let mut line = Text::new(alloc);
     let mut column = 0usize;
     for cell in block {
-        let shown = symbols.get(cell.from..cell.end().min(symbols.len()));
-        put(&mut line, column, shown.unwrap_or(""));
+        pad(&mut line, column);
+        for item in cell.items(wire) {
+            line.push_char(item.symbol());
+        }
         column = column.saturating_add(cell.size).saturating_add(1);
     }
-    begin_titled(lines, title, columns);
+    begin_titled(lines, "wire", columns);
     lines.words_made(line.finish());
+    lines.end();
 }
 
-// What those put that had not lost before the block, and where they lose or that they win.
-fn tell_rows(
-    alloc: Global,
-    lines: &mut Lines,
-    columns: usize,
-    block: &[Cell],
-    rows: &[Row<'_>],
-    is_last: bool,
-) {
-    let first = block.first().map_or(0, |it| it.from);
-    let end = block.last().map_or(0, |it| it.end());
-    for row in rows {
-        if row.lost.is_some_and(|slot| slot < first) {
-            continue;
-        }
-        tell_symbols(
-            alloc,
-            lines,
-            row.label,
-            columns,
-            row.symbols.as_str(),
-            block,
-        );
-        match row.lost {
-            Some(slot) if slot < end => {
-                lines.words(" lost in slot");
-                lines.number(slot as u64, "");
+impl Row<'_> {
+    // Begins the line of what the starter puts in the slots of the block, up to the one in which it loses.
+    fn tell(
+        &mut self,
+        alloc: Global,
+        lines: &mut Lines,
+        columns: usize,
+        wire: &[Item],
+        fill: bool,
+        block: &[Cell],
+    ) {
+        let mut line = Text::new(alloc);
+        let mut column = 0usize;
+        for cell in block {
+            if self.lost.is_none() {
+                pad(&mut line, column);
+                self.push_to(&mut line, cell.from, cell.items(wire), fill);
             }
-            None if is_last => lines.words(" won"),
-            _ => {}
+            column = column.saturating_add(cell.size).saturating_add(1);
+        }
+        begin_titled(lines, self.label, columns);
+        lines.words_made(line.finish());
+    }
+
+    // What it puts while the wire shows these items from a slot on.
+    fn push_to(&mut self, line: &mut Text, from: usize, items: &[Item], fill: bool) {
+        let mut slot = from;
+        for item in items {
+            let put = put_for(self.place.offered(), fill);
+            match put {
+                Some(put) => line.push_char(put.symbol()),
+                None => line.push("."),
+            }
+            if !pass(&mut self.place, *item) || put.unwrap_or(*item) != *item {
+                self.lost = Some(slot);
+                return;
+            }
+            slot = slot.saturating_add(1);
+        }
+    }
+
+    // Ends the line.
+    fn tell_end(&self, lines: &mut Lines, is_last: bool) {
+        if let Some(slot) = self.lost {
+            lines.words(" lost in slot");
+            lines.number(slot as u64, "");
+        } else if is_last {
+            lines.words(" won");
         }
         lines.end();
+    }
+}
+
+// What is put where this is offered, and None where the starter listens.
+fn put_for(offered: Offered, fill: bool) -> Option<Item> {
+    match offered {
+        Offered::Bit(Bit::Zero) => Some(Item::Sent(false)),
+        Offered::Bit(Bit::One) => Some(Item::Sent(true)),
+        Offered::Bit(Bit::Either) => Some(Item::Sent(fill)),
+        Offered::Again => Some(Item::Again),
+        Offered::Stop => Some(Item::Stop),
+        Offered::Claim => Some(Item::Claim),
+        Offered::Listen | Offered::Nothing => None,
     }
 }

@@ -3,7 +3,7 @@
 use crate::below::begin;
 use crate::hearing::Heard;
 use crate::meeting::label_of;
-use crate::sending::after;
+use crate::sending::pass;
 use crate::words::Words;
 use capture_check::{Mark, Until};
 use growing_text::Lines;
@@ -11,6 +11,7 @@ use message_tree::{Bit, Item};
 use places::{Offered, Place};
 use plan_core::Plan;
 use std::alloc::{AllocError, Global};
+use std::mem;
 
 // How many participants are named below a transaction that nobody explains.
 const NEAREST: usize = 3;
@@ -84,23 +85,27 @@ struct Leaves {
     offered: Offered,
 }
 
-// The participants that go along furthest, in this order, and of those that leave in one slot the first.
 fn tell_nearest(alloc: Global, lines: &mut Lines, plan: &Plan, marks: &[Mark]) {
+    for near in nearest(plan, marks).iter() {
+        if let Some(near) = near {
+            tell_leaves(alloc, lines, plan, marks.get(near.slot), *near);
+        }
+    }
+}
+
+// The participants that go along furthest, in this order, and of those that leave in one slot the first.
+fn nearest(plan: &Plan, marks: &[Mark]) -> [Option<Leaves>; NEAREST] {
     let mut nearest = [None; NEAREST];
     for participant in 0..plan.participants() {
         let (slot, offered) = leaving(Place::start(plan.sends(participant)), marks);
-        insert(
-            &mut nearest,
-            Leaves {
-                participant,
-                slot,
-                offered,
-            },
-        );
+        let new = Leaves {
+            participant,
+            slot,
+            offered,
+        };
+        insert(&mut nearest, new);
     }
-    for near in nearest.iter().flatten() {
-        tell_leaves(alloc, lines, plan, marks.get(near.slot), *near);
-    }
+    nearest
 }
 
 // Puts a participant behind those that go along as far. Who has no place then is forgotten.
@@ -108,9 +113,13 @@ fn insert(nearest: &mut [Option<Leaves>], new: Leaves) {
     let mut next = Some(new);
     let mut is_placed = false;
     for near in nearest {
-        is_placed = is_placed || near.is_none_or(|it| it.slot < new.slot);
+        if let Some(other) = near {
+            is_placed = is_placed || other.slot < new.slot;
+        } else {
+            is_placed = true;
+        }
         if is_placed {
-            std::mem::swap(near, &mut next);
+            mem::swap(near, &mut next);
         }
     }
 }
@@ -120,9 +129,8 @@ fn leaving(start: Place<'_>, marks: &[Mark]) -> (usize, Offered) {
     let mut place = start;
     for (slot, mark) in marks.iter().enumerate() {
         let offered = place.offered();
-        match after(&place, item_for(offered, *mark)) {
-            Some(next) => place = next,
-            None => return (slot, offered),
+        if !pass(&mut place, item_for(offered, *mark)) {
+            return (slot, offered);
         }
     }
     (marks.len(), place.offered())

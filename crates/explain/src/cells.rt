@@ -36,20 +36,29 @@ impl Cell {
         !matches!(self.part, Part::Slot(_))
     }
 
+    /// The items of the wire there.
+    pub(crate) fn items<'a>(&self, wire: &'a [Item]) -> &'a [Item] {
+        wire.get(self.from..self.end().min(wire.len()))
+            .unwrap_or(&[])
+    }
+
     /// Adds what the bytes of the wire have there, in the columns after so many.
     pub(crate) fn push_to(&self, alloc: Global, line: &mut Text, column: usize, wire: &[Item]) {
-        let is_header = match self.part {
-            Part::Header => true,
-            Part::Data => false,
-            Part::Slot(word) => return put(line, column, word),
-        };
-        let mut words = Words::of_byte(alloc, is_header);
-        for item in wire.iter().skip(self.from).take(self.size) {
-            words.item(*item);
+        match self.part {
+            Part::Header => push_byte(alloc, line, column, self.items(wire), true),
+            Part::Data => push_byte(alloc, line, column, self.items(wire), false),
+            Part::Slot(word) => put(line, column, word),
         }
-        pad(line, column);
-        line.push_made(words.finish());
     }
+}
+
+fn push_byte(alloc: Global, line: &mut Text, column: usize, items: &[Item], is_header: bool) {
+    let mut words = Words::of_byte(alloc, is_header);
+    for item in items {
+        words.item(*item);
+    }
+    pad(line, column);
+    line.push_made(words.finish());
 }
 
 /// The cells of a wire, in its order.
@@ -58,11 +67,8 @@ pub(crate) fn cells_of(alloc: Global, wire: &[Item]) -> Result<Vec<Cell>, AllocE
     let mut byte = Part::Header;
     for (from, item) in wire.iter().enumerate() {
         if let Some(part) = next_part(cells.last_mut(), *item, &mut byte) {
-            cells.push(Cell {
-                from,
-                size: 1,
-                part,
-            })?;
+            let size = 1;
+            cells.push(Cell { from, size, part })?;
         }
     }
     Ok(cells)

@@ -20,19 +20,18 @@ pub fn below_answer(
         if let Some(pair) = pair_of(plan, line) {
             tell_pair(alloc, &mut lines, plan, pair);
             if let Some(proof) = proof_line(cert, pair.number) {
-                tell_break(&mut lines, break_of(alloc, plan, pair, proof)?);
+                tell_break(&mut lines, break_of(alloc, plan, pair, proof));
             }
         }
         if line == "wrong C2" {
             tell_counts(&mut lines, plan, cert);
         }
-        say(
-            &mut lines,
-            "a plan that was changed wants a new certificate: twire certify PLAN",
-        );
+        say(&mut lines, AFTER_A_CHANGE);
     }
     lines.finish()
 }
+
+const AFTER_A_CHANGE: &str = "a plan that was changed wants a new certificate: twire certify PLAN";
 
 fn tell_pair(alloc: Global, lines: &mut Lines, plan: &Plan, pair: Pair) {
     let mut words = Text::new(alloc);
@@ -46,18 +45,19 @@ fn tell_pair(alloc: Global, lines: &mut Lines, plan: &Plan, pair: Pair) {
     say_all(lines, words);
 }
 
-fn tell_break(lines: &mut Lines, found: Option<Break>) {
+fn tell_break(lines: &mut Lines, found: Result<Option<Break>, AllocError>) {
     begin(lines);
     lines.words("it breaks off at");
     match found {
-        Some(found) => {
+        Ok(Some(found)) => {
             lines.word("word");
             lines.number(u64::from(found.word), ",");
             lines.words("in slot");
             lines.number(u64::from(found.slot), ":");
             lines.words(found.reason);
         }
-        None => lines.words("its end"),
+        Ok(None) => lines.words("its end"),
+        Err(error) => lines.words_made(Err(error)),
     }
     lines.end();
 }
@@ -70,12 +70,15 @@ fn proof_line(cert: &[u8], pair: u32) -> Option<&[u8]> {
 }
 
 fn tell_counts(lines: &mut Lines, plan: &Plan, cert: &[u8]) {
-    let proofs = cert.iter().filter(|byte| **byte == b'\n').count();
+    let mut count = 0u64;
+    for byte in cert {
+        count = count.saturating_add(u64::from(*byte == b'\n'));
+    }
     begin(lines);
     lines.words("the plan has");
     lines.number(u64::from(plan.pair_count()), "");
     lines.words("pairs, and the certificate has");
-    lines.number(proofs.saturating_sub(2) as u64, "");
+    lines.number(count.saturating_sub(2), "");
     lines.words("lines of proofs");
     lines.end();
 }

@@ -138,18 +138,25 @@ fn tell_open(alloc: Global, lines: &mut Lines, side: &Side) {
     let mut words = Text::new(alloc);
     words.push(side.label.as_str());
     words.push(" may send either bit before it in slot");
-    for (k, (from, to)) in open.first().iter().enumerate() {
-        words.push(if k == 0 { " " } else { ", " });
-        words.push_number(*from as u64);
-        if from != to {
-            words.push("..");
-            words.push_number(*to as u64);
-        }
+    let mut before = " ";
+    for range in open.first() {
+        words.push(before);
+        push_range(&mut words, *range);
+        before = ", ";
     }
     if open.has_more() {
         words.push(", ..");
     }
     say_all(lines, words);
+}
+
+fn push_range(words: &mut Text, range: (usize, usize)) {
+    let (from, to) = range;
+    words.push_number(from as u64);
+    if from != to {
+        words.push("..");
+        words.push_number(to as u64);
+    }
 }
 
 /// What is said below `unsafe: F of N pairs`, where these are the faults: what mends one of these pairs, and the `never` items
@@ -178,16 +185,21 @@ fn tell_mends(alloc: Global, lines: &mut Lines, plan: &Plan, pairs: usize, never
     if !nevers.is_empty() {
         words.push("; or");
     }
-    for (c, d) in nevers {
-        if *c < plan.controllers() && *d < plan.controllers() {
-            words.push(" never ");
-            words.push(plan.controller_name(*c).as_str());
-            words.push(" ");
-            words.push(plan.controller_name(*d).as_str());
-            words.push(" ;");
-        }
+    for never in nevers {
+        push_never(&mut words, plan, *never);
     }
     say_all(lines, words);
+}
+
+fn push_never(words: &mut Text, plan: &Plan, never: (u32, u32)) {
+    let (c, d) = never;
+    if c < plan.controllers() && d < plan.controllers() {
+        words.push(" never ");
+        words.push(plan.controller_name(c).as_str());
+        words.push(" ");
+        words.push(plan.controller_name(d).as_str());
+        words.push(" ;");
+    }
 }
 
 // The first unsafe pairs that have an interrupt, and how many more there are.

@@ -11,22 +11,20 @@ pub(crate) struct Pair {
     pub(crate) second: u32,
 }
 
-/// The pair that a line of a report tells of by the word after `pair`, and its participants.
+/// The pair that a line of a report tells of by the word after `pair`.
 pub(crate) fn pair_of(plan: &Plan, line: &str) -> Option<Pair> {
-    let mut words = line.split(' ');
-    words.find(|word| *word == "pair")?;
-    let Ok(number) = words.next()?.parse::<u32>() else {
-        return None;
-    };
-    if plan.pair_count() <= number {
-        return None;
+    let (_, words) = line.split_once("pair ")?;
+    match words.split(' ').next()?.parse::<u32>() {
+        Ok(number) if number < plan.pair_count() => {
+            let (first, second) = plan.pair(number);
+            Some(Pair {
+                number,
+                first,
+                second,
+            })
+        }
+        _ => None,
     }
-    let (first, second) = plan.pair(number);
-    Some(Pair {
-        number,
-        first,
-        second,
-    })
 }
 
 /// The label of a participant, and nothing for a number that is none.

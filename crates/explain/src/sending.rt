@@ -19,39 +19,47 @@ pub(crate) struct Followed {
 /// Follows a participant, which the plan has, as far as it goes along with the wire. It adds its bytes, up to the end of the
 /// one in which the wire ends.
 pub(crate) fn follow_wire(plan: &Plan, p: u32, wire: &[Item], words: &mut Words) -> Followed {
-    let mut open = Ranges::new();
-    if plan.participants() <= p {
-        return Followed {
-            open,
-            next: Offered::Nothing,
-        };
+    let mut followed = Followed {
+        open: Ranges::new(),
+        next: Offered::Nothing,
+    };
+    if p < plan.participants() {
+        followed.follow(Place::start(plan.sends(p)), wire, words);
     }
-    let mut place = Place::start(plan.sends(p));
-    for (slot, item) in wire.iter().enumerate() {
-        let offered = place.offered();
-        let Some(after) = after(&place, *item) else {
-            break;
-        };
-        push_offered(words, offered, *item);
-        if offered == Offered::Bit(Bit::Either) {
-            open.add(slot);
+    followed
+}
+
+impl Followed {
+    fn follow(&mut self, start: Place<'_>, wire: &[Item], words: &mut Words) {
+        let mut place = start;
+        for (slot, item) in wire.iter().enumerate() {
+            let offered = place.offered();
+            if !pass(&mut place, *item) {
+                break;
+            }
+            push_offered(words, offered, *item);
+            if offered == Offered::Bit(Bit::Either) {
+                self.open.add(slot);
+            }
         }
-        place = after;
-    }
-    push_rest(words, &place);
-    Followed {
-        open,
-        next: place.offered(),
+        self.next = place.offered();
+        push_rest(words, place);
     }
 }
 
-/// The place after an item, where it may come next.
-pub(crate) fn after<'a>(place: &Place<'a>, item: Item) -> Option<Place<'a>> {
+/// Goes on by an item, and says whether that may come next: else the place stays.
+pub(crate) fn pass(place: &mut Place<'_>, item: Item) -> bool {
     if place.offered().allows(item) {
-        Some(place.after(item))
-    } else {
-        None
+        *place = place.after(item);
+        return true;
     }
+    false
+}
+
+/// Goes on by a bit of its own, an open one as 0.
+pub(crate) fn pass_own(place: &mut Place<'_>) -> bool {
+    let bit = place.offered() == Offered::Bit(Bit::One);
+    pass(place, Item::Sent(bit))
 }
 
 // A bit of its own as the message has it, and anything else as the wire has it.
@@ -63,20 +71,18 @@ fn push_offered(words: &mut Words, offered: Offered, item: Item) {
 }
 
 // What the participant does next: a byte up to its end.
-fn push_rest(words: &mut Words, place: &Place<'_>) {
-    let mut place = *place;
+fn push_rest(words: &mut Words, place: Place<'_>) {
+    let mut place = place;
     for _ in 0..8 {
         match place.offered() {
             Offered::Bit(bit) => words.bit(bit),
-            Offered::Again => return words.again(),
-            Offered::Stop => return words.stop(),
-            Offered::Claim => return words.claim(),
-            Offered::Listen | Offered::Nothing => return,
+            Offered::Again => words.again(),
+            Offered::Stop => words.stop(),
+            Offered::Claim => words.claim(),
+            Offered::Listen | Offered::Nothing => {}
         }
-        let one = Item::Sent(place.offered() == Offered::Bit(Bit::One));
-        match after(&place, one) {
-            Some(next) if words.is_within_byte() => place = next,
-            _ => return,
+        if !words.is_within_byte() || !pass_own(&mut place) {
+            return;
         }
     }
 }
@@ -98,12 +104,8 @@ impl Ranges {
 
     // Adds a slot after all others.
     fn add(&mut self, slot: usize) {
-        if let Some((_, last)) = self
-            .ranges
-            .get_mut(..self.count)
-            .and_then(|it| it.last_mut())
-        {
-            if last.saturating_add(1) == slot {
+        if let Some((_, last)) = self.ranges.get_mut(self.count.saturating_sub(1)) {
+            if self.count != 0 && last.saturating_add(1) == slot {
                 *last = slot;
                 return;
             }

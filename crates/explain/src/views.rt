@@ -109,22 +109,15 @@ pub fn shown(
 ) -> Result<(String, Status), AllocError> {
     let mut page = Page {
         alloc,
-        scale: scale.filter(|_| view.si),
-        tallies: tallies_of(alloc, plan, view)?,
         text: Text::new(alloc),
+        scale: if view.si { scale } else { None },
+        tallies: tallies_of(alloc, plan, view)?,
         stopped: 0,
         unexplained: 0,
     };
-    let mut is_shown = true;
-    for line in report.trim_ascii_end().split('\n') {
-        if line.starts_with("    ") {
-            page.below(line, is_shown);
-        } else if let Some(told) = read_line(line) {
-            is_shown = view.has(scale, told.from);
-            page.line(line, told, is_shown);
-        }
-    }
-    page.end(view)
+    page.read(report, view, scale);
+    let status = page.end(plan, view);
+    Ok((page.text.finish()?, status))
 }
 
 fn tallies_of(alloc: Global, plan: &Plan, view: &View) -> Result<Option<Tallies>, AllocError> {
@@ -148,23 +141,30 @@ struct Page {
 }
 
 impl Page {
-    // A line for people, below a transaction that is told or not.
-    fn below(&mut self, line: &str, is_shown: bool) {
-        if is_shown && self.tallies.is_none() {
-            self.push_line(line);
+    fn read(&mut self, report: &str, view: &View, scale: Option<Scale>) {
+        let mut is_shown = true;
+        for line in report.trim_ascii_end().split('\n') {
+            if line.starts_with("    ") {
+                if is_shown && self.tallies.is_none() {
+                    self.push_line(line);
+                }
+            } else if let Some(told) = read_line(line) {
+                is_shown = view.has(scale, told.from);
+                if is_shown {
+                    self.line(line, told);
+                }
+            }
         }
     }
 
-    fn line(&mut self, line: &str, told: Told<'_>, is_shown: bool) {
-        if !is_shown {
-            return;
-        }
-        if told.what.is_stopped() {
-            self.stopped = self.stopped.saturating_add(1);
-        }
-        if let What::Unexplained = told.what {
-            self.unexplained = self.unexplained.saturating_add(1);
-        }
+    // The line of a transaction that is told.
+    fn line(&mut self, line: &str, told: Told<'_>) {
+        self.stopped = self
+            .stopped
+            .saturating_add(u64::from(told.what.is_stopped()));
+        self.unexplained = self
+            .unexplained
+            .saturating_add(u64::from(matches!(told.what, What::Unexplained)));
         if let Some(tallies) = &mut self.tallies {
             return tallies.count(told.what);
         }
@@ -182,8 +182,10 @@ impl Page {
             self.text.push_made(scale.told(self.alloc, until));
         }
         self.text.push(" ");
-        let words = line.split_once(' ').map(|parts| parts.1).unwrap_or("");
-        self.push_line(words);
+        if let Some((_, words)) = line.split_once(' ') {
+            self.text.push(words);
+        }
+        self.text.push("\n");
     }
 
     fn push_line(&mut self, line: &str) {
@@ -191,37 +193,27 @@ impl Page {
         self.text.push("\n");
     }
 
-    // All, with the last lines, and the status.
-    fn end(self, view: &View) -> Result<(String, Status), AllocError> {
-        let Page {
-            mut text,
-            tallies,
-            stopped,
-            unexplained,
-            ..
-        } = self;
-        if let Some(tallies) = &tallies {
-            tallies.push_to(&mut text);
+    // The last lines, and the status.
+    fn end(&mut self, plan: &Plan, view: &View) -> Status {
+        if let Some(tallies) = &self.tallies {
+            tallies.push_to(self.alloc, &mut self.text, plan);
         }
-        text.push_number(stopped);
-        text.push(" transactions, ");
-        text.push_number(unexplained);
-        text.push(" unexplained\n");
-        let is_good = push_too_few(&mut text, view.at_least, stopped) && unexplained == 0;
-        let status = if is_good { Status::Good } else { Status::Bad };
-        Ok((text.finish()?, status))
+        self.text.push_number(self.stopped);
+        self.text.push(" transactions, ");
+        self.text.push_number(self.unexplained);
+        self.text.push(" unexplained\n");
+        let least = u64::from(view.at_least.unwrap_or(0));
+        if self.stopped < least {
+            self.text.push("too few: ");
+            self.text.push_number(self.stopped);
+            self.text.push(" of ");
+            self.text.push_number(least);
+            self.text.push("\n");
+        }
+        if self.stopped < least || self.unexplained != 0 {
+            Status::Bad
+        } else {
+            Status::Good
+        }
     }
-}
-
-// Whether there are enough transactions, and a line where there are not.
-fn push_too_few(text: &mut Text, at_least: Option<u32>, stopped: u64) -> bool {
-    let least = u64::from(at_least.unwrap_or(0));
-    if stopped < least {
-        text.push("too few: ");
-        text.push_number(stopped);
-        text.push(" of ");
-        text.push_number(least);
-        text.push("\n");
-    }
-    least <= stopped
 }

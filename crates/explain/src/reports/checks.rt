@@ -37,7 +37,10 @@ fn is_of_pair(line: &str) -> bool {
 
 // The line that says how many pairs are left where so many were explained.
 fn not_explained(alloc: Global, report: &str, explained: usize) -> Result<String, AllocError> {
-    let pairs = report.split('\n').filter(|line| is_of_pair(line)).count();
+    let mut pairs = 0usize;
+    for line in report.split('\n') {
+        pairs = pairs.saturating_add(usize::from(is_of_pair(line)));
+    }
     let left = pairs.saturating_sub(explained);
     format!(in alloc; "    (not explained from here on: {left}; --most N explains N pairs)\n")
 }
