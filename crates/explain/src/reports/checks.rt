@@ -9,7 +9,7 @@ use mending::nevers_that_mend;
 use plan_core::Plan;
 use std::alloc::{AllocError, Global};
 use std::cmp::Ordering;
-use verdicts::{CertificateLines, Faults, certificate_lines, faults};
+use verdicts::{Faults, certificate_lines, faults};
 
 /// What is said below a line of the report of a check, by its number. The unsafe pairs stand first, and so many of them are
 /// explained; then comes the last line.
@@ -66,14 +66,10 @@ fn endings_of(alloc: Global, plan: &Plan, faults: &Faults) -> Result<Endings, Al
     requires { AreFaults (plan_contents plan.now) (fault_list faults.now) }
 {
     let lines = certificate_lines(alloc, plan, faults)?;
-    Ok(endings_in(&lines))
-}
-
-fn endings_in(lines: &CertificateLines) -> Endings {
     let mut endings = Endings::new();
     endings.feed(lines.head());
     for k in 0..lines.len() {
         endings.feed(lines.line(k));
     }
-    endings
+    Ok(endings)
 }
