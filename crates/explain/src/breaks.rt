@@ -104,29 +104,27 @@ fn unproved<'a>(left: &mut Left<'a>, both: &mut Both<'a>, word: &[u8]) -> Option
             _ => *both = ended,
         }
     }
-    if is_proved(left, *both, word) {
-        return None;
-    }
-    Some(match word {
-        b"B" => "the two do not both write a byte there",
-        b"D" => "the two do not both read there",
-        b"S" => "the two do not both send a repeated START there",
-        b"." => "the two do not both send a STOP there",
-        [b'P', _] => "no bit of this number is known in both and different there",
-        _ => "a proof has no such word there",
-    })
-}
-
-// Whether a word other than `R` proves what it stands for.
-fn is_proved<'a>(left: &mut Left<'a>, both: Both<'a>, word: &[u8]) -> bool {
-    match word {
-        b"B" => push_answers(left, both, false),
-        b"D" => push_answers(left, both, true),
-        b"S" => push_frames(left, both),
-        b"." => both.both_stop(),
-        [b'P', digit] => both.differ(digit.wrapping_sub(b'0')),
-        _ => false,
-    }
+    let (is_proved, reason) = match word {
+        b"B" => (
+            push_answers(left, *both, false),
+            "the two do not both write a byte there",
+        ),
+        b"D" => (
+            push_answers(left, *both, true),
+            "the two do not both read there",
+        ),
+        b"S" => (
+            push_frames(left, *both),
+            "the two do not both send a repeated START there",
+        ),
+        b"." => (both.both_stop(), "the two do not both send a STOP there"),
+        [b'P', digit] => (
+            both.differ(digit.wrapping_sub(b'0')),
+            "no bit of this number is known in both and different there",
+        ),
+        _ => (false, "a proof has no such word there"),
+    };
+    if is_proved { None } else { Some(reason) }
 }
 
 // Two bytes that are written, or two headers of reads: what follows both answers is left.

@@ -65,14 +65,18 @@ fn tell_break(lines: &mut Lines, found: Result<Option<Break>, AllocError>) {
 // The line of a pair's proof, where the text has proofs.
 fn proof_line(cert: &[u8], pair: u32) -> Option<&[u8]> {
     let rest = cert.strip_prefix(b"cert 1\npairs ")?;
-    rest.split(|byte| *byte == b'\n')
+    rest.split(is_line_feed)
         .nth((pair as usize).saturating_add(1))
+}
+
+fn is_line_feed(byte: &u8) -> bool {
+    *byte == b'\n'
 }
 
 fn tell_counts(lines: &mut Lines, plan: &Plan, cert: &[u8]) {
     let mut count = 0u64;
     for byte in cert {
-        count = count.saturating_add(u64::from(*byte == b'\n'));
+        count = count.saturating_add(u64::from(is_line_feed(byte)));
     }
     begin(lines);
     lines.words("the plan has");

@@ -120,7 +120,9 @@ fn pass_on<O: Output>(
     let report = str::from_utf8(report).unwrap_or("");
     let mut text = above;
     for (k, line) in report.trim_end().split('\n').enumerate() {
-        push_line(&mut text, alloc, subject, report, k, line);
+        text.push(line);
+        text.push("\n");
+        text.push_made(below(alloc, subject, report, k, line));
         if BLOCK <= text.len() || !text.is_whole() {
             write_block(mem::replace(&mut text, Text::new(alloc)), out)?;
         }
@@ -133,46 +135,31 @@ fn write_block<O: Output>(text: Text, out: &mut O) -> Result<(), RunError> {
     write_report(out, text.as_bytes())
 }
 
-// A line of the report, by its number, and what is said below it.
-fn push_line(
-    text: &mut Text,
+// What is said below a line of the report, by its number.
+fn below(
     alloc: Global,
     subject: Subject<'_>,
     report: &str,
     k: usize,
     line: &str,
-) {
-    text.push(line);
-    text.push("\n");
-    text.push_made(match subject {
+) -> Result<String, AllocError> {
+    match subject {
         Subject::Check(plan, most) => below_check(alloc, plan, report, k, line, most),
         Subject::Answer(plan, proofs) => below_answer(alloc, plan, proofs, line),
-        Subject::Capture(plan, heard) => below_heard(alloc, plan, heard.get(k), line),
-        Subject::Rehearsal(rehearsed) => below_rehearsed(alloc, rehearsed, line),
-    });
-}
-
-// Below the line of a transaction. The last line is of none.
-fn below_heard(
-    alloc: Global,
-    plan: &Plan,
-    heard: Option<&Heard>,
-    line: &str,
-) -> Result<String, AllocError> {
-    match heard {
-        Some(heard) => below_transaction(alloc, plan, heard, line.ends_with(" unexplained")),
-        None => Ok(String::new(alloc)),
-    }
-}
-
-fn below_rehearsed(
-    alloc: Global,
-    rehearsed: Rehearsed<'_>,
-    line: &str,
-) -> Result<String, AllocError> {
-    let plan = rehearsed.plan;
-    match line.strip_prefix("wire ") {
-        Some(wire) => below_wire(alloc, plan, rehearsed.starters, rehearsed.fill, wire),
-        None => below_answer(alloc, plan, rehearsed.proofs, line),
+        Subject::Capture(plan, heard) => match heard.get(k) {
+            Some(heard) => below_transaction(alloc, plan, heard, line.ends_with(" unexplained")),
+            None => Ok(String::new(alloc)),
+        },
+        Subject::Rehearsal(
+            Rehearsed {
+                plan,
+                proofs,
+                starters,
+                fill,
+            },
+        ) => match line.strip_prefix("wire ") {
+            Some(wire) => below_wire(alloc, plan, starters, fill, wire),
+            None => below_answer(alloc, plan, proofs, line),
+        },
     }
 }
