@@ -181,7 +181,9 @@ impl Both<'_> {
     fn pass_reads(&mut self) -> bool {
         for _ in 0..BYTES {
             for _ in 0..BITS {
-                self.pass(Item::Heard(false));
+                if !self.pass(Item::Heard(false)) {
+                    return false;
+                }
             }
             let mut ended = *self;
             if ended.pass(Item::Sent(true)) {
