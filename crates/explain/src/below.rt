@@ -1,11 +1,13 @@
-// Lines below a line of a report.
+// Lines below a line of a report: each begins with four spaces, and one that would be too long is broken between words.
 
-use std::alloc::{AllocError, Global};
+use growing_text::{COLUMNS, Lines, Text};
+use std::alloc::AllocError;
 
-/// How many columns a line has at most.
-const COLUMNS: usize = 80;
+// What stands before the space of the first word of a line, and the same with the columns of a title, of which there are at
+// most 24.
+const MARGIN: &str = "   ";
 
-const MARGIN: &str = "    ";
+const WIDE_MARGIN: &str = "                           ";
 
 // How many words at the beginning of a row are never left out: START, address, direction and acknowledge.
 const KEPT: usize = 4;
@@ -13,111 +15,96 @@ const KEPT: usize = 4;
 // How many columns these and what stands for the words that are left out have at most.
 const KEPT_COLUMNS: usize = 20;
 
-/// Lines for people. Each begins with four spaces, and one that would be too long is broken between words.
-#[derive(Drop)]
-pub(crate) struct Below {
-    text: String,
+/// Begins a line.
+pub(crate) fn begin(lines: &mut Lines) {
+    lines.begin(MARGIN, MARGIN);
 }
 
-impl Below {
-    /// No line yet.
-    pub(crate) fn new(alloc: Global) -> Below {
-        Below {
-            text: String::new(alloc),
-        }
+/// Begins a line with a title. The words of the line stand in the columns after so many; a title for which these do not
+/// suffice has a line of its own.
+pub(crate) fn begin_titled(lines: &mut Lines, title: &str, columns: usize) {
+    let margin = WIDE_MARGIN
+        .get(..columns.saturating_add(MARGIN.len()))
+        .unwrap_or(WIDE_MARGIN);
+    lines.begin(MARGIN, margin);
+    lines.word(title);
+    if columns <= title.len() {
+        lines.end();
+        lines.begin(margin, margin);
     }
-
-    /// These words, on as many lines as they need.
-    pub(crate) fn say(&mut self, words: &str) -> Result<(), AllocError> {
-        self.hang("", 0, words)
+    for _ in title.len().saturating_add(1)..columns {
+        lines.word("");
     }
+}
 
-    /// These words in the columns after so many, with a title before them on the first line.
-    pub(crate) fn hang(
-        &mut self,
-        title: &str,
-        columns: usize,
-        words: &str,
-    ) -> Result<(), AllocError> {
-        let room = room_after(columns);
-        self.begin(title, columns)?;
-        let mut left = room;
-        for (k, word) in words.split(' ').enumerate() {
-            if k != 0 && word.len() < left {
-                self.text.push(' ')?;
-                left = left.saturating_sub(1);
-            } else if k != 0 {
-                self.text.push('\n')?;
-                self.begin("", columns)?;
-                left = room;
-            }
-            self.text.push_str(word)?;
-            left = left.saturating_sub(word.len());
-        }
-        self.text.push('\n')
+/// These words, on as many lines as they need.
+pub(crate) fn say(lines: &mut Lines, words: &str) {
+    begin(lines);
+    lines.words(words);
+    lines.end();
+}
+
+/// The same with words that were gathered.
+pub(crate) fn say_all(lines: &mut Lines, words: Text) {
+    begin(lines);
+    lines.words_made(words.finish());
+    lines.end();
+}
+
+/// A title, and in the columns after so many these words on one line: where there is no room for them, `..` stands for those
+/// after the first few.
+pub(crate) fn row(
+    lines: &mut Lines,
+    title: &str,
+    columns: usize,
+    words: Result<String, AllocError>,
+) {
+    begin_titled(lines, title, columns);
+    match words {
+        Ok(words) => push_row(lines, words.as_str(), room_after(columns)),
+        Err(error) => lines.words_made(Err(error)),
     }
+    lines.end();
+}
 
-    /// A title, and in the columns after so many these words on one line: where there is no room for them, `..` stands for
-    /// those after the first few.
-    pub(crate) fn row(
-        &mut self,
-        title: &str,
-        columns: usize,
-        words: &str,
-    ) -> Result<(), AllocError> {
-        let room = room_after(columns);
-        self.begin(title, columns)?;
-        let mut left_out = 0;
-        if words.len() > room {
-            left_out = words
-                .len()
-                .saturating_add(KEPT_COLUMNS)
-                .saturating_sub(room);
-        }
-        let mut at = 0usize;
-        for (k, word) in words.split(' ').enumerate() {
-            if k < KEPT || left_out <= at {
-                self.word(k, word)?;
-            } else if k == KEPT {
-                self.word(k, "..")?;
-            }
-            at = at.saturating_add(word.len()).saturating_add(1);
-        }
-        self.text.push('\n')
+fn push_row(lines: &mut Lines, words: &str, room: usize) {
+    let mut left_out = 0;
+    if words.len() > room {
+        left_out = words
+            .len()
+            .saturating_add(KEPT_COLUMNS)
+            .saturating_sub(room);
     }
-
-    // A word, after a space where it is not the first.
-    fn word(&mut self, k: usize, word: &str) -> Result<(), AllocError> {
-        if k != 0 {
-            self.text.push(' ')?;
+    let mut at = 0usize;
+    for (k, word) in words.split(' ').enumerate() {
+        if k < KEPT || left_out <= at {
+            lines.word(word);
+        } else if k == KEPT {
+            lines.word("..");
         }
-        self.text.push_str(word)
-    }
-
-    // The margin, and the title with spaces up to so many columns. A title that is longer has a line of its own.
-    fn begin(&mut self, title: &str, columns: usize) -> Result<(), AllocError> {
-        self.text.push_str(MARGIN)?;
-        self.text.push_str(title)?;
-        let mut filled = title.len();
-        if columns < filled.saturating_add(1) && filled != 0 {
-            self.text.push('\n')?;
-            self.text.push_str(MARGIN)?;
-            filled = 0;
-        }
-        for _ in filled..columns {
-            self.text.push(' ')?;
-        }
-        Ok(())
-    }
-
-    /// All lines.
-    pub(crate) fn finish(self) -> String {
-        let Below { text } = self;
-        text
+        at = at.saturating_add(word.len()).saturating_add(1);
     }
 }
 
 /// How many columns are left on a line after the margin and so many more.
 pub(crate) fn room_after(columns: usize) -> usize {
-    COLUMNS.saturating_sub(MARGIN.len()).saturating_sub(columns)
+    COLUMNS
+        .saturating_sub(MARGIN.len())
+        .saturating_sub(1)
+        .saturating_sub(columns)
+}
+
+/// Spaces up to so many bytes.
+pub(crate) fn pad(text: &mut Text, columns: usize) {
+    for _ in text.len()..columns {
+        text.push(" ");
+    }
+}
+
+/// Adds a part in the columns after so many, if it says anything.
+pub(crate) fn put(text: &mut Text, columns: usize, part: &str) {
+    if !part.is_empty() {
+        pad(text, columns);
+        text.push(part);
+    }
 }

@@ -1,10 +1,10 @@
 // Below the wire of a rehearsal.
 
-use crate::below::{Below, room_after};
-use crate::cells::{Cell, cells_of, pad};
-use crate::sending::after;
+use crate::below::{begin_titled, pad, room_after};
+use crate::cells::{Cell, cells_of};
+use crate::sending::pass;
 use crate::wires::items_of;
-use crate::words::known;
+use growing_text::{Lines, Text};
 use message_tree::{Bit, Item};
 use places::{Offered, Place};
 use plan_core::Plan;
@@ -24,113 +24,74 @@ pub fn below_wire(
     wire: &str,
 ) -> Result<String, AllocError> {
     let wire = items_of(alloc, wire)?;
-    below_items(alloc, plan, starters, fill, wire.as_slice())
+    let mut rows = rows_of(alloc, plan, starters)?;
+    below_rows(alloc, wire.as_slice(), fill, rows.as_mut_slice())
 }
 
-fn below_items(
-    alloc: Global,
-    plan: &Plan,
-    starters: &str,
-    fill: bool,
-    wire: &[Item],
-) -> Result<String, AllocError> {
-    let mut rows = Vec::new(alloc);
-    for label in starters.split(',') {
-        if let Some(p) = plan.find(label) {
-            rows.push(row_of(alloc, plan, p, label, fill, wire)?)?;
-        }
-    }
-    below_rows(alloc, wire, rows.as_slice())
-}
-
-fn below_rows(alloc: Global, wire: &[Item], rows: &[Row<'_>]) -> Result<String, AllocError> {
-    let mut below = Below::new(alloc);
-    push_blocks(alloc, &mut below, wire, rows)?;
-    Ok(below.finish())
-}
-
-// What a starter puts in each slot up to its end, as symbols.
-#[derive(Drop)]
+// A starter, on its way along the wire.
+#[derive(Clone, Copy)]
 struct Row<'a> {
     label: &'a str,
-    symbols: String,
-    // the slot in which it loses
+    place: Place<'a>,
+    // the slot in which it has lost
     lost: Option<usize>,
 }
 
-fn row_of<'a>(
+fn rows_of<'a>(
     alloc: Global,
-    plan: &Plan,
-    p: u32,
-    label: &'a str,
-    fill: bool,
-    wire: &[Item],
-) -> Result<Row<'a>, AllocError> {
-    let mut symbols = String::new(alloc);
-    let mut lost = None;
-    if p < plan.participants() {
-        lost = push_symbols(&mut symbols, Place::start(plan.sends(p)), fill, wire)?;
-    }
-    Ok(Row {
-        label,
-        symbols,
-        lost,
-    })
-}
-
-// The symbols, and the slot in which the starter loses.
-fn push_symbols(
-    symbols: &mut String,
-    start: Place<'_>,
-    fill: bool,
-    wire: &[Item],
-) -> Result<Option<usize>, AllocError> {
-    let mut place = start;
-    for (slot, item) in wire.iter().enumerate() {
-        let put = put_for(place.offered(), fill);
-        symbols.push(put.map_or('.', |it| it.symbol()))?;
-        match after(&place, *item) {
-            Some(next) if put.is_none_or(|it| it == *item) => place = next,
-            _ => return Ok(Some(slot)),
+    plan: &'a Plan,
+    starters: &'a str,
+) -> Result<Vec<Row<'a>>, AllocError> {
+    let mut rows = Vec::new(alloc);
+    for label in starters.split(',') {
+        if let Some(p) = plan.find(label) {
+            rows.push(Row {
+                label,
+                place: Place::start(plan.sends(p)),
+                lost: None,
+            })?;
         }
     }
-    Ok(None)
-}
-
-// What is put where this is offered, and None where the starter listens.
-fn put_for(offered: Offered, fill: bool) -> Option<Item> {
-    match offered {
-        Offered::Bit(Bit::Zero) => Some(Item::Sent(false)),
-        Offered::Bit(Bit::One) => Some(Item::Sent(true)),
-        Offered::Bit(Bit::Either) => Some(Item::Sent(fill)),
-        Offered::Again => Some(Item::Again),
-        Offered::Stop => Some(Item::Stop),
-        Offered::Claim => Some(Item::Claim),
-        Offered::Listen | Offered::Nothing => None,
-    }
+    Ok(rows)
 }
 
 // The blocks of the wire, one below the other.
-fn push_blocks(
+fn below_rows(
     alloc: Global,
-    below: &mut Below,
     wire: &[Item],
-    rows: &[Row<'_>],
-) -> Result<(), AllocError> {
-    let longest = rows.iter().map(|it| it.label.len()).max().unwrap_or(0);
-    let columns = longest.saturating_add(2).clamp(6, LABELS);
+    fill: bool,
+    rows: &mut [Row<'_>],
+) -> Result<String, AllocError> {
     let cells = cells_of(alloc, wire)?;
+    let columns = columns_for(rows);
+    let mut lines = Lines::new(alloc);
     let mut rest = cells.as_slice();
     for _ in 0..cells.len() {
         if rest.is_empty() {
             break;
         }
-        let count = fitting(rest, room_after(columns)).max(1);
-        let (block, after) = rest.split_at(count.min(rest.len()));
-        push_block(alloc, below, columns, wire, block, rows)?;
+        let count = fitting(rest, room_after(columns)).max(1).min(rest.len());
+        let (block, after) = rest.split_at(count);
+        tell_slots(alloc, &mut lines, columns, block);
+        tell_bytes(alloc, &mut lines, columns, wire, block);
+        tell_wire(alloc, &mut lines, columns, wire, block);
+        for row in rows.iter_mut() {
+            if row.lost.is_none() {
+                row.tell(alloc, &mut lines, columns, wire, fill, block);
+                row.tell_end(&mut lines, after.is_empty());
+            }
+        }
         rest = after;
     }
-    Ok(())
+    lines.finish()
+}
+
+fn columns_for(rows: &[Row<'_>]) -> usize {
+    let mut longest = 0usize;
+    for row in rows {
+        longest = longest.max(row.label.len());
+    }
+    longest.saturating_add(2).clamp(6, LABELS)
 }
 
 // How many of the cells fit into so many columns.
@@ -147,150 +108,110 @@ fn fitting(cells: &[Cell], room: usize) -> usize {
     count
 }
 
-fn push_block(
-    alloc: Global,
-    below: &mut Below,
-    columns: usize,
-    wire: &[Item],
-    block: &[Cell],
-    rows: &[Row<'_>],
-) -> Result<(), AllocError> {
-    push_slots(alloc, below, columns, block)?;
-    push_bytes(alloc, below, columns, wire, block)?;
-    push_wire(alloc, below, columns, wire, block)?;
-    let first = block.first().map_or(0, |it| it.from);
-    let is_last = block.last().is_some_and(|it| wire.len() <= it.end());
-    for row in rows {
-        if row.lost.is_none_or(|slot| first <= slot) {
-            push_row(alloc, below, columns, block, row, is_last)?;
+fn tell_slots(alloc: Global, lines: &mut Lines, columns: usize, block: &[Cell]) {
+    let mut line = Text::new(alloc);
+    let mut column = 0usize;
+    for cell in block {
+        if cell.is_byte() {
+            pad(&mut line, column);
+            line.push_number(cell.from as u64);
+        }
+        column = column.saturating_add(cell.size).saturating_add(1);
+    }
+    begin_titled(lines, "slot", columns);
+    lines.words_made(line.finish());
+    lines.end();
+}
+
+fn tell_bytes(alloc: Global, lines: &mut Lines, columns: usize, wire: &[Item], block: &[Cell]) {
+    let mut line = Text::new(alloc);
+    let mut column = 0usize;
+    for cell in block {
+        cell.push_to(alloc, &mut line, column, wire);
+        column = column.saturating_add(cell.size).saturating_add(1);
+    }
+    begin_titled(lines, "byte", columns);
+    lines.words_made(line.finish());
+    lines.end();
+}
+
+fn tell_wire(alloc: Global, lines: &mut Lines, columns: usize, wire: &[Item], block: &[Cell]) {
+    let mut line = Text::new(alloc);
+    let mut column = 0usize;
+    for cell in block {
+        pad(&mut line, column);
+        for item in cell.items(wire) {
+            line.push_char(item.symbol());
+        }
+        column = column.saturating_add(cell.size).saturating_add(1);
+    }
+    begin_titled(lines, "wire", columns);
+    lines.words_made(line.finish());
+    lines.end();
+}
+
+impl Row<'_> {
+    // Begins the line of what the starter puts in the slots of the block, up to the one in which it loses.
+    fn tell(
+        &mut self,
+        alloc: Global,
+        lines: &mut Lines,
+        columns: usize,
+        wire: &[Item],
+        fill: bool,
+        block: &[Cell],
+    ) {
+        let mut line = Text::new(alloc);
+        let mut column = 0usize;
+        for cell in block {
+            if self.lost.is_none() {
+                pad(&mut line, column);
+                self.push_to(&mut line, cell.from, cell.items(wire), fill);
+            }
+            column = column.saturating_add(cell.size).saturating_add(1);
+        }
+        begin_titled(lines, self.label, columns);
+        lines.words_made(line.finish());
+    }
+
+    // What it puts while the wire shows these items from a slot on.
+    fn push_to(&mut self, line: &mut Text, from: usize, items: &[Item], fill: bool) {
+        let mut slot = from;
+        for item in items {
+            let put = put_for(self.place.offered(), fill);
+            match put {
+                Some(put) => line.push_char(put.symbol()),
+                None => line.push("."),
+            }
+            if !pass(&mut self.place, *item) || put.unwrap_or(*item) != *item {
+                self.lost = Some(slot);
+                return;
+            }
+            slot = slot.saturating_add(1);
         }
     }
-    Ok(())
-}
 
-fn push_slots(
-    alloc: Global,
-    below: &mut Below,
-    columns: usize,
-    block: &[Cell],
-) -> Result<(), AllocError> {
-    let mut line = String::new(alloc);
-    for cell in block {
-        push_slot(alloc, &mut line, cell)?;
-    }
-    below.hang("slot", columns, line.as_str().trim_end())
-}
-
-fn push_slot(alloc: Global, line: &mut String, cell: &Cell) -> Result<(), AllocError> {
-    if !cell.is_byte() {
-        return pad(line, "", cell.size);
-    }
-    let number = format!(in alloc; "{}", cell.from)?;
-    pad(line, number.as_str(), cell.size)
-}
-
-fn push_bytes(
-    alloc: Global,
-    below: &mut Below,
-    columns: usize,
-    wire: &[Item],
-    block: &[Cell],
-) -> Result<(), AllocError> {
-    let mut line = String::new(alloc);
-    for cell in block {
-        push_words(alloc, &mut line, wire, cell)?;
-    }
-    below.hang("byte", columns, line.as_str().trim_end())
-}
-
-fn push_words(
-    alloc: Global,
-    line: &mut String,
-    wire: &[Item],
-    cell: &Cell,
-) -> Result<(), AllocError> {
-    let words = cell.words(alloc, wire)?;
-    pad(line, words.as_str(), cell.size)
-}
-
-fn push_wire(
-    alloc: Global,
-    below: &mut Below,
-    columns: usize,
-    wire: &[Item],
-    block: &[Cell],
-) -> Result<(), AllocError> {
-    let symbols = wire_symbols(alloc, wire)?;
-    push_symbols_of(alloc, below, columns, symbols.as_str(), block)
-}
-
-fn wire_symbols(alloc: Global, wire: &[Item]) -> Result<String, AllocError> {
-    let mut symbols = String::new(alloc);
-    for item in wire {
-        symbols.push(item.symbol())?;
-    }
-    Ok(symbols)
-}
-
-fn push_symbols_of(
-    alloc: Global,
-    below: &mut Below,
-    columns: usize,
-    symbols: &str,
-    block: &[Cell],
-) -> Result<(), AllocError> {
-    let line = symbols_line(alloc, symbols, block)?;
-    below.hang("wire", columns, line.as_str().trim_end())
-}
-
-fn symbols_line(alloc: Global, symbols: &str, block: &[Cell]) -> Result<String, AllocError> {
-    let mut line = String::new(alloc);
-    for cell in block {
-        let shown = symbols
-            .get(cell.from..cell.end().min(symbols.len()))
-            .unwrap_or("");
-        pad(&mut line, shown, cell.size)?;
-    }
-    Ok(line)
-}
-
-fn push_row(
-    alloc: Global,
-    below: &mut Below,
-    columns: usize,
-    block: &[Cell],
-    row: &Row<'_>,
-    is_last: bool,
-) -> Result<(), AllocError> {
-    let line = symbols_line(alloc, row.symbols.as_str(), block)?;
-    let shown = line.as_str().trim_end();
-    let end = block.last().map_or(0, |it| it.end());
-    match row.lost {
-        Some(slot) if slot < end => push_lost(alloc, below, columns, row.label, shown, slot),
-        None if is_last => push_won(alloc, below, columns, row.label, shown),
-        _ => below.hang(row.label, columns, shown),
+    // Ends the line.
+    fn tell_end(&self, lines: &mut Lines, is_last: bool) {
+        if let Some(slot) = self.lost {
+            lines.words(" lost in slot");
+            lines.number(slot as u64, "");
+        } else if is_last {
+            lines.words(" won");
+        }
+        lines.end();
     }
 }
 
-fn push_lost(
-    alloc: Global,
-    below: &mut Below,
-    columns: usize,
-    label: &str,
-    shown: &str,
-    slot: usize,
-) -> Result<(), AllocError> {
-    let words = format!(in alloc; "{shown}  lost in slot {slot}")?;
-    below.hang(label, columns, words.as_str())
-}
-
-fn push_won(
-    alloc: Global,
-    below: &mut Below,
-    columns: usize,
-    label: &str,
-    shown: &str,
-) -> Result<(), AllocError> {
-    let words = format!(in alloc; "{shown}  won")?;
-    below.hang(label, columns, words.as_str())
+// What is put where this is offered, and None where the starter listens.
+fn put_for(offered: Offered, fill: bool) -> Option<Item> {
+    match offered {
+        Offered::Bit(Bit::Zero) => Some(Item::Sent(false)),
+        Offered::Bit(Bit::One) => Some(Item::Sent(true)),
+        Offered::Bit(Bit::Either) => Some(Item::Sent(fill)),
+        Offered::Again => Some(Item::Again),
+        Offered::Stop => Some(Item::Stop),
+        Offered::Claim => Some(Item::Claim),
+        Offered::Listen | Offered::Nothing => None,
+    }
 }

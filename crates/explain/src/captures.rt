@@ -1,15 +1,17 @@
 // Below the lines of transactions.
 
-use crate::below::Below;
+use crate::below::begin;
 use crate::hearing::Heard;
 use crate::meeting::label_of;
-use crate::sending::after;
+use crate::sending::pass;
 use crate::words::Words;
 use capture_check::{Mark, Until};
+use growing_text::Lines;
 use message_tree::{Bit, Item};
 use places::{Offered, Place};
 use plan_core::Plan;
 use std::alloc::{AllocError, Global};
+use std::mem;
 
 // How many participants are named below a transaction that nobody explains.
 const NEAREST: usize = 3;
@@ -22,74 +24,49 @@ pub fn below_transaction(
     heard: &Heard,
     is_unexplained: bool,
 ) -> Result<String, AllocError> {
-    let mut below = Below::new(alloc);
-    push_transaction(alloc, &mut below, plan, heard, is_unexplained)?;
-    Ok(below.finish())
-}
-
-fn push_transaction(
-    alloc: Global,
-    below: &mut Below,
-    plan: &Plan,
-    heard: &Heard,
-    is_unexplained: bool,
-) -> Result<(), AllocError> {
     let marks = heard.transaction.marks.as_slice();
-    push_words(alloc, below, marks)?;
+    let mut lines = Lines::new(alloc);
+    tell_bytes(alloc, &mut lines, marks);
     if let Until::Stopped(_) = heard.transaction.until {
-        push_glitch(alloc, below, marks, heard.following)?;
+        tell_glitch(&mut lines, marks, heard.following);
         if is_unexplained {
-            push_nearest(alloc, below, plan, marks)?;
+            tell_nearest(alloc, &mut lines, plan, marks);
         }
     }
-    Ok(())
+    lines.finish()
 }
 
-fn push_words(alloc: Global, below: &mut Below, marks: &[Mark]) -> Result<(), AllocError> {
-    let words = words_of(alloc, marks)?;
-    below.hang("", 0, words.as_str())
-}
-
-fn words_of(alloc: Global, marks: &[Mark]) -> Result<String, AllocError> {
-    let mut words = Words::new(alloc)?;
+fn tell_bytes(alloc: Global, lines: &mut Lines, marks: &[Mark]) {
+    let mut words = Words::new(alloc);
     for mark in marks {
-        words.mark(*mark)?;
+        words.mark(*mark);
     }
-    words.finish()
+    begin(lines);
+    lines.words_made(words.finish());
+    lines.end();
 }
 
 // A STOP in the middle of a byte, and one after which so many bits go on as if there had been none.
-fn push_glitch(
-    alloc: Global,
-    below: &mut Below,
-    marks: &[Mark],
-    following: u64,
-) -> Result<(), AllocError> {
+fn tell_glitch(lines: &mut Lines, marks: &[Mark], following: u64) {
     let bits = last_bits(marks);
     if bits != 0 {
-        push_cut(alloc, below, bits)?;
+        begin(lines);
+        lines.words("the STOP comes after");
+        lines.number(bits, "");
+        lines.words("of a byte's nine bits: is it a glitch?");
+        lines.end();
     }
     if following != 0 {
-        push_following(alloc, below, following)?;
+        begin(lines);
+        lines.number(following, "");
+        lines.words("bits follow on a free bus: is the STOP a glitch?");
+        lines.end();
     }
-    Ok(())
-}
-
-fn push_cut(alloc: Global, below: &mut Below, bits: usize) -> Result<(), AllocError> {
-    let words = format!(in alloc;
-        "the STOP comes after {bits} of a byte's nine bits: is it a glitch?"
-    )?;
-    below.say(words.as_str())
-}
-
-fn push_following(alloc: Global, below: &mut Below, following: u64) -> Result<(), AllocError> {
-    let words = format!(in alloc; "{following} bits follow on a free bus: is the STOP a glitch?")?;
-    below.say(words.as_str())
 }
 
 // How many bits of a byte that is not whole come before the STOP at the end.
-fn last_bits(marks: &[Mark]) -> usize {
-    let mut bits = 0usize;
+fn last_bits(marks: &[Mark]) -> u64 {
+    let mut bits = 0u64;
     for mark in marks {
         match mark {
             Mark::Level(_) => bits = bits.saturating_add(1) % 9,
@@ -108,52 +85,43 @@ struct Leaves {
     offered: Offered,
 }
 
-fn push_nearest(
-    alloc: Global,
-    below: &mut Below,
-    plan: &Plan,
-    marks: &[Mark],
-) -> Result<(), AllocError> {
-    for near in nearest(alloc, plan, marks)?.iter() {
-        push_leaves(alloc, below, plan, marks, *near)?;
+fn tell_nearest(alloc: Global, lines: &mut Lines, plan: &Plan, marks: &[Mark]) {
+    for near in nearest(plan, marks).iter() {
+        if let Some(near) = near {
+            tell_leaves(alloc, lines, plan, marks.get(near.slot), *near);
+        }
     }
-    Ok(())
 }
 
 // The participants that go along furthest, in this order, and of those that leave in one slot the first.
-fn nearest(alloc: Global, plan: &Plan, marks: &[Mark]) -> Result<Vec<Leaves>, AllocError> {
-    let mut nearest: Vec<Leaves> = Vec::new(alloc);
-    for p in 0..plan.participants() {
-        let place = Place::start(plan.sends(p));
-        let (slot, offered) = leaving(place, marks);
+fn nearest(plan: &Plan, marks: &[Mark]) -> [Option<Leaves>; NEAREST] {
+    let mut nearest = [None; NEAREST];
+    for participant in 0..plan.participants() {
+        let (slot, offered) = leaving(Place::start(plan.sends(participant)), marks);
         let new = Leaves {
-            participant: p,
+            participant,
             slot,
             offered,
         };
-        insert(&mut nearest, new)?;
+        insert(&mut nearest, new);
     }
-    Ok(nearest)
+    nearest
 }
 
-fn insert(nearest: &mut Vec<Leaves>, new: Leaves) -> Result<(), AllocError> {
-    let before = count_not_before(nearest.as_slice(), new.slot);
-    if before < NEAREST {
-        nearest.insert(before.min(nearest.len()), new)?;
-        nearest.truncate(NEAREST);
-    }
-    Ok(())
-}
-
-// How many leave in this slot or a later one.
-fn count_not_before(nearest: &[Leaves], slot: usize) -> usize {
-    let mut count = 0usize;
+// Puts a participant behind those that go along as far. Who has no place then is forgotten.
+fn insert(nearest: &mut [Option<Leaves>], new: Leaves) {
+    let mut next = Some(new);
+    let mut is_placed = false;
     for near in nearest {
-        if slot <= near.slot {
-            count = count.saturating_add(1);
+        if let Some(other) = near {
+            is_placed = is_placed || other.slot < new.slot;
+        } else {
+            is_placed = true;
+        }
+        if is_placed {
+            mem::swap(near, &mut next);
         }
     }
-    count
 }
 
 // In which slot somebody leaves these marks, and what it does there.
@@ -161,9 +129,8 @@ fn leaving(start: Place<'_>, marks: &[Mark]) -> (usize, Offered) {
     let mut place = start;
     for (slot, mark) in marks.iter().enumerate() {
         let offered = place.offered();
-        match after(&place, item_for(offered, *mark)) {
-            Some(next) => place = next,
-            None => return (slot, offered),
+        if !pass(&mut place, item_for(offered, *mark)) {
+            return (slot, offered);
         }
     }
     (marks.len(), place.offered())
@@ -179,24 +146,15 @@ fn item_for(offered: Offered, mark: Mark) -> Item {
     }
 }
 
-fn push_leaves(
-    alloc: Global,
-    below: &mut Below,
-    plan: &Plan,
-    marks: &[Mark],
-    near: Leaves,
-) -> Result<(), AllocError> {
-    let mut words = label_of(alloc, plan, near.participant)?;
-    push_leaving(&mut words, near, marks.get(near.slot))?;
-    below.say(words.as_str())
-}
-
-fn push_leaving(words: &mut String, near: Leaves, mark: Option<&Mark>) -> Result<(), AllocError> {
-    let slot = near.slot;
-    write!(words, " leaves at slot {slot}: ")?;
-    words.push_str(does(near.offered))?;
-    words.push_str(" there, the wire has ")?;
-    words.push_str(shown(mark))
+fn tell_leaves(alloc: Global, lines: &mut Lines, plan: &Plan, mark: Option<&Mark>, near: Leaves) {
+    begin(lines);
+    lines.words_made(label_of(alloc, plan, near.participant));
+    lines.words("leaves at slot");
+    lines.number(near.slot as u64, ":");
+    lines.words(does(near.offered));
+    lines.words("there, the wire has");
+    lines.words(shown(mark));
+    lines.end();
 }
 
 fn does(offered: Offered) -> &'static str {

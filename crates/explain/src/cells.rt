@@ -1,13 +1,15 @@
 // The parts of a wire that stand side by side: bytes, acknowledges, and single slots.
 
+use crate::below::{pad, put};
 use crate::words::Words;
+use growing_text::Text;
 use message_tree::Item;
 use std::alloc::{AllocError, Global};
 
 // How many bits a byte has without its acknowledge.
 const BITS: usize = 8;
 
-/// Slots of a wire that belong together, and whether they are those of an address with its direction.
+/// Slots of a wire that belong together.
 #[derive(Clone, Copy)]
 pub(crate) struct Cell {
     pub(crate) from: usize,
@@ -15,13 +17,12 @@ pub(crate) struct Cell {
     part: Part,
 }
 
-// What a cell is.
-#[derive(Clone, Copy, PartialEq, Eq)]
+// What a cell is: bits of an address with its direction, those of another byte, or one slot, and what is said of it.
+#[derive(Clone, Copy)]
 enum Part {
     Header,
     Data,
-    Acknowledge,
-    Mark,
+    Slot(&'static str),
 }
 
 impl Cell {
@@ -32,101 +33,72 @@ impl Cell {
 
     /// Whether these are the bits of a byte.
     pub(crate) fn is_byte(&self) -> bool {
-        self.part == Part::Header || self.part == Part::Data
+        !matches!(self.part, Part::Slot(_))
     }
 
-    /// What the bytes of the wire have there.
-    pub(crate) fn words(&self, alloc: Global, wire: &[Item]) -> Result<String, AllocError> {
-        let items = wire
-            .get(self.from..self.end().min(wire.len()))
-            .unwrap_or(&[]);
-        let mut shown = String::new(alloc);
+    /// The items of the wire there.
+    pub(crate) fn items<'a>(&self, wire: &'a [Item]) -> &'a [Item] {
+        wire.get(self.from..self.end().min(wire.len()))
+            .unwrap_or(&[])
+    }
+
+    /// Adds what the bytes of the wire have there, in the columns after so many.
+    pub(crate) fn push_to(&self, alloc: Global, line: &mut Text, column: usize, wire: &[Item]) {
         match self.part {
-            Part::Acknowledge => shown.push(acknowledge(items))?,
-            Part::Mark => shown.push(mark(items))?,
-            Part::Header => push_words(alloc, &mut shown, items, true)?,
-            Part::Data => push_words(alloc, &mut shown, items, false)?,
+            Part::Header => push_byte(alloc, line, column, self.items(wire), true),
+            Part::Data => push_byte(alloc, line, column, self.items(wire), false),
+            Part::Slot(word) => put(line, column, word),
         }
-        Ok(shown)
     }
 }
 
-fn acknowledge(items: &[Item]) -> char {
-    match items.first() {
-        Some(Item::Sent(false)) | Some(Item::Heard(false)) => 'A',
-        _ => 'N',
-    }
-}
-
-fn mark(items: &[Item]) -> char {
-    match items.first() {
-        Some(Item::Again) => 'S',
-        Some(Item::Stop) => 'P',
-        _ => ' ',
-    }
-}
-
-fn push_words(
-    alloc: Global,
-    shown: &mut String,
-    items: &[Item],
-    is_header: bool,
-) -> Result<(), AllocError> {
+fn push_byte(alloc: Global, line: &mut Text, column: usize, items: &[Item], is_header: bool) {
     let mut words = Words::of_byte(alloc, is_header);
     for item in items {
-        words.item(*item)?;
+        words.item(*item);
     }
-    let words = words.finish()?;
-    shown.push_str(words.as_str().trim_start())
+    pad(line, column);
+    line.push_made(words.finish());
 }
 
 /// The cells of a wire, in its order.
 pub(crate) fn cells_of(alloc: Global, wire: &[Item]) -> Result<Vec<Cell>, AllocError> {
-    let mut cells: Vec<Cell> = Vec::new(alloc);
+    let mut cells = Vec::new(alloc);
     let mut byte = Part::Header;
-    for (slot, item) in wire.iter().enumerate() {
-        match item {
-            Item::Sent(_) | Item::Heard(_) => push_bit(&mut cells, slot, &mut byte)?,
-            Item::Again => {
-                push_cell(&mut cells, slot, Part::Mark)?;
-                byte = Part::Header;
-            }
-            Item::Stop | Item::Claim => push_cell(&mut cells, slot, Part::Mark)?,
+    for (from, item) in wire.iter().enumerate() {
+        if let Some(part) = next_part(cells.last_mut(), *item, &mut byte) {
+            let size = 1;
+            cells.push(Cell { from, size, part })?;
         }
     }
     Ok(cells)
 }
 
+// What begins with the next item, and None where it belongs to the last cell. `byte` is what the next byte will be.
+fn next_part(last: Option<&mut Cell>, item: Item, byte: &mut Part) -> Option<Part> {
+    match item {
+        Item::Sent(bit) | Item::Heard(bit) => next_bit(last, bit, byte),
+        Item::Again => {
+            *byte = Part::Header;
+            Some(Part::Slot("S"))
+        }
+        Item::Stop => Some(Part::Slot("P")),
+        Item::Claim => Some(Part::Slot("")),
+    }
+}
+
 // One more bit: it belongs to the last cell where that is a byte that is not whole, acknowledges one that is, and else begins
 // one.
-fn push_bit(cells: &mut Vec<Cell>, slot: usize, byte: &mut Part) -> Result<(), AllocError> {
-    if let Some(cell) = cells.last_mut() {
-        if cell.is_byte() && cell.size < BITS {
+fn next_bit(last: Option<&mut Cell>, bit: bool, byte: &mut Part) -> Option<Part> {
+    match last {
+        Some(cell) if cell.is_byte() && cell.size < BITS => {
             cell.size = cell.size.saturating_add(1);
-            return Ok(());
+            None
         }
-        if cell.is_byte() {
+        Some(cell) if cell.is_byte() => {
             *byte = Part::Data;
-            return push_cell(cells, slot, Part::Acknowledge);
+            Some(Part::Slot(if bit { "N" } else { "A" }))
         }
+        _ => Some(*byte),
     }
-    push_cell(cells, slot, *byte)
-}
-
-fn push_cell(cells: &mut Vec<Cell>, from: usize, part: Part) -> Result<(), AllocError> {
-    cells.push(Cell {
-        from,
-        size: 1,
-        part,
-    })?;
-    Ok(())
-}
-
-/// Adds a text, spaces up to so many columns, and one more.
-pub(crate) fn pad(line: &mut String, text: &str, columns: usize) -> Result<(), AllocError> {
-    line.push_str(text)?;
-    for _ in text.len()..columns.saturating_add(1) {
-        line.push(' ')?;
-    }
-    Ok(())
 }

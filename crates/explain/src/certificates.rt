@@ -1,8 +1,9 @@
 // Below the answer to a certificate.
 
-use crate::below::Below;
-use crate::breaks::where_it_breaks;
+use crate::below::{begin, say, say_all};
+use crate::breaks::{Break, break_of};
 use crate::meeting::{Pair, label_of, pair_of};
+use growing_text::{Lines, Text};
 use plan_core::Plan;
 use std::alloc::{AllocError, Global};
 
@@ -14,85 +15,74 @@ pub fn below_answer(
     cert: &[u8],
     line: &str,
 ) -> Result<String, AllocError> {
-    let mut below = Below::new(alloc);
+    let mut lines = Lines::new(alloc);
     if line.starts_with("wrong") {
-        push_wrong(alloc, &mut below, plan, cert, line)?;
-    }
-    Ok(below.finish())
-}
-
-fn push_wrong(
-    alloc: Global,
-    below: &mut Below,
-    plan: &Plan,
-    cert: &[u8],
-    line: &str,
-) -> Result<(), AllocError> {
-    if let Some(pair) = pair_of(plan, line) {
-        push_pair(alloc, below, plan, pair)?;
-        if let Some(proof) = proof_line(cert, pair.number) {
-            push_break(alloc, below, plan, pair, proof)?;
+        if let Some(pair) = pair_of(plan, line) {
+            tell_pair(alloc, &mut lines, plan, pair);
+            if let Some(proof) = proof_line(cert, pair.number) {
+                tell_break(&mut lines, break_of(alloc, plan, pair, proof));
+            }
         }
+        if line == "wrong C2" {
+            tell_counts(&mut lines, plan, cert);
+        }
+        say(&mut lines, AFTER_A_CHANGE);
     }
-    if line == "wrong C2" {
-        push_counts(alloc, below, plan, cert)?;
+    lines.finish()
+}
+
+const AFTER_A_CHANGE: &str = "a plan that was changed wants a new certificate: twire certify PLAN";
+
+fn tell_pair(alloc: Global, lines: &mut Lines, plan: &Plan, pair: Pair) {
+    let mut words = Text::new(alloc);
+    words.push("pair ");
+    words.push_number(u64::from(pair.number));
+    words.push(" is ");
+    words.push_made(label_of(alloc, plan, pair.first));
+    words.push(" and ");
+    words.push_made(label_of(alloc, plan, pair.second));
+    words.push(": what the certificate says of them is not so");
+    say_all(lines, words);
+}
+
+fn tell_break(lines: &mut Lines, found: Result<Option<Break>, AllocError>) {
+    begin(lines);
+    lines.words("it breaks off at");
+    match found {
+        Ok(Some(found)) => {
+            lines.word("word");
+            lines.number(u64::from(found.word), ",");
+            lines.words("in slot");
+            lines.number(u64::from(found.slot), ":");
+            lines.words(found.reason);
+        }
+        Ok(None) => lines.words("its end"),
+        Err(error) => lines.words_made(Err(error)),
     }
-    below.say("a plan that was changed wants a new certificate: twire certify PLAN")
-}
-
-fn push_pair(alloc: Global, below: &mut Below, plan: &Plan, pair: Pair) -> Result<(), AllocError> {
-    let number = pair.number;
-    let mut words = format!(in alloc; "pair {number} is ")?;
-    push_label(alloc, &mut words, plan, pair.first)?;
-    words.push_str(" and ")?;
-    push_label(alloc, &mut words, plan, pair.second)?;
-    words.push_str(": what the certificate says of them is not so")?;
-    below.say(words.as_str())
-}
-
-fn push_label(alloc: Global, words: &mut String, plan: &Plan, p: u32) -> Result<(), AllocError> {
-    let label = label_of(alloc, plan, p)?;
-    words.push_str(label.as_str())
-}
-
-fn push_break(
-    alloc: Global,
-    below: &mut Below,
-    plan: &Plan,
-    pair: Pair,
-    proof: &[u8],
-) -> Result<(), AllocError> {
-    let words = where_it_breaks(alloc, plan, pair.first, pair.second, proof)?;
-    below.say(words.as_str())
+    lines.end();
 }
 
 // The line of a pair's proof, where the text has proofs.
 fn proof_line(cert: &[u8], pair: u32) -> Option<&[u8]> {
     let rest = cert.strip_prefix(b"cert 1\npairs ")?;
-    rest.split(|byte| *byte == b'\n')
+    rest.split(is_line_feed)
         .nth((pair as usize).saturating_add(1))
 }
 
-fn push_counts(
-    alloc: Global,
-    below: &mut Below,
-    plan: &Plan,
-    cert: &[u8],
-) -> Result<(), AllocError> {
-    let pairs = plan.pair_count();
-    let lines = count_lines(cert).saturating_sub(2);
-    let words = format!(in alloc;
-        "the plan has {pairs} pairs, and the certificate has {lines} lines of proofs"
-    )?;
-    below.say(words.as_str())
+fn is_line_feed(byte: &u8) -> bool {
+    *byte == b'\n'
 }
 
-fn count_lines(text: &[u8]) -> usize {
-    let mut lines = 0usize;
-    for byte in text {
-        if *byte == b'\n' {
-            lines = lines.saturating_add(1);
-        }
+fn tell_counts(lines: &mut Lines, plan: &Plan, cert: &[u8]) {
+    let mut count = 0u64;
+    for byte in cert {
+        count = count.saturating_add(u64::from(is_line_feed(byte)));
     }
-    lines
+    begin(lines);
+    lines.words("the plan has");
+    lines.number(u64::from(plan.pair_count()), "");
+    lines.words("pairs, and the certificate has");
+    lines.number(count.saturating_sub(2), "");
+    lines.words("lines of proofs");
+    lines.end();
 }

@@ -1,7 +1,7 @@
 // The transactions of a dump, noted as it is read.
 
 use crate::pulsing::Pulses;
-use capture_check::{Listener, Transaction, Until, Watch, What};
+use capture_check::{Event, Listener, Transaction, Until, Watch, What};
 use std::alloc::{AllocError, Global};
 use vcd_read::{Probe, Reader, Sample};
 
@@ -40,16 +40,19 @@ impl Notes {
 
     /// Reads a piece of the dump, which follows those before.
     pub fn feed(&mut self, piece: &[u8]) -> Result<(), AllocError> {
-        let Some(mut dump) = self.dump.take() else {
-            return Ok(());
-        };
-        if dump.feed(piece).is_err() {
-            return Ok(());
+        if let Some(dump) = &mut self.dump {
+            if dump.feed(piece).is_ok() {
+                hear(&mut self.ear, &mut self.pulses, dump.samples());
+                dump.clear_samples();
+            } else {
+                self.dump = None;
+            }
         }
-        hear(&mut self.ear, &mut self.pulses, dump.samples())?;
-        dump.clear_samples();
-        self.dump = Some(dump);
-        Ok(())
+        if self.ear.is_whole {
+            Ok(())
+        } else {
+            Err(AllocError)
+        }
     }
 
     /// The transactions of the whole dump, in order, and how many levels were left out.
@@ -59,10 +62,10 @@ impl Notes {
             pulses,
             mut ear,
         } = self;
-        let short = match last_samples(dump) {
-            Some(samples) => hear_last(&mut ear, pulses, samples.as_slice())?,
-            None => 0,
-        };
+        let mut short = 0;
+        if let Some(samples) = last_samples(dump) {
+            short = hear_last(&mut ear, pulses, samples.as_slice());
+        }
         Ok((ear.finish()?, short))
     }
 }
@@ -75,12 +78,12 @@ fn pulses_of(alloc: Global, least: u64) -> Option<Pulses> {
     }
 }
 
-fn hear(ear: &mut Ear, pulses: &mut Option<Pulses>, samples: &[Sample]) -> Result<(), AllocError> {
+fn hear(ear: &mut Ear, pulses: &mut Option<Pulses>, samples: &[Sample]) {
     match pulses {
-        Some(pulses) => {
-            let left = pulses.feed(samples)?;
-            ear.hear(left.as_slice())
-        }
+        Some(pulses) => match pulses.feed(samples) {
+            Ok(left) => ear.hear(left.as_slice()),
+            Err(_) => ear.is_whole = false,
+        },
         None => ear.hear(samples),
     }
 }
@@ -94,18 +97,18 @@ fn last_samples(dump: Option<Reader>) -> Option<Vec<Sample>> {
 }
 
 // The last samples. It answers how many levels were left out.
-fn hear_last(ear: &mut Ear, pulses: Option<Pulses>, samples: &[Sample]) -> Result<u64, AllocError> {
+fn hear_last(ear: &mut Ear, pulses: Option<Pulses>, samples: &[Sample]) -> u64 {
     match pulses {
-        Some(pulses) => {
-            let (left, short) = pulses.end(samples)?;
-            ear.hear(left.as_slice())?;
-            Ok(short)
-        }
-        None => {
-            ear.hear(samples)?;
-            Ok(0)
-        }
+        Some(pulses) => match pulses.end(samples) {
+            Ok((left, short)) => {
+                ear.hear(left.as_slice());
+                return short;
+            }
+            Err(_) => ear.is_whole = false,
+        },
+        None => ear.hear(samples),
     }
+    0
 }
 
 // What was heard on the two lines.
@@ -116,6 +119,8 @@ struct Ear {
     listener: Listener,
     heard: Vec<Heard>,
     is_free: bool,
+    // whether there was memory for all that was heard
+    is_whole: bool,
 }
 
 impl Ear {
@@ -126,30 +131,32 @@ impl Ear {
             listener: Listener::new(),
             heard: Vec::new(alloc),
             is_free: false,
+            is_whole: true,
         }
     }
 
-    fn hear(&mut self, samples: &[Sample]) -> Result<(), AllocError> {
+    fn hear(&mut self, samples: &[Sample]) {
         for sample in samples {
-            self.sample(sample)?;
+            if let Some(event) = self.watch.next(sample) {
+                self.event(event);
+            }
         }
-        Ok(())
     }
 
-    fn sample(&mut self, sample: &Sample) -> Result<(), AllocError> {
-        let Some(event) = self.watch.next(sample) else {
-            return Ok(());
-        };
+    fn event(&mut self, event: Event) {
         match event.what {
             What::Bit(_) if self.is_free => self.count_bit(),
             What::Start => self.is_free = false,
             _ => {}
         }
-        if let Some(transaction) = self.listener.next(self.alloc, &event)? {
-            self.is_free = matches!(transaction.until, Until::Stopped(_));
-            push_heard(&mut self.heard, transaction)?;
+        match self.listener.next(self.alloc, &event) {
+            Ok(Some(transaction)) => {
+                self.is_free = matches!(transaction.until, Until::Stopped(_));
+                self.push(transaction);
+            }
+            Ok(None) => {}
+            Err(_) => self.is_whole = false,
         }
-        Ok(())
     }
 
     fn count_bit(&mut self) {
@@ -158,24 +165,30 @@ impl Ear {
         }
     }
 
+    fn push(&mut self, transaction: Transaction) {
+        let heard = Heard {
+            transaction,
+            following: 0,
+        };
+        if self.heard.push(heard).is_err() {
+            self.is_whole = false;
+        }
+    }
+
     // The last transaction has no end.
     fn finish(self) -> Result<Vec<Heard>, AllocError> {
         let Ear {
             listener,
             mut heard,
+            is_whole,
             ..
         } = self;
         if let Some(transaction) = listener.end() {
-            push_heard(&mut heard, transaction)?;
+            heard.push(Heard {
+                transaction,
+                following: 0,
+            })?;
         }
-        Ok(heard)
+        if is_whole { Ok(heard) } else { Err(AllocError) }
     }
-}
-
-fn push_heard(heard: &mut Vec<Heard>, transaction: Transaction) -> Result<(), AllocError> {
-    heard.push(Heard {
-        transaction,
-        following: 0,
-    })?;
-    Ok(())
 }

@@ -1,7 +1,5 @@
-// The line of an unsafe pair, taken apart.
+// The pair that a line of a report tells of.
 
-use crate::wires::items_of;
-use message_tree::Item;
 use plan_core::Plan;
 use std::alloc::{AllocError, Global};
 
@@ -13,43 +11,20 @@ pub(crate) struct Pair {
     pub(crate) second: u32,
 }
 
-/// Two participants and the wire after which they clash.
-#[derive(Drop)]
-pub(crate) struct Meeting {
-    pub(crate) pair: Pair,
-    pub(crate) wire: Vec<Item>,
-}
-
-/// What `pair I X Y: KIND against KIND after WIRE` says, and None for another line, and where the plan has no such pair.
-pub(crate) fn meeting_of(
-    alloc: Global,
-    plan: &Plan,
-    line: &str,
-) -> Result<Option<Meeting>, AllocError> {
-    let Some(pair) = pair_of(plan, line) else {
-        return Ok(None);
-    };
-    let symbols = line.rsplit(' ').next().unwrap_or("");
-    let wire = items_of(alloc, symbols)?;
-    Ok(Some(Meeting { pair, wire }))
-}
-
-/// The pair that a line of a report tells of by the word after `pair`, and its participants.
+/// The pair that a line of a report tells of by the word after `pair`.
 pub(crate) fn pair_of(plan: &Plan, line: &str) -> Option<Pair> {
-    let mut words = line.split(' ');
-    words.find(|word| *word == "pair")?;
-    let Ok(number) = words.next()?.parse::<u32>() else {
-        return None;
-    };
-    if plan.pair_count() <= number {
-        return None;
+    let (_, words) = line.split_once("pair ")?;
+    match words.split(' ').next()?.parse::<u32>() {
+        Ok(number) if number < plan.pair_count() => {
+            let (first, second) = plan.pair(number);
+            Some(Pair {
+                number,
+                first,
+                second,
+            })
+        }
+        _ => None,
     }
-    let (first, second) = plan.pair(number);
-    Some(Pair {
-        number,
-        first,
-        second,
-    })
 }
 
 /// The label of a participant, and nothing for a number that is none.

@@ -1,57 +1,55 @@
 // Below the report on a safe plan.
 
-use crate::below::Below;
+use crate::below::{begin, say};
+use growing_text::Lines;
 use plan_core::Plan;
 use std::alloc::{AllocError, Global};
 
 /// What is said below `safe: N pairs`: where the two of each pair part while targets acknowledge, which messages nobody
 /// sends, how many pairs `never` leaves out, and that nothing was checked where there are no pairs.
 pub fn below_safe(alloc: Global, plan: &Plan, endings: Endings) -> Result<String, AllocError> {
-    let mut below = Below::new(alloc);
-    push_endings(alloc, &mut below, endings)?;
-    push_notes(alloc, &mut below, plan)?;
-    Ok(below.finish())
-}
-
-fn push_endings(alloc: Global, below: &mut Below, endings: Endings) -> Result<(), AllocError> {
-    let Endings {
-        header,
-        later,
-        read,
-        alike,
-        ..
-    } = endings;
-    let words = format!(in alloc;
-        "where targets acknowledge: {header} must part in a header, {later} later, {read} at a read's end; {alike} may end alike"
-    )?;
-    below.say(words.as_str())
-}
-
-fn push_notes(alloc: Global, below: &mut Below, plan: &Plan) -> Result<(), AllocError> {
+    let mut lines = Lines::new(alloc);
+    tell_endings(&mut lines, endings);
     if plan.pair_count() == 0 {
-        below.say("no two participants may start together, so nothing was checked")?;
+        say(
+            &mut lines,
+            "no two participants may start together, so nothing was checked",
+        );
     }
     for k in 0..plan.messages() {
         if !is_sent(plan, k) {
-            push_unsent(alloc, below, plan.message_name(k).as_str())?;
+            begin(&mut lines);
+            lines.words("nobody sends");
+            lines.word(plan.message_name(k).as_str());
+            lines.end();
         }
     }
-    push_apart(alloc, below, kept_apart(plan))
+    tell_apart(&mut lines, kept_apart(plan));
+    lines.finish()
 }
 
-fn push_unsent(alloc: Global, below: &mut Below, message: &str) -> Result<(), AllocError> {
-    let words = format!(in alloc; "nobody sends {message}")?;
-    below.say(words.as_str())
+fn tell_endings(lines: &mut Lines, endings: Endings) {
+    begin(lines);
+    lines.words("where targets acknowledge:");
+    lines.number(endings.header, "");
+    lines.words("must part in a header,");
+    lines.number(endings.later, "");
+    lines.word("later,");
+    lines.number(endings.read, "");
+    lines.words("at a read's end;");
+    lines.number(endings.alike, "");
+    lines.words("may end alike");
+    lines.end();
 }
 
-fn push_apart(alloc: Global, below: &mut Below, apart: u64) -> Result<(), AllocError> {
+fn tell_apart(lines: &mut Lines, apart: u64) {
     if apart == 0 {
-        return Ok(());
+        return;
     }
-    let words = format!(in alloc;
-        "{apart} pairs were not checked: 'never' keeps their controllers apart"
-    )?;
-    below.say(words.as_str())
+    begin(lines);
+    lines.number(apart, "");
+    lines.words("pairs were not checked: 'never' keeps their controllers apart");
+    lines.end();
 }
 
 // Whether some controller has the message.
@@ -143,32 +141,16 @@ impl Endings {
             return;
         }
         match byte {
-            b'P' if self.tokens == 0 => self.decide_header(),
-            b'P' => self.decide_later(),
-            b'R' => self.decide_read(),
-            b'.' => self.decide_alike(),
-            b' ' => {}
-            _ => self.tokens = self.tokens.saturating_add(1),
+            b'P' if self.tokens == 0 => self.header = self.header.saturating_add(1),
+            b'P' => self.later = self.later.saturating_add(1),
+            b'R' => self.read = self.read.saturating_add(1),
+            b'.' => self.alike = self.alike.saturating_add(1),
+            b' ' => return,
+            _ => {
+                self.tokens = self.tokens.saturating_add(1);
+                return;
+            }
         }
-    }
-
-    fn decide_header(&mut self) {
-        self.header = self.header.saturating_add(1);
-        self.is_decided = true;
-    }
-
-    fn decide_later(&mut self) {
-        self.later = self.later.saturating_add(1);
-        self.is_decided = true;
-    }
-
-    fn decide_read(&mut self) {
-        self.read = self.read.saturating_add(1);
-        self.is_decided = true;
-    }
-
-    fn decide_alike(&mut self) {
-        self.alike = self.alike.saturating_add(1);
         self.is_decided = true;
     }
 }

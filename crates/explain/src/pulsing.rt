@@ -32,7 +32,9 @@ impl Run {
             Some(since) => time.saturating_sub(since) < least,
             None => false,
         };
-        self.since = self.level.map(|_| time);
+        if self.level.is_some() {
+            self.since = Some(time);
+        }
         self.level = Some(level);
         is_short
     }

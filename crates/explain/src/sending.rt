@@ -4,69 +4,66 @@ use crate::words::Words;
 use message_tree::{Bit, Item};
 use places::{Offered, Place};
 use plan_core::Plan;
-use std::alloc::{AllocError, Global};
+
+/// How many ranges of slots are named.
+pub(crate) const RANGES: usize = 6;
 
 /// What a participant does along a wire, and next.
-#[derive(Drop)]
+#[derive(Clone, Copy)]
 pub(crate) struct Followed {
-    /// Its bytes, up to the end of the one in which the wire ends.
-    pub(crate) words: String,
-    /// The slots of the wire in which it may send either bit, as first and last ones.
-    pub(crate) open: Vec<(usize, usize)>,
+    /// The slots of the wire in which it may send either bit.
+    pub(crate) open: Ranges,
     pub(crate) next: Offered,
 }
 
-/// Follows a participant, which the plan has, as far as it goes along with the wire.
-pub(crate) fn follow_wire(
-    alloc: Global,
-    plan: &Plan,
-    p: u32,
-    wire: &[Item],
-) -> Result<Followed, AllocError> {
-    let mut words = Words::new(alloc)?;
-    let mut open = Vec::new(alloc);
-    let next = follow(plan, p, wire, &mut words, &mut open)?;
-    let words = words.finish()?;
-    Ok(Followed { words, open, next })
+/// Follows a participant, which the plan has, as far as it goes along with the wire. It adds its bytes, up to the end of the
+/// one in which the wire ends.
+pub(crate) fn follow_wire(plan: &Plan, p: u32, wire: &[Item], words: &mut Words) -> Followed {
+    let mut followed = Followed {
+        open: Ranges::new(),
+        next: Offered::Nothing,
+    };
+    if p < plan.participants() {
+        followed.follow(Place::start(plan.sends(p)), wire, words);
+    }
+    followed
 }
 
-fn follow(
-    plan: &Plan,
-    p: u32,
-    wire: &[Item],
-    words: &mut Words,
-    open: &mut Vec<(usize, usize)>,
-) -> Result<Offered, AllocError> {
-    if plan.participants() <= p {
-        return Ok(Offered::Nothing);
-    }
-    let mut place = Place::start(plan.sends(p));
-    for (slot, item) in wire.iter().enumerate() {
-        let offered = place.offered();
-        let Some(after) = after(&place, *item) else {
-            break;
-        };
-        push_offered(words, offered, *item)?;
-        if offered == Offered::Bit(Bit::Either) {
-            push_slot(open, slot)?;
+impl Followed {
+    fn follow(&mut self, start: Place<'_>, wire: &[Item], words: &mut Words) {
+        let mut place = start;
+        for (slot, item) in wire.iter().enumerate() {
+            let offered = place.offered();
+            if !pass(&mut place, *item) {
+                break;
+            }
+            push_offered(words, offered, *item);
+            if offered == Offered::Bit(Bit::Either) {
+                self.open.add(slot);
+            }
         }
-        place = after;
+        self.next = place.offered();
+        push_rest(words, place);
     }
-    push_rest(words, &place)?;
-    Ok(place.offered())
 }
 
-/// The place after an item, where it may come next.
-pub(crate) fn after<'a>(place: &Place<'a>, item: Item) -> Option<Place<'a>> {
+/// Goes on by an item, and says whether that may come next: else the place stays.
+pub(crate) fn pass(place: &mut Place<'_>, item: Item) -> bool {
     if place.offered().allows(item) {
-        Some(place.after(item))
-    } else {
-        None
+        *place = place.after(item);
+        return true;
     }
+    false
+}
+
+/// Goes on by a bit of its own, an open one as 0.
+pub(crate) fn pass_own(place: &mut Place<'_>) -> bool {
+    let bit = place.offered() == Offered::Bit(Bit::One);
+    pass(place, Item::Sent(bit))
 }
 
 // A bit of its own as the message has it, and anything else as the wire has it.
-fn push_offered(words: &mut Words, offered: Offered, item: Item) -> Result<(), AllocError> {
+fn push_offered(words: &mut Words, offered: Offered, item: Item) {
     match offered {
         Offered::Bit(bit) => words.bit(bit),
         _ => words.item(item),
@@ -74,35 +71,60 @@ fn push_offered(words: &mut Words, offered: Offered, item: Item) -> Result<(), A
 }
 
 // What the participant does next: a byte up to its end.
-fn push_rest(words: &mut Words, place: &Place<'_>) -> Result<(), AllocError> {
-    let mut place = *place;
+fn push_rest(words: &mut Words, place: Place<'_>) {
+    let mut place = place;
     for _ in 0..8 {
         match place.offered() {
-            Offered::Bit(bit) => words.bit(bit)?,
-            Offered::Again => return words.again(),
-            Offered::Stop => return words.stop(),
-            Offered::Claim => return words.claim(),
-            Offered::Listen | Offered::Nothing => return Ok(()),
+            Offered::Bit(bit) => words.bit(bit),
+            Offered::Again => words.again(),
+            Offered::Stop => words.stop(),
+            Offered::Claim => words.claim(),
+            Offered::Listen | Offered::Nothing => {}
         }
-        let one = Item::Sent(place.offered() == Offered::Bit(Bit::One));
-        match after(&place, one) {
-            Some(next) if words.is_within_byte() => place = next,
-            _ => return Ok(()),
+        if !words.is_within_byte() || !pass_own(&mut place) {
+            return;
         }
     }
-    Ok(())
 }
 
-// Adds a slot to the ranges, which are of smaller ones.
-fn push_slot(ranges: &mut Vec<(usize, usize)>, slot: usize) -> Result<(), AllocError> {
-    if let Some((_, last)) = ranges.last_mut() {
-        if last.saturating_add(1) == slot {
-            *last = slot;
-            return Ok(());
+/// The first ranges of slots, as first and last ones, and how many there are, up to one more than have room.
+#[derive(Clone, Copy)]
+pub(crate) struct Ranges {
+    ranges: [(usize, usize); RANGES],
+    count: usize,
+}
+
+impl Ranges {
+    fn new() -> Ranges {
+        Ranges {
+            ranges: [(0, 0); RANGES],
+            count: 0,
         }
     }
-    ranges.push((slot, slot))?;
-    Ok(())
+
+    // Adds a slot after all others.
+    fn add(&mut self, slot: usize) {
+        if let Some((_, last)) = self.ranges.get_mut(self.count.saturating_sub(1)) {
+            if self.count != 0 && last.saturating_add(1) == slot {
+                *last = slot;
+                return;
+            }
+        }
+        if let Some(range) = self.ranges.get_mut(self.count) {
+            *range = (slot, slot);
+        }
+        self.count = self.count.saturating_add(1).min(RANGES + 1);
+    }
+
+    /// Those that have room.
+    pub(crate) fn first(&self) -> &[(usize, usize)] {
+        self.ranges.get(..self.count).unwrap_or(&self.ranges)
+    }
+
+    /// Whether there are more.
+    pub(crate) fn has_more(&self) -> bool {
+        self.count > RANGES
+    }
 }
 
 /// What a participant does that offers this.

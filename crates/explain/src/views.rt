@@ -7,6 +7,7 @@ mod tallies;
 use crate::views::lines::{Told, What, read_line};
 use crate::views::tallies::Tallies;
 use dump_tokens::{Scale, Time};
+use growing_text::Text;
 use plan_core::Plan;
 use run_parts::Status;
 use std::alloc::{AllocError, Global};
@@ -107,16 +108,16 @@ pub fn shown(
     scale: Option<Scale>,
 ) -> Result<(String, Status), AllocError> {
     let mut page = Page {
+        alloc,
+        text: Text::new(alloc),
+        scale: if view.si { scale } else { None },
         tallies: tallies_of(alloc, plan, view)?,
-        text: String::new(alloc),
-        is_shown: true,
         stopped: 0,
         unexplained: 0,
     };
-    page.read(alloc, report, view, scale)?;
-    let status = page.end(view)?;
-    let Page { text, .. } = page;
-    Ok((text, status))
+    page.read(report, view, scale);
+    let status = page.end(plan, view);
+    Ok((page.text.finish()?, status))
 }
 
 fn tallies_of(alloc: Global, plan: &Plan, view: &View) -> Result<Option<Tallies>, AllocError> {
@@ -130,113 +131,89 @@ fn tallies_of(alloc: Global, plan: &Plan, view: &View) -> Result<Option<Tallies>
 // What has been passed on so far.
 #[derive(Drop)]
 struct Page {
-    text: String,
-    // whether the lines for people belong to a transaction that is told
-    is_shown: bool,
+    alloc: Global,
+    text: Text,
+    // where times are told in parts of a second
+    scale: Option<Scale>,
+    tallies: Option<Tallies>,
     stopped: u64,
     unexplained: u64,
-    tallies: Option<Tallies>,
 }
 
 impl Page {
-    fn read(
-        &mut self,
-        alloc: Global,
-        report: &str,
-        view: &View,
-        scale: Option<Scale>,
-    ) -> Result<(), AllocError> {
-        let scale_of_times = scale.filter(|_| view.si);
+    fn read(&mut self, report: &str, view: &View, scale: Option<Scale>) {
+        let mut is_shown = true;
         for line in report.trim_ascii_end().split('\n') {
             if line.starts_with("    ") {
-                self.below(line)?;
+                if is_shown && self.tallies.is_none() {
+                    self.push_line(line);
+                }
             } else if let Some(told) = read_line(line) {
-                self.is_shown = view.has(scale, told.from);
-                self.line(alloc, line, &told, scale_of_times)?;
+                is_shown = view.has(scale, told.from);
+                if is_shown {
+                    self.line(line, told);
+                }
             }
         }
-        Ok(())
     }
 
-    fn below(&mut self, line: &str) -> Result<(), AllocError> {
-        if self.is_shown && self.tallies.is_none() {
-            self.push_line(line)?;
-        }
-        Ok(())
-    }
-
-    fn line(
-        &mut self,
-        alloc: Global,
-        line: &str,
-        told: &Told<'_>,
-        scale: Option<Scale>,
-    ) -> Result<(), AllocError> {
-        if !self.is_shown {
-            return Ok(());
-        }
-        if told.what.is_stopped() {
-            self.stopped = self.stopped.saturating_add(1);
-        }
-        if let What::Unexplained = told.what {
-            self.unexplained = self.unexplained.saturating_add(1);
-        }
+    // The line of a transaction that is told.
+    fn line(&mut self, line: &str, told: Told<'_>) {
+        self.stopped = self
+            .stopped
+            .saturating_add(u64::from(told.what.is_stopped()));
+        self.unexplained = self
+            .unexplained
+            .saturating_add(u64::from(matches!(told.what, What::Unexplained)));
         if let Some(tallies) = &mut self.tallies {
-            tallies.count(told.what);
-            return Ok(());
+            return tallies.count(told.what);
         }
-        match scale {
-            Some(scale) => self.push_told(alloc, line, told, scale),
+        match self.scale {
+            Some(scale) => self.push_told(line, told, scale),
             None => self.push_line(line),
         }
     }
 
     // The line with its times in parts of a second.
-    fn push_told(
-        &mut self,
-        alloc: Global,
-        line: &str,
-        told: &Told<'_>,
-        scale: Scale,
-    ) -> Result<(), AllocError> {
-        self.push_time(alloc, scale, told.from)?;
-        self.text.push('-')?;
+    fn push_told(&mut self, line: &str, told: Told<'_>, scale: Scale) {
+        self.text.push_made(scale.told(self.alloc, told.from));
+        self.text.push("-");
         if let Some(until) = told.until {
-            self.push_time(alloc, scale, until)?;
+            self.text.push_made(scale.told(self.alloc, until));
         }
-        self.text.push(' ')?;
-        let words = line.split_once(' ').map(|parts| parts.1).unwrap_or("");
-        self.push_line(words)
+        self.text.push(" ");
+        if let Some((_, words)) = line.split_once(' ') {
+            self.text.push(words);
+        }
+        self.text.push("\n");
     }
 
-    fn push_time(&mut self, alloc: Global, scale: Scale, time: u64) -> Result<(), AllocError> {
-        let told = scale.told(alloc, time)?;
-        self.text.push_str(told.as_str())
-    }
-
-    fn push_line(&mut self, line: &str) -> Result<(), AllocError> {
-        self.text.push_str(line)?;
-        self.text.push('\n')
+    fn push_line(&mut self, line: &str) {
+        self.text.push(line);
+        self.text.push("\n");
     }
 
     // The last lines, and the status.
-    fn end(&mut self, view: &View) -> Result<Status, AllocError> {
+    fn end(&mut self, plan: &Plan, view: &View) -> Status {
         if let Some(tallies) = &self.tallies {
-            tallies.push_to(&mut self.text)?;
+            tallies.push_to(self.alloc, &mut self.text, plan);
         }
-        let stopped = self.stopped;
-        let unexplained = self.unexplained;
-        writeln!(
-            self.text,
-            "{stopped} transactions, {unexplained} unexplained"
-        )?;
-        match view.at_least {
-            Some(least) if stopped < u64::from(least) => {
-                writeln!(self.text, "too few: {stopped} of {least}")?;
-                Ok(Status::Bad)
-            }
-            _ if unexplained == 0 => Ok(Status::Good),
-            _ => Ok(Status::Bad),
+        self.text.push_number(self.stopped);
+        self.text.push(" transactions, ");
+        self.text.push_number(self.unexplained);
+        self.text.push(" unexplained\n");
+        let least = u64::from(view.at_least.unwrap_or(0));
+        if self.stopped < least {
+            self.text.push("too few: ");
+            self.text.push_number(self.stopped);
+            self.text.push(" of ");
+            self.text.push_number(least);
+            self.text.push("\n");
+        }
+        if self.stopped < least || self.unexplained != 0 {
+            Status::Bad
+        } else {
+            Status::Good
         }
     }
 }

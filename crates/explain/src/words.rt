@@ -1,13 +1,14 @@
 // Slots as bytes.
 
 use capture_check::Mark;
+use growing_text::Text;
 use message_tree::{Bit, Item};
 use std::alloc::{AllocError, Global};
 
 /// What a bus or a participant does from a START on, byte by byte.
 #[derive(Drop)]
 pub(crate) struct Words {
-    text: String,
+    text: Text,
     // Of the bits since the last whole byte: their values, and a 1 for each that is open.
     value: u8,
     open: u8,
@@ -18,20 +19,16 @@ pub(crate) struct Words {
 
 impl Words {
     /// A START.
-    pub(crate) fn new(alloc: Global) -> Result<Words, AllocError> {
-        Ok(Words {
-            text: String::from_str(alloc, "S")?,
-            value: 0,
-            open: 0,
-            bits: 0,
-            is_header: true,
-        })
+    pub(crate) fn new(alloc: Global) -> Words {
+        let mut words = Words::of_byte(alloc, true);
+        words.text.push("S");
+        words
     }
 
     /// No START: a single byte follows.
     pub(crate) fn of_byte(alloc: Global, is_header: bool) -> Words {
         Words {
-            text: String::new(alloc),
+            text: Text::new(alloc),
             value: 0,
             open: 0,
             bits: 0,
@@ -40,39 +37,39 @@ impl Words {
     }
 
     /// A bit of a byte, or the acknowledge after eight of them.
-    pub(crate) fn bit(&mut self, bit: Bit) -> Result<(), AllocError> {
+    pub(crate) fn bit(&mut self, bit: Bit) {
         if self.bits == 8 {
-            self.end_byte()?;
+            self.end_byte();
             self.is_header = false;
-            return self.text.push_str(acknowledge(bit));
+            self.text.push(acknowledge(bit));
+            return;
         }
         self.value = self.value << 1 | u8::from(bit == Bit::One);
         self.open = self.open << 1 | u8::from(bit == Bit::Either);
         self.bits = self.bits.saturating_add(1);
-        Ok(())
     }
 
     /// A repeated START.
-    pub(crate) fn again(&mut self) -> Result<(), AllocError> {
-        self.end_byte()?;
+    pub(crate) fn again(&mut self) {
+        self.end_byte();
         self.is_header = true;
-        self.text.push_str(" Sr")
+        self.text.push(" Sr");
     }
 
     /// A STOP.
-    pub(crate) fn stop(&mut self) -> Result<(), AllocError> {
-        self.end_byte()?;
-        self.text.push_str(" P")
+    pub(crate) fn stop(&mut self) {
+        self.end_byte();
+        self.text.push(" P");
     }
 
     /// An interrupt waits for the answer to its header.
-    pub(crate) fn claim(&mut self) -> Result<(), AllocError> {
-        self.end_byte()?;
-        self.text.push_str(" (waits)")
+    pub(crate) fn claim(&mut self) {
+        self.end_byte();
+        self.text.push(" (waits)");
     }
 
     /// What a slot of a wire has.
-    pub(crate) fn item(&mut self, item: Item) -> Result<(), AllocError> {
+    pub(crate) fn item(&mut self, item: Item) {
         match item {
             Item::Sent(bit) | Item::Heard(bit) => self.bit(known(bit)),
             Item::Again => self.again(),
@@ -82,7 +79,7 @@ impl Words {
     }
 
     /// What a recorded wire showed.
-    pub(crate) fn mark(&mut self, mark: Mark) -> Result<(), AllocError> {
+    pub(crate) fn mark(&mut self, mark: Mark) {
         match mark {
             Mark::Level(bit) => self.bit(known(bit)),
             Mark::Again => self.again(),
@@ -97,57 +94,44 @@ impl Words {
 
     /// All words.
     pub(crate) fn finish(mut self) -> Result<String, AllocError> {
-        self.end_byte()?;
-        let Words { text, .. } = self;
-        Ok(text)
+        self.end_byte();
+        self.text.finish()
     }
 
-    fn end_byte(&mut self) -> Result<(), AllocError> {
-        if self.bits != 0 {
-            self.text.push(' ')?;
-            self.push_byte()?;
+    fn end_byte(&mut self) {
+        if self.bits == 0 {
+            return;
+        }
+        if !self.text.is_empty() {
+            self.text.push(" ");
+        }
+        if self.is_header && self.bits == 8 {
+            self.push_bits(self.value >> 1, self.open >> 1, 7);
+            self.text
+                .push(if self.value & 1 == 1 { " Rd" } else { " Wr" });
+        } else {
+            self.push_bits(self.value, self.open, self.bits);
         }
         self.value = 0;
         self.open = 0;
         self.bits = 0;
-        Ok(())
     }
 
-    fn push_byte(&mut self) -> Result<(), AllocError> {
-        if self.bits != 8 {
-            return self.push_bits(self.bits);
+    // In hexadecimal digits where they are those of a byte or an address, and all are known.
+    fn push_bits(&mut self, value: u8, open: u8, bits: u32) {
+        if open == 0 && self.bits == 8 {
+            return self.text.push_hex(value);
         }
-        if !self.is_header {
-            return self.push_number(self.value, self.open, 8);
-        }
-        let direction = if self.value & 1 == 1 { " Rd" } else { " Wr" };
-        self.push_number(self.value >> 1, self.open >> 1, 7)?;
-        self.text.push_str(direction)
-    }
-
-    // In hexadecimal digits where all bits are known.
-    fn push_number(&mut self, value: u8, open: u8, bits: u32) -> Result<(), AllocError> {
-        if open == 0 {
-            return write!(self.text, "{value:02x}");
-        }
-        self.value = value;
-        self.open = open;
-        self.push_bits(bits)
-    }
-
-    fn push_bits(&mut self, bits: u32) -> Result<(), AllocError> {
-        for k in 0..bits.min(8) {
-            let place = 1u8 << bits.min(8).saturating_sub(1).saturating_sub(k).min(7);
-            let symbol = if self.open & place != 0 {
-                'x'
-            } else if self.value & place != 0 {
-                '1'
+        for k in (0..bits.min(8)).rev() {
+            let place = 1u8 << k;
+            self.text.push(if open & place != 0 {
+                "x"
+            } else if value & place != 0 {
+                "1"
             } else {
-                '0'
-            };
-            self.text.push(symbol)?;
+                "0"
+            });
         }
-        Ok(())
     }
 }
 

@@ -15,6 +15,7 @@ is_whole text = text.is_whole
 abbrev pub two_digits : ℕ → List ℕ
 two_digits byte = digit_glyph false (byte / 16) ∷ digit_glyph false (byte % 16) ∷ []
 
--- one more part: it is said, if the text is whole, and only a whole text can stay so
-abbrev pub Grows : Text → List ℕ → Text → Type 0
-Grows old part new = is_whole new ≡ true → (is_whole old ≡ true) × (said new ≡ said old ++ part)
+-- one more part: it is said, if the text is whole; only a whole text can stay so, and any other is left as it is
+pub record Grows (old : Text) (part : List ℕ) (new : Text) : Type 0 where
+  pub said : is_whole new ≡ true → (is_whole old ≡ true) × (said new ≡ said old ++ part)
+  pub left : is_whole old ≡ false → new ≡ old

@@ -92,6 +92,14 @@ impl Lines {
         }
     }
 
+    /// Each word of these, where there was memory to make them.
+    pub fn words_made(&mut self, words: Result<String, AllocError>) {
+        match words {
+            Ok(words) => self.words(words.as_str()),
+            Err(_) => self.text.cut(),
+        }
+    }
+
     /// Ends the line.
     pub fn end(&mut self) {
         self.text.push("\n");

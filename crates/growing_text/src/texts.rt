@@ -1,7 +1,6 @@
 // A text that grows by parts.
 
-ghost use Rattle.std.specs.Prelude.{◌≡◌, true, false, [], string_bytes, MatchResult};
-ghost use Rattle.std.specs.Char.{encode_utf8};
+ghost use Rattle.std.specs.Prelude.{◌≡◌, ◌↔◌, true, false, [], length, encode_utf8, string_bytes, IsTrue, MatchResult};
 ghost use Rattle.std.specs.Fmt.{decimal};
 ghost use Rattle.growing_text.specs.Texts.{said, is_whole, two_digits, Grows};
 
@@ -28,7 +27,7 @@ impl Text {
 
     /// One more part.
     pub fn push(&mut self, part: &str)
-        ensures { Grows self.old (part.now) self.new }
+        ensures { Grows self.old part.now self.new }
     {
         if self.is_whole && self.text.push_str(part).is_err() {
             self.is_whole = false;
@@ -36,12 +35,29 @@ impl Text {
     }
 
     /// One more character.
-    pub fn push_char(&mut self, character: char)
-        ensures { Grows self.old (encode_utf8 character) self.new }
+    pub fn push_char(&mut self, part: char)
+        ensures { Grows self.old (encode_utf8 part) self.new }
     {
-        if self.is_whole && self.text.push(character).is_err() {
+        if self.is_whole && self.text.push(part).is_err() {
             self.is_whole = false;
         }
+    }
+
+    /// A part that was made elsewhere, where there was memory for it.
+    pub fn push_made(&mut self, part: Result<String, AllocError>)
+        ensures { MatchResult part (λ made. Grows self.old (string_bytes made) self.new) (λ _. is_whole self.new ≡ false) }
+    {
+        match part {
+            Ok(part) => self.push(part.as_str()),
+            Err(_) => self.cut(),
+        }
+    }
+
+    /// There was no memory for what would come next.
+    pub fn cut(&mut self)
+        ensures { is_whole self.new ≡ false }
+    {
+        self.is_whole = false;
     }
 
     /// A number in decimal.
@@ -62,11 +78,25 @@ impl Text {
         }
     }
 
-    /// There was no memory for what would come next.
-    pub fn cut(&mut self)
-        ensures { is_whole self.new ≡ false }
+    /// How many bytes it has.
+    pub fn len(&self) -> usize
+        ensures { result ≡ length (said self.now) }
     {
-        self.is_whole = false;
+        self.text.len()
+    }
+
+    /// Whether it has none.
+    pub fn is_empty(&self) -> bool
+        ensures { IsTrue result ↔ (said self.now ≡ []) }
+    {
+        self.text.is_empty()
+    }
+
+    /// Whether there was memory for all its parts.
+    pub fn is_whole(&self) -> bool
+        ensures { result ≡ is_whole self.now }
+    {
+        self.is_whole
     }
 
     /// The whole text.

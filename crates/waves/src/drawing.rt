@@ -44,8 +44,8 @@ pub fn wave_of(
     fill: Option<bool>,
 ) -> Result<String, AllocError> {
     let mut rows = rows_of(alloc, plan, participants)?;
-    let mut dump = dump_of(alloc, plan, participants)?;
-    let end = push_run(&mut dump, rows.as_mut_slice(), wire, fill)?;
+    let mut dump = dump_of(alloc, plan, participants);
+    let end = push_run(&mut dump, rows.as_mut_slice(), wire, fill);
     dump.finish(end)
 }
 
@@ -65,42 +65,26 @@ fn rows_of<'a>(
 }
 
 // The definitions of the signals.
-fn dump_of(alloc: Global, plan: &Plan, participants: &[u32]) -> Result<Dump, AllocError> {
-    let mut dump = Dump::new(alloc)?;
+fn dump_of(alloc: Global, plan: &Plan, participants: &[u32]) -> Dump {
+    let mut dump = Dump::new(alloc);
     for name in ["scl", "sda", "targets"] {
-        dump.define(name)?;
+        dump.define(name);
     }
-    define_labels(alloc, &mut dump, plan, participants)?;
-    dump.begin()?;
-    Ok(dump)
-}
-
-fn define_labels(
-    alloc: Global,
-    dump: &mut Dump,
-    plan: &Plan,
-    participants: &[u32],
-) -> Result<(), AllocError> {
     for p in participants {
         if *p < plan.participants() {
-            let label = plan.label(alloc, *p)?;
-            dump.define(label.as_str())?;
+            dump.define_made(plan.label(alloc, *p));
         }
     }
-    Ok(())
+    dump.begin();
+    dump
 }
 
 // The run from START on, and when its waves end.
-fn push_run(
-    dump: &mut Dump,
-    rows: &mut [Row<'_>],
-    wire: &[Item],
-    fill: Option<bool>,
-) -> Result<u64, AllocError> {
-    push_start(dump, rows.len())?;
+fn push_run(dump: &mut Dump, rows: &mut [Row<'_>], wire: &[Item], fill: Option<bool>) -> u64 {
+    push_start(dump, rows.len());
     let mut begin = FIRST_SLOT;
     for item in wire {
-        push_slot(dump, rows, begin, fill, Some(*item))?;
+        push_slot(dump, rows, begin, fill, Some(*item));
         see(rows, fill, *item);
         begin = begin.saturating_add(SLOT);
     }
@@ -114,24 +98,23 @@ fn see(rows: &mut [Row<'_>], fill: Option<bool>, item: Item) {
 }
 
 // A free bus, and START by all of them together.
-fn push_start(dump: &mut Dump, rows: usize) -> Result<(), AllocError> {
+fn push_start(dump: &mut Dump, rows: usize) {
     dump.at(0);
-    dump.show(SCL, Shown::High)?;
-    dump.show(SDA, Shown::High)?;
-    dump.show(TARGETS, Shown::Free)?;
-    show_all(dump, rows, Shown::Free)?;
+    dump.show(SCL, Shown::High);
+    dump.show(SDA, Shown::High);
+    dump.show(TARGETS, Shown::Free);
+    show_all(dump, rows, Shown::Free);
     dump.at(START);
-    show_all(dump, rows, Shown::Low)?;
-    dump.show(SDA, Shown::Low)?;
+    show_all(dump, rows, Shown::Low);
+    dump.show(SDA, Shown::Low);
     dump.at(CLOCK);
-    dump.show(SCL, Shown::Low)
+    dump.show(SCL, Shown::Low);
 }
 
-fn show_all(dump: &mut Dump, rows: usize, shown: Shown) -> Result<(), AllocError> {
+fn show_all(dump: &mut Dump, rows: usize, shown: Shown) {
     for k in 0..rows {
-        dump.show(ROWS.saturating_add(k), shown)?;
+        dump.show(ROWS.saturating_add(k), shown);
     }
-    Ok(())
 }
 
 // One slot, with its item, where it has one.
@@ -141,20 +124,20 @@ fn push_slot(
     begin: u64,
     fill: Option<bool>,
     item: Option<Item>,
-) -> Result<(), AllocError> {
+) {
     dump.at(begin);
     let answers = item == Some(Item::Heard(false));
-    dump.show(TARGETS, low_where(answers, Shown::Free))?;
-    let is_pulled = show_pulls(dump, rows, fill, item)?;
-    dump.show(SDA, low_where(answers || is_pulled, Shown::High))?;
+    dump.show(TARGETS, low_where(answers, Shown::Free));
+    let is_pulled = show_pulls(dump, rows, fill, item);
+    dump.show(SDA, low_where(answers || is_pulled, Shown::High));
     dump.at(begin.saturating_add(RISE));
-    dump.show(SCL, Shown::High)?;
+    dump.show(SCL, Shown::High);
     dump.at(begin.saturating_add(AGAIN));
-    show_acts(dump, rows, fill, item, Act::Again, Shown::Low)?;
+    show_acts(dump, rows, fill, item, Act::Again, Shown::Low);
     if item == Some(Item::Again) {
-        dump.show(SDA, Shown::Low)?;
+        dump.show(SDA, Shown::Low);
     }
-    push_last_move(dump, rows, begin, fill, item)
+    push_last_move(dump, rows, begin, fill, item);
 }
 
 fn low_where(is_low: bool, other: Shown) -> Shown {
@@ -162,19 +145,14 @@ fn low_where(is_low: bool, other: Shown) -> Shown {
 }
 
 // What participants pull, and whether one does.
-fn show_pulls(
-    dump: &mut Dump,
-    rows: &[Row<'_>],
-    fill: Option<bool>,
-    item: Option<Item>,
-) -> Result<bool, AllocError> {
+fn show_pulls(dump: &mut Dump, rows: &[Row<'_>], fill: Option<bool>, item: Option<Item>) -> bool {
     let mut is_pulled = false;
     for (k, row) in rows.iter().enumerate() {
         let pulls = matches!(row.act(fill, item), Act::Pull | Act::Stop);
         is_pulled = is_pulled || pulls;
-        dump.show(ROWS.saturating_add(k), low_where(pulls, Shown::Free))?;
+        dump.show(ROWS.saturating_add(k), low_where(pulls, Shown::Free));
     }
-    Ok(is_pulled)
+    is_pulled
 }
 
 // Those who do this in the slot show this.
@@ -185,13 +163,12 @@ fn show_acts(
     item: Option<Item>,
     act: Act,
     shown: Shown,
-) -> Result<(), AllocError> {
+) {
     for (k, row) in rows.iter().enumerate() {
         if row.act(fill, item) == act {
-            dump.show(ROWS.saturating_add(k), shown)?;
+            dump.show(ROWS.saturating_add(k), shown);
         }
     }
-    Ok(())
 }
 
 // The end of a slot: who stops lets SDA go, and else SCL falls.
@@ -201,9 +178,9 @@ fn push_last_move(
     begin: u64,
     fill: Option<bool>,
     item: Option<Item>,
-) -> Result<(), AllocError> {
+) {
     dump.at(begin.saturating_add(FALL));
-    show_acts(dump, rows, fill, item, Act::Stop, Shown::Free)?;
+    show_acts(dump, rows, fill, item, Act::Stop, Shown::Free);
     match item {
         None => dump.show(SDA, Shown::Unknown),
         Some(Item::Stop) => dump.show(SDA, Shown::High),
@@ -212,24 +189,23 @@ fn push_last_move(
 }
 
 // The STOP that is drawn after a claim.
-fn push_stop(dump: &mut Dump, rows: &[Row<'_>], begin: u64) -> Result<(), AllocError> {
+fn push_stop(dump: &mut Dump, rows: &[Row<'_>], begin: u64) {
     dump.at(begin);
-    show_live(dump, rows, Shown::Low)?;
-    dump.show(SDA, Shown::Low)?;
+    show_live(dump, rows, Shown::Low);
+    dump.show(SDA, Shown::Low);
     dump.at(begin.saturating_add(RISE));
-    dump.show(SCL, Shown::High)?;
+    dump.show(SCL, Shown::High);
     dump.at(begin.saturating_add(FALL));
-    show_live(dump, rows, Shown::Free)?;
-    dump.show(SDA, Shown::High)
+    show_live(dump, rows, Shown::Free);
+    dump.show(SDA, Shown::High);
 }
 
-fn show_live(dump: &mut Dump, rows: &[Row<'_>], shown: Shown) -> Result<(), AllocError> {
+fn show_live(dump: &mut Dump, rows: &[Row<'_>], shown: Shown) {
     for (k, row) in rows.iter().enumerate() {
         if row.is_live() {
-            dump.show(ROWS.saturating_add(k), shown)?;
+            dump.show(ROWS.saturating_add(k), shown);
         }
     }
-    Ok(())
 }
 
 // What is drawn after the last item of the wire, and when the waves end.
@@ -239,11 +215,11 @@ fn push_end(
     begin: u64,
     fill: Option<bool>,
     last: Option<Item>,
-) -> Result<u64, AllocError> {
+) -> u64 {
     match last {
         Some(Item::Stop) => {}
-        Some(Item::Claim) => push_stop(dump, rows, begin)?,
-        _ => push_slot(dump, rows, begin, fill, None)?,
+        Some(Item::Claim) => push_stop(dump, rows, begin),
+        _ => push_slot(dump, rows, begin, fill, None),
     }
-    Ok(begin.saturating_add(SLOT).saturating_add(SLOT))
+    begin.saturating_add(SLOT).saturating_add(SLOT)
 }

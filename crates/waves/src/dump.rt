@@ -1,5 +1,6 @@
 // A value change dump in the making: its definitions, and then changes in the order of time.
 
+use growing_text::Text;
 use std::alloc::{AllocError, Global};
 
 /// What a signal shows: LOW, HIGH, let go (the line is HIGH unless another pulls it), or not known.
@@ -32,7 +33,7 @@ fn code(signal: usize) -> char {
 /// The text so far, and what each signal shows.
 #[derive(Drop)]
 pub(crate) struct Dump {
-    text: String,
+    text: Text,
     shown: Vec<Shown>,
     time: u64,
     // whether the time of the next change stands in the text
@@ -41,27 +42,40 @@ pub(crate) struct Dump {
 
 impl Dump {
     /// A dump that counts microseconds, with no signal yet.
-    pub(crate) fn new(alloc: Global) -> Result<Dump, AllocError> {
-        let mut text = String::new(alloc);
-        text.push_str("$version twire $end\n$timescale 1 us $end\n$scope module bus $end\n")?;
-        Ok(Dump {
+    pub(crate) fn new(alloc: Global) -> Dump {
+        let mut text = Text::new(alloc);
+        text.push("$version twire $end\n$timescale 1 us $end\n$scope module bus $end\n");
+        Dump {
             text,
             shown: Vec::new(alloc),
             time: 0,
             is_told: false,
-        })
+        }
     }
 
     /// Defines the next signal, which has not been shown yet.
-    pub(crate) fn define(&mut self, name: &str) -> Result<(), AllocError> {
-        let code = code(self.shown.len());
-        writeln!(self.text, "$var wire 1 {code} {name} $end")?;
-        Ok(self.shown.push(Shown::Unknown)?)
+    pub(crate) fn define(&mut self, name: &str) {
+        self.text.push("$var wire 1 ");
+        self.text.push_char(code(self.shown.len()));
+        self.text.push(" ");
+        self.text.push(name);
+        self.text.push(" $end\n");
+        if self.shown.push(Shown::Unknown).is_err() {
+            self.text.push_made(Err(AllocError));
+        }
+    }
+
+    /// The same with a name that was made elsewhere, where there was memory for it.
+    pub(crate) fn define_made(&mut self, name: Result<String, AllocError>) {
+        match name {
+            Ok(name) => self.define(name.as_str()),
+            Err(error) => self.text.push_made(Err(error)),
+        }
     }
 
     /// Ends the definitions.
-    pub(crate) fn begin(&mut self) -> Result<(), AllocError> {
-        self.text.push_str("$upscope $end\n$enddefinitions $end\n")
+    pub(crate) fn begin(&mut self) {
+        self.text.push("$upscope $end\n$enddefinitions $end\n");
     }
 
     /// The changes from here on are of this time.
@@ -71,29 +85,33 @@ impl Dump {
     }
 
     /// The signal shows this from now on.
-    pub(crate) fn show(&mut self, signal: usize, shown: Shown) -> Result<(), AllocError> {
+    pub(crate) fn show(&mut self, signal: usize, shown: Shown) {
         match self.shown.get_mut(signal) {
             Some(it) if *it != shown => *it = shown,
-            _ => return Ok(()),
+            _ => return,
         }
-        self.push_time()?;
-        self.text.push(shown.digit())?;
-        self.text.push(code(signal))?;
-        self.text.push('\n')
+        if !self.is_told {
+            self.is_told = true;
+            self.push_time(self.time);
+        }
+        self.text.push_char(shown.digit());
+        self.text.push_char(code(signal));
+        self.text.push("\n");
     }
 
-    fn push_time(&mut self) -> Result<(), AllocError> {
-        if self.is_told {
-            return Ok(());
-        }
-        self.is_told = true;
-        let time = self.time;
-        writeln!(self.text, "#{time}")
+    fn push_time(&mut self, time: u64) {
+        self.text.push("#");
+        self.text.push_number(time);
+        self.text.push("\n");
     }
 
     /// The whole text, which ends at this time.
+    ///
+    /// # Errors
+    ///
+    /// Where memory was refused for one of its parts.
     pub(crate) fn finish(mut self, time: u64) -> Result<String, AllocError> {
-        writeln!(self.text, "#{time}")?;
-        Ok(self.text)
+        self.push_time(time);
+        self.text.finish()
     }
 }

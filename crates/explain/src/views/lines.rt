@@ -29,19 +29,20 @@ impl What<'_> {
 pub(crate) fn read_line(line: &str) -> Option<Told<'_>> {
     let (times, words) = line.split_once(' ')?;
     let (from, until) = times.split_once('-')?;
-    let until = if until.is_empty() {
-        None
-    } else {
-        Some(until.parse::<u64>().ok()?)
+    let from = time(from)?;
+    let until = time(until);
+    let what = match words {
+        "unexplained" => What::Unexplained,
+        "cut" => What::Cut,
+        "unfinished" => What::Unfinished,
+        labels => What::Explained(labels),
     };
-    Some(Told {
-        from: from.parse::<u64>().ok()?,
-        until,
-        what: match words {
-            "unexplained" => What::Unexplained,
-            "cut" => What::Cut,
-            "unfinished" => What::Unfinished,
-            labels => What::Explained(labels),
-        },
-    })
+    Some(Told { from, until, what })
+}
+
+fn time(digits: &str) -> Option<u64> {
+    match digits.parse::<u64>() {
+        Ok(time) => Some(time),
+        Err(_) => None,
+    }
 }

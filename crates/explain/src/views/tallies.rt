@@ -1,14 +1,15 @@
 // How often each participant explains a transaction.
 
+use crate::meeting::label_of;
 use crate::views::lines::What;
+use growing_text::Text;
 use plan_core::Plan;
 use std::alloc::{AllocError, Global};
 use std::collections::BTreeMap;
 
-// One participant, and how often it explains a transaction alone and with others.
-#[derive(Drop)]
-struct Sender {
-    label: String,
+// How often a participant explains a transaction alone and with others.
+#[derive(Clone, Copy)]
+struct Count {
     alone: u64,
     with_others: u64,
 }
@@ -16,40 +17,26 @@ struct Sender {
 /// The participants of a plan, and the other ends of transactions, counted.
 #[derive(Drop)]
 pub(crate) struct Tallies {
-    senders: Vec<Sender>,
-    places: BTreeMap<Vec<u8>, usize>,
+    // by their labels
+    senders: BTreeMap<Vec<u8>, Count>,
     unexplained: u64,
     cut: u64,
     unfinished: u64,
 }
 
 impl Tallies {
-    /// The participants of the plan, in the order of their numbers, with no transaction.
+    /// The participants of the plan, with no transaction.
     pub(crate) fn new(alloc: Global, plan: &Plan) -> Result<Tallies, AllocError> {
-        let mut tallies = Tallies {
-            senders: Vec::new(alloc),
-            places: BTreeMap::new(alloc),
+        let mut senders = BTreeMap::new(alloc);
+        for p in 0..plan.participants() {
+            add(&mut senders, plan.label(alloc, p)?)?;
+        }
+        Ok(Tallies {
+            senders,
             unexplained: 0,
             cut: 0,
             unfinished: 0,
-        };
-        for p in 0..plan.participants() {
-            tallies.add(alloc, plan.label(alloc, p)?)?;
-        }
-        Ok(tallies)
-    }
-
-    fn add(&mut self, alloc: Global, label: String) -> Result<(), AllocError> {
-        let key = label.as_bytes().to_vec(alloc)?;
-        if self.places.insert(key, self.senders.len()).is_err() {
-            return Err(AllocError);
-        }
-        self.senders.push(Sender {
-            label,
-            alone: 0,
-            with_others: 0,
-        })?;
-        Ok(())
+        })
     }
 
     /// One more transaction.
@@ -65,43 +52,52 @@ impl Tallies {
     fn explained(&mut self, labels: &str) {
         let is_alone = !labels.contains(' ');
         for label in labels.split(' ') {
-            let Some(place) = self.places.get(label.as_bytes()) else {
-                continue;
-            };
-            let Some(sender) = self.senders.get_mut(*place) else {
-                continue;
-            };
-            if is_alone {
-                sender.alone = sender.alone.saturating_add(1);
-            } else {
-                sender.with_others = sender.with_others.saturating_add(1);
+            if let Some(count) = self.senders.get_mut(label.as_bytes()) {
+                count.alone = count.alone.saturating_add(u64::from(is_alone));
+                count.with_others = count.with_others.saturating_add(u64::from(!is_alone));
             }
         }
     }
 
-    /// The lines of the summary.
-    pub(crate) fn push_to(&self, text: &mut String) -> Result<(), AllocError> {
-        for sender in self.senders.iter() {
-            sender.push_to(text)?;
+    /// The lines of the summary: the participants in the order of their numbers, and then the rest.
+    pub(crate) fn push_to(&self, alloc: Global, text: &mut Text, plan: &Plan) {
+        for p in 0..plan.participants() {
+            self.push_sender(text, label_of(alloc, plan, p));
         }
-        let Tallies {
-            unexplained,
-            cut,
-            unfinished,
-            ..
-        } = self;
-        write!(
-            text,
-            "unexplained {unexplained}\ncut {cut}\nunfinished {unfinished}\n"
-        )
+        push_count(text, "unexplained ", self.unexplained);
+        push_count(text, "\ncut ", self.cut);
+        push_count(text, "\nunfinished ", self.unfinished);
+        text.push("\n");
+    }
+
+    fn push_sender(&self, text: &mut Text, label: Result<String, AllocError>) {
+        let count = match &label {
+            Ok(label) => self.senders.get(label.as_bytes()),
+            Err(_) => None,
+        };
+        let (alone, with_others) = match count {
+            Some(count) => (count.alone, count.with_others),
+            None => (0, 0),
+        };
+        text.push_made(label);
+        push_count(text, " ", alone);
+        push_count(text, " alone, ", with_others);
+        text.push(" with others\n");
     }
 }
 
-impl Sender {
-    fn push_to(&self, text: &mut String) -> Result<(), AllocError> {
-        let label = self.label.as_str();
-        let alone = self.alone;
-        let with_others = self.with_others;
-        writeln!(text, "{label} {alone} alone, {with_others} with others")
+fn add(senders: &mut BTreeMap<Vec<u8>, Count>, label: String) -> Result<(), AllocError> {
+    let none = Count {
+        alone: 0,
+        with_others: 0,
+    };
+    match senders.insert(label.into_bytes(), none) {
+        Ok(_) => Ok(()),
+        Err(_) => Err(AllocError),
     }
+}
+
+fn push_count(text: &mut Text, before: &str, count: u64) {
+    text.push(before);
+    text.push_number(count);
 }
