@@ -96,11 +96,12 @@ fn say_found(
         push_kind(&mut lines, kind, Kind::Certificate);
     } else if found.has_carriage_return() {
         push_carriage_returns(&mut lines);
-    } else if found.is_long() {
+    } else if found.is_long {
         push_words(&mut lines, wrong, line);
     } else {
-        let flaw = flaw_in(alloc, found.line(), line, found.head(), found.is_ended())?;
-        push_flaw(&mut lines, found.line(), line, flaw);
+        let content = found.line.as_slice();
+        let flaw = flaw_in(alloc, content, line, found.head.as_slice(), found.is_ended)?;
+        push_flaw(&mut lines, content, line, flaw);
         push_kind(&mut lines, kind, Kind::Certificate);
     }
     lines.finish()

@@ -73,14 +73,33 @@ const BRIEF_NUMBERS: [(&str, &str); 4] = [
     ),
 ];
 
-/// Says what can stand after this beginning of a text, if there is such a thing. Whether there is.
-pub(crate) fn push_expected(
-    alloc: Global,
-    lines: &mut Lines,
-    language: Language,
-    before: &[u8],
-) -> Result<bool, AllocError> {
-    let (words, numbers) = match language {
+/// A place of a text, where the reader of its language is asked about one word after another.
+#[derive(Clone, Copy)]
+pub(crate) struct Asked<'a> {
+    pub(crate) alloc: Global,
+    pub(crate) language: Language,
+    /// The text before the place.
+    pub(crate) before: &'a [u8],
+    /// Whether there was no memory for an answer. What it said is no.
+    pub(crate) has_failed: bool,
+}
+
+impl Asked<'_> {
+    /// Whether this word can stand here, on a line of its own.
+    pub(crate) fn allows(&mut self, word: &str) -> bool {
+        match allows(self.alloc, self.language, self.before, word) {
+            Ok(is_allowed) => is_allowed,
+            Err(_) => {
+                self.has_failed = true;
+                false
+            }
+        }
+    }
+}
+
+/// Says what can stand in this place, if anything can. Whether it can.
+pub(crate) fn push_expected(lines: &mut Lines, asked: &mut Asked<'_>) -> bool {
+    let (words, numbers) = match asked.language {
         Language::Plan => (PLAN_WORDS.as_slice(), PLAN_NUMBERS.as_slice()),
         Language::Brief => (BRIEF_WORDS.as_slice(), BRIEF_NUMBERS.as_slice()),
     };
@@ -89,17 +108,17 @@ pub(crate) fn push_expected(
         count: 0,
     };
     for (word, name) in words {
-        if allows(alloc, language, before, word)? {
+        if asked.allows(word) {
             list.add(lines, name);
         }
     }
     for (number, name) in numbers {
-        if allows(alloc, language, before, number)? {
+        if asked.allows(number) {
             list.add(lines, name);
             break;
         }
     }
-    Ok(list.end(lines))
+    list.end(lines)
 }
 
 // What can stand in a place, as it is said: `A`, `A or B`, `A, B or C`.
@@ -133,8 +152,8 @@ impl List {
 
 const BEFORE: &str = "expected here: ";
 
-/// Whether this word can stand on a line of its own after the beginning of a text.
-pub(crate) fn allows(
+// Whether this word can stand on a line of its own after the beginning of a text.
+fn allows(
     alloc: Global,
     language: Language,
     before: &[u8],

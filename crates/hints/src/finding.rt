@@ -15,10 +15,14 @@ pub(crate) struct LineFinder {
     wanted: u64,
     // the number of the line that has been come to
     number: u64,
-    head: Vec<u8>,
-    line: Vec<u8>,
-    is_long: bool,
-    is_ended: bool,
+    /// The first bytes of the file.
+    pub(crate) head: Vec<u8>,
+    /// The line, without its end.
+    pub(crate) line: Vec<u8>,
+    /// Whether the line goes on after what is kept.
+    pub(crate) is_long: bool,
+    /// Whether a line feed ends it.
+    pub(crate) is_ended: bool,
 }
 
 impl LineFinder {
@@ -39,29 +43,9 @@ impl LineFinder {
         self.number >= self.wanted
     }
 
-    /// The line, without its end.
-    pub(crate) fn line(&self) -> &[u8] {
-        self.line.as_slice()
-    }
-
-    /// Whether a line feed ends it.
-    pub(crate) fn is_ended(&self) -> bool {
-        self.is_ended
-    }
-
-    /// Whether the line goes on after what is kept.
-    pub(crate) fn is_long(&self) -> bool {
-        self.is_long
-    }
-
     /// Whether the line ends in CR LF.
     pub(crate) fn has_carriage_return(&self) -> bool {
         self.is_ended && self.line.as_slice().ends_with(b"\r")
-    }
-
-    /// The first bytes of the file.
-    pub(crate) fn head(&self) -> &[u8] {
-        self.head.as_slice()
     }
 
     // What stands after the lines before that one.

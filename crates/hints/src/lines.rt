@@ -87,11 +87,16 @@ impl Lines {
         self.parts.clear();
     }
 
+    /// Notes that there was no memory for something that was to be said.
+    pub fn fail(&mut self) {
+        self.is_whole = false;
+    }
+
     /// All lines.
     ///
     /// # Errors
     ///
-    /// Where memory was refused for one of them.
+    /// Where memory was refused for something that was to be said.
     pub fn finish(self) -> Result<String, AllocError> {
         if self.is_whole {
             self.text.finish()

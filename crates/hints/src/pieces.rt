@@ -42,6 +42,16 @@ fn is_blank(byte: u8) -> bool {
     matches!(byte, b' ' | b'\t' | b'\r' | b'\n')
 }
 
+/// Whether each byte is one of these letters.
+pub(crate) fn has_only(bytes: &[u8], letters: &[u8]) -> bool {
+    for byte in bytes {
+        if !letters.contains(byte) {
+            return false;
+        }
+    }
+    true
+}
+
 /// Where the line with this number begins, if the text has so many lines.
 pub(crate) fn line_start(text: &[u8], line: u64) -> Option<usize> {
     let mut left = line.checked_sub(1)?;

@@ -1,6 +1,6 @@
 // After the refusal of a plan or of a brief, and after a plan that has no brief.
 
-use crate::expecting::push_expected;
+use crate::expecting::{Asked, push_expected};
 use crate::kinds::{Kind, is_binary, kind_of_file, push_kind};
 use crate::languages::Language;
 use crate::lines::Lines;
@@ -92,7 +92,10 @@ fn on_text<F: Read + Seek + Drop>(
 ) -> Result<String, AllocError> {
     let kind = kind_of_file(alloc, &mut file);
     let text = read_once_more(alloc, file);
-    let text = text.as_ref().map(Vec::as_slice);
+    let text = match &text {
+        Some(text) => Some(text.as_slice()),
+        None => None,
+    };
     match (line_of(refusal), of_text(language, refusal)) {
         (Some(line), Some(words)) => {
             let refused = Refused {
@@ -115,38 +118,29 @@ fn say_refused(
 ) -> Result<String, AllocError> {
     let mut lines = Lines::new(alloc);
     if !is_binary(kind) {
-        push_refused(alloc, &mut lines, refused, text)?;
+        push_refused(alloc, &mut lines, refused, text);
     }
     push_kind(&mut lines, kind, refused.language.kind());
     lines.finish()
 }
 
 // The place of the refusal, where the text can be read once more, and what it means.
-fn push_refused(
-    alloc: Global,
-    lines: &mut Lines,
-    refused: Refused,
-    text: Option<&[u8]>,
-) -> Result<(), AllocError> {
-    if let Some(text) = text {
-        if let Some(place) = found_place(alloc, text, refused)? {
-            return push_place(alloc, lines, refused, text, place);
-        }
+fn push_refused(alloc: Global, lines: &mut Lines, refused: Refused, text: Option<&[u8]>) {
+    let Some(text) = text else {
+        lines.say(refused.words);
+        return;
+    };
+    match found_place(alloc, text, refused) {
+        Ok(Some(place)) => push_place(alloc, lines, refused, text, place),
+        Ok(None) => lines.say(refused.words),
+        Err(_) => lines.fail(),
     }
-    lines.say(refused.words);
-    Ok(())
 }
 
 // The place of the refusal, and what could stand there.
-fn push_place(
-    alloc: Global,
-    lines: &mut Lines,
-    refused: Refused,
-    text: &[u8],
-    place: Piece,
-) -> Result<(), AllocError> {
-    let Refused { language, line, .. } = refused;
-    let what = language.name();
+fn push_place(alloc: Global, lines: &mut Lines, refused: Refused, text: &[u8], place: Piece) {
+    let line = refused.line;
+    let what = refused.language.name();
     lines.say(format_args!("line {line} of the {what}:"));
     let before = text.get(..place.start).unwrap_or(&[]);
     let at = text.get(place.start..place.end).unwrap_or(&[]);
@@ -155,14 +149,32 @@ fn push_place(
     if at.is_empty() {
         lines.say("the text ends here");
     }
-    if let PlanError::Unexpected(_) = refused.refusal {
-        push_word(alloc, lines, language, before, at)?;
-        if push_expected(alloc, lines, language, before)? {
-            return Ok(());
-        }
+    let is_unexpected = matches!(refused.refusal, PlanError::Unexpected(_));
+    if !is_unexpected || !push_asked(alloc, lines, refused.language, before, at) {
+        lines.say(refused.words);
     }
-    lines.say(refused.words);
-    Ok(())
+}
+
+// Why this word cannot stand in its place, and what could. Whether anything could.
+fn push_asked(
+    alloc: Global,
+    lines: &mut Lines,
+    language: Language,
+    before: &[u8],
+    word: &[u8],
+) -> bool {
+    let mut asked = Asked {
+        alloc,
+        language,
+        before,
+        has_failed: false,
+    };
+    push_word(lines, &mut asked, word);
+    let is_said = push_expected(lines, &mut asked);
+    if asked.has_failed {
+        lines.fail();
+    }
+    is_said
 }
 
 fn line_of(refusal: PlanError) -> Option<u64> {

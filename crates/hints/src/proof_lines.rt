@@ -1,6 +1,6 @@
 // What is wrong with one line of a certificate, and where.
 
-use crate::pieces::Piece;
+use crate::pieces::{Piece, has_only};
 use std::alloc::{AllocError, Global};
 
 // The most nodes on a path of a proof.
@@ -131,16 +131,6 @@ fn wire_flaw(line: &[u8], place: Piece) -> Option<Flaw> {
         place,
         "the wire of a fault has '0', '1', 'l', 'h' and 'r' alone",
     )
-}
-
-// Whether each byte is one of these letters.
-fn has_only(bytes: &[u8], letters: &[u8]) -> bool {
-    for byte in bytes {
-        if !letters.contains(byte) {
-            return false;
-        }
-    }
-    true
 }
 
 fn kind_flaw(line: &[u8], place: Piece) -> Option<Flaw> {

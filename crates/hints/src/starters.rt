@@ -29,13 +29,8 @@ fn say_refused(
 ) -> Result<String, AllocError> {
     let mut lines = Lines::new(alloc);
     match refusal {
-        OpenError::NoStarter => {
-            lines.say("no starter is named: give labels, joined by commas");
-            if let Some(plan) = plan {
-                push_nearest(alloc, &mut lines, plan, "")?;
-            }
-        }
-        OpenError::Unknown => push_unknown(alloc, &mut lines, plan, starters)?,
+        OpenError::NoStarter => push_none(alloc, &mut lines, plan),
+        OpenError::Unknown => push_unknown(alloc, &mut lines, plan, starters),
         OpenError::SameController => push_same(&mut lines, plan, starters),
         OpenError::Never => push_never(&mut lines, plan, starters),
         OpenError::NoMemory => {}
@@ -43,23 +38,25 @@ fn say_refused(
     lines.finish()
 }
 
+fn push_none(alloc: Global, lines: &mut Lines, plan: Option<&Plan>) {
+    lines.say("no starter is named: give labels, joined by commas");
+    if let Some(plan) = plan {
+        push_nearest(alloc, lines, plan, "");
+    }
+}
+
 // The first label that the plan does not have, and those that are like it.
-fn push_unknown(
-    alloc: Global,
-    lines: &mut Lines,
-    plan: Option<&Plan>,
-    starters: &str,
-) -> Result<(), AllocError> {
+fn push_unknown(alloc: Global, lines: &mut Lines, plan: Option<&Plan>, starters: &str) {
     if let Some(plan) = plan {
         if let Some(label) = first_absent(plan, starters) {
             lines.part("no participant of the plan has the label '");
             push_name(lines, label.as_bytes());
             lines.say("'");
-            return push_nearest(alloc, lines, plan, label);
+            push_nearest(alloc, lines, plan, label);
+            return;
         }
     }
     lines.say("a label is 'controller/message' or '!interrupt', with names of the plan");
-    Ok(())
 }
 
 fn first_absent<'a>(plan: &Plan, starters: &'a str) -> Option<&'a str> {
@@ -71,15 +68,10 @@ fn first_absent<'a>(plan: &Plan, starters: &'a str) -> Option<&'a str> {
     None
 }
 
-fn push_nearest(
-    alloc: Global,
-    lines: &mut Lines,
-    plan: &Plan,
-    wanted: &str,
-) -> Result<(), AllocError> {
+fn push_nearest(alloc: Global, lines: &mut Lines, plan: &Plan, wanted: &str) {
     if plan.participants() == 0 {
         lines.say("the plan has no participants");
-        return Ok(());
+        return;
     }
     if wanted.is_empty() {
         lines.say("labels of the plan:");
@@ -88,10 +80,11 @@ fn push_nearest(
     }
     let mut nearest = Nearest::new(alloc, wanted.as_bytes());
     for i in 0..plan.participants() {
-        add_label(alloc, &mut nearest, plan, i)?;
+        if add_label(alloc, &mut nearest, plan, i).is_err() {
+            lines.fail();
+        }
     }
     nearest.tell(lines);
-    Ok(())
 }
 
 fn add_label(

@@ -1,42 +1,42 @@
 // Words that cannot stand where somebody put them, for a reason of their own.
 
-use crate::expecting::allows;
+use crate::expecting::Asked;
 use crate::languages::Language;
 use crate::lines::Lines;
-use std::alloc::{AllocError, Global};
+use crate::pieces::has_only;
 
-/// Says why this word cannot stand after this beginning of a text, where it is a word of the language in the place of a
-/// name, an address with its direction bit, or belongs to `plan 2` and the text is of `plan 1`.
-pub(crate) fn push_word(
-    alloc: Global,
-    lines: &mut Lines,
-    language: Language,
-    before: &[u8],
-    word: &[u8],
-) -> Result<(), AllocError> {
-    if let Language::Plan = language {
-        if word == b"never".as_slice() && allows(alloc, language, before, "message")? {
-            lines.say("'never' is of 'plan 2': let the text begin with that");
-            return Ok(());
-        }
-        if is_range(word) && allows(alloc, language, before, "1")? {
-            lines.say("ranges, as '2..4', are of 'plan 2': let the text begin with that");
-            return Ok(());
-        }
+/// Says why this word cannot stand in this place, where it is a word of the language in the place of a name, an address with
+/// its direction bit, or belongs to `plan 2` and the text is of `plan 1`.
+pub(crate) fn push_word(lines: &mut Lines, asked: &mut Asked<'_>, word: &[u8]) {
+    if let Some(words) = of_plan_2(asked, word) {
+        lines.say(words);
+        return;
     }
-    if let Some(address) = without_direction(language, word) {
-        if takes_address(alloc, language, before)? {
+    if let Some(address) = without_direction(asked.language, word) {
+        if takes_address(asked) {
             push_address(lines, address);
-            return Ok(());
+            return;
         }
     }
-    if let Some(reserved) = language.reserved(word) {
-        if allows(alloc, language, before, "a")? {
-            let what = language.name();
+    if let Some(reserved) = asked.language.reserved(word) {
+        if asked.allows("a") {
+            let what = asked.language.name();
             lines.say(format_args!("'{reserved}' is a word of every {what}, and cannot be a name"));
         }
     }
-    Ok(())
+}
+
+// What belongs to `plan 2`, where the text is of `plan 1`.
+fn of_plan_2(asked: &mut Asked<'_>, word: &[u8]) -> Option<&'static str> {
+    if let Language::Brief = asked.language {
+        None
+    } else if word == b"never".as_slice() && asked.allows("message") {
+        Some("'never' is of 'plan 2': let the text begin with that")
+    } else if is_range(word) && asked.allows("1") {
+        Some("ranges, as '2..4', are of 'plan 2': let the text begin with that")
+    } else {
+        None
+    }
 }
 
 // Two numbers with two dots between them.
@@ -53,12 +53,11 @@ fn is_range(word: &[u8]) -> bool {
 }
 
 // Whether an address can stand here.
-fn takes_address(alloc: Global, language: Language, before: &[u8]) -> Result<bool, AllocError> {
-    let (any, read) = match language {
-        Language::Plan => ("000000x", "0000001"),
-        Language::Brief => ("0b000000x", "0b0000001"),
-    };
-    Ok(allows(alloc, language, before, any)? || allows(alloc, language, before, read)?)
+fn takes_address(asked: &mut Asked<'_>) -> bool {
+    match asked.language {
+        Language::Plan => asked.allows("000000x") || asked.allows("0000001"),
+        Language::Brief => asked.allows("0b000000x") || asked.allows("0b0000001"),
+    }
 }
 
 // An address of seven bits.
@@ -91,13 +90,8 @@ fn without_direction(language: Language, word: &[u8]) -> Option<Address<'_>> {
 
 // The first seven of eight bits.
 fn seven_bits<'a>(before: &'static str, bits: &'a str) -> Option<Address<'a>> {
-    if bits.len() != 8 {
+    if bits.len() != 8 || !has_only(bits.as_bytes(), b"01x") {
         return None;
-    }
-    for bit in bits.bytes() {
-        if !matches!(bit, b'0' | b'1' | b'x') {
-            return None;
-        }
     }
     Some(Address::Bits(before, bits.get(..7)?))
 }
