@@ -65,10 +65,7 @@ impl Lines {
 
     // A word that begins so, and has so many digits and this after it.
     fn begin_word(&mut self, before: &str, digits: usize, after: &str) {
-        let width = before
-            .chars()
-            .count()
-            .saturating_add(after.chars().count());
+        let width = before.chars().count().saturating_add(after.chars().count());
         self.make_room(width.saturating_add(digits));
         self.text.push(before);
     }

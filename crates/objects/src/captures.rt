@@ -96,10 +96,7 @@ fn participants_of(words: &str) -> Value<'_> {
 }
 
 /// Adds the object of `N transactions, U unexplained`: how many a STOP ended.
-pub(crate) fn push_last(
-    objects: &mut Objects,
-    line: &str,
-) -> Option<()> {
+pub(crate) fn push_last(objects: &mut Objects, line: &str) -> Option<()> {
     let (transactions, rest) = line.split_once(" transactions, ")?;
     let unexplained = rest.strip_suffix(" unexplained")?;
     let transactions = number(transactions)?;
@@ -115,10 +112,7 @@ pub(crate) fn push_last(
 }
 
 /// Adds the object of what stands after `too` in `too few: C of N`.
-pub(crate) fn push_too_few(
-    objects: &mut Objects,
-    rest: &str,
-) -> Option<()> {
+pub(crate) fn push_too_few(objects: &mut Objects, rest: &str) -> Option<()> {
     let (transactions, least) = rest.strip_prefix("few: ")?.split_once(" of ")?;
     let transactions = number(transactions)?;
     let at_least = number(least)?;
@@ -133,10 +127,7 @@ pub(crate) fn push_too_few(
 }
 
 /// Adds the object of `LABEL A alone, B with others`: how many transactions a participant explains.
-pub(crate) fn push_participant(
-    objects: &mut Objects,
-    line: &str,
-) -> Option<()> {
+pub(crate) fn push_participant(objects: &mut Objects, line: &str) -> Option<()> {
     let (participant, counts) = line.split_once(' ')?;
     let (alone, others) = counts.split_once(" alone, ")?;
     let others = others.strip_suffix(" with others")?;
@@ -154,10 +145,7 @@ pub(crate) fn push_participant(
 }
 
 /// Adds the object of `unexplained N`, `cut N` or `unfinished N`.
-pub(crate) fn push_count(
-    objects: &mut Objects,
-    line: &str,
-) -> Option<()> {
+pub(crate) fn push_count(objects: &mut Objects, line: &str) -> Option<()> {
     let (what, transactions) = line.split_once(' ')?;
     let transactions = number(transactions)?;
     objects.add(

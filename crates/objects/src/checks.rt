@@ -36,11 +36,7 @@ pub(crate) fn pair_named(head: &str) -> Option<(u64, [&str; 2])> {
 
 /// Adds the object of an unsafe pair, of what stands after the first word. Lines for people give the bytes on the bus and
 /// those of the two, what each does next, and in which slot.
-pub(crate) fn push_pair(
-    objects: &mut Objects,
-    rest: &str,
-    notes: &[&str],
-) -> Option<()> {
+pub(crate) fn push_pair(objects: &mut Objects, rest: &str, notes: &[&str]) -> Option<()> {
     let pair = pair_of(rest)?;
     let slot = ("slot", some_number(slot_in(notes)));
     Some(match rows_of(pair.participants, notes) {
@@ -59,12 +55,7 @@ pub(crate) fn push_pair(
     })
 }
 
-fn push_fault(
-    objects: &mut Objects,
-    pair: Pair<'_>,
-    explained: &[Field<'_>],
-    notes: &[&str],
-) {
+fn push_fault(objects: &mut Objects, pair: Pair<'_>, explained: &[Field<'_>], notes: &[&str]) {
     objects.add_explained(
         "pair",
         &[
@@ -79,11 +70,7 @@ fn push_fault(
 }
 
 /// Adds the object of `safe: N pairs` or `unsafe: F of N pairs`. Lines for people give the `never` items that mend the plan.
-pub(crate) fn push_plan(
-    objects: &mut Objects,
-    line: &str,
-    notes: &[&str],
-) -> Option<()> {
+pub(crate) fn push_plan(objects: &mut Objects, line: &str, notes: &[&str]) -> Option<()> {
     let counts = line.strip_suffix(" pairs")?;
     if let Some(pairs) = counts.strip_prefix("safe: ") {
         let pairs = number(pairs)?;
@@ -115,11 +102,7 @@ fn push_counts(
 }
 
 /// Adds the object of `accepted safe`, `accepted unsafe`, `wrong C1 line L`, `wrong C2` or `wrong C5 pair I`.
-pub(crate) fn push_certificate(
-    objects: &mut Objects,
-    line: &str,
-    notes: &[&str],
-) -> Option<()> {
+pub(crate) fn push_certificate(objects: &mut Objects, line: &str, notes: &[&str]) -> Option<()> {
     if let Some(word) = line.strip_prefix("accepted ") {
         let is_safe = Value::Flag(word == "safe");
         let fields = [("accepted", Value::Flag(true)), ("safe", is_safe)];

@@ -5,21 +5,13 @@ use crate::fields::{Objects, Value};
 use crate::words::number;
 
 /// Adds the object of what stands after `pair` in `pair I X Y: WAYS`: who wins, and in which slots.
-pub(crate) fn push_order(
-    objects: &mut Objects,
-    rest: &str,
-) -> Option<()> {
+pub(crate) fn push_order(objects: &mut Objects, rest: &str) -> Option<()> {
     let (head, ways) = rest.split_once(':')?;
     let (pair, participants) = pair_named(head)?;
     Some(push_ways(objects, pair, &participants, ways.trim_start()))
 }
 
-fn push_ways(
-    objects: &mut Objects,
-    pair: u64,
-    participants: &[&str; 2],
-    ways: &str,
-) {
+fn push_ways(objects: &mut Objects, pair: u64, participants: &[&str; 2], ways: &str) {
     let [one, other] = participants;
     objects.add(
         "order",
@@ -63,10 +55,7 @@ fn slots_in<'a>(slots: &str) -> Value<'a> {
 }
 
 /// Adds the object of what stands after `total` in `total X: wins W, may win M, loses L`.
-pub(crate) fn push_total(
-    objects: &mut Objects,
-    rest: &str,
-) -> Option<()> {
+pub(crate) fn push_total(objects: &mut Objects, rest: &str) -> Option<()> {
     let (participant, counts) = rest.split_once(": wins ")?;
     let (wins, counts) = counts.split_once(", may win ")?;
     let (may_win, loses) = counts.split_once(", loses ")?;

@@ -6,10 +6,7 @@ use growing_text::Text;
 use std::alloc::{AllocError, Global};
 
 /// Adds the object of what stands after `signal` in `signal CODE CHANGES SCOPE NAME`.
-pub(crate) fn push_signal(
-    objects: &mut Objects,
-    rest: &str,
-) -> Option<()> {
+pub(crate) fn push_signal(objects: &mut Objects, rest: &str) -> Option<()> {
     let (code, rest) = rest.split_once(' ')?;
     let (changes, rest) = rest.split_once(' ')?;
     let (scope, name) = rest.split_once(' ')?;
@@ -31,10 +28,7 @@ pub(crate) fn push_signal(
 }
 
 /// Adds the object of what stands after `bus` in `bus N transactions --scl-code 'CODE' --sda-code 'CODE'`.
-pub(crate) fn push_bus(
-    objects: &mut Objects,
-    rest: &str,
-) -> Option<()> {
+pub(crate) fn push_bus(objects: &mut Objects, rest: &str) -> Option<()> {
     let (transactions, codes) = rest.split_once(" transactions --scl-code ")?;
     let (scl, sda) = codes.split_once(" --sda-code ")?;
     let transactions = number(transactions)?;
@@ -69,10 +63,7 @@ fn unquoted(alloc: Global, word: &str) -> Result<String, AllocError> {
 }
 
 /// Adds the object of `S signals, B buses`.
-pub(crate) fn push_last(
-    objects: &mut Objects,
-    line: &str,
-) -> Option<()> {
+pub(crate) fn push_last(objects: &mut Objects, line: &str) -> Option<()> {
     let (signals, rest) = line.split_once(" signals, ")?;
     let buses = rest.strip_suffix(" buses")?;
     let signals = number(signals)?;

@@ -123,11 +123,7 @@ fn push_message(
 }
 
 // What follows a place: after a refusal in brackets, which stand before what follows an acknowledge.
-fn push_next(
-    line: &mut Lines,
-    waiting: &mut Vec<Waiting>,
-    node: &Node,
-) -> Result<(), AllocError> {
+fn push_next(line: &mut Lines, waiting: &mut Vec<Waiting>, node: &Node) -> Result<(), AllocError> {
     if let After::On(place) = node.acked {
         waiting.push(Waiting::Place(place))?;
     }
