@@ -66,7 +66,8 @@ impl Lines {
         self.break_up(HEAD);
     }
 
-    // Says the parts on lines that begin so.
+    // Says the parts on lines that begin so. These are no field: they have a `&'static str`, with which a method whose type
+    // parameter names lifetimes, as `part`, gets no proof.
     fn break_up(&mut self, head: &'static str) {
         let mut lines = growing_text::Lines::new(self.alloc);
         lines.begin(head, head);
