@@ -166,26 +166,24 @@ pub(crate) fn words_of_rows(
     title: &str,
 ) -> Result<String, AllocError> {
     let mut text = Text::new(alloc);
-    let mut between = "";
     for line in notes {
         if let Some(words) = after_title(line, title) {
-            between = push_words(&mut text, between, words);
+            push_words(&mut text, words);
         }
     }
     text.finish()
 }
 
-// Adds the words, and says what stands before the next one.
-fn push_words(text: &mut Text, before: &'static str, words: &str) -> &'static str {
-    let mut between = before;
+fn push_words(text: &mut Text, words: &str) {
     for word in words.split(' ') {
-        if !word.is_empty() {
-            text.push(between);
-            text.push(word);
-            between = " ";
+        if word.is_empty() {
+            continue;
         }
+        if !text.is_empty() {
+            text.push(" ");
+        }
+        text.push(word);
     }
-    between
 }
 
 // What stands after the first word, where that is the title.

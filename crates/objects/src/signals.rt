@@ -36,16 +36,30 @@ pub(crate) fn push_bus(objects: &mut Objects, rest: &str) -> Option<()> {
 }
 
 fn push_codes(objects: &mut Objects, transactions: u64, scl: &str, sda: &str) {
-    let codes = (unquoted(objects.alloc, scl), unquoted(objects.alloc, sda));
-    let (Ok(scl), Ok(sda)) = codes else {
-        return objects.cut();
-    };
+    if push_unquoted(objects, transactions, scl, sda).is_err() {
+        objects.cut();
+    }
+}
+
+fn push_unquoted(
+    objects: &mut Objects,
+    transactions: u64,
+    scl: &str,
+    sda: &str,
+) -> Result<(), AllocError> {
+    let scl = unquoted(objects.alloc, scl)?;
+    let sda = unquoted(objects.alloc, sda)?;
+    push_bus_of(objects, transactions, scl.as_str(), sda.as_str());
+    Ok(())
+}
+
+fn push_bus_of<'a>(objects: &mut Objects, transactions: u64, scl: &'a str, sda: &'a str) {
     objects.add(
         "bus",
         &[
             ("transactions", Value::Number(transactions)),
-            ("scl_code", Value::Text(scl.as_str())),
-            ("sda_code", Value::Text(sda.as_str())),
+            ("scl_code", Value::Text(scl)),
+            ("sda_code", Value::Text(sda)),
         ],
     );
 }
