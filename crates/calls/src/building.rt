@@ -10,78 +10,44 @@ use std::alloc::Global;
 /// is as it was, and is asked once more when there is some.
 pub fn built_again(alloc: Global, text: &[u8]) -> Result<Plan, RunError> {
     let plan = read_plan(alloc, text)?;
-    built_like(alloc, &plan)
-}
-
-fn built_like(alloc: Global, plan: &Plan) -> Result<Plan, RunError> {
     let mut builder = Builder::new(alloc);
-    add_all(alloc, &mut builder, plan)?;
+    add_all(alloc, &mut builder, &plan)?;
     Ok(builder.finish())
 }
 
-// What a plan has, in the order in which it is built.
-#[derive(Clone, Copy)]
-enum Part {
-    Message,
-    Controller,
-    Interrupt,
-    Never,
-}
-
-const PARTS: [Part; 4] = [
-    Part::Message,
-    Part::Controller,
-    Part::Interrupt,
-    Part::Never,
-];
-
 fn add_all(alloc: Global, builder: &mut Builder, plan: &Plan) -> Result<(), RunError> {
-    for part in &PARTS {
-        for k in 0..count_of(plan, *part) {
-            add(alloc, builder, plan, *part, k)?;
+    for k in 0..plan.messages() {
+        if is_wanting(alloc, add_message(alloc, builder, plan, k))? {
+            add_message(alloc, builder, plan, k)?;
+        }
+    }
+    for k in 0..plan.controllers() {
+        if is_wanting(alloc, add_controller(alloc, builder, plan, k))? {
+            add_controller(alloc, builder, plan, k)?;
+        }
+    }
+    for k in 0..plan.interrupts() {
+        if is_wanting(alloc, add_interrupt(alloc, builder, plan, k))? {
+            add_interrupt(alloc, builder, plan, k)?;
+        }
+    }
+    for k in 0..plan.nevers() {
+        if is_wanting(alloc, add_never(builder, plan, k))? {
+            add_never(builder, plan, k)?;
         }
     }
     Ok(())
 }
 
-fn count_of(plan: &Plan, part: Part) -> u32 {
-    match part {
-        Part::Message => plan.messages(),
-        Part::Controller => plan.controllers(),
-        Part::Interrupt => plan.interrupts(),
-        Part::Never => plan.nevers(),
-    }
-}
-
-// Adds a part, and once more where memory was refused, when there is some.
-fn add(
-    alloc: Global,
-    builder: &mut Builder,
-    plan: &Plan,
-    part: Part,
-    k: u32,
-) -> Result<(), RunError> {
-    match add_once(alloc, builder, plan, part, k) {
+// Whether memory was refused, which is there again from here on.
+fn is_wanting(alloc: Global, step: Result<(), RunError>) -> Result<bool, RunError> {
+    match step {
+        Ok(()) => Ok(false),
         Err(RunError::NoMemory) => {
             be_there_again(alloc);
-            add_once(alloc, builder, plan, part, k)
+            Ok(true)
         }
-        step => step,
-    }
-}
-
-fn add_once(
-    alloc: Global,
-    builder: &mut Builder,
-    plan: &Plan,
-    part: Part,
-    k: u32,
-) -> Result<(), RunError> {
-    match part {
-        Part::Message => add_message(alloc, builder, plan, k),
-        Part::Controller => add_controller(alloc, builder, plan, k),
-        Part::Interrupt => add_interrupt(alloc, builder, plan, k),
-        Part::Never => add_never(builder, plan, k),
+        Err(error) => Err(error),
     }
 }
 

@@ -32,18 +32,8 @@ fn counted(
     sda: &str,
 ) -> Result<(u32, usize), RunError> {
     let plan = read_plan(alloc, plan)?;
-    counted_by(alloc, &plan, dump, scl, sda)
-}
-
-fn counted_by(
-    alloc: Global,
-    plan: &Plan,
-    dump: &[u8],
-    scl: &str,
-    sda: &str,
-) -> Result<(u32, usize), RunError> {
-    let copied = copied(alloc, plan)?;
-    Ok((copied, explained(alloc, plan, dump, scl, sda)?))
+    let copied = copied(alloc, &plan)?;
+    Ok((copied, explained(alloc, &plan, dump, scl, sda)?))
 }
 
 fn explained(

@@ -3,7 +3,7 @@
 use crate::building::built_again;
 use crate::scarcity::be_there_again;
 use cert_check::{AcceptError, Answer, accept, accept_plan};
-use certificate::{Cert, CertError, CertText, print_cert, read_cert};
+use certificate::{CertError, CertText, print_cert, read_cert};
 use plan_core::Plan;
 use plan_text::{print_plan, read_plan};
 use run_parts::{Output, RunError, Status, answer_line, status_of_answer, write_lines};
@@ -38,21 +38,19 @@ pub fn make<R: Threads + Sync, O: Output>(
     out: &mut O,
 ) -> Result<Status, RunError> {
     match call {
-        Call::Accept => tell(alloc, accepted(alloc, plan, cert), out),
-        Call::Reprint => tell(alloc, accepted_again(alloc, plan, cert), out),
-        Call::AcceptPlan => tell(alloc, accepted_whole(alloc, plan, cert), out),
+        Call::Accept => tell(alloc, accepted(alloc, plan, cert)?, out),
+        Call::Reprint => tell(alloc, accepted_again(alloc, plan, cert)?, out),
+        Call::AcceptPlan => tell(alloc, accepted_whole(alloc, plan, cert)?, out),
         Call::Table => certify(alloc, table_of(alloc, plan)?, out),
         Call::TableBy(workers) => certify(alloc, table_by(rt, alloc, plan, workers)?, out),
-        Call::Rebuild => spell_again(alloc, plan, out),
+        Call::Rebuild => {
+            let spelling = spelled_again(alloc, plan)?;
+            write_lines(out, spelling.as_slice(), Status::Good)
+        }
     }
 }
 
-fn tell<O: Output>(
-    alloc: Global,
-    answer: Result<Answer, RunError>,
-    out: &mut O,
-) -> Result<Status, RunError> {
-    let answer = answer?;
+fn tell<O: Output>(alloc: Global, answer: Answer, out: &mut O) -> Result<Status, RunError> {
     let line = answer_line(alloc, answer)?;
     write_lines(out, line.as_bytes(), status_of_answer(answer))
 }
@@ -80,11 +78,6 @@ fn table_by<R: Threads + Sync>(
     Ok(table_with(rt, alloc, &plan, workers, &NoGate)?)
 }
 
-fn spell_again<O: Output>(alloc: Global, plan: &[u8], out: &mut O) -> Result<Status, RunError> {
-    let spelling = spelled_again(alloc, plan)?;
-    write_lines(out, spelling.as_slice(), Status::Good)
-}
-
 fn spelled_again(alloc: Global, plan: &[u8]) -> Result<Vec<u8>, RunError> {
     let again = built_again(alloc, plan)?;
     Ok(print_plan(alloc, &again)?)
@@ -107,28 +100,15 @@ fn accepted_printed(alloc: Global, plan: &[u8], cert: &CertText) -> Result<Answe
 
 // The same by the plan that was read and its proofs, or by both texts where the certificate has no proofs.
 fn accepted_whole(alloc: Global, plan: &[u8], cert: &[u8]) -> Result<Answer, RunError> {
-    match accepted_read(read_plan(alloc, plan)?, &read_cert(alloc, cert)) {
-        Some(answer) => answer,
-        None => accepted(alloc, plan, cert),
-    }
-}
-
-fn accepted_read(
-    plan: Plan,
-    cert: &Result<CertText, CertError>,
-) -> Option<Result<Answer, RunError>> {
-    match cert {
-        Ok(CertText::Proofs(proofs)) => Some(Ok(proved(plan, proofs))),
-        Ok(CertText::Flaw(..)) => None,
-        Err(CertError::Wrong(fault)) => Some(Ok(Answer::Wrong(*fault))),
-        Err(CertError::NoMemory) => Some(Err(RunError::NoMemory)),
-    }
-}
-
-fn proved(plan: Plan, proofs: &[Cert]) -> Answer {
-    match accept_plan(plan, proofs) {
-        Ok(_) => Answer::Safe,
-        Err((_, fault)) => Answer::Wrong(fault),
+    let read = read_plan(alloc, plan)?;
+    match read_cert(alloc, cert) {
+        Ok(CertText::Proofs(proofs)) => Ok(match accept_plan(read, proofs.as_slice()) {
+            Ok(_) => Answer::Safe,
+            Err((_, fault)) => Answer::Wrong(fault),
+        }),
+        Ok(CertText::Flaw(..)) => accepted(alloc, plan, cert),
+        Err(CertError::Wrong(fault)) => Ok(Answer::Wrong(fault)),
+        Err(CertError::NoMemory) => Err(RunError::NoMemory),
     }
 }
 
@@ -138,19 +118,10 @@ fn certify<O: Output>(alloc: Global, table: Table, out: &mut O) -> Result<Status
     } else {
         Status::Bad
     };
-    match certified(alloc, table) {
-        Some(cert) => print(alloc, &cert, status, out),
-        None => Err(RunError::NoMemory),
-    }
-}
-
-fn print<O: Output>(
-    alloc: Global,
-    cert: &CertText,
-    status: Status,
-    out: &mut O,
-) -> Result<Status, RunError> {
-    let text = print_cert(alloc, cert)?;
+    let Some(cert) = certified(alloc, table) else {
+        return Err(RunError::NoMemory);
+    };
+    let text = print_cert(alloc, &cert)?;
     write_lines(out, text.as_slice(), status)
 }
 

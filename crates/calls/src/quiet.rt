@@ -102,10 +102,10 @@ fn add(sum: &mut u64, number: usize) {
 
 /// Whether the calls on a table of all pairs and on a list of faults take no memory, where the text is a plan.
 pub fn is_table_quiet(alloc: Global, text: &[u8]) -> Result<Option<bool>, RunError> {
-    match read_plan(alloc, text) {
-        Ok(plan) => Ok(Some(are_lists_quiet(alloc, &plan)?)),
-        Err(_) => Ok(None),
-    }
+    let Ok(plan) = read_plan(alloc, text) else {
+        return Ok(None);
+    };
+    Ok(Some(are_lists_quiet(alloc, &plan)?))
 }
 
 fn are_lists_quiet(alloc: Global, plan: &Plan) -> Result<bool, AllocError> {
@@ -136,19 +136,15 @@ fn listed(table: &Table, faults: &Faults) -> u64 {
 }
 
 /// Whether the calls on the proofs or the fault of a certificate take no memory, where both texts can be read.
-pub fn is_cert_quiet(alloc: Global, text: &[u8], cert: &[u8]) -> Option<bool> {
-    match read_plan(alloc, text) {
-        Ok(plan) => is_read_quiet(alloc, plan, cert),
-        Err(_) => None,
-    }
-}
-
-fn is_read_quiet(alloc: Global, plan: Plan, cert: &[u8]) -> Option<bool> {
-    match read_cert(alloc, cert) {
+pub fn is_cert_quiet(alloc: Global, text: &[u8], cert: &[u8]) -> Result<Option<bool>, RunError> {
+    let Ok(plan) = read_plan(alloc, text) else {
+        return Ok(None);
+    };
+    Ok(match read_cert(alloc, cert) {
         Ok(CertText::Proofs(proofs)) => Some(are_proofs_quiet(alloc, plan, proofs)),
         Ok(CertText::Flaw(_, fault)) => Some(is_fault_quiet(alloc, &plan, &fault)),
         Err(_) => None,
-    }
+    })
 }
 
 fn are_proofs_quiet(alloc: Global, plan: Plan, proofs: Vec<Cert>) -> bool {
@@ -274,22 +270,12 @@ fn are_bits_quiet(alloc: Global) -> bool {
 
 // The questions to a builder that has a message, a controller and an interrupt, and its end.
 fn is_builder_quiet(alloc: Global) -> Result<bool, RunError> {
-    let names = made_names(alloc)?;
-    is_built_quiet(alloc, &names)
-}
-
-fn is_built_quiet(alloc: Global, names: &Names) -> Result<bool, RunError> {
     let mut builder = Builder::new(alloc);
-    let is_built = is_built(alloc, &mut builder)?;
-    Ok(are_questions_quiet(alloc, builder, names) && is_built)
-}
-
-fn is_built(alloc: Global, builder: &mut Builder) -> Result<bool, RunError> {
-    Ok(
-        has_message(alloc, builder)?
-            && builder.controller(named(alloc, "a")?, &[]).is_ok()
-            && builder.interrupt(named(alloc, "t")?, 1).is_ok(),
-    )
+    let is_built = has_message(alloc, &mut builder)?
+        && builder.controller(named(alloc, "a")?, &[]).is_ok()
+        && builder.interrupt(named(alloc, "t")?, 1).is_ok();
+    let names = made_names(alloc)?;
+    Ok(are_questions_quiet(alloc, builder, &names) && is_built)
 }
 
 fn has_message(alloc: Global, builder: &mut Builder) -> Result<bool, RunError> {

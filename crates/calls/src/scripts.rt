@@ -4,46 +4,35 @@ use crate::scarcity::be_there_again;
 use crate::sittings::{End, Sitting};
 use bus_bench::{FinishFault, MOST_SLOTS, Offered, OpenError, Played, Put, Sight};
 use cert_check::Accepted;
-use growing_text::Text;
 use message_tree::{Bit, Item};
 use plan_core::Plan;
 use std::alloc::{AllocError, Global};
 
-/// Plays a script on a bench of an accepted plan, and gives each of its lines with its answer. `starters` has the labels of
-/// those who start, which commas part, and `answers` the bits of the targets by slot.
+/// Plays a script on a bench of an accepted plan, and adds each of its lines with its answer to the page. `starters` has
+/// the labels of those who start, which commas part, and `answers` the bits of the targets by slot.
 ///
 /// # Errors
 ///
-/// Those of `open_bench`, before anything is played, and `NoMemory`.
+/// Those of `open_bench`, before anything is added, and `NoMemory`.
 pub fn play_script(
     alloc: Global,
     accepted: &Accepted,
     starters: &str,
     answers: &str,
     script: &str,
-) -> Result<String, OpenError> {
-    match numbers_of(alloc, accepted.plan(), starters) {
-        Ok(numbers) => play_by(alloc, accepted, starters, &numbers, answers, script),
-        Err(AllocError) => Err(OpenError::NoMemory),
-    }
-}
-
-fn play_by(
-    alloc: Global,
-    accepted: &Accepted,
-    starters: &str,
-    numbers: &[u32],
-    answers: &str,
-    script: &str,
-) -> Result<String, OpenError> {
-    let sitting = Some(opened(alloc, accepted, numbers, answers)?);
+    page: &mut String,
+) -> Result<(), OpenError> {
+    let Ok(numbers) = numbers_of(alloc, accepted.plan(), starters) else {
+        return Err(OpenError::NoMemory);
+    };
+    let sitting = opened(alloc, accepted, &numbers, answers)?;
     let mut table = Table {
         starters,
-        numbers,
-        sitting,
+        numbers: &numbers,
+        sitting: Some(sitting),
     };
-    match table.play(alloc, script) {
-        Ok(page) => Ok(page),
+    match table.play(alloc, script, page) {
+        Ok(()) => Ok(()),
         Err(AllocError) => Err(OpenError::NoMemory),
     }
 }
@@ -108,19 +97,17 @@ enum Line<'a> {
     Unknown,
 }
 
-impl<'a> Table<'a, '_> {
-    // Each line with its answer.
-    fn play(&mut self, alloc: Global, script: &str) -> Result<String, AllocError> {
-        let mut page = Text::new(alloc);
+impl Table<'_, '_> {
+    // Writes each line with its answer.
+    fn play(&mut self, alloc: Global, script: &str, page: &mut String) -> Result<(), AllocError> {
         for line in script.split('\n') {
             if !line.is_empty() {
-                page.push(line);
-                page.push(" -> ");
-                self.answer(alloc, self.line_of(line), &mut page);
-                page.push("\n");
+                write!(page, "{line} -> ")?;
+                self.answer(alloc, self.line_of(line), page)?;
+                page.push('\n')?;
             }
         }
-        page.finish()
+        Ok(())
     }
 
     fn line_of<'c>(&self, line: &'c str) -> Line<'c> {
@@ -140,32 +127,32 @@ impl<'a> Table<'a, '_> {
         self.starters.split(',').position(|other| other == label)
     }
 
-    fn answer(&mut self, alloc: Global, line: Line<'_>, page: &mut Text) {
+    fn answer(
+        &mut self,
+        alloc: Global,
+        line: Line<'_>,
+        page: &mut String,
+    ) -> Result<(), AllocError> {
         if let Line::Finish(seats) = line {
             return self.finish(alloc, seats, page);
         }
         match &mut self.sitting {
-            Some(sitting) => answer_at(alloc, sitting, line, page),
-            None => page.push("no bench"),
+            Some(sitting) => answer_at(sitting, line, page),
+            None => page.push_str("no bench"),
         }
     }
 
-    fn finish(&mut self, alloc: Global, seats: &str, page: &mut Text) {
-        match self.sitting.take() {
-            Some(sitting) => self.finish_at(alloc, sitting, seats, page),
-            None => page.push("no bench"),
-        }
-    }
-
-    fn finish_at(&mut self, alloc: Global, mut sitting: Sitting<'a>, seats: &str, page: &mut Text) {
+    fn finish(&mut self, alloc: Global, seats: &str, page: &mut String) -> Result<(), AllocError> {
+        let Some(mut sitting) = self.sitting.take() else {
+            return page.push_str("no bench");
+        };
         let count = self.put_in_order(&mut sitting, seats);
-        match ended(alloc, sitting, count) {
-            Ok(End::Played(played)) => self.push_played(&played, page),
-            Ok(End::Unfinished(why, sitting)) => {
+        match ended(alloc, sitting, count)? {
+            End::Played(played) => self.push_played(&played, page),
+            End::Unfinished(why, sitting) => {
                 self.sitting = Some(sitting);
-                push_fault(why, page);
+                push_fault(why, page)
             }
-            Err(AllocError) => page.cut(),
         }
     }
 
@@ -185,16 +172,16 @@ impl<'a> Table<'a, '_> {
     }
 
     // The wire, and the labels of those who were live at its end.
-    fn push_played(&self, played: &Played, page: &mut Text) {
-        page.push("wire ");
+    fn push_played(&self, played: &Played, page: &mut String) -> Result<(), AllocError> {
+        page.push_str("wire ")?;
         for item in &played.wire {
-            page.push_char(item.symbol());
+            page.push(item.symbol())?;
         }
-        page.push(", won");
+        page.push_str(", won")?;
         for winner in &played.won {
-            page.push(" ");
-            page.push(self.label_of(*winner));
+            write!(page, " {}", self.label_of(*winner))?;
         }
+        Ok(())
     }
 
     fn label_of(&self, participant: u32) -> &str {
@@ -249,16 +236,20 @@ fn put_of(word: &str) -> Option<Put> {
     }
 }
 
-fn answer_at(alloc: Global, sitting: &mut Sitting<'_>, line: Line<'_>, page: &mut Text) {
+fn answer_at(
+    sitting: &mut Sitting<'_>,
+    line: Line<'_>,
+    page: &mut String,
+) -> Result<(), AllocError> {
     match line {
-        Line::Offers(seat) => page.push(offered_word(sitting.offered(seat))),
+        Line::Offers(seat) => page.push_str(offered_word(sitting.offered(seat))),
         Line::Puts(seat, put) => match sitting.put(seat, put) {
-            Ok(()) => page.push("ok"),
-            Err(error) => page.push_made(format!(in alloc; "refused {error}")),
+            Ok(()) => page.push_str("ok"),
+            Err(error) => write!(page, "refused {error}"),
         },
         Line::Sees(seat) => push_sight(sitting.see(seat), page),
         Line::Plays(slots, fill) => push_slots(sitting, slots, fill, page),
-        Line::Finish(_) | Line::Unknown => page.push("no such line"),
+        Line::Finish(_) | Line::Unknown => page.push_str("no such line"),
     }
 }
 
@@ -275,37 +266,40 @@ fn offered_word(offered: Offered) -> &'static str {
     }
 }
 
-fn push_sight(sight: Sight, page: &mut Text) {
+fn push_sight(sight: Sight, page: &mut String) -> Result<(), AllocError> {
     match sight {
-        Sight::NotPut => page.push("not put"),
-        Sight::Waiting => page.push("waiting"),
-        Sight::On(item) => page.push_char(item.symbol()),
-        Sight::Lost(item) => {
-            page.push("lost, ");
-            page.push_char(item.symbol());
-        }
-        Sight::Ended => page.push("ended"),
+        Sight::NotPut => page.push_str("not put"),
+        Sight::Waiting => page.push_str("waiting"),
+        Sight::On(item) => page.push(item.symbol()),
+        Sight::Lost(item) => write!(page, "lost, {}", item.symbol()),
+        Sight::Ended => page.push_str("ended"),
     }
 }
 
-fn push_fault(why: FinishFault, page: &mut Text) {
+fn push_fault(why: FinishFault, page: &mut String) -> Result<(), AllocError> {
     match why {
-        FinishFault::Missing => page.push("missing"),
-        FinishFault::NotEnded => page.push("not ended"),
-        FinishFault::NoMemory => page.cut(),
+        FinishFault::Missing => page.push_str("missing"),
+        FinishFault::NotEnded => page.push_str("not ended"),
+        FinishFault::NoMemory => Err(AllocError),
     }
 }
 
 // Plays so many slots, but none in which nobody sees anything, and writes what was seen in each.
-fn push_slots(sitting: &mut Sitting<'_>, slots: u32, fill: &str, page: &mut Text) {
+fn push_slots(
+    sitting: &mut Sitting<'_>,
+    slots: u32,
+    fill: &str,
+    page: &mut String,
+) -> Result<(), AllocError> {
     for slot in 0..slots {
         put_all(sitting, fill);
         match see_all(sitting) {
-            Some(item) => page.push_char(item.symbol()),
-            None if slot == 0 => return page.push("nothing"),
-            None => return,
+            Some(item) => page.push(item.symbol())?,
+            None if slot == 0 => return page.push_str("nothing"),
+            None => return Ok(()),
         }
     }
+    Ok(())
 }
 
 // Each seat puts what it may, where it has not.

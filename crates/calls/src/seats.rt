@@ -27,8 +27,8 @@ pub fn run_seats<I: Input, J: Input, O: Output>(
     starters: &str,
     answers: &str,
 ) -> Result<Status, RunError> {
-    let accepted = accepted(alloc, plan_of(alloc, plan)?)?;
-    let (page, status) = played(alloc, &accepted, script, starters, answers)?;
+    let plan = plan_of(alloc, plan)?;
+    let (page, status) = played(alloc, plan, script, starters, answers)?;
     write_lines(out, page.as_bytes(), status)
 }
 
@@ -39,31 +39,38 @@ fn plan_of<I: Input>(alloc: Global, plan: &mut I) -> Result<Plan, RunError> {
 
 fn played<J: Input>(
     alloc: Global,
-    accepted: &Result<Accepted, Answer>,
+    plan: Plan,
     script: &mut J,
     starters: &str,
     answers: &str,
 ) -> Result<(String, Status), RunError> {
     let script = read_within(alloc, script, READS)?;
     let script = str::from_utf8(&script).unwrap_or("");
-    match accepted {
+    page_of(alloc, plan, starters, answers, script)
+}
+
+fn page_of(
+    alloc: Global,
+    plan: Plan,
+    starters: &str,
+    answers: &str,
+    script: &str,
+) -> Result<(String, Status), RunError> {
+    match accepted(alloc, plan)? {
         Ok(accepted) => {
-            let page = play_script(alloc, accepted, starters, answers, script)?;
+            let mut page = String::new(alloc);
+            play_script(alloc, &accepted, starters, answers, script, &mut page)?;
             Ok((page, Status::Good))
         }
-        Err(answer) => Ok((answer_line(alloc, *answer)?, status_of_answer(*answer))),
+        Err(answer) => Ok((answer_line(alloc, answer)?, status_of_answer(answer))),
     }
 }
 
 // The plan, by a certificate of it that is made here.
 fn accepted(alloc: Global, plan: Plan) -> Result<Result<Accepted, Answer>, AllocError> {
-    let cert = certificate_of(alloc, &plan)?;
+    let faults = faults(alloc, &plan)?;
+    let cert = certificate_text(alloc, &plan, &faults)?;
     accept_certificate(alloc, plan, cert.as_slice())
-}
-
-fn certificate_of(alloc: Global, plan: &Plan) -> Result<Vec<u8>, AllocError> {
-    let faults = faults(alloc, plan)?;
-    certificate_text(alloc, plan, &faults)
 }
 
 /// Whether the calls of the seats of a bench take no memory, where one can be opened.
@@ -73,18 +80,9 @@ pub fn are_seats_quiet(
     starters: &str,
     answers: &str,
 ) -> Result<Option<bool>, AllocError> {
-    match read_plan(alloc, plan) {
-        Ok(plan) => are_read_quiet(alloc, plan, starters, answers),
-        Err(_) => Ok(None),
-    }
-}
-
-fn are_read_quiet(
-    alloc: Global,
-    plan: Plan,
-    starters: &str,
-    answers: &str,
-) -> Result<Option<bool>, AllocError> {
+    let Ok(plan) = read_plan(alloc, plan) else {
+        return Ok(None);
+    };
     match accepted(alloc, plan)? {
         Ok(accepted) => quiet_seats::are_seats_quiet(alloc, &accepted, starters, answers),
         Err(_) => Ok(None),

@@ -54,7 +54,7 @@ fn is_quiet(
     match made {
         Made::QuietPlan => is_plan_quiet(alloc, texts.first),
         Made::QuietTable => is_table_quiet(alloc, texts.first),
-        Made::QuietCertificate => Ok(is_cert_quiet(alloc, texts.first, texts.second)),
+        Made::QuietCertificate => is_cert_quiet(alloc, texts.first, texts.second),
         Made::QuietDump => is_reader_quiet(alloc, texts.second, words.one, words.other),
         Made::QuietSeats => Ok(are_seats_quiet(alloc, texts.first, words.one, words.other)?),
         Made::Call(_) | Made::Lists | Made::Seats => Ok(None),
