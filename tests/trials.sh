@@ -1,6 +1,6 @@
 #!/usr/bin/env bash
 # Runs the cases of tests/cases in every way that docs/TESTING.md lists, and compares what twire says with the plain programs,
-# on these cases and on 20,000 that are changed. It says how many runs each file had in each way. The last line is
+# on these cases and on 25,000 that are changed. It says how many runs each file had in each way. The last line is
 # 'N passed, M failed', and the exit status is 1 where a run answers something else than it should, or where cases or runs
 # were lost: their numbers stand in tests/trials/expected.txt.
 #

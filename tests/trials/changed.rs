@@ -18,7 +18,7 @@ pub struct Lot {
 }
 
 // Among so many cases each kind of answer is to come up.
-const ENOUGH: u64 = 20_000;
+const ENOUGH: u64 = 25_000;
 
 /// Compares what twire and the plain programs say of so many changed cases. `tells` says whether to print how often each kind
 /// of answer came up; it is a failure where one is rare.

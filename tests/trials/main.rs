@@ -66,7 +66,7 @@ struct Orders {
     is_by_hand: bool,
 }
 
-const CHANGED: u64 = 20_000;
+const CHANGED: u64 = 25_000;
 
 // Of plans that are made up, to be expanded from their briefs, there is one for so many changed cases.
 const EACH: u64 = 10;

@@ -1,11 +1,12 @@
-// The answer to a certificate, as a line and as a status.
+//! The answer to a certificate, as a line and as a status.
+#![tactic(auto)]
 
 ghost use Rattle.std.specs.Prelude.{◌≡◌, IfOk, string_bytes};
-ghost use Rattle.run_parts.specs.Answers.{verify_line, answer_status};
+ghost use Rattle.answer_lines.specs.Answers.{verify_line, answer_status};
 
-use crate::runs::Status;
 use cert_check::Answer;
 use certificate::CertFault;
+use run_parts::Status;
 use std::alloc::{AllocError, Global};
 
 /// The status of a run that ends with this answer.

@@ -20,7 +20,7 @@ use Rattle.bus_bench.specs.Seats.{BenchName, game_of}
 use Rattle.plays.specs.Starters.{starters_refusal}
 use Rattle.plays.specs.declared.starters.OpenError.{OpenError}
 use Rattle.plays.specs.declared.starters.OpenError.TheVariants.{NoStarter, Unknown, SameController, Never, NoMemory}
-use Rattle.run_parts.specs.Answers.{verify_line, answer_status}
+use Rattle.answer_lines.specs.Answers.{verify_line, answer_status}
 use Rattle.run_parts.specs.PlanTexts.{RefusesPlan, SpellsPlan}
 use Rattle.run_parts.specs.Devices.{Reader}
 use Rattle.run_parts.specs.Runs.{ReadsBoth, HaltsAtBoth, after_both}

@@ -11,14 +11,13 @@ use crate::gates::Gate;
 use crate::lines::bench_lines;
 use crate::rounds::play_all;
 use crate::starters::{bits_of, numbers_of};
+use answer_lines::{answer_line, status_of_answer};
 use bus_bench::open_bench;
 use cert_check::{Accepted, accept_certificate};
 use plan_core::Plan;
 use plan_text::read_plan;
 use run_parts::devices::reading::READS;
-use run_parts::{
-    Input, Output, RunError, Status, answer_line, read_within, status_of_answer, write_lines,
-};
+use run_parts::{Input, Output, RunError, Status, read_within, write_lines};
 use std::alloc::Global;
 use std::sync::Wait;
 use std::thread::Threads;

@@ -4,8 +4,8 @@ use Rattle.std.specs.List.{list_any}
 use Rattle.std.specs.Map.{keys_of}
 use Rattle.std.specs.Str.{bytes_eq}
 use Rattle.plan_core.specs.Contents.{Contents}
-use Rattle.brief_text.specs.declared.writing.NoBrief.{NoBrief}
-use Rattle.brief_text.specs.declared.writing.NoBrief.TheVariants as cause
+use Rattle.plan_text.specs.declared.briefs.NoBrief.{NoBrief}
+use Rattle.plan_text.specs.declared.briefs.NoBrief.TheVariants as cause
 
 -- the words of briefs that are no words of the plan's text
 abbrev pub is_brief_word : List ℕ → Bool

@@ -18,4 +18,4 @@ mod writing;
 
 pub use items::expand_brief;
 pub use plan_text::PlanError as BriefError;
-pub use writing::{NoBrief, brief_of, brief_word};
+pub use writing::{brief_of, brief_word};

@@ -6,37 +6,12 @@ ghost use Rattle.std.specs.Map.{keys_of};
 ghost use Rattle.plan_core.specs.PlanContents.{plan_contents};
 ghost use Rattle.brief_text.specs.Briefs.{Means};
 ghost use Rattle.brief_text.specs.Names.{is_brief_word, has_brief_word, LacksBrief};
-ghost use Rattle.brief_text.specs.declared.writing.NoBrief.TheVariants.{NoMemory};
 
 use crate::items::expand_brief;
 use message_tree::{Address, Bit, Count, Frame, Pattern, Payload, Tail};
 use plan_core::{Name, Plan};
-use plan_text::{PlanError, print_plan};
+use plan_text::{NoBrief, PlanError, print_plan};
 use std::alloc::{AllocError, Global};
-use thiserror::Error;
-
-/// Why there is no brief of a plan.
-#[derive(Clone, Copy, Debug, PartialEq, Eq, Error)]
-pub enum NoBrief {
-    /// A message, a controller or an interrupt of the plan has a name that is a word of briefs: `brief`, `device`, `byte`
-    /// or `any`.
-    #[error("brief name")]
-    Name,
-    /// No name is such a word, and what was written does not mean the plan. No test has met this.
-    #[error("brief text")]
-    Unwritten,
-    /// There is no memory.
-    #[error("out of memory")]
-    NoMemory,
-}
-
-impl From<AllocError> for NoBrief {
-    ghost from_gives = { λ _ e. e ≡ NoMemory };
-
-    fn from(_error: AllocError) -> NoBrief {
-        NoBrief::NoMemory
-    }
-}
 
 /// A brief that means this plan: addresses and data bytes in hex where their bits allow it, runs of equal bytes with their
 /// number, and no `else stop`. What is written is expanded again before it is answered.

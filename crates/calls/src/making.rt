@@ -2,11 +2,12 @@
 
 use crate::building::built_again;
 use crate::scarcity::be_there_again;
+use answer_lines::{answer_line, status_of_answer};
 use cert_check::{AcceptError, Answer, accept, accept_plan};
 use certificate::{CertError, CertText, print_cert, read_cert};
 use plan_core::Plan;
 use plan_text::{print_plan, read_plan};
-use run_parts::{Output, RunError, Status, answer_line, status_of_answer, write_lines};
+use run_parts::{Output, RunError, Status, write_lines};
 use std::alloc::Global;
 use std::thread::Threads;
 use verdicts::{NoGate, Table, table, table_with};

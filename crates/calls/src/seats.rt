@@ -2,13 +2,12 @@
 
 use crate::quiet_seats;
 use crate::scripts::play_script;
+use answer_lines::{answer_line, status_of_answer};
 use cert_check::{Accepted, Answer, accept_certificate};
 use plan_core::Plan;
 use plan_text::read_plan;
 use run_parts::devices::reading::READS;
-use run_parts::{
-    Input, Output, RunError, Status, answer_line, read_within, status_of_answer, write_lines,
-};
+use run_parts::{Input, Output, RunError, Status, read_within, write_lines};
 use std::alloc::{AllocError, Global};
 use std::str;
 use verdicts::{certificate_text, faults};

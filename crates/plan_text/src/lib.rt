@@ -8,6 +8,7 @@
 //! spellings.
 #![tactic(auto)]
 
+pub mod briefs;
 pub mod errors;
 mod items;
 pub mod laws;
@@ -19,6 +20,7 @@ mod tokens;
 mod versions;
 pub mod words;
 
+pub use briefs::NoBrief;
 pub use errors::PlanError;
 pub use items::read_plan;
 pub use print::print_plan;

@@ -8,8 +8,8 @@ use Rattle.plan_text.specs.declared.errors.PlanError.{PlanError}
 use Rattle.plan_text.specs.declared.errors.PlanError.TheVariants as plan
 use Rattle.brief_text.specs.Briefs.{Means, IsRefused}
 use Rattle.brief_text.specs.Names.{has_brief_word, LacksBrief}
-use Rattle.brief_text.specs.declared.writing.NoBrief.{NoBrief}
-use Rattle.brief_text.specs.declared.writing.NoBrief.TheVariants as cause
+use Rattle.plan_text.specs.declared.briefs.NoBrief.{NoBrief}
+use Rattle.plan_text.specs.declared.briefs.NoBrief.TheVariants as cause
 use Rattle.report.specs.Spellings.{Printed, Expanded, Abbreviated, RefusesBrief, GivesNoBrief}
 use Rattle.run_parts.specs.RunErrors.{run_error, brief_error}
 use Rattle.run_parts.specs.declared.runs.Status.TheVariants.{Good}

@@ -2,7 +2,7 @@
 
 ghost use Rattle.std.specs.Prelude.{◌≡◌, IfOk, IfErr, string_bytes};
 ghost use Rattle.report.specs.Certificates.{Certified, Verified};
-ghost use Rattle.run_parts.specs.Answers.{verify_line, answer_status};
+ghost use Rattle.answer_lines.specs.Answers.{verify_line, answer_status};
 ghost use Rattle.run_parts.specs.Devices.{by_parts};
 ghost use Rattle.run_parts.specs.PlanTexts.{RefusesPlan, SpellsPlan};
 ghost use Rattle.run_parts.specs.Runs.{ReadsText, HaltsAtText, ReadsBoth, HaltsAtBoth, Reports, Stops};
@@ -10,11 +10,10 @@ ghost use Rattle.run_parts.specs.Runs.{ReadsText, HaltsAtText, ReadsBoth, HaltsA
 use crate::answering::read_answer;
 use crate::blocks::{BLOCK, write_in_blocks};
 use crate::checks::status_of;
+use answer_lines::{answer_line, status_of_answer};
 use plan_text::read_plan;
 use run_parts::devices::reading::READS;
-use run_parts::{
-    Input, Output, RunError, Status, answer_line, read_within, status_of_answer, write_lines,
-};
+use run_parts::{Input, Output, RunError, Status, read_within, write_lines};
 use std::alloc::Global;
 use verdicts::{certificate_lines, faults};
 

@@ -3,17 +3,20 @@
 ghost use Rattle.std.specs.Prelude.{◌≡◌, ◌<◌, ◌≤◌, ◌⊎◌, ◌↔◌, IsTrue, IfOk, IfErr};
 ghost use Rattle.plan_core.specs.Contents.{Contents};
 ghost use Rattle.plan_core.specs.Faults.{IsSafe};
+ghost use Rattle.plan_core.specs.PlanContents.{plan_contents};
 ghost use Rattle.report.specs.Checks.{Judges, Checked};
 ghost use Rattle.run_parts.specs.PlanTexts.{RefusesPlan};
 ghost use Rattle.run_parts.specs.Runs.{ReadsText, HaltsAtText, Reports, Stops};
+ghost use Rattle.verdicts.specs.Faults.{AreFaults, fault_list};
 
 use crate::lines::check_report;
+use plan_core::Plan;
 use plan_text::read_plan;
 use run_parts::devices::reading::READS;
 use run_parts::{Input, Output, RunError, Status, read_within, write_lines};
-use std::alloc::Global;
+use std::alloc::{AllocError, Global};
 use std::thread::Threads;
-use verdicts::{Gate, MOST_WORKERS, faults_with};
+use verdicts::{Faults, Gate, MOST_WORKERS, faults_with};
 
 /// Checks the plan that the reader gives, and writes the verdicts of its unsafe pairs and their number.
 ///
@@ -49,9 +52,27 @@ pub fn run_check<R: Threads + Sync, I: Input, O: Output, G: Gate + Sync>(
     }
     let text = read_within(alloc, plan, READS)?;
     let plan = read_plan(alloc, text.as_slice())?;
-    let faults = faults_with(rt, alloc, &plan, workers, gate)?;
+    let faults = faults_by(rt, alloc, &plan, workers, gate)?;
     let report = check_report(alloc, &plan, &faults)?;
     write_lines(out, report.as_bytes(), status_of(faults.is_safe()))
+}
+
+// The faults of the plan, found by so many workers, where these are not too few and not too many.
+fn faults_by<R: Threads + Sync, G: Gate + Sync>(
+    rt: &R,
+    alloc: Global,
+    plan: &Plan,
+    workers: u32,
+    gate: &G,
+) -> Result<Faults, AllocError>
+    requires some { 1 ≤ workers }
+    requires few { workers ≤ MOST_WORKERS }
+    ensures { IfOk result (λ faults. AreFaults (plan_contents plan.now) (fault_list faults)) }
+{
+    match faults_with(rt, alloc, plan, workers, gate) {
+        Ok(faults) => Ok(faults),
+        Err(_) => Err(AllocError),
+    }
 }
 
 // The status of a run over a plan that is safe, or is not.

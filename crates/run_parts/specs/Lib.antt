@@ -6,5 +6,4 @@ pub mod Writing
 pub mod RunErrors
 pub mod Runs
 pub mod Lines
-pub mod Answers
 pub mod PlanTexts

@@ -1,16 +1,14 @@
--- A refusal of a text, of a bench, and of workers, as that of a run.
-use Rattle.brief_text.specs.declared.writing.NoBrief.{NoBrief}
-use Rattle.brief_text.specs.declared.writing.NoBrief.TheVariants as brief
+-- A refusal of a text, of a dump, and of a bench, as that of a run.
+use Rattle.plan_text.specs.declared.briefs.NoBrief.{NoBrief}
+use Rattle.plan_text.specs.declared.briefs.NoBrief.TheVariants as brief
 use Rattle.plays.specs.declared.starters.OpenError.{OpenError}
 use Rattle.plays.specs.declared.starters.OpenError.TheVariants as opening
 use Rattle.plan_text.specs.declared.errors.PlanError.{PlanError}
 use Rattle.plan_text.specs.declared.errors.PlanError.TheVariants as plan
 use Rattle.run_parts.specs.declared.errors.RunError.{RunError}
-use Rattle.run_parts.specs.declared.errors.RunError.TheVariants.{Plan, Brief, Vcd, Bench, Workers, NoMemory}
+use Rattle.run_parts.specs.declared.errors.RunError.TheVariants.{Plan, Brief, Vcd, Bench, NoMemory}
 use Rattle.vcd_read.specs.declared.errors.VcdError.{VcdError}
 use Rattle.vcd_read.specs.declared.errors.VcdError.TheVariants as vcd
-use Rattle.verdicts.specs.declared.errors.TableError.{TableError}
-use Rattle.verdicts.specs.declared.errors.TableError.TheVariants as table
 
 -- the same refusal; want of memory has no place in the text
 abbrev pub run_error : PlanError → RunError
@@ -31,8 +29,3 @@ vcd_error e = Vcd e
 abbrev pub open_error : OpenError → RunError
 open_error opening.NoMemory = NoMemory
 open_error e = Bench e
-
--- where workers give no answer
-abbrev pub table_error : TableError → RunError
-table_error table.Workers = Workers
-table_error table.NoMemory = NoMemory

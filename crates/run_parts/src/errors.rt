@@ -2,15 +2,13 @@
 
 ghost use Rattle.std.specs.Prelude.{◌≡◌};
 ghost use Rattle.run_parts.specs.declared.errors.RunError.TheVariants.{NoMemory};
-ghost use Rattle.run_parts.specs.RunErrors.{run_error, brief_error, vcd_error, open_error, table_error};
+ghost use Rattle.run_parts.specs.RunErrors.{run_error, brief_error, vcd_error, open_error};
 
-use brief_text::NoBrief;
-use plan_text::PlanError;
+use plan_text::{NoBrief, PlanError};
 use plays::OpenError;
 use std::alloc::{AllocError, AllocFailed};
 use thiserror::Error;
 use vcd_read::VcdError;
-use verdicts::TableError;
 
 /// Why a run ends without its report. Only after `Write` has a part of the report been written: its first bytes.
 #[derive(Clone, Copy, Debug, PartialEq, Eq, Error)]
@@ -81,17 +79,6 @@ impl From<OpenError> for RunError {
         match error {
             OpenError::NoMemory => RunError::NoMemory,
             _ => RunError::Bench(error),
-        }
-    }
-}
-
-impl From<TableError> for RunError {
-    ghost from_gives = { λ refusal e. e ≡ table_error refusal };
-
-    fn from(error: TableError) -> RunError {
-        match error {
-            TableError::Workers => RunError::Workers,
-            TableError::NoMemory => RunError::NoMemory,
         }
     }
 }

@@ -2,13 +2,11 @@
 //! the parts of lines that several reports have.
 #![tactic(auto)]
 
-pub mod answers;
 pub mod devices;
 pub mod errors;
 pub mod lines;
 pub mod runs;
 
-pub use answers::{answer_line, status_of_answer};
 pub use devices::opened::Opened;
 pub use devices::reading::read_within;
 pub use devices::traits::{Input, Output};

@@ -1,13 +1,12 @@
-use Rattle.std.proofs.Common.{◌≡◌, ◌∙◌, Err, ap, subst, ℕ, List, arith}
+use Rattle.std.proofs.Common.{◌∙◌, subst, ℕ, List, arith}
 use Rattle.plan_core.specs.PlanContents.{plan_contents}
 use Rattle.verdicts.specs.Faults.{fault_list}
-use Rattle.verdicts.specs.declared.errors.TableError.TheVariants as table
 use Rattle.report.specs.Checks.{Checked}
 use Rattle.run_parts.specs.PlanTexts.{RefusesPlan}
 use Rattle.run_parts.specs.Runs.{ReadsText, HaltsAtText, unread, refused}
-use Rattle.run_parts.specs.RunErrors.{run_error, table_error}
+use Rattle.run_parts.specs.RunErrors.{run_error}
 use Rattle.run_parts.specs.declared.errors.RunError.TheVariants as error
-use Rattle.report.proofs.CheckLemmas.{refuses_none, enough_workers, workers_not_told, checks}
+use Rattle.report.proofs.CheckLemmas.{checks, enough_workers}
 use Rattle.run_parts.proofs.PlanTextLemmas.{refuses_plan}
 use Rattle.report.proofs.LineLemmas.{report_is}
 use Rattle.run_parts.proofs.RunLemmas.{halting_stops, writing_reports, writing_stops}
@@ -28,9 +27,7 @@ returns-in_err-plan-clause-stops g c one =
 pub returns-in_err-faults-clause-stops : goal.returns-in_err-faults-clause-stops
 returns-in_err-faults-clause-stops g c one =
     let reader = g.I.Input.reader in
-    let e = c.in_err-faults.field-0.0 in
-    let other : e ≡ table.Workers → ⊥ = λ same. enough_workers c.args.workers one.0 one.1 (c.in_err-faults.ensures.workers.0 (ap Err same)) in
-    halting_stops (ReadsText reader) Checked g.O.Output.writer (HaltsAtText reader RefusesPlan) c.args.plan.now c.args.out.now _ c.from_residual-in_err-faults.result (table_error e) c.from_residual-in_err-faults.ensures.1 (refused c.in_ok-text.ensures.all (refuses_none c.in_ok-text.text.items e other))
+    halting_stops (ReadsText reader) Checked g.O.Output.writer (HaltsAtText reader RefusesPlan) c.args.plan.now c.args.out.now _ c.from_residual-in_err-faults.result error.NoMemory c.from_residual-in_err-faults.ensures.1 (refused c.in_ok-text.ensures.all tt)
 
 pub returns-in_err-report-clause-stops : goal.returns-in_err-report-clause-stops
 returns-in_err-report-clause-stops g c one =
@@ -41,7 +38,7 @@ pub returns-clause-report : goal.returns-clause-report
 returns-clause-report g c =
     let reader = g.I.Input.reader in
     let plan = plan_contents c.in_ok-plan.plan in
-    let found = c.in_ok-faults.ensures.faults in
+    let found = c.in_ok-faults.ensures in
     let lines = c.as_bytes.ensures.value ∙ (c.in_ok-report.ensures ∙ report_is plan found.verdicts (fault_list c.in_ok-faults.faults) found.right found.these) in
     let checked = checks c.in_ok-text.text.items c.as_slice.result.now c.as_bytes.result.now plan found.verdicts c.status_of.result c.as_slice.ensures.value c.in_ok-plan.ensures.spelled found.right lines (c.status_of.ensures plan (c.is_safe.ensures plan found)) in
     writing_reports (ReadsText reader) Checked g.O.Output.writer (HaltsAtText reader RefusesPlan) c.args.plan.now c.args.out.now _ _ c.in_ok-text.ensures.all _ _ checked c.write_lines.new.out c.write_lines.result c.write_lines.ensures.status c.write_lines.ensures.all
@@ -50,18 +47,11 @@ pub returns-clause-stops : goal.returns-clause-stops
 returns-clause-stops g c one =
     let reader = g.I.Input.reader in
     let plan = plan_contents c.in_ok-plan.plan in
-    let found = c.in_ok-faults.ensures.faults in
+    let found = c.in_ok-faults.ensures in
     let lines = c.as_bytes.ensures.value ∙ (c.in_ok-report.ensures ∙ report_is plan found.verdicts (fault_list c.in_ok-faults.faults) found.right found.these) in
     let checked = checks c.in_ok-text.text.items c.as_slice.result.now c.as_bytes.result.now plan found.verdicts c.status_of.result c.as_slice.ensures.value c.in_ok-plan.ensures.spelled found.right lines (c.status_of.ensures plan (c.is_safe.ensures plan found)) in
     writing_stops (ReadsText reader) Checked g.O.Output.writer (HaltsAtText reader RefusesPlan) c.args.plan.now c.args.out.now _ _ c.in_ok-text.ensures.all _ _ checked c.write_lines.new.out c.write_lines.result c.write_lines.ensures.stops
 
-pub returns-in_err-faults-clause-workers : goal.returns-in_err-faults-clause-workers
-returns-in_err-faults-clause-workers g c =
-    let e = c.in_err-faults.field-0.0 in
-    let enough = enough_workers c.args.workers (omega (arith, c.if-workers-lt1.false)) (omega (arith, c.if-workers-gt-MOST_WORKERS.false)) in
-    let other : e ≡ table.Workers → ⊥ = λ same. enough (c.in_err-faults.ensures.workers.0 (ap Err same)) in
-    (λ told. absurd (workers_not_told c.from_residual-in_err-faults.result e c.from_residual-in_err-faults.ensures.1 other told), λ bad. absurd (enough bad))
-
-pub returns-in_err-faults-clause-unread : goal.returns-in_err-faults-clause-unread
-returns-in_err-faults-clause-unread g c bad =
+pub returns-clause-unread : goal.returns-clause-unread
+returns-clause-unread g c bad =
     absurd (enough_workers c.args.workers (omega (arith, c.if-workers-lt1.false)) (omega (arith, c.if-workers-gt-MOST_WORKERS.false)) bad)
