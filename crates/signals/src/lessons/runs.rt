@@ -9,7 +9,7 @@ use capture_check::Follower;
 use run_parts::devices::reading::{BLOCK, READS};
 use run_parts::{Input, Output, RunError, Status, Watched, write_report};
 use std::alloc::{AllocError, Global};
-use vcd_read::{Probe, Reader};
+use vcd_read::{Probe, Reader, Sample};
 
 /// What is learned from: two signals, and whether data bytes of messages of one shape are put together.
 #[derive(Clone, Copy)]
@@ -36,14 +36,29 @@ pub fn run_learn<J: Input, O: Output>(
     out: &mut O,
     lesson: Lesson<'_>,
 ) -> Result<Status, RunError> {
-    let mut seen = seen_in(alloc, vcd, lesson)?;
-    let text = told(alloc, &mut seen, lesson.merge)?;
+    let (text, status) = learned(alloc, vcd, lesson)?;
     write_report(out, text.as_bytes())?;
-    Ok(if seen.odd.is_empty() {
+    Ok(status)
+}
+
+fn learned<J: Input>(
+    alloc: Global,
+    vcd: &mut J,
+    lesson: Lesson<'_>,
+) -> Result<(String, Status), RunError> {
+    let mut seen = seen_in(alloc, vcd, lesson)?;
+    match told(alloc, &mut seen, lesson.merge) {
+        Ok(text) => Ok((text, status_of(&seen))),
+        Err(error) => Err(RunError::from(error)),
+    }
+}
+
+fn status_of(seen: &Sights) -> Status {
+    if seen.odd.is_empty() {
         Status::Good
     } else {
         Status::Bad
-    })
+    }
 }
 
 fn told(alloc: Global, seen: &mut Sights, merge: bool) -> Result<String, AllocError> {
@@ -121,10 +136,21 @@ impl Hearing {
             mut seen,
         } = self;
         let samples = reader.end()?;
-        let found = follower.follow_to_end(alloc, samples.as_slice())?;
-        seen.see_all(found.as_slice())?;
-        Ok(seen)
+        match see_last(alloc, &mut seen, follower, samples.as_slice()) {
+            Ok(()) => Ok(seen),
+            Err(error) => Err(RunError::from(error)),
+        }
     }
+}
+
+fn see_last(
+    alloc: Global,
+    seen: &mut Sights,
+    follower: Follower,
+    samples: &[Sample],
+) -> Result<(), AllocError> {
+    let found = follower.follow_to_end(alloc, samples)?;
+    seen.see_all(found.as_slice())
 }
 
 // Each path goes into the first message that takes it, or into a new one.
