@@ -1,17 +1,16 @@
 // The run that lists the signals of a dump.
 
 use crate::beginning::read_beginning;
+use crate::blocks::{Blocks, read_all};
 use crate::buses::Bus;
 use crate::codes::Codes;
 use crate::definitions::{Found, Listing};
 use crate::levels::Levels;
-use dump_tokens::reading::{BLOCK, Reading};
+use dump_tokens::reading::Reading;
 use dump_tokens::tokens::Cutter;
 use growing_text::Text;
-use run_parts::devices::reading::READS;
-use run_parts::{Input, Output, RunError, Status, write_report};
+use run_parts::{Input, Output, RunError, Status, Watched, write_report};
 use std::alloc::{AllocError, Global};
-use std::io::Read;
 use std::str;
 use vcd_read::{Probe, Reader};
 
@@ -156,31 +155,29 @@ struct Listed {
 
 fn list<J: Input>(alloc: Global, vcd: &mut J) -> Result<Listed, RunError> {
     let entries = Entries::new(alloc)?;
-    let (mut again, entries, _) = read_beginning(alloc, vcd, entries)?;
+    let (again, entries, _) = read_beginning(alloc, vcd, entries)?;
     let Entries {
         codes,
         declared,
         ..
     } = entries;
     let code = declared.first_code();
-    match levels_of(alloc, &mut again, codes, code) {
+    match levels_of(alloc, &mut Watched::new(again), codes, code) {
         Ok(levels) => Ok(Listed { declared, levels }),
         Err(error) => Err(error),
     }
 }
 
 // The levels of the signals with these codes, of which this is one.
-fn levels_of(
+fn levels_of<J: Input>(
     alloc: Global,
-    vcd: &mut impl Read,
+    vcd: &mut J,
     codes: Codes,
     code: &str,
 ) -> Result<Levels, RunError> {
     let mut changes = Changes::new(alloc, codes, code)?;
-    match read_changes(alloc, vcd, &mut changes) {
-        Ok(()) => changes.finish(),
-        Err(error) => Err(error),
-    }
+    read_all(alloc, vcd, &mut changes)?;
+    changes.finish()
 }
 
 // A dump that is read, and its levels.
@@ -201,15 +198,6 @@ impl Changes {
         })
     }
 
-    fn block(&mut self, piece: &[u8]) -> Result<(), RunError> {
-        self.reader.feed(piece)?;
-        self.reader.clear_samples();
-        match self.cutter.block(piece) {
-            Ok(_) => Ok(()),
-            Err(_) => Err(RunError::NoMemory),
-        }
-    }
-
     // The levels of a dump that its reader does not refuse.
     fn finish(self) -> Result<Levels, RunError> {
         let Changes { reader, cutter } = self;
@@ -220,18 +208,15 @@ impl Changes {
     }
 }
 
-fn read_changes(alloc: Global, vcd: &mut impl Read, changes: &mut Changes) -> Result<(), RunError> {
-    let mut block = vec![in alloc; 0u8; BLOCK]?;
-    for _ in 0..READS {
-        let Ok(count) = vcd.read(block.as_mut_slice()) else {
-            return Err(RunError::Read);
-        };
-        if count == 0 {
-            return Ok(());
+impl Blocks for Changes {
+    fn block(&mut self, block: &[u8]) -> Result<bool, RunError> {
+        self.reader.feed(block)?;
+        self.reader.clear_samples();
+        match self.cutter.block(block) {
+            Ok(_) => Ok(true),
+            Err(_) => Err(RunError::NoMemory),
         }
-        changes.block(block.as_slice().get(..count).unwrap_or(&[]))?;
     }
-    Err(RunError::Read)
 }
 
 /// Lists the signals of one bit of the dump that the reader gives, in its order: for each its code, how often it changes,
