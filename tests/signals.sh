@@ -429,6 +429,23 @@ message write_48_read_48 write 0x48 else ( write 0x50 0x00 ) 0x01 read 0x48 2 ;
 message write_48 write 0x48 0b000000xx ;
 
 controller seen write_48_read_48 write_48 ;' "" learn lesson --merge
+# Lines are not broken within a header, its count and its answer: here column 80 is in the midst of those of the read.
+{
+    printf '%s\n' '$var wire 1 ! scl $end' '$var wire 1 " sda $end' '$enddefinitions $end' '#0 1! 1"'
+    bytes=000000010000000100000000110000001000000001010000001100000001110
+    transaction ! '"' "100100000${bytes}r100100010110101000010101011" 1000
+} >wide_lesson
+expect "a message of more than one line" 0 'brief 1
+# seen: 1 transactions, 1 messages
+
+# 1 times, first at 1000: S 48 Wr A 01 A 02 A 03 A 04 A 05 A 06 A 07 A
+#     Sr 48 Rd A (2 bytes) P
+# never seen: 48 Wr NA, 0x01 NA, 0x02 NA, 0x03 NA, 0x04 NA, 0x05 NA, 0x06 NA,
+#     0x07 NA, ..
+message write_48_read_48 write 0x48 0x01 0x02 0x03 0x04 0x05 0x06 0x07
+    read 0x48 2 ;
+
+controller seen write_48_read_48 ;' "" learn wide_lesson
 expect "into a file" 0 "" "" learn twice -o learned
 expect "from the file" 0 "plan 1
 message write_48 write 1001000 stop else stop ;

@@ -62,7 +62,7 @@ pub(crate) fn row(
     begin_titled(lines, title, columns);
     match words {
         Ok(words) => push_row(lines, words.as_str(), room_after(columns)),
-        Err(error) => lines.words_made(Err(error)),
+        Err(_) => lines.cut(),
     }
     lines.end();
 }

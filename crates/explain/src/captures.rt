@@ -108,7 +108,7 @@ fn nearest(plan: &Plan, marks: &[Mark]) -> [Option<Leaves>; NEAREST] {
     nearest
 }
 
-// Puts a participant behind those that go along as far. Who has no place then is forgotten.
+// Puts a participant after those that go along as far. Who has no place then is forgotten.
 fn insert(nearest: &mut [Option<Leaves>], new: Leaves) {
     let mut next = Some(new);
     let mut is_placed = false;

@@ -17,7 +17,7 @@ pub fn below_answer(
 ) -> Result<String, AllocError> {
     let mut lines = Lines::new(alloc);
     if line.starts_with("wrong") {
-        if let Some(pair) = pair_of(plan, line) {
+        if let Some(pair) = pair_of(plan, "wrong C5 pair ", line) {
             tell_pair(alloc, &mut lines, plan, pair);
             if let Some(proof) = proof_line(cert, pair.number) {
                 tell_break(&mut lines, break_of(alloc, plan, pair, proof));
@@ -57,7 +57,7 @@ fn tell_break(lines: &mut Lines, found: Result<Option<Break>, AllocError>) {
             lines.words(found.reason);
         }
         Ok(None) => lines.words("its end"),
-        Err(error) => lines.words_made(Err(error)),
+        Err(_) => lines.cut(),
     }
     lines.end();
 }

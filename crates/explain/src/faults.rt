@@ -25,7 +25,7 @@ const NAMED: u64 = 6;
 /// bytes on the bus and those of both participants up to the slot of the fault, what meets there, and which bits before it
 /// are open. Nothing is said below another line, and where the plan has no such pair.
 pub fn below_pair(alloc: Global, plan: &Plan, line: &str) -> Result<String, AllocError> {
-    let Some(pair) = pair_of(plan, line) else {
+    let Some(pair) = pair_of(plan, "pair ", line) else {
         return Ok(String::new(alloc));
     };
     let wire = items_of(alloc, line.rsplit(' ').next().unwrap_or(""))?;

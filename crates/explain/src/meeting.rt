@@ -11,9 +11,9 @@ pub(crate) struct Pair {
     pub(crate) second: u32,
 }
 
-/// The pair that a line of a report tells of by the word after `pair`.
-pub(crate) fn pair_of(plan: &Plan, line: &str) -> Option<Pair> {
-    let (_, words) = line.split_once("pair ")?;
+/// The pair whose number a line of a report has after these words, with which it begins.
+pub(crate) fn pair_of(plan: &Plan, before: &str, line: &str) -> Option<Pair> {
+    let words = line.strip_prefix(before)?;
     match words.split(' ').next()?.parse::<u32>() {
         Ok(number) if number < plan.pair_count() => {
             let (first, second) = plan.pair(number);

@@ -174,12 +174,13 @@ impl Page {
         }
     }
 
-    // The line with its times in parts of a second.
+    // The line with its times in parts of a second. An end that is no time stays as it stands.
     fn push_told(&mut self, line: &str, told: Told<'_>, scale: Scale) {
         self.text.push_made(scale.told(self.alloc, told.from));
         self.text.push("-");
-        if let Some(until) = told.until {
-            self.text.push_made(scale.told(self.alloc, until));
+        match told.until.parse::<u64>() {
+            Ok(until) => self.text.push_made(scale.told(self.alloc, until)),
+            Err(_) => self.text.push(told.until),
         }
         self.text.push(" ");
         if let Some((_, words)) = line.split_once(' ') {

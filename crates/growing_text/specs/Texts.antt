@@ -11,6 +11,10 @@ said text = string_bytes text.text
 abbrev pub is_whole : Text → Bool
 is_whole text = text.is_whole
 
+-- a text that says the same, and to which no more is added
+abbrev pub cut_short : Text → Text
+cut_short text = record text { is_whole = false }
+
 -- a byte in lower-case hexadecimal
 abbrev pub two_digits : ℕ → List ℕ
 two_digits byte = digit_glyph false (byte / 16) ∷ digit_glyph false (byte % 16) ∷ []

@@ -1,12 +1,15 @@
 // Words in lines for a terminal.
 
+ghost use Rattle.std.specs.Prelude.{◌≡◌};
+ghost use Rattle.growing_text.specs.Lines.{lines_cut};
+
 use crate::texts::Text;
 use std::alloc::{AllocError, Global};
 
 /// The columns of a terminal.
 pub const COLUMNS: usize = 80;
 
-/// Words in lines of 80 columns. A longer word has a line of its own.
+/// Words in lines of 80 columns. A longer word has a line of its own, and one with blanks in it is not broken either.
 #[derive(Drop)]
 pub struct Lines {
     text: Text,
@@ -38,36 +41,21 @@ impl Lines {
         self.text.push(word);
     }
 
+    /// One word more that was made elsewhere, where there was memory for it.
+    pub fn word_made(&mut self, word: Result<String, AllocError>) {
+        match word {
+            Ok(word) => self.word(word.as_str()),
+            Err(_) => self.cut(),
+        }
+    }
+
     /// A number as a word, with this right after it.
     pub fn number(&mut self, number: u64, after: &str) {
-        self.number_in("", number, after);
-    }
-
-    /// A number with this right before and after it, as one word.
-    pub fn number_in(&mut self, before: &str, number: u64, after: &str) {
         let digits = number.checked_ilog10().unwrap_or(0).saturating_add(1);
-        self.begin_word(before, digits as usize, after);
+        let width = after.chars().count().saturating_add(digits as usize);
+        self.make_room(width);
         self.text.push_number(number);
         self.text.push(after);
-    }
-
-    /// A byte as a word of two hexadecimal digits.
-    pub fn byte(&mut self, byte: u8) {
-        self.byte_in("", byte, "");
-    }
-
-    /// A byte as two hexadecimal digits with this right before and after them, as one word.
-    pub fn byte_in(&mut self, before: &str, byte: u8, after: &str) {
-        self.begin_word(before, 2, after);
-        self.text.push_hex(byte);
-        self.text.push(after);
-    }
-
-    // A word that begins so, and has so many digits and this after it.
-    fn begin_word(&mut self, before: &str, digits: usize, after: &str) {
-        let width = before.chars().count().saturating_add(after.chars().count());
-        self.make_room(width.saturating_add(digits));
-        self.text.push(before);
     }
 
     // A blank, after which so many characters come: on this line, or on the next one where they do not fit.
@@ -82,7 +70,7 @@ impl Lines {
         self.column = self.column.saturating_add(width);
     }
 
-    /// Each word of these, which stand between blanks.
+    /// Each word of these, which stand between blanks, by itself.
     pub fn words(&mut self, words: &str) {
         for word in words.split(' ') {
             self.word(word);
@@ -93,8 +81,15 @@ impl Lines {
     pub fn words_made(&mut self, words: Result<String, AllocError>) {
         match words {
             Ok(words) => self.words(words.as_str()),
-            Err(_) => self.text.cut(),
+            Err(_) => self.cut(),
         }
+    }
+
+    /// There was no memory for what would come next.
+    pub fn cut(&mut self)
+        ensures { self.new ≡ lines_cut self.old }
+    {
+        self.text.cut();
     }
 
     /// Ends the line.

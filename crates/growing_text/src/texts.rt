@@ -2,7 +2,7 @@
 
 ghost use Rattle.std.specs.Prelude.{◌≡◌, ◌↔◌, true, false, [], length, encode_utf8, string_bytes, IsTrue, MatchResult};
 ghost use Rattle.std.specs.Fmt.{decimal};
-ghost use Rattle.growing_text.specs.Texts.{said, is_whole, two_digits, Grows};
+ghost use Rattle.growing_text.specs.Texts.{said, is_whole, cut_short, two_digits, Grows};
 
 use std::alloc::{AllocError, Global};
 
@@ -45,7 +45,7 @@ impl Text {
 
     /// A part that was made elsewhere, where there was memory for it.
     pub fn push_made(&mut self, part: Result<String, AllocError>)
-        ensures { MatchResult part (λ made. Grows self.old (string_bytes made) self.new) (λ _. is_whole self.new ≡ false) }
+        ensures { MatchResult part (λ made. Grows self.old (string_bytes made) self.new) (λ _. self.new ≡ cut_short self.old) }
     {
         match part {
             Ok(part) => self.push(part.as_str()),
@@ -55,7 +55,7 @@ impl Text {
 
     /// There was no memory for what would come next.
     pub fn cut(&mut self)
-        ensures { is_whole self.new ≡ false }
+        ensures { self.new ≡ cut_short self.old }
     {
         self.is_whole = false;
     }

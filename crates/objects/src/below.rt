@@ -33,7 +33,7 @@ fn bytes_and_next(row: &str) -> Option<(&str, &str)> {
     Some((bytes.trim_end(), next))
 }
 
-// What stands behind a title in the first line, or below it where the title has a line of its own; and the lines after that.
+// What stands after a title in the first line, or below it where the title has a line of its own; and the lines after that.
 fn row<'s, 'a>(notes: &'s [&'a str], title: &str) -> Option<(&'a str, &'s [&'a str])> {
     let (line, rest) = notes.split_first()?;
     let words = line.strip_prefix(title)?;

@@ -88,7 +88,6 @@ impl Objects {
             self.end("}");
         }
         self.end("}\n");
-        self.is_first = true;
     }
 
     /// Begins an object that is added to a list.
@@ -134,13 +133,10 @@ impl Objects {
     }
 
     fn field(&mut self, name: &str, value: Value<'_>) {
-        match value {
-            Value::Absent => {}
-            _ => {
-                self.name(name);
-                self.value(value);
-            }
+        if !matches!(value, Value::Absent) {
+            self.name(name);
         }
+        self.value(value);
     }
 
     fn name(&mut self, name: &str) {

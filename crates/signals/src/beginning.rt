@@ -1,10 +1,10 @@
 // The definitions of a dump, read ahead of it.
 
+use crate::blocks::{Blocks, read_blocks};
 use crate::definitions::{Definitions, Listing};
 use dump_tokens::Scale;
-use dump_tokens::reading::{BLOCK, Reading};
+use dump_tokens::reading::Reading;
 use dump_tokens::tokens::Cutter;
-use run_parts::devices::reading::READS;
 use run_parts::{Input, RunError};
 use std::alloc::Global;
 use std::io::{self, Read};
@@ -51,15 +51,10 @@ pub fn read_beginning<'a, J: Input, L: Listing + Drop>(
 ) -> Result<(Again<'a, J>, L, Option<Scale>), RunError> {
     let mut beginning = Beginning {
         text: Vec::new(alloc),
-        is_whole: false,
         cutter: Cutter::new(alloc, Definitions::new(alloc, listing)),
     };
-    read_on(alloc, vcd, &mut beginning)?;
-    let Beginning {
-        text,
-        is_whole,
-        cutter,
-    } = beginning;
+    let is_whole = read_blocks(alloc, vcd, &mut beginning)?;
+    let Beginning { text, cutter } = beginning;
     let again = Again {
         text,
         at: 0,
@@ -79,35 +74,14 @@ pub fn read_beginning<'a, J: Input, L: Listing + Drop>(
 #[derive(Drop)]
 struct Beginning<L> {
     text: Vec<u8>,
-    // whether the text is the whole dump
-    is_whole: bool,
     cutter: Cutter<Definitions<L>>,
 }
 
-fn read_on<J: Input, L: Listing>(
-    alloc: Global,
-    vcd: &mut J,
-    beginning: &mut Beginning<L>,
-) -> Result<(), RunError> {
-    let mut block = vec![in alloc; 0u8; BLOCK]?;
-    for _ in 0..READS {
-        let Ok(count) = vcd.read(block.as_mut_slice()) else {
-            return Err(RunError::Read);
-        };
-        if !beginning.block(block.as_slice().get(..count).unwrap_or(&[]))? {
-            return Ok(());
-        }
-    }
-    Ok(())
-}
-
-impl<L: Listing> Beginning<L> {
-    // The next block, which is empty at the end of the dump. Whether more are wanted.
-    fn block(&mut self, piece: &[u8]) -> Result<bool, RunError> {
-        self.is_whole = piece.is_empty();
-        self.text.extend_from_slice(piece)?;
-        match self.cutter.block(piece) {
-            Ok(more) => Ok(more && !self.is_whole),
+impl<L: Listing> Blocks for Beginning<L> {
+    fn block(&mut self, block: &[u8]) -> Result<bool, RunError> {
+        self.text.extend_from_slice(block)?;
+        match self.cutter.block(block) {
+            Ok(more) => Ok(more),
             Err(_) => Err(RunError::NoMemory),
         }
     }

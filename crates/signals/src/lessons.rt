@@ -2,9 +2,11 @@
 // refusals, and one controller that has them all.
 //
 // `paths` reads the marks of a transaction as a path through a message, `seen` keeps each path once, `trees` puts paths
-// together into messages, and `writing` writes these. `runs` goes from the dump to the brief. What a brief means is decided
-// by `brief_text`, and what explains a capture by `capture_check`: nothing here is proved but that it is safe.
+// together into messages, `naming` names these, and `writing` writes them. `runs` goes from the dump to the brief. What a
+// brief means is decided by `brief_text`, and what explains a capture by `capture_check`: nothing here is proved but that it
+// is safe.
 
+mod naming;
 mod paths;
 mod runs;
 mod seen;

@@ -128,7 +128,7 @@ impl Levels {
                     self.doing = Doing::Skipping;
                 }
             }
-            b'b' | b'B' => self.doing = Doing::Code(rest.last().and_then(|digit| level_of(*digit))),
+            b'b' | b'B' => self.doing = Doing::Code(last_level(rest)),
             b'r' | b'R' | b's' | b'S' => self.doing = Doing::Code(None),
             value => {
                 if let Some(level) = level_of(value) {
@@ -146,6 +146,11 @@ fn is_mark(token: &[u8]) -> bool {
         || token == b"$dumpall".as_slice()
         || token == b"$dumpoff".as_slice()
         || token == b"$dumpon".as_slice()
+}
+
+// The level of the last digit of a vector.
+fn last_level(digits: &[u8]) -> Option<Level> {
+    level_of(*digits.last()?)
 }
 
 fn level_of(value: u8) -> Option<Level> {

@@ -1,7 +1,7 @@
 //! The signals of a dump, as people see them: in their scopes, by the whole of their names, with what they show.
 //!
-//! `definitions` follows the definitions of a dump token by token, and `beginning` reads them ahead of the dump and gives
-//! them back before the rest. `picking` finds the codes of the two lines of a bus there, by names and a scope. `listing` is
+//! `blocks` reads a dump block by block. `definitions` follows the definitions of a dump token by token, and `beginning` reads
+//! them ahead of the dump and gives them back before the rest. `picking` finds the codes of the two lines of a bus there, by names and a scope. `listing` is
 //! the run of `twire signals`: it lists the signals (`codes` finds them again by their codes), counts their changes
 //! (`levels`), and looks for pairs that are the two lines of a bus (`buses`, with `masks` for sets of signals). What a dump
 //! says, and why it is refused, is decided by the reader of `vcd_read` alone. `lessons` is the run of `twire learn`, which
@@ -9,6 +9,7 @@
 #![tactic(auto)]
 
 mod beginning;
+mod blocks;
 mod buses;
 mod codes;
 mod definitions;

@@ -1,17 +1,16 @@
 // The run that lists the signals of a dump.
 
 use crate::beginning::read_beginning;
+use crate::blocks::{Blocks, read_all};
 use crate::buses::Bus;
 use crate::codes::Codes;
 use crate::definitions::{Found, Listing};
 use crate::levels::Levels;
-use dump_tokens::reading::{BLOCK, Reading};
+use dump_tokens::reading::Reading;
 use dump_tokens::tokens::Cutter;
 use growing_text::Text;
-use run_parts::devices::reading::READS;
-use run_parts::{Input, Output, RunError, Status, write_report};
+use run_parts::{Input, Output, RunError, Status, Watched, write_report};
 use std::alloc::{AllocError, Global};
-use std::io::Read;
 use std::str;
 use vcd_read::{Probe, Reader};
 
@@ -116,11 +115,20 @@ impl Declared {
     // The name of the first signal with the code that has this number, where it can stand in a command as it is, and chooses it.
     fn plain_name(&self, number: usize) -> Option<&[u8]> {
         let name = self.entry(number)?.name.as_slice();
-        let is_plain = name
-            .iter()
-            .all(|byte| byte.is_ascii_alphanumeric() || *byte == b'_');
-        let others = self.entries.iter().filter(|entry| is_called(entry, name));
-        (is_plain && others.count() == 1).then_some(name)
+        if name.iter().all(is_plain) && self.count_called(name) == 1 {
+            Some(name)
+        } else {
+            None
+        }
+    }
+
+    // How many signals have this name as their reference.
+    fn count_called(&self, name: &[u8]) -> u64 {
+        let mut count = 0u64;
+        for entry in self.entries.iter() {
+            count = count.saturating_add(u64::from(is_called(entry, name)));
+        }
+        count
     }
 }
 
@@ -130,8 +138,12 @@ fn end_of(path: &[u8]) -> &[u8] {
     if end.len() == path.len() {
         return path;
     }
-    let point = end.iter().position(|byte| *byte == b'.').unwrap_or(0);
+    let point = end.iter().position(is_point).unwrap_or(0);
     end.get(point..).unwrap_or(end)
+}
+
+fn is_point(byte: &u8) -> bool {
+    *byte == b'.'
 }
 
 // A dump that was read to its end.
@@ -139,47 +151,33 @@ fn end_of(path: &[u8]) -> &[u8] {
 struct Listed {
     declared: Declared,
     levels: Levels,
-    buses: Vec<Bus>,
 }
 
 fn list<J: Input>(alloc: Global, vcd: &mut J) -> Result<Listed, RunError> {
     let entries = Entries::new(alloc)?;
-    let (mut again, entries, _) = read_beginning(alloc, vcd, entries)?;
+    let (again, entries, _) = read_beginning(alloc, vcd, entries)?;
     let Entries {
         codes,
         declared,
         ..
     } = entries;
     let code = declared.first_code();
-    match levels_of(alloc, &mut again, codes, code) {
-        Ok((levels, buses)) => Ok(Listed {
-            declared,
-            levels,
-            buses,
-        }),
+    match levels_of(alloc, &mut Watched::new(again), codes, code) {
+        Ok(levels) => Ok(Listed { declared, levels }),
         Err(error) => Err(error),
     }
 }
 
-// The levels of the signals with these codes, of which this is one, and the buses.
-fn levels_of(
+// The levels of the signals with these codes, of which this is one.
+fn levels_of<J: Input>(
     alloc: Global,
-    vcd: &mut impl Read,
+    vcd: &mut J,
     codes: Codes,
     code: &str,
-) -> Result<(Levels, Vec<Bus>), RunError> {
-    let levels = Levels::new(alloc, codes)?;
-    let reader = Reader::of(alloc, Probe::Coded(code), Probe::Coded(code))?;
-    let mut changes = Changes {
-        reader,
-        cutter: Cutter::new(alloc, levels),
-    };
-    read_changes(alloc, vcd, &mut changes)?;
-    let levels = changes.finish()?;
-    match levels.buses().found(alloc) {
-        Ok(buses) => Ok((levels, buses)),
-        Err(error) => Err(RunError::from(error)),
-    }
+) -> Result<Levels, RunError> {
+    let mut changes = Changes::new(alloc, codes, code)?;
+    read_all(alloc, vcd, &mut changes)?;
+    changes.finish()
 }
 
 // A dump that is read, and its levels.
@@ -190,13 +188,14 @@ struct Changes {
 }
 
 impl Changes {
-    fn block(&mut self, piece: &[u8]) -> Result<(), RunError> {
-        self.reader.feed(piece)?;
-        self.reader.clear_samples();
-        match self.cutter.block(piece) {
-            Ok(_) => Ok(()),
-            Err(_) => Err(RunError::NoMemory),
-        }
+    // The reader of two lines finds them by a code alone.
+    fn new(alloc: Global, codes: Codes, code: &str) -> Result<Changes, AllocError> {
+        let reader = Reader::of(alloc, Probe::Coded(code), Probe::Coded(code))?;
+        let levels = Levels::new(alloc, codes)?;
+        Ok(Changes {
+            reader,
+            cutter: Cutter::new(alloc, levels),
+        })
     }
 
     // The levels of a dump that its reader does not refuse.
@@ -209,18 +208,15 @@ impl Changes {
     }
 }
 
-fn read_changes(alloc: Global, vcd: &mut impl Read, changes: &mut Changes) -> Result<(), RunError> {
-    let mut block = vec![in alloc; 0u8; BLOCK]?;
-    for _ in 0..READS {
-        let Ok(count) = vcd.read(block.as_mut_slice()) else {
-            return Err(RunError::Read);
-        };
-        if count == 0 {
-            return Ok(());
+impl Blocks for Changes {
+    fn block(&mut self, block: &[u8]) -> Result<bool, RunError> {
+        self.reader.feed(block)?;
+        self.reader.clear_samples();
+        match self.cutter.block(block) {
+            Ok(_) => Ok(true),
+            Err(_) => Err(RunError::NoMemory),
         }
-        changes.block(block.as_slice().get(..count).unwrap_or(&[]))?;
     }
-    Err(RunError::Read)
 }
 
 /// Lists the signals of one bit of the dump that the reader gives, in its order: for each its code, how often it changes,
@@ -235,10 +231,17 @@ pub fn run_signals<J: Input, O: Output>(
     vcd: &mut J,
     out: &mut O,
 ) -> Result<Status, RunError> {
-    let listed = list(alloc, vcd)?;
-    let text = listed.text(alloc)?;
+    let text = told(alloc, vcd)?;
     write_report(out, text.as_bytes())?;
     Ok(Status::Good)
+}
+
+fn told<J: Input>(alloc: Global, vcd: &mut J) -> Result<String, RunError> {
+    let listed = list(alloc, vcd)?;
+    match listed.text(alloc) {
+        Ok(text) => Ok(text),
+        Err(error) => Err(RunError::from(error)),
+    }
 }
 
 /// The options that choose the first pair of signals of a dump that looks like a bus: by names where these are plain and no
@@ -249,33 +252,46 @@ pub fn run_signals<J: Input, O: Output>(
 /// Those of `run_signals`, without `Write`.
 pub fn bus_options<J: Input>(alloc: Global, vcd: &mut J) -> Result<Option<String>, RunError> {
     let listed = list(alloc, vcd)?;
-    Ok(listed.options(alloc)?)
+    match listed.options(alloc) {
+        Ok(options) => Ok(options),
+        Err(error) => Err(RunError::from(error)),
+    }
 }
 
 impl Listed {
     fn text(&self, alloc: Global) -> Result<String, AllocError> {
+        let buses = self.levels.buses().found(alloc)?;
         let mut text = Text::new(alloc);
+        self.push_all(&mut text, buses.as_slice());
+        text.finish()
+    }
+
+    fn push_all(&self, text: &mut Text, buses: &[Bus]) {
         for entry in self.declared.entries.iter() {
-            self.push_signal(&mut text, entry);
+            self.push_signal(text, entry);
         }
-        for bus in self.buses.iter() {
+        for bus in buses {
             text.push("bus ");
             text.push_number(u64::from(bus.stopped));
             text.push(" transactions ");
-            self.push_codes(&mut text, bus);
+            self.push_codes(text, bus);
             text.push("\n");
         }
         text.push_number(self.declared.entries.len() as u64);
         text.push(" signals, ");
-        text.push_number(self.buses.len() as u64);
+        text.push_number(buses.len() as u64);
         text.push(" buses\n");
-        text.finish()
     }
 
     fn options(&self, alloc: Global) -> Result<Option<String>, AllocError> {
-        let Some(bus) = self.buses.first() else {
-            return Ok(None);
-        };
+        let buses = self.levels.buses().found(alloc)?;
+        match buses.first() {
+            Some(bus) => self.options_of(alloc, bus),
+            None => Ok(None),
+        }
+    }
+
+    fn options_of(&self, alloc: Global, bus: &Bus) -> Result<Option<String>, AllocError> {
         let mut text = Text::new(alloc);
         self.push_options(&mut text, bus);
         Ok(Some(text.finish()?))
@@ -316,6 +332,11 @@ impl Listed {
         text.push(" --sda-code ");
         push_quoted(text, self.declared.code(bus.sda));
     }
+}
+
+// Whether a character can stand in a command as it is.
+fn is_plain(byte: &u8) -> bool {
+    byte.is_ascii_alphanumeric() || *byte == b'_'
 }
 
 // Whether the reference of the signal is this name.

@@ -42,9 +42,13 @@ pub fn needs_picking(scl: Probe<'_>, sda: Probe<'_>, scope: Option<&str>) -> boo
 
 fn has_blanks(probe: Probe<'_>) -> bool {
     match probe {
-        Probe::Named(name) => name.bytes().any(|byte| byte.is_ascii_whitespace()),
+        Probe::Named(name) => name.as_bytes().iter().any(is_blank),
         Probe::Coded(_) => false,
     }
+}
+
+fn is_blank(byte: &u8) -> bool {
+    byte.is_ascii_whitespace()
 }
 
 /// Reads the definitions of a dump, and finds the two lines in them. A name is that of the first signal of one bit in the

@@ -61,7 +61,7 @@ impl Dump {
         self.text.push(name);
         self.text.push(" $end\n");
         if self.shown.push(Shown::Unknown).is_err() {
-            self.text.push_made(Err(AllocError));
+            self.text.cut();
         }
     }
 
@@ -69,7 +69,7 @@ impl Dump {
     pub(crate) fn define_made(&mut self, name: Result<String, AllocError>) {
         match name {
             Ok(name) => self.define(name.as_str()),
-            Err(error) => self.text.push_made(Err(error)),
+            Err(_) => self.text.cut(),
         }
     }
 

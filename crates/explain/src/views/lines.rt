@@ -4,7 +4,8 @@
 #[derive(Clone, Copy)]
 pub(crate) struct Told<'a> {
     pub(crate) from: u64,
-    pub(crate) until: Option<u64>,
+    /// When it ends, as it stands there: nothing where it has no end.
+    pub(crate) until: &'a str,
     pub(crate) what: What<'a>,
 }
 
@@ -29,8 +30,7 @@ impl What<'_> {
 pub(crate) fn read_line(line: &str) -> Option<Told<'_>> {
     let (times, words) = line.split_once(' ')?;
     let (from, until) = times.split_once('-')?;
-    let from = time(from)?;
-    let until = time(until);
+    let from = from.parse::<u64>().ok()?;
     let what = match words {
         "unexplained" => What::Unexplained,
         "cut" => What::Cut,
@@ -38,11 +38,4 @@ pub(crate) fn read_line(line: &str) -> Option<Told<'_>> {
         labels => What::Explained(labels),
     };
     Some(Told { from, until, what })
-}
-
-fn time(digits: &str) -> Option<u64> {
-    match digits.parse::<u64>() {
-        Ok(time) => Some(time),
-        Err(_) => None,
-    }
 }

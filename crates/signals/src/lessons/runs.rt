@@ -1,15 +1,15 @@
 // The run that learns a brief from a dump.
 
+use crate::blocks::{Blocks, read_all};
 use crate::lessons::paths::NoPath;
 use crate::lessons::seen::{Sight, Sights};
 use crate::lessons::trees::Tree;
 use crate::lessons::writing::written;
 use crate::picking::{needs_picking, pick};
 use capture_check::Follower;
-use run_parts::devices::reading::{BLOCK, READS};
 use run_parts::{Input, Output, RunError, Status, Watched, write_report};
 use std::alloc::{AllocError, Global};
-use vcd_read::{Probe, Reader};
+use vcd_read::{Probe, Reader, Sample};
 
 /// What is learned from: two signals, and whether data bytes of messages of one shape are put together.
 #[derive(Clone, Copy)]
@@ -36,14 +36,29 @@ pub fn run_learn<J: Input, O: Output>(
     out: &mut O,
     lesson: Lesson<'_>,
 ) -> Result<Status, RunError> {
-    let mut seen = seen_in(alloc, vcd, lesson)?;
-    let text = told(alloc, &mut seen, lesson.merge)?;
+    let (text, status) = learned(alloc, vcd, lesson)?;
     write_report(out, text.as_bytes())?;
-    Ok(if seen.odd.is_empty() {
+    Ok(status)
+}
+
+fn learned<J: Input>(
+    alloc: Global,
+    vcd: &mut J,
+    lesson: Lesson<'_>,
+) -> Result<(String, Status), RunError> {
+    let mut seen = seen_in(alloc, vcd, lesson)?;
+    match told(alloc, &mut seen, lesson.merge) {
+        Ok(text) => Ok((text, status_of(&seen))),
+        Err(error) => Err(RunError::from(error)),
+    }
+}
+
+fn status_of(seen: &Sights) -> Status {
+    if seen.odd.is_empty() {
         Status::Good
     } else {
         Status::Bad
-    })
+    }
 }
 
 fn told(alloc: Global, seen: &mut Sights, merge: bool) -> Result<String, AllocError> {
@@ -75,56 +90,58 @@ fn listen<J: Input>(
     sda: Probe<'_>,
 ) -> Result<Sights, RunError> {
     let mut hearing = Hearing {
+        alloc,
         reader: Reader::of(alloc, scl, sda)?,
         follower: Follower::new(),
         seen: Sights::new(alloc),
     };
-    hear(alloc, vcd, &mut hearing)?;
-    hearing.finish(alloc)
-}
-
-fn hear<J: Input>(alloc: Global, vcd: &mut J, hearing: &mut Hearing) -> Result<(), RunError> {
-    let mut block = vec![in alloc; 0u8; BLOCK]?;
-    for _ in 0..READS {
-        let Ok(count) = vcd.read(block.as_mut_slice()) else {
-            return Err(RunError::Read);
-        };
-        if count == 0 {
-            return Ok(());
-        }
-        hearing.block(alloc, block.as_slice().get(..count).unwrap_or(&[]))?;
-    }
-    Err(RunError::Read)
+    read_all(alloc, vcd, &mut hearing)?;
+    hearing.finish()
 }
 
 // A dump that is listened to, and what was seen so far.
 #[derive(Drop)]
 struct Hearing {
+    alloc: Global,
     reader: Reader,
     follower: Follower,
     seen: Sights,
 }
 
-impl Hearing {
-    fn block(&mut self, alloc: Global, piece: &[u8]) -> Result<(), RunError> {
-        self.reader.feed(piece)?;
-        let found = self.follower.follow(alloc, self.reader.samples())?;
+impl Blocks for Hearing {
+    fn block(&mut self, block: &[u8]) -> Result<bool, RunError> {
+        self.reader.feed(block)?;
+        let found = self.follower.follow(self.alloc, self.reader.samples())?;
         self.seen.see_all(found.as_slice())?;
         self.reader.clear_samples();
-        Ok(())
+        Ok(true)
     }
+}
 
-    fn finish(self, alloc: Global) -> Result<Sights, RunError> {
+impl Hearing {
+    fn finish(self) -> Result<Sights, RunError> {
         let Hearing {
+            alloc,
             reader,
             follower,
             mut seen,
         } = self;
         let samples = reader.end()?;
-        let found = follower.follow_to_end(alloc, samples.as_slice())?;
-        seen.see_all(found.as_slice())?;
-        Ok(seen)
+        match see_last(alloc, &mut seen, follower, samples.as_slice()) {
+            Ok(()) => Ok(seen),
+            Err(error) => Err(RunError::from(error)),
+        }
     }
+}
+
+fn see_last(
+    alloc: Global,
+    seen: &mut Sights,
+    follower: Follower,
+    samples: &[Sample],
+) -> Result<(), AllocError> {
+    let found = follower.follow_to_end(alloc, samples)?;
+    seen.see_all(found.as_slice())
 }
 
 // Each path goes into the first message that takes it, or into a new one.

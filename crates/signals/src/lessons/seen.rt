@@ -65,10 +65,7 @@ impl Sights {
 
     fn see_path(&mut self, path: Vec<Step>, from: u64) -> Result<(), AllocError> {
         let key = key_of(self.alloc, path.as_slice())?;
-        if let Some(place) = self.places.get(key.as_slice()).copied() {
-            if let Some(sight) = self.sights.get_mut(place) {
-                sight.times = sight.times.saturating_add(1);
-            }
+        if self.see_again(key.as_slice()) {
             return Ok(());
         }
         if self.places.insert(key, self.sights.len()).is_err() {
@@ -80,6 +77,17 @@ impl Sights {
             first: from,
         })?;
         Ok(())
+    }
+
+    // Counts the path with this key once more, if it was seen.
+    fn see_again(&mut self, key: &[u8]) -> bool {
+        let Some(place) = self.places.get(key).copied() else {
+            return false;
+        };
+        if let Some(sight) = self.sights.get_mut(place) {
+            sight.times = sight.times.saturating_add(1);
+        }
+        true
     }
 
     /// Transactions that are no path of a message.

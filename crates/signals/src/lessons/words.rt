@@ -5,48 +5,44 @@ use crate::lessons::trees::{After, Node, Tree};
 use growing_text::{Lines, Text};
 use std::alloc::{AllocError, Global};
 
-/// The bytes of a path, as `S 48 Wr A 01 A P`.
-pub(crate) fn push_path(line: &mut Lines, path: &[Step]) {
-    let mut start = "S";
-    for step in path {
-        push_step(line, step, start);
-        start = "Sr";
+// How many answers that were never seen are told.
+const UNSEEN: u32 = 8;
+
+/// The bytes of a path, as `S 48 Wr A 01 A P`. What is sent stays on one line with the answer to it.
+pub(crate) fn push_path(alloc: Global, line: &mut Lines, path: &[Step]) {
+    for (k, step) in path.iter().enumerate() {
+        let start = if k == 0 { "S " } else { "Sr " };
+        line.word_made(answered_step(alloc, step, start));
     }
     line.word("P");
 }
 
 // A header or a byte, and the answer to it.
-fn push_step(line: &mut Lines, step: &Step, start: &str) {
-    match step.sent {
-        Sent::Write(address) => {
-            line.word(start);
-            line.byte_in("", address, " Wr");
-        }
-        Sent::Data(byte) => line.byte(byte),
-        Sent::Read(address, _) => {
-            line.word(start);
-            line.byte_in("", address, " Rd");
-        }
-    }
-    line.word(if step.refused { "NA" } else { "A" });
+fn answered_step(alloc: Global, step: &Step, start: &str) -> Result<String, AllocError> {
+    let mut text = Text::new(alloc);
+    push_sent(&mut text, start, step.sent);
+    text.push(if step.refused { " NA" } else { " A" });
     if let Sent::Read(_, Some(count)) = step.sent {
-        line.number_in("(", u64::from(count), " bytes)");
+        text.push(" (");
+        text.push_number(u64::from(count));
+        text.push(" bytes)");
+    }
+    text.finish()
+}
+
+// A data byte, or a header as `48 Wr` with this before it.
+fn push_sent(text: &mut Text, start: &str, sent: Sent) {
+    match sent {
+        Sent::Write(address) => push_header(text, start, address, " Wr"),
+        Sent::Read(address, _) => push_header(text, start, address, " Rd"),
+        Sent::Data(byte) => text.push_hex(byte),
     }
 }
 
-// What is sent at a place, as `48 Wr`.
-fn push_place(text: &mut Text, node: &Node) {
-    match node.sent {
-        Sent::Write(address) => {
-            text.push_hex(address);
-            text.push(" Wr");
-        }
-        Sent::Read(address, _) => {
-            text.push_hex(address);
-            text.push(" Rd");
-        }
-        Sent::Data(byte) => push_data(text, byte, node.known),
-    }
+fn push_header(text: &mut Text, start: &str, address: u8, direction: &str) {
+    text.push(start);
+    text.push_hex(address);
+    text.push(direction);
 }
 
 /// A data byte with its open bits, as a brief writes it.
@@ -94,30 +90,36 @@ pub(crate) fn why(no: NoPath) -> &'static str {
     }
 }
 
-/// The places of a message after which something never came.
-pub(crate) fn push_unseen(alloc: Global, line: &mut Lines, tree: &Tree) -> Result<(), AllocError> {
-    // so many are told
-    let mut left = 8u32;
+/// The places of a message after which something never came, the first few.
+pub(crate) fn push_unseen(alloc: Global, line: &mut Lines, tree: &Tree) {
+    let mut count = 0u32;
     for node in tree.nodes.iter() {
-        for (after, answer) in [(node.acked, " A,"), (node.refused, " NA,")] {
-            if after != After::Unseen {
-                continue;
-            }
-            if left == 0 {
-                line.word("..");
-                return Ok(());
-            }
-            left = left.saturating_sub(1);
-            let place = answered(alloc, node, answer)?;
-            line.word(place.as_str());
+        if node.acked == After::Unseen {
+            count = count.saturating_add(1);
+            push_never(alloc, line, node, " A,", count);
+        }
+        if node.refused == After::Unseen {
+            count = count.saturating_add(1);
+            push_never(alloc, line, node, " NA,", count);
         }
     }
-    Ok(())
+}
+
+// A place after which this answer never came, by its number among all.
+fn push_never(alloc: Global, line: &mut Lines, node: &Node, answer: &str, number: u32) {
+    if number <= UNSEEN {
+        line.word_made(answered(alloc, node, answer));
+    } else if number == UNSEEN + 1 {
+        line.word("..");
+    }
 }
 
 fn answered(alloc: Global, node: &Node, answer: &str) -> Result<String, AllocError> {
     let mut text = Text::new(alloc);
-    push_place(&mut text, node);
+    match node.sent {
+        Sent::Data(byte) => push_data(&mut text, byte, node.known),
+        header => push_sent(&mut text, "", header),
+    }
     text.push(answer);
     text.finish()
 }

@@ -1,7 +1,8 @@
 // Messages, written as a brief.
 
+use crate::lessons::naming::{Name, names_of};
 use crate::lessons::paths::Sent;
-use crate::lessons::seen::{Sight, Sights};
+use crate::lessons::seen::{Odd, Sight, Sights};
 use crate::lessons::trees::{After, Node, Tree};
 use crate::lessons::words::{push_data, push_path, push_unseen, why};
 use growing_text::{Lines, Text};
@@ -21,23 +22,29 @@ pub(crate) fn written(
 ) -> Result<String, AllocError> {
     let names = names_of(alloc, trees)?;
     let mut line = Lines::new(alloc);
-    line.begin("brief 1", "");
-    line.end();
-    push_counts(&mut line, seen, trees.len());
-    for (tree, name) in trees.iter().zip(names.iter()) {
-        line.end();
-        push_sights(alloc, &mut line, tree, seen)?;
-        push_message(alloc, &mut line, tree, name.as_str())?;
-    }
-    line.end();
-    push_controller(&mut line, names.as_slice());
+    push_brief(alloc, &mut line, seen, trees, names.as_slice());
     line.finish()
 }
 
-fn push_controller(line: &mut Lines, names: &[String]) {
+fn push_brief(alloc: Global, line: &mut Lines, seen: &Sights, trees: &Vec<Tree>, names: &[Name]) {
+    line.begin("brief 1", "");
+    line.end();
+    push_counts(line, seen, trees.len());
+    for (k, name) in names.iter().enumerate() {
+        if let Some(tree) = trees.get(k) {
+            line.end();
+            push_sights(alloc, line, tree, seen);
+            push_message(alloc, line, tree, *name);
+        }
+    }
+    line.end();
+    push_controller(alloc, line, names);
+}
+
+fn push_controller(alloc: Global, line: &mut Lines, names: &[Name]) {
     line.begin("controller seen", "   ");
     for name in names {
-        line.word(name.as_str());
+        line.word_made(name.word(alloc));
     }
     line.word(";");
     line.end();
@@ -51,25 +58,24 @@ fn push_counts(line: &mut Lines, seen: &Sights, messages: usize) {
     line.word("messages");
     line.end();
     for odd in seen.odd.iter() {
-        line.begin("# in no message:", "#  ");
-        line.number(odd.times, ",");
-        line.words("first at");
-        line.number(odd.first, ":");
-        line.words(why(odd.why));
-        line.end();
+        push_odd(line, *odd);
     }
 }
 
+fn push_odd(line: &mut Lines, odd: Odd) {
+    line.begin("# in no message:", "#  ");
+    line.number(odd.times, ",");
+    line.words("first at");
+    line.number(odd.first, ":");
+    line.words(why(odd.why));
+    line.end();
+}
+
 // How often and when first each path of a message was seen, and what never was.
-fn push_sights(
-    alloc: Global,
-    line: &mut Lines,
-    tree: &Tree,
-    seen: &Sights,
-) -> Result<(), AllocError> {
+fn push_sights(alloc: Global, line: &mut Lines, tree: &Tree, seen: &Sights) {
     for number in tree.paths.iter().take(TOLD) {
         if let Some(sight) = seen.sights.get(*number) {
-            push_sight(line, sight);
+            push_sight(alloc, line, sight);
         }
     }
     let others = tree.paths.len().saturating_sub(TOLD);
@@ -79,60 +85,38 @@ fn push_sights(
         line.end();
     }
     line.begin("# never seen:", "#    ");
-    push_unseen(alloc, line, tree)?;
+    push_unseen(alloc, line, tree);
     line.end();
-    Ok(())
 }
 
-fn push_sight(line: &mut Lines, sight: &Sight) {
+fn push_sight(alloc: Global, line: &mut Lines, sight: &Sight) {
     line.begin("#", "#    ");
     line.number(sight.times, "");
     line.words("times, first at");
     line.number(sight.first, ":");
-    push_path(line, sight.path.as_slice());
+    push_path(alloc, line, sight.path.as_slice());
     line.end();
 }
 
-fn push_message(
-    alloc: Global,
-    line: &mut Lines,
-    tree: &Tree,
-    name: &str,
-) -> Result<(), AllocError> {
+fn push_message(alloc: Global, line: &mut Lines, tree: &Tree, name: Name) {
     line.begin("message", "   ");
-    line.word(name);
+    line.word_made(name.word(alloc));
     let mut waiting = Vec::new(alloc);
-    waiting.push(Waiting::Place(0))?;
+    push_waiting(line, &mut waiting, Waiting::Place(0));
     for _ in 0..MOST_WORDS {
-        let Some(next) = waiting.pop() else {
-            break;
-        };
-        match next {
-            Waiting::Close => line.word(")"),
-            Waiting::Place(place) => {
-                if let Some(node) = tree.nodes.get(place) {
-                    push_sent(alloc, line, node)?;
-                    push_next(line, &mut waiting, node)?;
-                }
-            }
+        match waiting.pop() {
+            Some(Waiting::Close) => line.word(")"),
+            Some(Waiting::Place(place)) => push_place(
+                alloc,
+                line,
+                tree.nodes.get(place),
+                &mut waiting,
+            ),
+            None => break,
         }
     }
     line.word(";");
     line.end();
-    Ok(())
-}
-
-// What follows a place: after a refusal in brackets, which stand before what follows an acknowledge.
-fn push_next(line: &mut Lines, waiting: &mut Vec<Waiting>, node: &Node) -> Result<(), AllocError> {
-    if let After::On(place) = node.acked {
-        waiting.push(Waiting::Place(place))?;
-    }
-    if let After::On(place) = node.refused {
-        line.words("else (");
-        waiting.push(Waiting::Close)?;
-        waiting.push(Waiting::Place(place))?;
-    }
-    Ok(())
 }
 
 // What is still to be written of a message, the last one first.
@@ -142,70 +126,45 @@ enum Waiting {
     Close,
 }
 
-fn push_sent(alloc: Global, line: &mut Lines, node: &Node) -> Result<(), AllocError> {
+fn push_waiting(line: &mut Lines, waiting: &mut Vec<Waiting>, next: Waiting) {
+    if waiting.push(next).is_err() {
+        line.cut();
+    }
+}
+
+// What is sent at a place, and then what follows: after a refusal in brackets, which stand before what follows an acknowledge.
+fn push_place(alloc: Global, line: &mut Lines, node: Option<&Node>, waiting: &mut Vec<Waiting>) {
+    let Some(node) = node else {
+        return;
+    };
+    line.word_made(sent_word(alloc, node));
+    if let After::On(place) = node.acked {
+        push_waiting(line, waiting, Waiting::Place(place));
+    }
+    if let After::On(place) = node.refused {
+        line.words("else (");
+        push_waiting(line, waiting, Waiting::Close);
+        push_waiting(line, waiting, Waiting::Place(place));
+    }
+}
+
+// A header or a data byte, as a brief has it, on one line.
+fn sent_word(alloc: Global, node: &Node) -> Result<String, AllocError> {
+    let mut text = Text::new(alloc);
     match node.sent {
-        Sent::Write(address) => line.byte_in("write 0x", address, ""),
-        Sent::Data(byte) => {
-            let mut text = Text::new(alloc);
-            push_data(&mut text, byte, node.known);
-            let word = text.finish()?;
-            line.word(word.as_str());
-        }
+        Sent::Write(address) => push_address(&mut text, "write 0x", address),
+        Sent::Data(byte) => push_data(&mut text, byte, node.known),
         Sent::Read(address, count) => {
-            line.byte_in("read 0x", address, "");
+            push_address(&mut text, "read 0x", address);
+            text.push(" ");
             // a read that was always refused has some count
-            line.number(u64::from(count.unwrap_or(1)), "");
+            text.push_number(u64::from(count.unwrap_or(1)));
         }
     }
-    Ok(())
+    text.finish()
 }
 
-// A name for each message: of its first two headers, with a number where another has it already.
-fn names_of(alloc: Global, trees: &Vec<Tree>) -> Result<Vec<String>, AllocError> {
-    let mut names = Vec::new(alloc);
-    let mut stems = Vec::new(alloc);
-    for tree in trees.iter() {
-        let stem = stem_of(alloc, tree)?;
-        names.push(name_of(alloc, stem.as_str(), stems.as_slice())?)?;
-        stems.push(stem)?;
-    }
-    Ok(names)
-}
-
-fn name_of(alloc: Global, stem: &str, stems: &[String]) -> Result<String, AllocError> {
-    let before = stems.iter().filter(|other| other.as_str() == stem).count();
-    let mut name = Text::new(alloc);
-    name.push(stem);
-    if before > 0 {
-        name.push("_");
-        name.push_number(before.saturating_add(1) as u64);
-    }
-    name.finish()
-}
-
-fn stem_of(alloc: Global, tree: &Tree) -> Result<String, AllocError> {
-    let mut stem = Text::new(alloc);
-    let mut headers = 0u32;
-    let mut at = 0usize;
-    for _ in 0..tree.nodes.len() {
-        let Some(node) = tree.nodes.get(at) else {
-            break;
-        };
-        let header = match node.sent {
-            Sent::Write(address) => Some(("write_", address)),
-            Sent::Read(address, _) => Some(("read_", address)),
-            Sent::Data(_) => None,
-        };
-        if let Some((word, address)) = header {
-            stem.push(if headers > 0 { "_" } else { "" });
-            stem.push(word);
-            stem.push_hex(address);
-            headers = headers.saturating_add(1);
-        }
-        match node.acked {
-            After::On(place) if headers < 2 => at = place,
-            _ => break,
-        }
-    }
-    stem.finish()
+fn push_address(text: &mut Text, before: &str, address: u8) {
+    text.push(before);
+    text.push_hex(address);
 }
