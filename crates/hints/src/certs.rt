@@ -39,17 +39,12 @@ pub fn wrong_of(report: &str) -> Option<Wrong> {
 /// What to say of a certificate that is wrong. The file is that of the certificate, where it can be read once more.
 pub fn on_certificate<F: Read + Seek + Drop>(
     alloc: Global,
-    mut file: Option<F>,
+    file: Option<F>,
     wrong: Wrong,
 ) -> Result<String, AllocError> {
-    // what a file is may be told by a line below the one that is wrong
-    let kind = kind_of_file(alloc, &mut file);
     match wrong {
         Wrong::Plan => say_one_plan(alloc),
-        Wrong::Form(line) | Wrong::Depth(line) => match find(alloc, file, line) {
-            Some(found) => say_found(alloc, &found, kind, wrong, line),
-            None => say_words(alloc, wrong, line),
-        },
+        Wrong::Form(line) | Wrong::Depth(line) => say_line(alloc, file, wrong, line),
     }
 }
 
@@ -57,6 +52,21 @@ fn say_one_plan(alloc: Global) -> Result<String, AllocError> {
     let mut lines = Lines::new(alloc);
     lines.say(ONE_PLAN);
     lines.finish()
+}
+
+// The line that is wrong.
+fn say_line<F: Read + Seek + Drop>(
+    alloc: Global,
+    mut file: Option<F>,
+    wrong: Wrong,
+    line: u64,
+) -> Result<String, AllocError> {
+    // what a file is may be told by a line below the one that is wrong
+    let kind = kind_of_file(alloc, &mut file);
+    match find(alloc, file, line) {
+        Some(found) => say_found(alloc, &found, kind, wrong, line),
+        None => say_words(alloc, wrong, line),
+    }
 }
 
 // The line of this number, where the file can be read once more and has it.

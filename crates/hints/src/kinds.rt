@@ -74,64 +74,56 @@ pub fn kind_of_file<F: Read + Seek>(alloc: Global, file: &mut Option<F>) -> Opti
     }
 }
 
-// What files begin with that are packed, and texts that are none of ASCII.
-const PACKED: [(&[u8], Kind); 6] = [
-    (b"\x1f\x8b", Kind::Gzip),
-    (b"PK\x03\x04", Kind::Zip),
-    (b"BZh", Kind::Archive),
-    (b"\xfd7zXZ\x00", Kind::Archive),
-    (b"\x28\xb5\x2f\xfd", Kind::Archive),
-    (b"7z\xbc\xaf\x27\x1c", Kind::Archive),
+// What files begin with that are packed by several programs: bzip2, xz, zstd and 7-Zip.
+const ARCHIVES: [&[u8]; 4] = [
+    b"BZh",
+    b"\xfd7zXZ\x00",
+    b"\x28\xb5\x2f\xfd",
+    b"7z\xbc\xaf\x27\x1c",
 ];
 
-const ENCODED: [(&[u8], Kind); 3] = [
-    (b"\xef\xbb\xbf", Kind::ByteOrderMark),
-    (b"\xff\xfe", Kind::Utf16),
-    (b"\xfe\xff", Kind::Utf16),
-];
+const UTF_16: [&[u8]; 2] = [b"\xff\xfe", b"\xfe\xff"];
 
-// The words that texts begin with, and the commands of dumps.
-const WORDS: [(&[u8], Kind); 3] = [
-    (b"plan", Kind::Plan),
-    (b"brief", Kind::Brief),
-    (b"cert", Kind::Certificate),
-];
-
-const COMMANDS: [(&[u8], Kind); 7] = [
-    (b"$date", Kind::Dump),
-    (b"$version", Kind::Dump),
-    (b"$timescale", Kind::Dump),
-    (b"$comment", Kind::Dump),
-    (b"$scope", Kind::Dump),
-    (b"$var", Kind::Dump),
-    (b"$enddefinitions", Kind::Dump),
+// The commands that a dump may begin with.
+const COMMANDS: [&[u8]; 7] = [
+    b"$date",
+    b"$version",
+    b"$timescale",
+    b"$comment",
+    b"$scope",
+    b"$var",
+    b"$enddefinitions",
 ];
 
 /// What the first bytes of a file tell, if they do.
 pub fn kind_of(head: &[u8]) -> Option<Kind> {
-    if let Some(kind) = marked(head, PACKED.as_slice()) {
-        return Some(kind);
+    if head.starts_with(b"\x1f\x8b") {
+        Some(Kind::Gzip)
+    } else if head.starts_with(b"PK\x03\x04") {
+        Some(Kind::Zip)
+    } else if has_mark(head, &ARCHIVES) || is_tar(head) {
+        Some(Kind::Archive)
+    } else if head.starts_with(b"\xef\xbb\xbf") {
+        Some(Kind::ByteOrderMark)
+    } else if has_mark(head, &UTF_16) || is_wide(head) {
+        Some(Kind::Utf16)
+    } else {
+        kind_of_text(after_comments(head))
     }
-    if head.get(257..262) == Some(b"ustar".as_slice()) {
-        return Some(Kind::Archive);
-    }
-    if let Some(kind) = marked(head, ENCODED.as_slice()) {
-        return Some(kind);
-    }
-    if is_wide(head) {
-        return Some(Kind::Utf16);
-    }
-    text(after_comments(head))
 }
 
-// The kind of files that begin as this one does.
-fn marked(head: &[u8], marks: &[(&[u8], Kind)]) -> Option<Kind> {
-    for (mark, kind) in marks {
+// Whether a file begins with one of these.
+fn has_mark(head: &[u8], marks: &[&[u8]]) -> bool {
+    for mark in marks {
         if head.starts_with(mark) {
-            return Some(*kind);
+            return true;
         }
     }
-    None
+    false
+}
+
+fn is_tar(head: &[u8]) -> bool {
+    head.get(257..262) == Some(b"ustar".as_slice())
 }
 
 // ASCII with a zero beside each character.
@@ -146,13 +138,19 @@ fn is_printed(byte: u8) -> bool {
     matches!(byte, b'\t' | b'\n' | b'\r' | b' '..=b'~')
 }
 
-fn text(head: &[u8]) -> Option<Kind> {
-    for (word, kind) in WORDS {
-        if has_word(head, word) {
-            return Some(kind);
-        }
+// What a text is, by the word or the command that it begins with.
+fn kind_of_text(head: &[u8]) -> Option<Kind> {
+    if has_word(head, b"plan") {
+        Some(Kind::Plan)
+    } else if has_word(head, b"brief") {
+        Some(Kind::Brief)
+    } else if has_word(head, b"cert") {
+        Some(Kind::Certificate)
+    } else if has_mark(head, &COMMANDS) {
+        Some(Kind::Dump)
+    } else {
+        None
     }
-    marked(head, COMMANDS.as_slice())
 }
 
 // What stands after blanks and comments of a plan.

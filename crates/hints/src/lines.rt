@@ -22,7 +22,6 @@ pub struct Lines {
     text: Text,
     // the parts of the line that has not ended
     parts: String,
-    is_whole: bool,
 }
 
 impl Lines {
@@ -32,7 +31,6 @@ impl Lines {
             alloc,
             text: Text::new(alloc),
             parts: String::new(alloc),
-            is_whole: true,
         }
     }
 
@@ -57,7 +55,7 @@ impl Lines {
     /// A part of a sentence or of a detail, which is said where that ends.
     pub fn part<W: Display + Drop>(&mut self, words: W) {
         if write!(self.parts, "{words}").is_err() {
-            self.is_whole = false;
+            self.text.cut();
         }
     }
 
@@ -74,10 +72,7 @@ impl Lines {
         lines.words(self.parts.as_str());
         lines.end();
         self.parts.clear();
-        match lines.finish() {
-            Ok(text) => self.text.push(text.as_str()),
-            Err(_) => self.is_whole = false,
-        }
+        self.text.push_made(lines.finish());
     }
 
     /// Ends a detail.
@@ -90,7 +85,7 @@ impl Lines {
 
     /// Notes that there was no memory for something that was to be said.
     pub fn fail(&mut self) {
-        self.is_whole = false;
+        self.text.cut();
     }
 
     /// All lines.
@@ -99,10 +94,6 @@ impl Lines {
     ///
     /// Where memory was refused for something that was to be said.
     pub fn finish(self) -> Result<String, AllocError> {
-        if self.is_whole {
-            self.text.finish()
-        } else {
-            Err(AllocError)
-        }
+        self.text.finish()
     }
 }

@@ -1,17 +1,20 @@
 // After the refusal of a plan or of a brief, and after a plan that has no brief.
 
 use crate::expecting::{Asked, push_expected};
-use crate::kinds::{Kind, is_binary, kind_of_file, push_kind};
+use crate::kinds::{is_binary, kind_of_file, push_kind};
 use crate::languages::Language;
 use crate::lines::Lines;
 use crate::marking::{first_line, last_line, push_marked};
 use crate::pieces::{Piece, last_line_number, line_start, pieces};
+use crate::safety::push_safe;
+use crate::starters::push_starters;
 use crate::wording::of_text;
 use crate::words::push_word;
 use brief_text::brief_word;
 use dump_tokens::reading::part;
 use plan_core::Plan;
 use plan_text::{PlanError, read_plan};
+use plays::OpenError;
 use std::alloc::{AllocError, Global};
 use std::io::{Read, Seek};
 
@@ -41,9 +44,36 @@ pub fn on_no_brief<F: Read + Seek + Drop>(
     alloc: Global,
     file: Option<F>,
 ) -> Result<String, AllocError> {
+    say_of_plan(alloc, file, Topic::NoBrief)
+}
+
+/// What is to be said of a plan: after one that has no brief, after one that is safe, and after starters that are refused.
+#[derive(Clone, Copy)]
+pub(crate) enum Topic<'a> {
+    NoBrief,
+    Safe,
+    Starters(&'a str, OpenError),
+}
+
+/// What to say of the plan of a file, where it can be read once more. No other function owns a plan.
+pub(crate) fn say_of_plan<F: Read + Seek + Drop>(
+    alloc: Global,
+    file: Option<F>,
+    topic: Topic<'_>,
+) -> Result<String, AllocError> {
     let plan = plan_of(alloc, file);
+    say(alloc, plan.as_ref(), topic)
+}
+
+fn say(alloc: Global, plan: Option<&Plan>, topic: Topic<'_>) -> Result<String, AllocError> {
     let mut lines = Lines::new(alloc);
-    push_brief_word(&mut lines, plan.as_ref());
+    match topic {
+        Topic::NoBrief => push_brief_word(&mut lines, plan),
+        Topic::Safe => push_safe(&mut lines, plan),
+        Topic::Starters(starters, refusal) => {
+            push_starters(alloc, &mut lines, plan, starters, refusal)
+        }
+    }
     lines.finish()
 }
 
@@ -58,8 +88,8 @@ fn push_brief_word(lines: &mut Lines, plan: Option<&Plan>) {
     lines.say("no name in a brief is 'brief', 'device', 'byte' or 'any': these are its words");
 }
 
-/// The plan of a file, where it can be read once more, is not too long and is one.
-pub(crate) fn plan_of<F: Read + Seek + Drop>(alloc: Global, file: Option<F>) -> Option<Plan> {
+// The plan of a file, where it can be read once more, is not too long and is one.
+fn plan_of<F: Read + Seek + Drop>(alloc: Global, file: Option<F>) -> Option<Plan> {
     match read_once_more(alloc, file) {
         Some(text) => read_plan(alloc, text.as_slice()).ok(),
         None => None,
@@ -87,15 +117,9 @@ struct Refused {
 fn on_text<F: Read + Seek + Drop>(
     alloc: Global,
     language: Language,
-    mut file: Option<F>,
+    file: Option<F>,
     refusal: PlanError,
 ) -> Result<String, AllocError> {
-    let kind = kind_of_file(alloc, &mut file);
-    let text = read_once_more(alloc, file);
-    let text = match &text {
-        Some(text) => Some(text.as_slice()),
-        None => None,
-    };
     match (line_of(refusal), of_text(language, refusal)) {
         (Some(line), Some(words)) => {
             let refused = Refused {
@@ -104,32 +128,40 @@ fn on_text<F: Read + Seek + Drop>(
                 line,
                 words,
             };
-            say_refused(alloc, refused, kind, text)
+            say_refused(alloc, refused, file)
         }
         _ => Ok(String::new(alloc)),
     }
 }
 
-fn say_refused(
+fn say_refused<F: Read + Seek + Drop>(
     alloc: Global,
     refused: Refused,
-    kind: Option<Kind>,
-    text: Option<&[u8]>,
+    mut file: Option<F>,
 ) -> Result<String, AllocError> {
     let mut lines = Lines::new(alloc);
+    let kind = kind_of_file(alloc, &mut file);
     if !is_binary(kind) {
-        push_refused(alloc, &mut lines, refused, text);
+        push_refused(alloc, &mut lines, refused, file);
     }
     push_kind(&mut lines, kind, refused.language.kind());
     lines.finish()
 }
 
 // The place of the refusal, where the text can be read once more, and what it means.
-fn push_refused(alloc: Global, lines: &mut Lines, refused: Refused, text: Option<&[u8]>) {
-    let Some(text) = text else {
-        lines.say(refused.words);
-        return;
-    };
+fn push_refused<F: Read + Seek + Drop>(
+    alloc: Global,
+    lines: &mut Lines,
+    refused: Refused,
+    file: Option<F>,
+) {
+    match read_once_more(alloc, file) {
+        Some(text) => push_read(alloc, lines, refused, text.as_slice()),
+        None => lines.say(refused.words),
+    }
+}
+
+fn push_read(alloc: Global, lines: &mut Lines, refused: Refused, text: &[u8]) {
     match found_place(alloc, text, refused) {
         Ok(Some(place)) => push_place(alloc, lines, refused, text, place),
         Ok(None) => lines.say(refused.words),

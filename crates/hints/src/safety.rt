@@ -1,7 +1,7 @@
 // After a plan that is safe: what was not looked at.
 
 use crate::lines::Lines;
-use crate::plans::plan_of;
+use crate::plans::{Topic, say_of_plan};
 use plan_core::Plan;
 use std::alloc::{AllocError, Global};
 use std::io::{Read, Seek};
@@ -15,22 +15,21 @@ pub fn on_safe<F: Read + Seek + Drop>(
     alloc: Global,
     file: Option<F>,
 ) -> Result<String, AllocError> {
-    match plan_of(alloc, file) {
-        Some(plan) => say_safe(alloc, &plan),
-        None => Ok(String::new(alloc)),
-    }
+    say_of_plan(alloc, file, Topic::Safe)
 }
 
-fn say_safe(alloc: Global, plan: &Plan) -> Result<String, AllocError> {
-    let mut lines = Lines::new(alloc);
-    push_unsent(&mut lines, plan);
-    push_nevers(&mut lines, plan);
+/// The same, of the plan, where it was read.
+pub(crate) fn push_safe(lines: &mut Lines, plan: Option<&Plan>) {
+    let Some(plan) = plan else {
+        return;
+    };
+    push_unsent(lines, plan);
+    push_nevers(lines, plan);
     if plan.pair_count() == 0 {
         lines.say(
             "the plan has no two participants that may start together: no pair was looked at",
         );
     }
-    lines.finish()
 }
 
 fn push_unsent(lines: &mut Lines, plan: &Plan) {

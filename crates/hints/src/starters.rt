@@ -3,7 +3,7 @@
 use crate::likeness::Nearest;
 use crate::lines::Lines;
 use crate::marking::push_name;
-use crate::plans::plan_of;
+use crate::plans::{Topic, say_of_plan};
 use plan_core::{Participant, Plan};
 use plays::OpenError;
 use std::alloc::{AllocError, Global};
@@ -17,25 +17,24 @@ pub fn on_starters<F: Read + Seek + Drop>(
     starters: &str,
     refusal: OpenError,
 ) -> Result<String, AllocError> {
-    let plan = plan_of(alloc, file);
-    say_refused(alloc, plan.as_ref(), starters, refusal)
+    say_of_plan(alloc, file, Topic::Starters(starters, refusal))
 }
 
-fn say_refused(
+/// The same, with the plan, where it was read.
+pub(crate) fn push_starters(
     alloc: Global,
+    lines: &mut Lines,
     plan: Option<&Plan>,
     starters: &str,
     refusal: OpenError,
-) -> Result<String, AllocError> {
-    let mut lines = Lines::new(alloc);
+) {
     match refusal {
-        OpenError::NoStarter => push_none(alloc, &mut lines, plan),
-        OpenError::Unknown => push_unknown(alloc, &mut lines, plan, starters),
-        OpenError::SameController => push_same(&mut lines, plan, starters),
-        OpenError::Never => push_never(&mut lines, plan, starters),
+        OpenError::NoStarter => push_none(alloc, lines, plan),
+        OpenError::Unknown => push_unknown(alloc, lines, plan, starters),
+        OpenError::SameController => push_same(alloc, lines, plan, starters),
+        OpenError::Never => push_never(lines, plan, starters),
         OpenError::NoMemory => {}
     }
-    lines.finish()
 }
 
 fn push_none(alloc: Global, lines: &mut Lines, plan: Option<&Plan>) {
@@ -100,45 +99,38 @@ fn add_label(
     Ok(())
 }
 
-fn push_same(lines: &mut Lines, plan: Option<&Plan>, starters: &str) {
+fn push_same(alloc: Global, lines: &mut Lines, plan: Option<&Plan>, starters: &str) {
     if let Some(plan) = plan {
         if let Some((first, second)) = first_two(plan, starters, Clash::OneController) {
-            push_two(lines, plan, first, second);
+            push_two(alloc, lines, plan, first, second);
         }
     }
     lines.say("a controller starts one message at a time");
 }
 
 // Two starters of one controller, or one that stands there twice.
-fn push_two(lines: &mut Lines, plan: &Plan, first: u32, second: u32) {
-    push_label(lines, plan, first);
+fn push_two(alloc: Global, lines: &mut Lines, plan: &Plan, first: u32, second: u32) {
+    push_label(alloc, lines, plan, first);
     if first == second {
         lines.say(" stands there twice");
         return;
     }
     lines.part(" and ");
-    push_label(lines, plan, second);
+    push_label(alloc, lines, plan, second);
     lines.say(" are of one controller");
 }
 
 // The label of a participant in quotation marks.
-fn push_label(lines: &mut Lines, plan: &Plan, i: u32) {
+fn push_label(alloc: Global, lines: &mut Lines, plan: &Plan, i: u32) {
     if i >= plan.participants() {
         return;
     }
-    match plan.participant(i) {
-        Participant::Sending {
-            controller,
-            message,
-        } => {
-            let controller = plan.controller_name(controller).as_str();
-            let message = plan.message_name(message).as_str();
-            lines.part(format_args!("'{controller}/{message}'"));
+    match plan.label(alloc, i) {
+        Ok(label) => {
+            let label = label.as_str();
+            lines.part(format_args!("'{label}'"));
         }
-        Participant::Interrupt(k) => {
-            let name = plan.interrupt_name(k).as_str();
-            lines.part(format_args!("'!{name}'"));
-        }
+        Err(_) => lines.fail(),
     }
 }
 

@@ -1,7 +1,7 @@
 // After a report on a capture that has no transaction, or of which nobody explains one.
 
 use crate::captures::choosing::push_twins;
-use crate::captures::looking::{Seen, look};
+use crate::captures::looking::{Levels, Seen, Wholes, look};
 use crate::captures::naming::{BREAKS_OFF, Names, breaks_off};
 use crate::lines::Lines;
 use std::alloc::{AllocError, Global};
@@ -30,8 +30,9 @@ pub fn on_unexplained<F: Read + Seek + Drop>(
     let mut lines = Lines::new(alloc);
     push_one_for_both(&mut lines, names);
     if let Some(mut file) = file {
-        if let Some(seen) = look(alloc, &mut file, names) {
-            push_exchanged(&mut lines, seen.whole, seen.exchanged_whole);
+        let mut wholes = Wholes::new();
+        if look(alloc, &mut file, names, &mut wholes).is_some() {
+            push_exchanged(&mut lines, wholes.given, wholes.exchanged);
         }
         push_twins(alloc, &mut lines, &mut file, names);
     }
@@ -70,10 +71,11 @@ fn push_looked<F: Read + Seek + Drop>(
     names: Names<'_>,
     file: &mut F,
 ) {
-    let Some(seen) = look(alloc, file, names) else {
-        push_causes(lines, names);
-        return;
-    };
+    let mut levels = Levels::new();
+    if look(alloc, file, names, &mut levels).is_none() {
+        return push_causes(lines, names);
+    }
+    let seen = levels.seen;
     push_counts(lines, seen.samples, seen.exchanged);
     push_one_for_both(lines, names);
     if seen.samples == 0 && breaks_off(alloc, file, names) {
