@@ -1,24 +1,80 @@
 // Further lines for people on standard error, after a refusal or a report.
 
+use crate::inputs::Inputs;
 use crate::voices::{Voice, say};
+use explain::View;
+use growing_text::Text;
 use hints::{
     Named, Names, on_brief, on_certificate, on_choice, on_closed_input, on_dump, on_memory,
     on_no_brief, on_opening, on_plan, on_reading, on_safe, on_silence, on_starters, on_unexplained,
     on_workers, on_writing, wrong_of,
 };
-use report::{RunError, Status};
+use report::{Probe, RunError, Status};
+use std::alloc::{AllocError, Global};
 use std::io::{self, Read, Seek};
 
-/// How a run ended, and the file that it read last. Where a file failed there is the error of the system. `output` is the
-/// file that was to be written in place of standard output, and `report` the beginning of what was written with its last
-/// lines. Hints are written by this voice.
+/// What hints say of a run beside its files.
+#[derive(Clone, Copy)]
+pub struct About<'a> {
+    /// Who started on a bench.
+    pub starters: &'a str,
+    /// How the lines of a dump were to be found, without the command.
+    pub names: Names<'a>,
+    /// The words of that command, as it can be given once more. Some may be empty.
+    pub words: [&'a str; 4],
+    /// What was told of a capture, where one was explained.
+    pub view: Option<View>,
+}
+
+impl<'a> About<'a> {
+    /// A run with these starters, or with none where it is no bench.
+    pub fn bench(starters: &'a str) -> About<'a> {
+        let none = Probe::Coded("");
+        let names = names_of(none, none, None, "");
+        About {
+            starters,
+            names,
+            words: ["", "", "", ""],
+            view: None,
+        }
+    }
+
+    /// A run over a dump.
+    pub fn recording(names: Names<'a>, words: [&'a str; 4], view: Option<View>) -> About<'a> {
+        About {
+            starters: "",
+            names,
+            words,
+            view,
+        }
+    }
+}
+
+/// How the two lines are to be found in this dump.
+pub fn names_of<'a>(
+    scl: Probe<'a>,
+    sda: Probe<'a>,
+    scope: Option<&'a str>,
+    vcd: &'a str,
+) -> Names<'a> {
+    Names {
+        scl,
+        sda,
+        scope,
+        command: "",
+        vcd,
+    }
+}
+
+/// How a run ended. `output` is the file that was to be written in place of standard output, and `error` why it was not.
+/// `report` is the beginning of what was written with its last lines. Hints are written by this voice.
 #[derive(Drop)]
 pub struct Outcome<'a> {
-    pub read: Named<'a>,
     pub ended: Result<Status, RunError>,
-    pub error: Option<io::Error>,
     pub output: Option<&'a str>,
+    pub error: Option<io::Error>,
     pub report: String,
+    pub about: About<'a>,
     pub voice: Voice,
 }
 
@@ -37,33 +93,100 @@ pub fn advise_on_closed_input<R: Eprint + AllocGlobal>(rt: &R, file: Named<'_>, 
     say(rt, on_closed_input(rt.alloc(), file), voice.uncolored());
 }
 
-/// After a run over one text. The file is that one.
-pub fn advise_on_text<R: Eprint + AllocGlobal, F: Read + Seek + Drop>(
+/// After a run.
+pub fn advise<R: Eprint + AllocGlobal, F: Read + Seek + Drop>(
     rt: &R,
-    file: Option<F>,
-    outcome: Outcome<'_>,
+    read: Inputs<'_, F>,
+    outcome: &Outcome<'_>,
 ) {
+    let about = outcome.about;
+    let command = command_of(rt.alloc(), &about.words);
+    let names = Names {
+        command: command.as_str(),
+        ..about.names
+    };
     match outcome.ended {
-        Err(RunError::Plan(refusal)) if outcome.read.what == "brief" => {
-            say(rt, on_brief(rt.alloc(), file, refusal), outcome.voice);
+        Ok(status) => {
+            let hints = on_report(rt.alloc(), read, names, status, outcome);
+            say(rt, hints, outcome.voice);
         }
-        Err(RunError::Brief(_)) => say(rt, on_no_brief(rt.alloc(), file), outcome.voice),
-        _ => advise_on_plan(rt, file, outcome),
+        Err(error) => {
+            let hints = on_refusal(rt.alloc(), read, names, error, outcome);
+            say(rt, hints, voice_of(error, outcome.voice));
+        }
     }
 }
 
-// After a run that reads a plan, and perhaps another file. The file is the plan's.
-fn advise_on_plan<R: Eprint + AllocGlobal, F: Read + Seek + Drop>(
-    rt: &R,
-    plan: Option<F>,
-    outcome: Outcome<'_>,
-) {
-    match outcome.ended {
-        Err(RunError::Plan(refusal)) => say(rt, on_plan(rt.alloc(), plan, refusal), outcome.voice),
-        Ok(Status::Good) if says_safe(outcome.report.as_str()) => {
-            say(rt, on_safe(rt.alloc(), plan), outcome.voice);
+// A command with its files, to be given once more with other options. Without memory there is none.
+fn command_of(alloc: Global, words: &[&str]) -> String {
+    let mut command = Text::new(alloc);
+    for word in words {
+        if !word.is_empty() {
+            if !command.is_empty() {
+                command.push(" ");
+            }
+            command.push(word);
         }
-        _ => advise_on_devices(rt, outcome),
+    }
+    match command.finish() {
+        Ok(command) => command,
+        Err(_) => String::new(alloc),
+    }
+}
+
+// Places have marks, and devices have none.
+fn voice_of(error: RunError, voice: Voice) -> Voice {
+    match error {
+        RunError::Read | RunError::Write | RunError::Workers | RunError::NoMemory => {
+            voice.uncolored()
+        }
+        _ => voice,
+    }
+}
+
+fn on_refusal<F: Read + Seek + Drop>(
+    alloc: Global,
+    read: Inputs<'_, F>,
+    names: Names<'_>,
+    ended: RunError,
+    outcome: &Outcome<'_>,
+) -> Result<String, AllocError> {
+    let Inputs {
+        last,
+        error,
+        plan,
+        other,
+        ..
+    } = read;
+    match ended {
+        RunError::Plan(refusal) if last.what == "brief" => on_brief(alloc, plan, refusal),
+        RunError::Plan(refusal) => on_plan(alloc, plan, refusal),
+        RunError::Brief(_) => on_no_brief(alloc, plan),
+        RunError::Vcd(refusal) => on_dump(alloc, other, names, refusal),
+        RunError::Bench(refusal) => on_starters(alloc, plan, outcome.about.starters, refusal),
+        RunError::Read => on_reading(alloc, last, error.as_ref()),
+        RunError::Write => on_writing(alloc, outcome.output, outcome.error.as_ref()),
+        RunError::Workers => on_workers(alloc),
+        RunError::NoMemory => on_memory(alloc),
+    }
+}
+
+fn on_report<F: Read + Seek + Drop>(
+    alloc: Global,
+    read: Inputs<'_, F>,
+    names: Names<'_>,
+    status: Status,
+    outcome: &Outcome<'_>,
+) -> Result<String, AllocError> {
+    let Inputs { plan, other, .. } = read;
+    let report = outcome.report.as_str();
+    if let Some(view) = outcome.about.view {
+        return on_capture(alloc, other, names, status, told_by(report, view));
+    }
+    match (status, wrong_of(report)) {
+        (Status::Good, _) if says_safe(report) => on_safe(alloc, plan),
+        (Status::Refused, Some(wrong)) => on_certificate(alloc, other, wrong),
+        _ => Ok(String::new(alloc)),
     }
 }
 
@@ -71,59 +194,31 @@ fn says_safe(report: &str) -> bool {
     report.starts_with("safe: ") || report == "accepted safe\n"
 }
 
-/// After a run that checks a certificate. The starters are those of a bench, if it is one.
-pub fn advise_on_certified<R: Eprint + AllocGlobal, F: Read + Seek + Drop>(
-    rt: &R,
-    plan: Option<F>,
-    cert: Option<F>,
-    starters: &str,
-    outcome: Outcome<'_>,
-) {
-    match (outcome.ended, wrong_of(outcome.report.as_str())) {
-        (Ok(Status::Refused), Some(wrong)) => say(
-            rt,
-            on_certificate(rt.alloc(), cert, wrong),
-            outcome.voice,
-        ),
-        (Err(RunError::Bench(refusal)), _) => {
-            say(
-                rt,
-                on_starters(rt.alloc(), plan, starters, refusal),
-                outcome.voice,
-            );
-        }
-        _ => advise_on_plan(rt, plan, outcome),
+fn on_capture<F: Read + Seek + Drop>(
+    alloc: Global,
+    vcd: Option<F>,
+    names: Names<'_>,
+    status: Status,
+    told: Told,
+) -> Result<String, AllocError> {
+    match told {
+        Told::Nothing => on_silence(alloc, vcd, names),
+        Told::NoneEnded => on_unexplained(alloc, vcd, names),
+        Told::NoneExplained if status == Status::Bad => on_unexplained(alloc, vcd, names),
+        _ => on_choice(alloc, vcd, names),
     }
 }
 
-/// After a run that explains a capture.
-pub fn advise_on_capture<R: Eprint + AllocGlobal, F: Read + Seek + Drop>(
-    rt: &R,
-    plan: Option<F>,
-    vcd: Option<F>,
-    names: Names<'_>,
-    outcome: Outcome<'_>,
-) {
-    match outcome.ended {
-        Err(RunError::Vcd(refusal)) => say(
-            rt,
-            on_dump(rt.alloc(), vcd, names, refusal),
-            outcome.voice,
-        ),
-        Ok(status) => {
-            let alloc = rt.alloc();
-            let report = outcome.report.as_str();
-            let hints = if is_silent(report) {
-                on_silence(alloc, vcd, names)
-            } else if ends_none(report) || status == Status::Bad && explains_nothing(report) {
-                on_unexplained(alloc, vcd, names)
-            } else {
-                on_choice(alloc, vcd, names)
-            };
-            say(rt, hints, outcome.voice);
-        }
-        _ => advise_on_plan(rt, plan, outcome),
-    }
+// What a report on a capture tells, as far as its beginning and its last lines show it.
+#[derive(Clone, Copy)]
+enum Told {
+    // no transaction: nothing but lines for people, or a summary of nothing, stands before the last line
+    Nothing,
+    // transactions of which none ended: each was cut or is unfinished
+    NoneEnded,
+    // a transaction that nobody explains, and none that somebody does
+    NoneExplained,
+    Something,
 }
 
 // The line of a report of which no transaction ended.
@@ -132,38 +227,37 @@ const NONE: &str = "0 transactions, 0 unexplained";
 // The same below the numbers of a summary, where none was cut or is unfinished.
 const SILENT_SUMMARY: &str = "\ncut 0\nunfinished 0\n0 transactions, 0 unexplained\n";
 
-// Whether a report has no transaction: nothing but lines for people, or a summary of nothing, stands before its last line.
-fn is_silent(report: &str) -> bool {
-    let mut lines = report.lines().filter(|line| !line.starts_with("    "));
-    lines.next().is_some_and(|line| line == NONE) || report.contains(SILENT_SUMMARY)
-}
-
-// Whether no transaction of a report ended: each was cut or is unfinished.
-fn ends_none(report: &str) -> bool {
-    report.lines().any(|line| line == NONE)
-}
-
-// Whether the beginning of a report has a transaction that nobody explains, and none that somebody does.
-fn explains_nothing(report: &str) -> bool {
-    let mut lines = report.lines().filter(|line| !line.starts_with("    "));
-    report.contains(" unexplained\n") && !lines.any(|line| line.contains('/') || line.contains('!'))
-}
-
-fn advise_on_devices<R: Eprint + AllocGlobal>(rt: &R, outcome: Outcome<'_>) {
-    let Outcome {
-        read,
-        ended,
-        error,
-        output,
-        voice,
-        ..
-    } = outcome;
-    let voice = voice.uncolored();
-    match ended {
-        Err(RunError::Read) => say(rt, on_reading(rt.alloc(), read, error.as_ref()), voice),
-        Err(RunError::Write) => say(rt, on_writing(rt.alloc(), output, error.as_ref()), voice),
-        Err(RunError::Workers) => say(rt, on_workers(rt.alloc()), voice),
-        Err(RunError::NoMemory) => say(rt, on_memory(rt.alloc()), voice),
-        _ => {}
+// What was left out by its time says nothing of the lines.
+fn told_by(report: &str, view: View) -> Told {
+    if view.from.is_some() || view.to.is_some() {
+        return Told::Something;
     }
+    if report.contains(SILENT_SUMMARY) {
+        return Told::Nothing;
+    }
+    told_line_by_line(report)
+}
+
+fn told_line_by_line(report: &str) -> Told {
+    let mut is_first = true;
+    let mut told = Told::Something;
+    if report.contains(" unexplained\n") {
+        told = Told::NoneExplained;
+    }
+    for line in report.lines() {
+        if line == NONE {
+            return if is_first {
+                Told::Nothing
+            } else {
+                Told::NoneEnded
+            };
+        }
+        if !line.starts_with("    ") {
+            is_first = false;
+            if line.contains('/') || line.contains('!') {
+                told = Told::Something;
+            }
+        }
+    }
+    told
 }

@@ -1,5 +1,6 @@
 // Colours for people: the words `safe`, `unsafe` and `unexplained` of a report, and the marks of hints. All else is as it is.
 
+use growing_text::Text;
 use std::alloc::{AllocError, Global};
 
 const RED: &[u8] = b"\x1b[31m";
@@ -16,37 +17,57 @@ pub fn colored_report(
 ) -> Result<Vec<u8>, AllocError> {
     let mut text = Vec::new(alloc);
     let mut begins_line = is_at_line;
-    for line in report.split_inclusive(|byte| *byte == b'\n') {
-        if begins_line {
-            push_line(&mut text, line)?;
-        } else {
-            text.extend_from_slice(line)?;
-        }
+    for line in report.split_inclusive(is_end) {
+        push_parts(
+            &mut text,
+            if begins_line {
+                parts_of(line)
+            } else {
+                whole(line)
+            },
+        )?;
         begins_line = true;
     }
     Ok(text)
 }
 
-fn push_line(text: &mut Vec<u8>, line: &[u8]) -> Result<(), AllocError> {
-    if let Some(rest) = line.strip_prefix(b"safe:") {
-        push_word(text, b"", GREEN, b"safe")?;
-        push_rest(text, b":", rest)
-    } else if let Some(rest) = line.strip_prefix(b"unsafe:") {
-        push_word(text, b"", RED, b"unsafe")?;
-        push_rest(text, b":", rest)
-    } else if line == b"accepted safe\n".as_slice() {
-        push_word(text, b"accepted ", GREEN, b"safe")?;
-        push_rest(text, b"", b"\n")
-    } else if line == b"accepted unsafe\n".as_slice() {
-        push_word(text, b"accepted ", RED, b"unsafe")?;
-        push_rest(text, b"", b"\n")
-    } else if let Some(times) = unexplained(line) {
-        text.extend_from_slice(times)?;
-        push_word(text, b" ", RED, b"unexplained")?;
-        push_rest(text, b"", b"\n")
-    } else {
-        text.extend_from_slice(line)
+fn is_end(byte: &u8) -> bool {
+    *byte == b'\n'
+}
+
+fn push_parts(text: &mut Vec<u8>, parts: [&[u8]; 5]) -> Result<(), AllocError> {
+    for part in parts {
+        text.extend_from_slice(part)?;
     }
+    Ok(())
+}
+
+// The parts of a line, with a word of it in a colour where it has one.
+fn parts_of(line: &[u8]) -> [&[u8]; 5] {
+    if line.starts_with(b"safe:") {
+        colored(line, 0, GREEN, 4)
+    } else if line.starts_with(b"unsafe:") {
+        colored(line, 0, RED, 6)
+    } else if line == b"accepted safe\n".as_slice() {
+        colored(line, 9, GREEN, 4)
+    } else if line == b"accepted unsafe\n".as_slice() {
+        colored(line, 9, RED, 6)
+    } else if let Some(times) = unexplained(line) {
+        colored(line, times.len().saturating_add(1), RED, 11)
+    } else {
+        whole(line)
+    }
+}
+
+// The line with so many bytes in this colour, which stand after so many others.
+fn colored<'a>(line: &'a [u8], from: usize, color: &'a [u8], count: usize) -> [&'a [u8]; 5] {
+    let (before, rest) = line.split_at(from.min(line.len()));
+    let (word, after) = rest.split_at(count.min(rest.len()));
+    [before, color, word, PLAIN, after]
+}
+
+fn whole(line: &[u8]) -> [&[u8]; 5] {
+    [line, b"", b"", b"", b""]
 }
 
 // The times of a transaction that nobody explains. The last line of a report on a capture has a comma.
@@ -58,42 +79,35 @@ fn unexplained(line: &[u8]) -> Option<&[u8]> {
     Some(times)
 }
 
-fn push_word(
-    text: &mut Vec<u8>,
-    before: &[u8],
-    color: &[u8],
-    word: &[u8],
-) -> Result<(), AllocError> {
-    text.extend_from_slice(before)?;
-    text.extend_from_slice(color)?;
-    text.extend_from_slice(word)?;
-    text.extend_from_slice(PLAIN)
-}
-
-fn push_rest(text: &mut Vec<u8>, first: &[u8], rest: &[u8]) -> Result<(), AllocError> {
-    text.extend_from_slice(first)?;
-    text.extend_from_slice(rest)
-}
-
 /// The hints with their marks in a colour.
 pub fn colored_hints(alloc: Global, hints: &str) -> Result<String, AllocError> {
-    let mut text = String::new(alloc);
+    let mut text = Text::new(alloc);
     for line in hints.split_inclusive('\n') {
         match marks_of(line) {
-            Some((before, marks)) => writeln!(text, "{before}\x1b[31m{marks}\x1b[0m")?,
-            None => text.push_str(line)?,
+            Some((before, marks)) => {
+                text.push(before);
+                text.push("\x1b[31m");
+                text.push(marks);
+                text.push("\x1b[0m\n");
+            }
+            None => text.push(line),
         }
     }
-    Ok(text)
+    text.finish()
 }
 
 // What stands before the marks of a line that has nothing else, and the marks.
 fn marks_of(line: &str) -> Option<(&str, &str)> {
     let line = line.strip_suffix('\n')?;
-    let (before, _) = line.split_once('^')?;
-    let blanks = before.strip_prefix("hint:")?;
-    let marks = line.strip_prefix(before)?;
-    let is_alone = blanks.bytes().all(|byte| byte == b' ')
-        && marks.bytes().all(|byte| byte == b'^');
-    is_alone.then_some((before, marks))
+    let before = line.trim_end_matches('^');
+    match (before.strip_prefix("hint:"), line.strip_prefix(before)) {
+        (Some(blanks), Some(marks)) if is_blank(blanks) && !marks.is_empty() => {
+            Some((before, marks))
+        }
+        _ => None,
+    }
+}
+
+fn is_blank(text: &str) -> bool {
+    text.trim_start_matches(' ').is_empty()
 }

@@ -1,36 +1,37 @@
 // Runs whose waves are drawn into a file.
 
-use crate::inputs::READS;
-use crate::outputs::{FilesRead, Form, Sheet};
+use crate::checking::{Look, look_over};
+use crate::inputs::{FilesRead, READS, identity_of};
+use crate::outputs::{Form, Sheet};
 use crate::rehearsals::{Play, rehearse};
-use crate::runs::{Extras, Look, look_over};
+use crate::runs::Extras;
 use crate::voices::say;
 use report::{Input, Output, RunError, Status, Watched, read_within, write_report};
-use std::io::{self, Cursor};
+use run_parts::write_lines;
 use std::rt::Files;
 use std::sync::Wait;
 use std::thread::Threads;
 use std::time::Clock;
-use std::{fs, str};
+use std::{fs, io, str};
 use waves::{wave_of_bench, wave_of_check};
 
-/// The files that a run reads.
+/// The file that waves are drawn into, and the files that the run reads, none of which it may be.
 #[derive(Clone, Copy)]
-pub struct Paths<'a> {
+pub struct Canvas<'a> {
+    pub file: &'a str,
     pub plan: &'a str,
     pub cert: Option<&'a str>,
+    pub extras: Extras,
 }
 
-impl<'a> Paths<'a> {
-    /// A plan alone is read.
-    pub fn one(plan: &'a str) -> Paths<'a> {
-        Paths { plan, cert: None }
-    }
-
+impl Canvas<'_> {
     fn files<R: Files>(&self, rt: &R) -> FilesRead {
         FilesRead {
-            first: fs::metadata(rt, self.plan).ok(),
-            second: self.cert.and_then(|path| fs::metadata(rt, path).ok()),
+            first: identity_of(fs::metadata(rt, self.plan)),
+            second: match self.cert {
+                Some(path) => identity_of(fs::metadata(rt, path)),
+                None => None,
+            },
         }
     }
 }
@@ -42,46 +43,21 @@ pub fn check_drawn<
     O: Output,
 >(
     rt: &R,
-    path: &str,
-    reader: &mut I,
+    plan: &mut I,
     out: &mut O,
     look: Look<'_>,
-    file: &str,
-    extras: Extras,
+    canvas: Canvas<'_>,
     unwritten: &mut Option<io::Error>,
 ) -> Result<Status, RunError> {
-    let text = read_within(rt.alloc(), reader, READS)?;
-    let mut again = Watched::new(Cursor::new(text.as_slice()));
-    match look_over(rt, &mut again, out, look, extras) {
+    let text = read_within(rt.alloc(), plan, READS)?;
+    let mut again = Watched::new(text.as_slice());
+    match look_over(rt, &mut again, out, look, canvas.extras.watcher) {
         Ok(status) => {
-            let pair = look.pair;
-            draw_fault(
-                rt,
-                path,
-                text.as_slice(),
-                pair,
-                status,
-                file,
-                extras,
-                unwritten,
-            )
+            let wave = wave_of_check(rt.alloc(), text.as_slice(), look.pair);
+            draw(rt, wave, status, canvas, unwritten)
         }
         Err(error) => Err(error),
     }
-}
-
-fn draw_fault<R: Files + Print + Eprint + Clock + AllocGlobal>(
-    rt: &R,
-    path: &str,
-    text: &[u8],
-    pair: Option<u32>,
-    status: Status,
-    file: &str,
-    extras: Extras,
-    unwritten: &mut Option<io::Error>,
-) -> Result<Status, RunError> {
-    let wave = wave_of_check(rt.alloc(), text, pair)?;
-    draw(rt, Paths::one(path), wave, status, file, extras, unwritten)
 }
 
 /// Rehearses a plan, and draws the run.
@@ -92,96 +68,84 @@ pub fn bench_drawn<
     O: Output,
 >(
     rt: &R,
-    paths: Paths<'_>,
-    reader: &mut I,
+    plan: &mut I,
     cert: &mut J,
     out: &mut O,
     play: Play<'_>,
-    file: &str,
-    extras: Extras,
+    canvas: Canvas<'_>,
     unwritten: &mut Option<io::Error>,
 ) -> Result<Status, RunError> {
-    let text = read_within(rt.alloc(), reader, READS)?;
-    let (report, status) = made(rt, text.as_slice(), cert, play)?;
-    draw_run(
-        rt,
-        paths,
-        text.as_slice(),
-        report.as_slice(),
-        out,
-        play,
-        status,
-        file,
-        extras,
-        unwritten,
-    )
-}
-
-// The report of a rehearsal, in memory.
-fn made<R: AllocGlobal + Threads + Wait + Clock + Sync, J: Input>(
-    rt: &R,
-    text: &[u8],
-    cert: &mut J,
-    play: Play<'_>,
-) -> Result<(Vec<u8>, Status), RunError> {
-    let mut again = Watched::new(Cursor::new(text));
+    let text = read_within(rt.alloc(), plan, READS)?;
+    let mut again = Watched::new(text.as_slice());
     let mut written = Watched::new(Vec::new(rt.alloc()));
     match rehearse(rt, &mut again, cert, &mut written, play) {
-        Ok(status) => Ok((written.into_inner(), status)),
+        Ok(status) => {
+            let report = written.into_inner();
+            let (text, report) = (text.as_slice(), report.as_slice());
+            draw_run(rt, text, report, out, play, status, canvas, unwritten)
+        }
         Err(error) => Err(error),
     }
 }
 
 fn draw_run<R: Files + Print + Eprint + Clock + AllocGlobal, O: Output>(
     rt: &R,
-    paths: Paths<'_>,
     text: &[u8],
     report: &[u8],
     out: &mut O,
     play: Play<'_>,
     status: Status,
-    file: &str,
-    extras: Extras,
+    canvas: Canvas<'_>,
     unwritten: &mut Option<io::Error>,
 ) -> Result<Status, RunError> {
     write_report(out, report)?;
     let lines = str::from_utf8(report).unwrap_or("");
-    let wave = wave_of_bench(rt.alloc(), text, play.starters, play.fill, lines)?;
-    draw(rt, paths, wave, status, file, extras, unwritten)
+    let wave = wave_of_bench(rt.alloc(), text, play.starters, play.fill, lines);
+    draw(rt, wave, status, canvas, unwritten)
 }
 
-// Writes the waves into this file, whole or not at all. Where there are none, the file is left as it is. The status is that of
-// the run.
+// Draws the waves, where there are any, and answers the status of the run.
 fn draw<R: Files + Print + Eprint + Clock + AllocGlobal>(
     rt: &R,
-    paths: Paths<'_>,
-    wave: Option<String>,
+    wave: Result<Option<String>, RunError>,
     status: Status,
-    file: &str,
-    extras: Extras,
+    canvas: Canvas<'_>,
     unwritten: &mut Option<io::Error>,
 ) -> Result<Status, RunError> {
     match wave {
-        Some(wave) => {
-            let mut sheet = Watched::new(Sheet::new(rt, Form::File(file), extras.watcher));
-            let ended = match write_report(&mut sheet, wave.as_bytes()) {
-                Ok(()) => Ok(status),
-                Err(error) => Err(error),
-            };
-            let mut sheet = sheet.into_inner();
-            let ended = sheet.settle(paths.files(rt), ended);
-            let (_, error) = sheet.into_parts();
-            *unwritten = error;
-            ended
-        }
-        None => {
-            if extras.hints {
-                let hint = format!(in rt.alloc();
-                    "hint: there is nothing to draw, so '{file}' was not written\n"
-                );
-                say(rt, hint, extras.voice().uncolored());
+        Ok(Some(wave)) => write_wave(rt, wave.as_str(), status, canvas, unwritten),
+        Ok(None) => {
+            if canvas.extras.hints {
+                say_undrawn(rt, canvas);
             }
             Ok(status)
         }
+        Err(error) => Err(error),
     }
+}
+
+// The file is left as it is.
+fn say_undrawn<R: Eprint + AllocGlobal>(rt: &R, canvas: Canvas<'_>) {
+    let hint = format!(in rt.alloc();
+        "hint: there is nothing to draw, so '{}' was not written\n",
+        canvas.file
+    );
+    say(rt, hint, canvas.extras.voice().uncolored());
+}
+
+// Writes the waves into their file, whole or not at all.
+fn write_wave<R: Files + Print + Eprint + Clock + AllocGlobal>(
+    rt: &R,
+    wave: &str,
+    status: Status,
+    canvas: Canvas<'_>,
+    unwritten: &mut Option<io::Error>,
+) -> Result<Status, RunError> {
+    let sheet = Sheet::new(rt, Form::File(canvas.file), canvas.extras.watcher);
+    let mut sheet = Watched::new(sheet);
+    let written = write_lines(&mut sheet, wave.as_bytes(), status);
+    let mut sheet = sheet.into_inner();
+    let ended = sheet.settle(canvas.files(rt), written);
+    *unwritten = sheet.into_error();
+    ended
 }

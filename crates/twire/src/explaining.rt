@@ -13,11 +13,57 @@ use report::{
     Input, NoGate, Output, Probe, RunError, Status, Watched, read_within, run_capture_of,
     run_check, run_verify,
 };
-use std::alloc::{AllocError, Global};
+use std::alloc::Global;
 use std::sync::Wait;
 use std::thread::Threads;
 use std::time::Clock;
 use verdicts::MOST_WORKERS;
+
+// What a report is of, and what its lines for people are made of beside the plan.
+#[derive(Clone, Copy)]
+enum Subject<'a> {
+    // a check, of which so many unsafe pairs are explained
+    Check(u32),
+    // a certificate, by its text
+    Answer(&'a [u8]),
+    // a capture, by its transactions, and so many levels that were left out
+    Capture(&'a [Heard], Quiet, u64),
+    // a rehearsal by the certificate of this text
+    Rehearsal(&'a [u8], Starting<'a>),
+}
+
+// Passes on the report of a run that ended with this status. The text is that of the plan.
+fn tell<O: Output>(
+    alloc: Global,
+    text: &[u8],
+    report: &[u8],
+    status: Status,
+    subject: Subject<'_>,
+    out: &mut O,
+) -> Result<Status, RunError> {
+    let plan = read_plan(alloc, text)?;
+    let told = match subject {
+        Subject::Check(most) => explain_pairs(alloc, &plan, report, most, out),
+        Subject::Answer(proofs) => explain_answer(alloc, &plan, proofs, report, out),
+        Subject::Capture(heard, quiet, short) => {
+            let above = quiet.told(alloc, short);
+            explain_transactions(alloc, &plan, heard, report, above, out)
+        }
+        Subject::Rehearsal(proofs, starting) => {
+            let rehearsed = Rehearsed {
+                plan: &plan,
+                proofs,
+                starters: starting.starters,
+                fill: starting.fill,
+            };
+            explain_rehearsal(alloc, rehearsed, report, out)
+        }
+    };
+    match told {
+        Ok(()) => Ok(status),
+        Err(error) => Err(error),
+    }
+}
 
 // ---- a check
 
@@ -49,35 +95,20 @@ fn check_text<R: Threads + Sync, O: Output>(
     workers: u32,
     most: u32,
 ) -> Result<Status, RunError> {
-    let (report, status) = checked(rt, alloc, text, workers)?;
-    tell_pairs(alloc, text, report.as_slice(), status, most, out)
-}
-
-fn checked<R: Threads + Sync>(
-    rt: &R,
-    alloc: Global,
-    text: &[u8],
-    workers: u32,
-) -> Result<(Vec<u8>, Status), RunError> {
     let mut read = Watched::new(text);
     let mut written = Watched::new(Vec::new(alloc));
     match run_check(rt, alloc, &mut read, &mut written, workers, &NoGate) {
-        Ok(status) => Ok((written.into_inner(), status)),
-        Err(error) => Err(error),
-    }
-}
-
-fn tell_pairs<O: Output>(
-    alloc: Global,
-    text: &[u8],
-    report: &[u8],
-    status: Status,
-    most: u32,
-    out: &mut O,
-) -> Result<Status, RunError> {
-    let plan = read_plan(alloc, text)?;
-    match explain_pairs(alloc, &plan, report, most, out) {
-        Ok(()) => Ok(status),
+        Ok(status) => {
+            let report = written.into_inner();
+            tell(
+                alloc,
+                text,
+                report.as_slice(),
+                status,
+                Subject::Check(most),
+                out,
+            )
+        }
         Err(error) => Err(error),
     }
 }
@@ -95,60 +126,47 @@ pub fn explain_verify<I: Input, J: Input, O: Output>(
     cert: &mut J,
     out: &mut O,
 ) -> Result<Status, RunError> {
-    let text = read_judged(alloc, plan)?;
-    verify_text(alloc, text.as_slice(), cert, out)
+    let (text, proofs) = read_both(alloc, plan, cert)?;
+    verify_texts(alloc, text.as_slice(), proofs.as_slice(), out)
 }
 
-// The text of a plan. One that is refused is, before a second file is read.
-fn read_judged<I: Input>(alloc: Global, plan: &mut I) -> Result<Vec<u8>, RunError> {
-    let text = read_within(alloc, plan, READS)?;
-    match read_plan(alloc, text.as_slice()) {
-        Ok(_) => Ok(text),
-        Err(refusal) => Err(RunError::from(refusal)),
-    }
-}
-
-fn verify_text<J: Input, O: Output>(
+// The texts of a plan and of its certificate. A plan that is refused is, before a second file is read.
+fn read_both<I: Input, J: Input>(
     alloc: Global,
-    text: &[u8],
+    plan: &mut I,
     cert: &mut J,
-    out: &mut O,
-) -> Result<Status, RunError> {
-    let proofs = read_within(alloc, cert, READS)?;
-    verify_proofs(alloc, text, proofs.as_slice(), out)
-}
-
-fn verify_proofs<O: Output>(
-    alloc: Global,
-    text: &[u8],
-    proofs: &[u8],
-    out: &mut O,
-) -> Result<Status, RunError> {
-    let (report, status) = verified(alloc, text, proofs)?;
-    tell_answer(alloc, text, proofs, report.as_slice(), status, out)
-}
-
-fn verified(alloc: Global, text: &[u8], proofs: &[u8]) -> Result<(Vec<u8>, Status), RunError> {
-    let mut read = Watched::new(text);
-    let mut second = Watched::new(proofs);
-    let mut written = Watched::new(Vec::new(alloc));
-    match run_verify(alloc, &mut read, &mut second, &mut written) {
-        Ok(status) => Ok((written.into_inner(), status)),
+) -> Result<(Vec<u8>, Vec<u8>), RunError> {
+    let text = read_within(alloc, plan, READS)?;
+    if let Err(refusal) = read_plan(alloc, text.as_slice()) {
+        return Err(RunError::from(refusal));
+    }
+    match read_within(alloc, cert, READS) {
+        Ok(proofs) => Ok((text, proofs)),
         Err(error) => Err(error),
     }
 }
 
-fn tell_answer<O: Output>(
+fn verify_texts<O: Output>(
     alloc: Global,
     text: &[u8],
     proofs: &[u8],
-    report: &[u8],
-    status: Status,
     out: &mut O,
 ) -> Result<Status, RunError> {
-    let plan = read_plan(alloc, text)?;
-    match explain_answer(alloc, &plan, proofs, report, out) {
-        Ok(()) => Ok(status),
+    let mut read = Watched::new(text);
+    let mut second = Watched::new(proofs);
+    let mut written = Watched::new(Vec::new(alloc));
+    match run_verify(alloc, &mut read, &mut second, &mut written) {
+        Ok(status) => {
+            let report = written.into_inner();
+            tell(
+                alloc,
+                text,
+                report.as_slice(),
+                status,
+                Subject::Answer(proofs),
+                out,
+            )
+        }
         Err(error) => Err(error),
     }
 }
@@ -172,52 +190,54 @@ pub fn explain_capture<I: Input, J: Input, O: Output>(
     quiet: Quiet,
 ) -> Result<Status, RunError> {
     let text = read_within(alloc, plan, READS)?;
-    let notes = Notes::new(alloc, scl, sda, quiet.least)?;
-    let mut dump = Watched::new(Overheard::new(vcd, notes));
-    let (report, status) = captured(rt, alloc, text.as_slice(), &mut dump, scl, sda, quiet.least)?;
-    let (heard, short) = dump.into_inner().into_notes().finish()?;
-    tell_transactions(
-        alloc,
-        text.as_slice(),
-        heard.as_slice(),
-        report.as_slice(),
-        quiet.told(alloc, short),
-        status,
-        out,
-    )
+    capture_text(rt, alloc, text.as_slice(), vcd, out, scl, sda, quiet)
 }
 
-fn captured<J: Input>(
+fn capture_text<J: Input, O: Output>(
     rt: &(impl Threads + Sync),
     alloc: Global,
     text: &[u8],
-    dump: &mut J,
+    vcd: &mut J,
+    out: &mut O,
     scl: Probe<'_>,
     sda: Probe<'_>,
-    least: u64,
-) -> Result<(Vec<u8>, Status), RunError> {
+    quiet: Quiet,
+) -> Result<Status, RunError> {
+    let notes = Notes::new(alloc, scl, sda, quiet.least)?;
     let mut read = Watched::new(text);
+    let mut dump = Watched::new(Overheard::new(vcd, notes));
     let mut written = Watched::new(Vec::new(alloc));
-    match run_capture_of(rt, alloc, &mut read, dump, &mut written, scl, sda, least) {
-        Ok(status) => Ok((written.into_inner(), status)),
+    match run_capture_of(
+        rt,
+        alloc,
+        &mut read,
+        &mut dump,
+        &mut written,
+        scl,
+        sda,
+        quiet.least,
+    ) {
+        Ok(status) => {
+            let notes = dump.into_inner().into_notes();
+            let report = written.into_inner();
+            tell_heard(alloc, text, notes, report.as_slice(), quiet, status, out)
+        }
         Err(error) => Err(error),
     }
 }
 
-fn tell_transactions<O: Output>(
+fn tell_heard<O: Output>(
     alloc: Global,
     text: &[u8],
-    heard: &[Heard],
+    notes: Notes,
     report: &[u8],
-    above: Result<String, AllocError>,
+    quiet: Quiet,
     status: Status,
     out: &mut O,
 ) -> Result<Status, RunError> {
-    let plan = read_plan(alloc, text)?;
-    match explain_transactions(alloc, &plan, heard, report, above, out) {
-        Ok(()) => Ok(status),
-        Err(error) => Err(error),
-    }
+    let (heard, short) = notes.finish()?;
+    let subject = Subject::Capture(heard.as_slice(), quiet, short);
+    tell(alloc, text, report, status, subject, out)
 }
 
 // ---- a rehearsal
@@ -243,23 +263,11 @@ pub fn explain_bench<R: Threads + Wait + Clock + Sync, I: Input, J: Input, O: Ou
     out: &mut O,
     starting: Starting<'_>,
 ) -> Result<Status, RunError> {
-    let text = read_judged(alloc, plan)?;
-    bench_text(rt, alloc, text.as_slice(), cert, out, starting)
+    let (text, proofs) = read_both(alloc, plan, cert)?;
+    bench_texts(rt, alloc, text.as_slice(), proofs.as_slice(), out, starting)
 }
 
-fn bench_text<R: Threads + Wait + Clock + Sync, J: Input, O: Output>(
-    rt: &R,
-    alloc: Global,
-    text: &[u8],
-    cert: &mut J,
-    out: &mut O,
-    starting: Starting<'_>,
-) -> Result<Status, RunError> {
-    let proofs = read_within(alloc, cert, READS)?;
-    bench_proofs(rt, alloc, text, proofs.as_slice(), out, starting)
-}
-
-fn bench_proofs<R: Threads + Wait + Clock + Sync, O: Output>(
+fn bench_texts<R: Threads + Wait + Clock + Sync, O: Output>(
     rt: &R,
     alloc: Global,
     text: &[u8],
@@ -269,60 +277,23 @@ fn bench_proofs<R: Threads + Wait + Clock + Sync, O: Output>(
 ) -> Result<Status, RunError> {
     let mut read = Watched::new(text);
     let mut second = Watched::new(proofs);
-    let (report, status) = rehearsed(rt, alloc, &mut read, &mut second, starting)?;
-    tell_wire(
-        alloc,
-        text,
-        proofs,
-        report.as_slice(),
-        status,
-        out,
-        starting,
-    )
-}
-
-fn rehearsed<R: Threads + Wait + Clock + Sync, I: Input, J: Input>(
-    rt: &R,
-    alloc: Global,
-    plan: &mut I,
-    cert: &mut J,
-    starting: Starting<'_>,
-) -> Result<(Vec<u8>, Status), RunError> {
     let mut written = Watched::new(Vec::new(alloc));
     match run_bench(
         rt,
         alloc,
-        plan,
-        cert,
+        &mut read,
+        &mut second,
         &mut written,
         starting.starters,
         starting.fill,
         starting.answers,
         &bench_run::NoGate,
     ) {
-        Ok(status) => Ok((written.into_inner(), status)),
-        Err(error) => Err(error),
-    }
-}
-
-fn tell_wire<O: Output>(
-    alloc: Global,
-    text: &[u8],
-    proofs: &[u8],
-    report: &[u8],
-    status: Status,
-    out: &mut O,
-    starting: Starting<'_>,
-) -> Result<Status, RunError> {
-    let plan = read_plan(alloc, text)?;
-    let rehearsed = Rehearsed {
-        plan: &plan,
-        proofs,
-        starters: starting.starters,
-        fill: starting.fill,
-    };
-    match explain_rehearsal(alloc, rehearsed, report, out) {
-        Ok(()) => Ok(status),
+        Ok(status) => {
+            let report = written.into_inner();
+            let subject = Subject::Rehearsal(proofs, starting);
+            tell(alloc, text, report.as_slice(), status, subject, out)
+        }
         Err(error) => Err(error),
     }
 }

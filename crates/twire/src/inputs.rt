@@ -8,6 +8,7 @@ use hints::Named;
 use report::{Input as _, Opened, RunError, Watched};
 use std::fs::{self, Metadata, OpenFile};
 use std::io;
+use std::os::unix::fs::MetadataExt;
 use std::rt::Files;
 use std::time::Clock;
 
@@ -121,25 +122,121 @@ fn missing(rt: &impl Files, path: &str) -> Option<io::Error> {
     }
 }
 
-/// The file, which can be read once more. Standard input may be a pipe, and is not.
-pub fn file_of<R, F: Drop, S: Drop>(source: Source<'_, R, F, S>) -> Option<F> {
+/// A file, as the system numbers it: its device, and its number there.
+pub type FileId = (u64, u64);
+
+/// What the system knows of the files that a run has read, as far as it does.
+#[derive(Clone, Copy)]
+pub struct FilesRead {
+    pub first: Option<FileId>,
+    pub second: Option<FileId>,
+}
+
+impl FilesRead {
+    /// Whether this is one of them.
+    pub fn has(self, file: Option<FileId>) -> bool {
+        is_same(self.first, file) || is_same(self.second, file)
+    }
+}
+
+fn is_same(one: Option<FileId>, other: Option<FileId>) -> bool {
+    match (one, other) {
+        (Some(one), Some(other)) => one.0 == other.0 && one.1 == other.1,
+        _ => false,
+    }
+}
+
+/// Which file this is, where that is known.
+pub fn identity_of(found: io::Result<Metadata>) -> Option<FileId> {
+    match found {
+        Ok(metadata) => Some((metadata.dev(), metadata.ino())),
+        Err(_) => None,
+    }
+}
+
+/// What a run has read: the file that it read last, the words of the system where that failed, and which files these were.
+/// A file can be read once more; standard input may be a pipe, and is not.
+#[derive(Drop)]
+pub struct Inputs<'a, F> {
+    pub last: Named<'a>,
+    pub error: Option<io::Error>,
+    pub known: FilesRead,
+    /// The file of a plan or of a brief.
+    pub plan: Option<F>,
+    /// The file of a certificate or of a capture.
+    pub other: Option<F>,
+}
+
+/// What a run over one text has read.
+pub fn one_read<'a, R: Files + Clock + Eprint, S: io::Read + Drop>(
+    rt: &R,
+    named: Named<'a>,
+    mut source: Source<'_, R, R::File, S>,
+) -> Inputs<'a, R::File> {
+    let error = reading_error(&mut source);
+    let file = file_of(source);
+    let known = FilesRead {
+        first: id_of(rt, &file),
+        second: None,
+    };
+    let (plan, other) = if named.what == "capture" {
+        (None, file)
+    } else {
+        (file, None)
+    };
+    Inputs {
+        last: named,
+        error,
+        known,
+        plan,
+        other,
+    }
+}
+
+/// What a run over two texts has read.
+pub fn both_read<'a, R: Files + Clock + Eprint, S: io::Read + Drop>(
+    rt: &R,
+    first: Named<'a>,
+    mut one: Source<'_, R, R::File, S>,
+    second: Named<'a>,
+    mut two: Source<'_, R, R::File, S>,
+) -> Inputs<'a, R::File> {
+    let (last, error) = if two.failed() {
+        (second, reading_error(&mut two))
+    } else {
+        (first, reading_error(&mut one))
+    };
+    let plan = file_of(one);
+    let other = file_of(two);
+    Inputs {
+        last,
+        error,
+        known: FilesRead {
+            first: id_of(rt, &plan),
+            second: id_of(rt, &other),
+        },
+        plan,
+        other,
+    }
+}
+
+fn file_of<R, F: Drop, S: Drop>(source: Source<'_, R, F, S>) -> Option<F> {
     match source {
         Opened::File(file) => Some(file.into_inner().into_inner()),
         Opened::Standard(_) => None,
     }
 }
 
-/// What the system knows of the file that was read. There is none for standard input that is closed.
-pub fn metadata_of<R: Files>(rt: &R, file: &Option<R::File>) -> Option<Metadata> {
-    let found = match file {
+// Which file was read. There is none for standard input that is closed.
+fn id_of<R: Files>(rt: &R, file: &Option<R::File>) -> Option<FileId> {
+    identity_of(match file {
         Some(file) => file.metadata(),
         None => fs::metadata(rt, STANDARD_INPUT),
-    };
-    found.ok()
+    })
 }
 
-/// The words of the system for why this cannot be read, if it failed and fails again.
-pub fn reading_error<R: Clock + Eprint, F: io::Read, S: io::Read>(
+// The words of the system for why this cannot be read, if it failed and fails again.
+fn reading_error<R: Clock + Eprint, F: io::Read, S: io::Read>(
     source: &mut Source<'_, R, F, S>,
 ) -> Option<io::Error> {
     if !source.failed() {

@@ -2,6 +2,7 @@
 #![tactic(auto)]
 
 mod advice;
+mod checking;
 mod colors;
 mod drawings;
 mod explaining;
@@ -14,6 +15,7 @@ mod recordings;
 mod rehearsals;
 mod rewriting;
 mod runs;
+mod tasks;
 mod viewing;
 mod voices;
 

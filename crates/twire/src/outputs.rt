@@ -3,13 +3,14 @@
 ghost use Rattle.std.specs.Io.{WritesAtMost};
 
 use crate::colors::colored_report;
+use crate::inputs::{FilesRead, identity_of};
 use crate::progress::{Count, Watcher};
+use growing_text::Text;
 use objects::report_objects;
 use report::{RunError, Status};
 use std::alloc::{AllocError, Global};
-use std::fs::{self, Metadata, OpenFile, OpenOptions, Permissions};
+use std::fs::{self, OpenFile, OpenOptions, Permissions};
 use std::io::{self, ErrorKind, Write};
-use std::os::unix::fs::MetadataExt;
 use std::rt::Files;
 use std::time::Clock;
 use std::{mem, str};
@@ -38,23 +39,6 @@ impl<'a> Form<'a> {
         match self {
             Form::File(path) => Some(path),
             _ => None,
-        }
-    }
-}
-
-/// What the system knows of the files that a run has read, as far as it does.
-#[derive(Drop)]
-pub struct FilesRead {
-    pub first: Option<Metadata>,
-    pub second: Option<Metadata>,
-}
-
-impl FilesRead {
-    /// One file was read.
-    pub fn one(first: Option<Metadata>) -> FilesRead {
-        FilesRead {
-            first,
-            second: None,
         }
     }
 }
@@ -128,23 +112,13 @@ impl<'a, R: Files + Print + Eprint + Clock + AllocGlobal> Sheet<'a, R> {
         read: FilesRead,
         ended: Result<Status, RunError>,
     ) -> Result<Status, RunError> {
-        if let (Form::Objects, Ok(_)) = (self.form, ended) {
-            let ended = self.written(ended);
-            return self.named(ended);
-        }
-        let Target::Part(part) = mem::replace(&mut self.target, Target::None) else {
-            return self.named(ended);
+        let settled = match (self.form, ended) {
+            (Form::Objects, Ok(_)) => self.write_objects(),
+            (Form::File(_), _) => self.settle_file(read, ended.is_ok()),
+            _ => Ok(()),
         };
-        let Part { file, name, path } = part;
-        let put = match ended {
-            Ok(_) => put(self.rt, file, name.as_str(), path.as_str(), read),
-            Err(_) => Ok(false),
-        };
-        if !matches!(put, Ok(true)) {
-            let _ = fs::remove_file(self.rt, name.as_str());
-        }
-        match put {
-            Ok(_) => self.named(ended),
+        match settled {
+            Ok(()) => self.named(ended),
             Err(error) => {
                 self.error = Some(error);
                 self.named(Err(RunError::Write))
@@ -152,14 +126,17 @@ impl<'a, R: Files + Print + Eprint + Clock + AllocGlobal> Sheet<'a, R> {
         }
     }
 
-    fn written(&mut self, ended: Result<Status, RunError>) -> Result<Status, RunError> {
+    fn write_objects(&self) -> io::Result<()> {
         self.make_room();
-        match write_objects(self.rt, self.gathered.as_slice()) {
-            Ok(()) => ended,
-            Err(error) => {
-                self.error = Some(error);
-                Err(RunError::Write)
-            }
+        let report = str::from_utf8(self.gathered.as_slice()).unwrap_or("");
+        let text = report_objects(self.rt.alloc(), report)?;
+        io::writer(self.rt).write_all(text.as_bytes())
+    }
+
+    fn settle_file(&mut self, read: FilesRead, is_whole: bool) -> io::Result<()> {
+        match mem::replace(&mut self.target, Target::None) {
+            Target::Part(part) => settle_part(self.rt, &part, read, is_whole),
+            _ => Ok(()),
         }
     }
 
@@ -179,6 +156,12 @@ impl<'a, R: Files + Print + Eprint + Clock + AllocGlobal> Sheet<'a, R> {
         }
     }
 
+    /// The last error, if there was one.
+    pub fn into_error(self) -> Option<io::Error> {
+        let Sheet { error, .. } = self;
+        error
+    }
+
     /// The beginning of the report, below it the last lines of a longer one, and the last error, if there was one.
     pub fn into_parts(self) -> (String, Option<io::Error>) {
         let Sheet {
@@ -187,20 +170,14 @@ impl<'a, R: Files + Print + Eprint + Clock + AllocGlobal> Sheet<'a, R> {
             error,
             ..
         } = self;
-        if ending.len() > KEPT {
-            let ending = str::from_utf8(ending.as_slice()).unwrap_or("");
-            if let Some((_, lines)) = ending.split_once('\n') {
-                let _ = beginning.push('\n');
-                let _ = beginning.push_str(lines);
-            }
-        }
+        push_last_lines(&mut beginning, ending.as_slice());
         (beginning, error)
     }
 
     // Keeps what is the beginning of the report, and its end. Without memory there is less of them.
     fn look_at(&mut self, taken: &[u8]) {
         let left = KEPT.saturating_sub(self.beginning.len());
-        for byte in taken.iter().take(left) {
+        for byte in taken.get(..left).unwrap_or(taken) {
             let _ = self.beginning.push(char::from(*byte));
         }
         if let Some(last) = taken.last() {
@@ -287,6 +264,17 @@ fn count_of(form: Form<'_>, watcher: Watcher, what: Option<&'static str>) -> Opt
     }
 }
 
+// The last lines of a longer report, of which this is the end.
+fn push_last_lines(beginning: &mut String, ending: &[u8]) {
+    if ending.len() > KEPT {
+        let ending = str::from_utf8(ending).unwrap_or("");
+        if let Some((_, lines)) = ending.split_once('\n') {
+            let _ = beginning.push('\n');
+            let _ = beginning.push_str(lines);
+        }
+    }
+}
+
 // The end of a report, of which this was the end before, and these bytes follow.
 fn end_of(alloc: Global, before: &[u8], taken: &[u8]) -> Result<Vec<u8>, AllocError> {
     let from = taken.len().saturating_sub(ENDING);
@@ -309,13 +297,6 @@ fn write_colored<R: Print + AllocGlobal>(
     let text = colored_report(rt.alloc(), report, is_at_line)?;
     io::writer(rt).write_all(text.as_slice())?;
     Ok(report.len())
-}
-
-// Writes the objects of a report.
-fn write_objects<R: Print + AllocGlobal>(rt: &R, report: &[u8]) -> io::Result<()> {
-    let report = str::from_utf8(report).unwrap_or("");
-    let text = report_objects(rt.alloc(), report)?;
-    io::writer(rt).write_all(text.as_bytes())
 }
 
 // Opens what takes the report of this path: a device or a pipe itself, and else a new file in the folder of the path.
@@ -356,29 +337,32 @@ fn begin_beside<R: Files + AllocGlobal>(
     Ok(Target::Part(Part { file, name, path }))
 }
 
-// Brings the new file to the disk and gives it its name. Says that it did.
-fn put<R: Files>(
+// Gives the new file its name, if the report in it is whole, or takes it away.
+fn settle_part<R: Files, F: OpenFile>(
     rt: &R,
-    file: R::File,
-    name: &str,
-    path: &str,
+    part: &Part<F>,
     read: FilesRead,
-) -> io::Result<bool> {
-    if let Ok(old) = fs::metadata(rt, path) {
-        if is_same(&read.first, &old) || is_same(&read.second, &old) {
-            return Err(io::Error::new(ErrorKind::InvalidInput, "it is a file that was read"));
-        }
+    is_whole: bool,
+) -> io::Result<()> {
+    let put = if is_whole {
+        put(rt, part, read)
+    } else {
+        Ok(())
+    };
+    if !is_whole || put.is_err() {
+        let _ = fs::remove_file(rt, part.name.as_str());
     }
-    file.sync_all()?;
-    fs::rename(rt, name, path)?;
-    Ok(true)
+    put
 }
 
-fn is_same(read: &Option<Metadata>, old: &Metadata) -> bool {
-    match read {
-        Some(read) => read.dev() == old.dev() && read.ino() == old.ino(),
-        None => false,
+// Brings the new file to the disk and gives it its name.
+fn put<R: Files, F: OpenFile>(rt: &R, part: &Part<F>, read: FilesRead) -> io::Result<()> {
+    let path = part.path.as_str();
+    if read.has(identity_of(fs::metadata(rt, path))) {
+        return Err(io::Error::new(ErrorKind::InvalidInput, "it is a file that was read"));
     }
+    part.file.sync_all()?;
+    fs::rename(rt, part.name.as_str(), path)
 }
 
 fn create_beside<R: Files + AllocGlobal>(rt: &R, path: &str) -> io::Result<(R::File, String)> {
@@ -398,9 +382,14 @@ fn create_beside<R: Files + AllocGlobal>(rt: &R, path: &str) -> io::Result<(R::F
 }
 
 // A name in the folder of this path.
-fn name_beside(alloc: Global, path: &str, number: u32) -> io::Result<String> {
-    Ok(match path.rsplit_once('/') {
-        Some((folder, _)) => format!(in alloc; "{folder}/.twire-{number}.part")?,
-        None => format!(in alloc; ".twire-{number}.part")?,
-    })
+fn name_beside(alloc: Global, path: &str, number: u32) -> Result<String, AllocError> {
+    let mut name = Text::new(alloc);
+    if let Some((folder, _)) = path.rsplit_once('/') {
+        name.push(folder);
+        name.push("/");
+    }
+    name.push(".twire-");
+    name.push_number(number as u64);
+    name.push(".part");
+    name.finish()
 }

@@ -2,6 +2,7 @@
 
 use dump_tokens::{Scale, Time};
 use explain::steps;
+use growing_text::Text;
 use std::alloc::{AllocError, Global};
 
 /// How long a level has to last, in steps of the dump, and as it was given.
@@ -15,23 +16,30 @@ impl Quiet {
     /// This time, where the dump says what its steps count or the time counts steps. With none each level counts, and so it
     /// does where that is not known.
     pub fn of(given: Option<Time>, scale: Option<Scale>) -> Quiet {
-        let least = given.and_then(|time| steps(scale, time)).unwrap_or(0);
+        let least = match given {
+            Some(time) => steps(scale, time).unwrap_or(0),
+            None => 0,
+        };
         Quiet { least, given }
     }
 
     /// The line that says how many levels were left out; none where each level counts.
     pub fn told(&self, alloc: Global, short: u64) -> Result<String, AllocError> {
-        let Some(time) = self.given else {
-            return Ok(String::new(alloc));
-        };
-        let number = time.number;
-        let unit = match time.unit {
-            Some(unit) => format!(in alloc; " {}", unit.symbol())?,
-            None => String::new(alloc),
-        };
-        if short == 1 {
-            return format!(in alloc; "    1 pulse shorter than {number}{unit} was left out\n");
+        let mut line = Text::new(alloc);
+        if let Some(time) = self.given {
+            let is_one = short == 1;
+            line.push("    ");
+            line.push_number(short);
+            line.push(if is_one { " pulse" } else { " pulses" });
+            line.push(" shorter than ");
+            line.push_number(time.number);
+            if let Some(unit) = time.unit {
+                line.push(" ");
+                line.push(unit.symbol());
+            }
+            line.push(if is_one { " was" } else { " were" });
+            line.push(" left out\n");
         }
-        format!(in alloc; "    {short} pulses shorter than {number}{unit} were left out\n")
+        line.finish()
     }
 }

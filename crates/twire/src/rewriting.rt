@@ -4,20 +4,23 @@ use order::run_order;
 use report::{
     Input, Output, RunError, Status, Watched, run_brief, run_certify, run_expand, run_print,
 };
+use signals::{Lesson, run_learn, run_signals};
 use std::alloc::Global;
 
 /// A run over one text that writes another one.
 #[derive(Clone, Copy)]
-pub enum Rewriting {
+pub enum Rewriting<'a> {
     Certify,
     Order,
     Print,
     Brief,
     Expand,
+    Signals,
+    Learn(Lesson<'a>),
 }
 
-impl Rewriting {
-    /// The run of `report` or `order`.
+impl Rewriting<'_> {
+    /// The run of `report`, `order` or `signals`.
     ///
     /// # Errors
     ///
@@ -34,14 +37,8 @@ impl Rewriting {
             Rewriting::Print => run_print(alloc, text, out),
             Rewriting::Brief => run_brief(alloc, text, out),
             Rewriting::Expand => run_expand(alloc, text, out),
-        }
-    }
-
-    /// What the line of progress calls that which a run writes, where it may be long.
-    pub fn writes_long(self) -> Option<&'static str> {
-        match self {
-            Rewriting::Certify => Some("certificate written"),
-            _ => None,
+            Rewriting::Signals => run_signals(alloc, text, out),
+            Rewriting::Learn(lesson) => run_learn(alloc, text, out, lesson),
         }
     }
 }
@@ -51,7 +48,11 @@ impl Rewriting {
 /// # Errors
 ///
 /// Those of the run, in the same order; `NoMemory` stands in place of `Write`.
-pub fn rewritten(alloc: Global, rewriting: Rewriting, text: &[u8]) -> Result<Vec<u8>, RunError> {
+pub fn rewritten(
+    alloc: Global,
+    rewriting: Rewriting<'_>,
+    text: &[u8],
+) -> Result<Vec<u8>, RunError> {
     let mut read = Watched::new(text);
     let mut written = Watched::new(Vec::new(alloc));
     match rewriting.run(alloc, &mut read, &mut written) {

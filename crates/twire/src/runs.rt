@@ -1,27 +1,20 @@
 // What the program does, and the status that it ends with.
 
-use crate::advice::{Outcome, advise_on_certified, advise_on_text};
-use crate::drawings::check_drawn;
-use crate::explaining::{explain_check, explain_verify};
-use crate::inputs::{
-    Source, file_of, is_standard_input, metadata_of, open, open_both, reading_error,
-};
-use crate::outputs::{FilesRead, Form, Sheet};
-use crate::pages::{Recorded, page};
-use crate::progress::{Comparing, Watcher};
-use crate::recordings::{asked_of, capture, learn, lesson_of, list_signals, whole_of};
-use crate::rehearsals::{Play, bench, bench_alone};
-use crate::rewriting::Rewriting;
-use crate::voices::{Voice, refused};
-use command_words::{Asked, Lines, Manner, Request, When, read_words};
+use crate::advice::{About, Outcome, advise};
+use crate::inputs::{Inputs, both_read, is_standard_input, one_read, open, open_both};
+use crate::outputs::{Form, Sheet};
+use crate::progress::Watcher;
+use crate::tasks::{Over, OverBoth, Task, task_of};
+use crate::viewing::Halt;
+use crate::voices::{Voice, refused, refused_timescale, say};
+use command_words::{Asked, Manner, Request, When, read_words};
 use hints::Named;
-use report::{Input as _, Output, RunError, Status, Watched, run_check, run_verify};
-use std::env;
-use std::io::{self, Read};
+use report::{RunError, Status, Watched};
 use std::rt::{Env, Files};
 use std::sync::Wait;
 use std::thread::Threads;
 use std::time::Clock;
+use std::{env, io};
 
 /// What people get beside the exact report: hints, colours in the report and in hints, and how far a long run is; or that
 /// reports, refusals and hints are objects, for programs.
@@ -162,374 +155,133 @@ fn do_request<R: Files + Input + Print + Eprint + AllocGlobal + Threads + Wait +
     request: Request<'_>,
     extras: Extras,
 ) -> u8 {
-    match request {
-        Request::Check {
-            plan,
-            workers,
-            explain,
-            wave,
-            pair,
-        } => {
-            let look = Look {
-                workers,
-                explain,
-                wave,
-                pair,
-            };
-            check(rt, the_plan(plan), look, extras)
-        }
-        Request::Certify { plan, output } => {
-            rewrite(
-                rt,
-                Rewriting::Certify,
-                the_plan(plan),
-                form_of(output),
-                extras,
-            )
-        }
-        Request::Verify {
-            plan,
-            cert,
-            explain,
-        } => verify(rt, the_plan(plan), the_certificate(cert), explain, extras),
-        Request::Capture {
-            plan,
-            vcd,
-            lines,
-            min_pulse,
-            view,
-            explain,
-        } => {
-            let asked = asked_of(lines, min_pulse, view, explain);
-            capture(rt, the_plan(plan), the_capture(vcd), asked, extras)
-        }
-        Request::Page {
-            plan,
-            capture,
-            lines,
-            output,
-        } => {
-            let recorded = recorded_of(capture, lines);
-            page(rt, the_plan(plan), recorded, output, extras)
-        }
-        Request::Order { plan } => {
-            rewrite(rt, Rewriting::Order, the_plan(plan), extras.form(), extras)
-        }
-        Request::Signals { vcd } => list_signals(rt, the_capture(vcd), extras),
-        Request::Learn {
-            vcd,
-            lines,
-            merge,
-            output,
-        } => learn(
-            rt,
-            the_capture(vcd),
-            lesson_of(lines, merge),
-            output,
-            extras,
-        ),
-        Request::Bench {
-            plan,
-            cert,
-            starters,
-            fill,
-            answers,
-            rest,
-            explain,
-            wave,
-        } => {
-            let play = Play {
-                starters,
-                fill,
-                answers,
-                rest,
-                explain,
-                wave,
-            };
-            match cert {
-                Some(cert) => bench(rt, the_plan(plan), the_certificate(cert), play, extras),
-                None => bench_alone(rt, the_plan(plan), play, extras),
-            }
-        }
-        Request::Expand { brief, output } => {
-            rewrite(
-                rt,
-                Rewriting::Expand,
-                the_brief(brief),
-                form_of(output),
-                extras,
-            )
-        }
-        Request::Print { plan, output } => {
-            rewrite(
-                rt,
-                Rewriting::Print,
-                the_plan(plan),
-                form_of(output),
-                extras,
-            )
-        }
-        Request::Brief { plan, output } => {
-            rewrite(
-                rt,
-                Rewriting::Brief,
-                the_plan(plan),
-                form_of(output),
-                extras,
-            )
-        }
+    match task_of(request, extras.form()) {
+        Task::One(text, over, form) => run_over(rt, text, over, form, extras),
+        Task::Two(plan, other, over, form) => run_over_both(rt, plan, other, over, form, extras),
     }
 }
 
-fn the_brief(path: &str) -> Named<'_> {
-    named("BRIEF", "brief", path)
-}
-
-fn the_plan(path: &str) -> Named<'_> {
-    named("PLAN", "plan", path)
-}
-
-fn the_certificate(path: &str) -> Named<'_> {
-    named("CERT", "certificate", path)
-}
-
-fn recorded_of<'a>(path: Option<&'a str>, lines: Lines<'a>) -> Option<Recorded<'a>> {
-    match path {
-        Some(path) => {
-            Some(Recorded {
-                vcd: the_capture(path),
-                asked: whole_of(lines),
-            })
-        }
-        None => None,
-    }
-}
-
-fn the_capture(path: &str) -> Named<'_> {
-    named("VCD", "capture", path)
-}
-
-/// How a text is written that has no words for people.
-pub fn form_of(output: Option<&str>) -> Form<'_> {
-    match output {
-        Some(path) => Form::File(path),
-        None => Form::Plain,
-    }
-}
-
-fn named<'a>(argument: &'static str, what: &'static str, path: &'a str) -> Named<'a> {
-    Named {
-        argument,
-        what,
-        path,
-    }
-}
-
-/// How a plan is looked at: by so many workers, with so many unsafe pairs explained, and with the waves of one of them in a
-/// file: of the first one, or of the one with this number.
-#[derive(Clone, Copy)]
-pub struct Look<'a> {
-    pub workers: u32,
-    pub explain: Option<u32>,
-    pub wave: Option<&'a str>,
-    pub pair: Option<u32>,
-}
-
-fn check<R: Files + Input + Print + Eprint + Clock + AllocGlobal + Threads + Sync>(
+// A run over one text, from the opening of its file to the status.
+fn run_over<R: Files + Input + Print + Eprint + AllocGlobal + Threads + Wait + Clock + Sync>(
     rt: &R,
-    plan: Named<'_>,
-    look: Look<'_>,
-    extras: Extras,
-) -> u8 {
-    let Some(mut reader) = open(rt, plan, extras) else {
-        return 2;
-    };
-    let mut out = Watched::new(Sheet::new(rt, extras.form(), extras.watcher));
-    let mut unwritten = None;
-    let ended = match look.wave {
-        Some(file) => {
-            check_drawn(
-                rt,
-                plan.path,
-                &mut reader,
-                &mut out,
-                look,
-                file,
-                extras,
-                &mut unwritten,
-            )
-        }
-        None => look_over(rt, &mut reader, &mut out, look, extras),
-    };
-    let output = look.wave.filter(|_| unwritten.is_some());
-    let mut out = out.into_inner();
-    out.blame(unwritten);
-    finish(rt, plan, reader, out, output, ended, extras)
-}
-
-/// Checks the plan that the reader gives.
-pub fn look_over<R: Eprint + Clock + AllocGlobal + Threads + Sync, I: report::Input, O: Output>(
-    rt: &R,
-    plan: &mut I,
-    out: &mut O,
-    look: Look<'_>,
-    extras: Extras,
-) -> Result<Status, RunError> {
-    match look.explain {
-        Some(most) => explain_check(rt, rt.alloc(), plan, out, look.workers, most),
-        None => {
-            let gate = Comparing::new(rt, extras.watcher);
-            run_check(rt, rt.alloc(), plan, out, look.workers, &gate)
-        }
-    }
-}
-
-fn verify<R: Files + Input + Print + Eprint + Clock + AllocGlobal>(
-    rt: &R,
-    plan: Named<'_>,
-    cert: Named<'_>,
-    explain: bool,
-    extras: Extras,
-) -> u8 {
-    let Some((mut reader, mut second)) = open_both(rt, plan, cert, extras) else {
-        return 2;
-    };
-    let mut out = Watched::new(Sheet::new(rt, extras.form(), extras.watcher));
-    let ended = if explain {
-        explain_verify(rt.alloc(), &mut reader, &mut second, &mut out)
-    } else {
-        run_verify(rt.alloc(), &mut reader, &mut second, &mut out)
-    };
-    let end = End {
-        ended,
-        output: None,
-        starters: "",
-    };
-    finish_certified(
-        rt,
-        (plan, reader),
-        (cert, second),
-        out.into_inner(),
-        end,
-        extras,
-    )
-}
-
-// Writes what the run makes of a text, into the file that it is to write or to standard output.
-fn rewrite<R: Files + Input + Print + Eprint + Clock + AllocGlobal>(
-    rt: &R,
-    rewriting: Rewriting,
     text: Named<'_>,
+    over: Over<'_>,
     form: Form<'_>,
     extras: Extras,
 ) -> u8 {
     let Some(mut reader) = open(rt, text, extras) else {
         return 2;
     };
-    let sheet = Sheet::telling(rt, form, extras.watcher, rewriting.writes_long());
-    let mut out = Watched::new(sheet);
-    let ended = rewriting.run(rt.alloc(), &mut reader, &mut out);
-    finish(
-        rt,
-        text,
-        reader,
-        out.into_inner(),
-        form.path(),
+    let mut out = Watched::new(Sheet::telling(rt, form, extras.watcher, over.writes_long()));
+    let mut unwritten = None;
+    let ended = over.run(rt, text.path, &mut reader, &mut out, extras, &mut unwritten);
+    let end = End {
         ended,
-        extras,
-    )
+        output: form.path(),
+        wave: over.wave(),
+        about: over.about(text.path),
+    };
+    let read = one_read(rt, text, reader);
+    finish(rt, read, out.into_inner(), unwritten, end, extras)
 }
 
-/// Writes the file of a run that is to write one, and answers the status of a run over one text, with the line of a
-/// refusal, and hints where they are wanted.
-pub fn finish<R: Files + Input + Print + Eprint + Clock + AllocGlobal>(
+// The same over a plan and a second text.
+fn run_over_both<R: Files + Input + Print + Eprint + AllocGlobal + Threads + Wait + Clock + Sync>(
     rt: &R,
-    read: Named<'_>,
-    mut source: Source<'_, R, R::File, R::Reader>,
-    mut out: Sheet<'_, R>,
-    output: Option<&str>,
-    ended: Result<Status, RunError>,
+    plan: Named<'_>,
+    other: Named<'_>,
+    over: OverBoth<'_>,
+    form: Form<'_>,
     extras: Extras,
 ) -> u8 {
-    let error = reading_error(&mut source);
-    let file = file_of(source);
-    let ended = out.settle(FilesRead::one(metadata_of(rt, &file)), ended);
-    let status = status_of(rt, ended, extras);
-    if extras.hints {
-        let outcome = outcome(read, error, out, output, ended, extras);
-        advise_on_text(rt, file, outcome);
-    }
-    status
-}
-
-/// How a run ended, for hints.
-pub fn outcome<'a, R: Files + Print + Eprint + Clock + AllocGlobal>(
-    read: Named<'a>,
-    error: Option<io::Error>,
-    out: Sheet<'_, R>,
-    output: Option<&'a str>,
-    ended: Result<Status, RunError>,
-    extras: Extras,
-) -> Outcome<'a> {
-    let (report, unwritten) = out.into_parts();
-    Outcome {
-        read,
+    let Some((mut reader, mut second)) = open_both(rt, plan, other, extras) else {
+        return 2;
+    };
+    let mut out = Watched::new(Sheet::new(rt, form, extras.watcher));
+    let mut unwritten = None;
+    let paths = (plan.path, other.path);
+    let ended = match over.run(
+        rt,
+        paths,
+        &mut reader,
+        &mut second,
+        &mut out,
+        extras,
+        &mut unwritten,
+    ) {
+        Ok(status) => Ok(status),
+        Err(Halt::Run(error)) => Err(error),
+        Err(Halt::NoTimescale) => return no_timescale(rt, extras),
+    };
+    let end = End {
         ended,
-        error: error.or(unwritten),
-        output,
-        report,
-        voice: extras.voice(),
-    }
+        output: form.path(),
+        wave: over.wave(),
+        about: over.about(plan.path, other.path),
+    };
+    let read = both_read(rt, plan, reader, other, second);
+    finish(rt, read, out.into_inner(), unwritten, end, extras)
 }
 
-/// How a run over a plan and its certificate ended, the file that it was to write, and who started on its bench.
+// How a run ended, the files that it was to write, for its report and for waves, and what hints say of it.
 #[derive(Clone, Copy)]
-pub struct End<'a> {
-    pub ended: Result<Status, RunError>,
-    pub output: Option<&'a str>,
-    pub starters: &'a str,
+struct End<'a> {
+    ended: Result<Status, RunError>,
+    output: Option<&'a str>,
+    wave: Option<&'a str>,
+    about: About<'a>,
 }
 
-/// A file that is read, and its reader.
-pub type Reading<'a, 'b, R, F, S> = (Named<'a>, Source<'b, R, F, S>);
-
-/// Answers the status of a run over a plan and its certificate, with the line of a refusal, and hints where they are wanted.
-pub fn finish_certified<R: Files + Input + Print + Eprint + Clock + AllocGlobal>(
+// Writes the file of a run that is to write one, and answers the status of the run, with the line of a refusal, and hints
+// where they are wanted.
+fn finish<R: Files + Print + Eprint + Clock + AllocGlobal>(
     rt: &R,
-    plan: Reading<'_, '_, R, R::File, R::Reader>,
-    cert: Reading<'_, '_, R, R::File, R::Reader>,
+    read: Inputs<'_, R::File>,
     mut out: Sheet<'_, R>,
+    unwritten: Option<io::Error>,
     end: End<'_>,
     extras: Extras,
 ) -> u8 {
-    let (named, mut reader) = plan;
-    let (other, mut second) = cert;
-    let (read, error) = last_read(named, &mut reader, other, &mut second);
-    let ended = out.settle(FilesRead::one(None), end.ended);
+    let output = match unwritten {
+        Some(_) => end.wave,
+        None => end.output,
+    };
+    out.blame(unwritten);
+    let ended = out.settle(read.known, end.ended);
     let status = status_of(rt, ended, extras);
     if extras.hints {
-        let outcome = outcome(read, error, out, end.output, ended, extras);
-        advise_on_certified(rt, file_of(reader), file_of(second), end.starters, outcome);
+        let (report, error) = out.into_parts();
+        let outcome = Outcome {
+            ended,
+            output,
+            error,
+            report,
+            about: end.about,
+            voice: extras.voice(),
+        };
+        advise(rt, read, &outcome);
     }
     status
 }
 
-/// The file that was read last of two, and the words of the system if it failed.
-pub fn last_read<'a, R: Clock + Eprint, F: Read, S: Read>(
-    first: Named<'a>,
-    one: &mut Source<'_, R, F, S>,
-    second: Named<'a>,
-    other: &mut Source<'_, R, F, S>,
-) -> (Named<'a>, Option<io::Error>) {
-    if other.failed() {
-        (second, reading_error(other))
-    } else {
-        (first, reading_error(one))
+// What is said where times have no unit.
+const NO_TIMESCALE: &str = "\
+hint: the capture does not say what its times count: it has no $timescale
+hint: give times as plain numbers, as they stand in the file
+";
+
+fn no_timescale<R: Clock + Eprint + AllocGlobal>(rt: &R, extras: Extras) -> u8 {
+    extras.watcher.clear(rt);
+    refused_timescale(rt, extras.voice());
+    if extras.hints {
+        let hints = String::from_str(rt.alloc(), NO_TIMESCALE);
+        say(rt, hints, extras.voice().uncolored());
     }
+    2
 }
 
-/// The status of a run that has ended, with the line of a refusal. The line that told how far it was goes away.
-pub fn status_of<R: Clock + Eprint + AllocGlobal>(
+// The status of a run that has ended, with the line of a refusal. The line that told how far it was goes away.
+fn status_of<R: Clock + Eprint + AllocGlobal>(
     rt: &R,
     ended: Result<Status, RunError>,
     extras: Extras,

@@ -7,9 +7,8 @@ use dump_tokens::{Scale, Time};
 use explain::{View, has_unit, shown};
 use plan_core::Plan;
 use plan_text::read_plan;
-use report::{
-    Input, Output, Probe, RunError, Status, Watched, read_within, run_capture_of, write_report,
-};
+use report::{Input, Output, Probe, RunError, Status, Watched, read_within, run_capture_of};
+use run_parts::write_lines;
 use signals::{needs_picking, pick};
 use std::alloc::{AllocError, Global};
 use std::str;
@@ -30,8 +29,8 @@ pub struct Asked<'a> {
 }
 
 impl Asked<'_> {
-    /// Whether this is a report that the run of `report` makes alone, or one that is explained as it comes.
-    pub fn is_plain(&self) -> bool {
+    // Whether this is a report that the run of `report` makes alone, or one that is explained as it comes.
+    fn is_plain(&self) -> bool {
         self.view.is_whole()
             && !needs_picking(self.scl, self.sda, self.scope)
             && !has_unit(self.min_pulse)
@@ -69,8 +68,8 @@ impl From<AllocError> for Halt {
 }
 
 /// Explains the capture that the second reader gives by the plan that the first reader gives, and writes of the report what
-/// is asked for. The plan is read to its end and judged before the second reader is called. Where the definitions of the dump have
-/// to be known first, they are read ahead, and kept.
+/// is asked for: the exact report as it is made, and any other from the exact one. The plan is read to its end and judged
+/// before the second reader is called. Where the definitions of the dump have to be known first, they are read ahead, and kept.
 ///
 /// # Errors
 ///
@@ -83,8 +82,15 @@ pub fn view_capture<I: Input, J: Input, O: Output>(
     out: &mut O,
     asked: Asked<'_>,
 ) -> Result<Status, Halt> {
-    let text = read_within(alloc, plan, READS)?;
-    view_text(rt, alloc, text.as_slice(), vcd, out, asked)
+    if !asked.is_plain() {
+        let text = read_within(alloc, plan, READS)?;
+        return view_text(rt, alloc, text.as_slice(), vcd, out, asked);
+    }
+    let quiet = Quiet::of(asked.min_pulse, None);
+    match report_capture(rt, alloc, plan, vcd, out, asked, quiet) {
+        Ok(status) => Ok(status),
+        Err(error) => Err(Halt::Run(error)),
+    }
 }
 
 fn view_text<J: Input, O: Output>(
@@ -95,80 +101,88 @@ fn view_text<J: Input, O: Output>(
     out: &mut O,
     asked: Asked<'_>,
 ) -> Result<Status, Halt> {
-    let plan = read_plan(alloc, text).map_err(RunError::from)?;
-    let (report, scale) = viewed(rt, alloc, text, vcd, asked)?;
+    match read_plan(alloc, text) {
+        Ok(plan) => view_by(rt, alloc, &plan, text, vcd, out, asked),
+        Err(refusal) => Err(Halt::Run(RunError::from(refusal))),
+    }
+}
+
+// The same by the plan of this text.
+fn view_by<J: Input, O: Output>(
+    rt: &(impl Threads + Sync),
+    alloc: Global,
+    plan: &Plan,
+    text: &[u8],
+    vcd: &mut J,
+    out: &mut O,
+    asked: Asked<'_>,
+) -> Result<Status, Halt> {
+    let mut made = Watched::new(Vec::new(alloc));
+    let scale = make(rt, alloc, text, vcd, &mut made, asked)?;
     if asked.is_timed() && scale.is_none() {
         return Err(Halt::NoTimescale);
     }
-    write_shown(alloc, &plan, report.as_slice(), &asked.view, scale, out)
+    let report = made.into_inner();
+    write_shown(alloc, plan, report.as_slice(), &asked.view, scale, out)
 }
 
-// The report, and the time scale of the dump, where that has to be known.
-fn viewed<J: Input>(
+// Makes the report in memory, and answers the time scale of the dump, where that has to be known.
+fn make<J: Input, O: Output>(
     rt: &(impl Threads + Sync),
     alloc: Global,
     text: &[u8],
     vcd: &mut J,
+    made: &mut O,
     asked: Asked<'_>,
-) -> Result<(Vec<u8>, Option<Scale>), RunError> {
+) -> Result<Option<Scale>, RunError> {
     if asked.reads_ahead() {
-        return picked(rt, alloc, text, vcd, asked);
-    }
-    let quiet = Quiet::of(asked.min_pulse, None);
-    match made(rt, alloc, text, vcd, asked, quiet) {
-        Ok(report) => Ok((report, None)),
-        Err(error) => Err(error),
+        make_picked(rt, alloc, text, vcd, made, asked)
+    } else {
+        make_scaled(rt, alloc, text, vcd, made, asked, None)
     }
 }
 
 // The same where the definitions of the dump are read ahead.
-fn picked<J: Input>(
+fn make_picked<J: Input, O: Output>(
     rt: &(impl Threads + Sync),
     alloc: Global,
     text: &[u8],
     vcd: &mut J,
+    made: &mut O,
     asked: Asked<'_>,
-) -> Result<(Vec<u8>, Option<Scale>), RunError> {
+) -> Result<Option<Scale>, RunError> {
     let (again, picked) = pick(alloc, vcd, asked.scl, asked.sda, asked.scope)?;
     let mut again = Watched::new(again);
-    let quiet = Quiet::of(asked.min_pulse, picked.scale);
     let asked = Asked {
         scl: picked.scl(),
         sda: picked.sda(),
         ..asked
     };
-    let scale = picked.scale;
-    match made(rt, alloc, text, &mut again, asked, quiet) {
-        Ok(report) => Ok((report, scale)),
-        Err(error) => Err(error),
-    }
+    make_scaled(rt, alloc, text, &mut again, made, asked, picked.scale)
 }
 
-// The exact report, or the one with lines for people, in memory.
-fn made<J: Input>(
+// The same where the time scale is this one.
+fn make_scaled<J: Input, O: Output>(
     rt: &(impl Threads + Sync),
     alloc: Global,
     text: &[u8],
     vcd: &mut J,
+    made: &mut O,
     asked: Asked<'_>,
-    quiet: Quiet,
-) -> Result<Vec<u8>, RunError> {
+    scale: Option<Scale>,
+) -> Result<Option<Scale>, RunError> {
     let mut plan = Watched::new(text);
-    let mut made = Watched::new(Vec::new(alloc));
-    match report_capture(rt, alloc, &mut plan, vcd, &mut made, asked, quiet) {
-        Ok(_) => Ok(made.into_inner()),
+    let quiet = Quiet::of(asked.min_pulse, scale);
+    match report_capture(rt, alloc, &mut plan, vcd, made, asked, quiet) {
+        Ok(_) => Ok(scale),
         // memory takes everything, as long as there is some
         Err(RunError::Write) => Err(RunError::NoMemory),
         Err(error) => Err(error),
     }
 }
 
-/// Makes the exact report, or the one with lines for people.
-///
-/// # Errors
-///
-/// Those of `run_capture_of`, in the same order.
-pub fn report_capture<I: Input, J: Input, O: Output>(
+// Makes the exact report, or the one with lines for people.
+fn report_capture<I: Input, J: Input, O: Output>(
     rt: &(impl Threads + Sync),
     alloc: Global,
     plan: &mut I,
@@ -177,16 +191,10 @@ pub fn report_capture<I: Input, J: Input, O: Output>(
     asked: Asked<'_>,
     quiet: Quiet,
 ) -> Result<Status, RunError> {
-    let Asked {
-        scl,
-        sda,
-        explain,
-        ..
-    } = asked;
-    if explain {
-        explain_capture(rt, alloc, plan, vcd, out, scl, sda, quiet)
+    if asked.explain {
+        explain_capture(rt, alloc, plan, vcd, out, asked.scl, asked.sda, quiet)
     } else {
-        run_capture_of(rt, alloc, plan, vcd, out, scl, sda, quiet.least)
+        run_capture_of(rt, alloc, plan, vcd, out, asked.scl, asked.sda, quiet.least)
     }
 }
 
@@ -200,6 +208,8 @@ fn write_shown<O: Output>(
 ) -> Result<Status, Halt> {
     let report = str::from_utf8(report).unwrap_or("");
     let (text, status) = shown(alloc, plan, report, view, scale)?;
-    write_report(out, text.as_bytes())?;
-    Ok(status)
+    match write_lines(out, text.as_bytes(), status) {
+        Ok(status) => Ok(status),
+        Err(error) => Err(Halt::Run(error)),
+    }
 }

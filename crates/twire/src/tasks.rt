@@ -1,0 +1,345 @@
+// What a request comes to: a run over one text or over two, and where its report goes.
+
+use crate::advice::{About, names_of};
+use crate::checking::{Look, check};
+use crate::drawings::Canvas;
+use crate::explaining::explain_verify;
+use crate::outputs::Form;
+use crate::pages::{write_page_alone, write_page_with};
+use crate::recordings::{asked_of, lesson_of, whole_of};
+use crate::rehearsals::{Play, bench, bench_alone};
+use crate::rewriting::Rewriting;
+use crate::runs::Extras;
+use crate::viewing::{Asked, Halt, view_capture};
+use command_words::{Lines, Request};
+use hints::Named;
+use report::{Input, Output, Probe, RunError, Status, run_verify};
+use std::io;
+use std::rt::Files;
+use std::sync::Wait;
+use std::thread::Threads;
+use std::time::Clock;
+
+/// What is run, and how its report is written.
+#[derive(Clone, Copy)]
+pub enum Task<'a> {
+    One(Named<'a>, Over<'a>, Form<'a>),
+    Two(Named<'a>, Named<'a>, OverBoth<'a>, Form<'a>),
+}
+
+/// A run over one text.
+#[derive(Clone, Copy)]
+pub enum Over<'a> {
+    Check(Look<'a>),
+    Page,
+    Rewrite(Rewriting<'a>),
+    Bench(Play<'a>),
+}
+
+/// A run over a plan and a second text.
+#[derive(Clone, Copy)]
+pub enum OverBoth<'a> {
+    Verify { explain: bool },
+    Capture(Asked<'a>),
+    Page(Asked<'a>),
+    Bench(Play<'a>),
+}
+
+// ---- from the request
+
+/// What is run for a request. A report that has words for people is written in this form.
+pub fn task_of<'a>(request: Request<'a>, form: Form<'a>) -> Task<'a> {
+    match request {
+        Request::Check {
+            plan,
+            workers,
+            explain,
+            wave,
+            pair,
+        } => {
+            let look = Look {
+                workers,
+                explain,
+                wave,
+                pair,
+            };
+            Task::One(the_plan(plan), Over::Check(look), form)
+        }
+        Request::Verify {
+            plan,
+            cert,
+            explain,
+        } => {
+            let verify = OverBoth::Verify { explain };
+            Task::Two(the_plan(plan), the_certificate(cert), verify, form)
+        }
+        Request::Capture {
+            plan,
+            vcd,
+            lines,
+            min_pulse,
+            view,
+            explain,
+        } => {
+            let asked = asked_of(lines, min_pulse, view, explain);
+            Task::Two(
+                the_plan(plan),
+                the_capture(vcd),
+                OverBoth::Capture(asked),
+                form,
+            )
+        }
+        Request::Page {
+            plan,
+            capture,
+            lines,
+            output,
+        } => page_of(the_plan(plan), capture, lines, form_of(output)),
+        Request::Bench {
+            plan,
+            cert,
+            starters,
+            fill,
+            answers,
+            rest,
+            explain,
+            wave,
+        } => {
+            let play = Play {
+                starters,
+                fill,
+                answers,
+                rest,
+                explain,
+                wave,
+            };
+            bench_of(the_plan(plan), cert, play, form)
+        }
+        Request::Order { plan } => rewrite(Rewriting::Order, the_plan(plan), form),
+        Request::Signals { vcd } => rewrite(Rewriting::Signals, the_capture(vcd), form),
+        Request::Learn {
+            vcd,
+            lines,
+            merge,
+            output,
+        } => {
+            let learn = Rewriting::Learn(lesson_of(lines, merge));
+            rewrite(learn, the_capture(vcd), form_of(output))
+        }
+        Request::Certify { plan, output } => {
+            rewrite(Rewriting::Certify, the_plan(plan), form_of(output))
+        }
+        Request::Expand { brief, output } => {
+            rewrite(Rewriting::Expand, the_brief(brief), form_of(output))
+        }
+        Request::Print { plan, output } => {
+            rewrite(Rewriting::Print, the_plan(plan), form_of(output))
+        }
+        Request::Brief { plan, output } => {
+            rewrite(Rewriting::Brief, the_plan(plan), form_of(output))
+        }
+    }
+}
+
+fn page_of<'a>(
+    plan: Named<'a>,
+    capture: Option<&'a str>,
+    lines: Lines<'a>,
+    form: Form<'a>,
+) -> Task<'a> {
+    match capture {
+        Some(vcd) => Task::Two(
+            plan,
+            the_capture(vcd),
+            OverBoth::Page(whole_of(lines)),
+            form,
+        ),
+        None => Task::One(plan, Over::Page, form),
+    }
+}
+
+fn bench_of<'a>(
+    plan: Named<'a>,
+    cert: Option<&'a str>,
+    play: Play<'a>,
+    form: Form<'a>,
+) -> Task<'a> {
+    match cert {
+        Some(cert) => Task::Two(plan, the_certificate(cert), OverBoth::Bench(play), form),
+        None => Task::One(plan, Over::Bench(play), form),
+    }
+}
+
+fn rewrite<'a>(rewriting: Rewriting<'a>, text: Named<'a>, form: Form<'a>) -> Task<'a> {
+    Task::One(text, Over::Rewrite(rewriting), form)
+}
+
+fn the_brief(path: &str) -> Named<'_> {
+    named("BRIEF", "brief", path)
+}
+
+fn the_plan(path: &str) -> Named<'_> {
+    named("PLAN", "plan", path)
+}
+
+fn the_certificate(path: &str) -> Named<'_> {
+    named("CERT", "certificate", path)
+}
+
+fn the_capture(path: &str) -> Named<'_> {
+    named("VCD", "capture", path)
+}
+
+fn named<'a>(argument: &'static str, what: &'static str, path: &'a str) -> Named<'a> {
+    Named {
+        argument,
+        what,
+        path,
+    }
+}
+
+// How a text is written that has no words for people.
+fn form_of(output: Option<&str>) -> Form<'_> {
+    match output {
+        Some(path) => Form::File(path),
+        None => Form::Plain,
+    }
+}
+
+// ---- the runs
+
+impl<'a> Over<'a> {
+    /// Runs over the text of this path. Why the file for waves could not be written is told beside how the run ended.
+    pub fn run<
+        R: Files + Print + Eprint + AllocGlobal + Threads + Wait + Clock + Sync,
+        I: Input,
+        O: Output,
+    >(
+        self,
+        rt: &R,
+        path: &'a str,
+        text: &mut I,
+        out: &mut O,
+        extras: Extras,
+        unwritten: &mut Option<io::Error>,
+    ) -> Result<Status, RunError> {
+        let canvas = canvas_of(self.wave(), path, None, extras);
+        match self {
+            Over::Check(look) => check(rt, text, out, look, extras.watcher, canvas, unwritten),
+            Over::Page => write_page_alone(rt, path, text, out),
+            Over::Rewrite(rewriting) => rewriting.run(rt.alloc(), text, out),
+            Over::Bench(play) => bench_alone(rt, text, out, play, canvas, unwritten),
+        }
+    }
+
+    /// The file for waves.
+    pub fn wave(self) -> Option<&'a str> {
+        match self {
+            Over::Check(look) => look.wave,
+            Over::Bench(play) => play.wave,
+            _ => None,
+        }
+    }
+
+    /// What the line of progress calls that which is written, where it may be long.
+    pub fn writes_long(self) -> Option<&'static str> {
+        match self {
+            Over::Rewrite(Rewriting::Certify) => Some("certificate written"),
+            _ => None,
+        }
+    }
+
+    /// What hints say of a run over the text of this path.
+    pub fn about(self, path: &'a str) -> About<'a> {
+        match self {
+            Over::Rewrite(Rewriting::Signals) => {
+                let none = Probe::Coded("");
+                let names = names_of(none, none, None, path);
+                About::recording(names, ["", "", "", ""], None)
+            }
+            Over::Rewrite(Rewriting::Learn(lesson)) => {
+                let names = names_of(lesson.scl, lesson.sda, lesson.scope, path);
+                About::recording(names, ["twire learn", path, "", ""], None)
+            }
+            Over::Bench(play) => About::bench(play.starters),
+            _ => About::bench(""),
+        }
+    }
+}
+
+impl<'a> OverBoth<'a> {
+    /// Runs over a plan and the second text, which have these paths. Why the file for waves could not be written is told
+    /// beside how the run ended.
+    pub fn run<
+        R: Files + Print + Eprint + AllocGlobal + Threads + Wait + Clock + Sync,
+        I: Input,
+        J: Input,
+        O: Output,
+    >(
+        self,
+        rt: &R,
+        paths: (&'a str, &'a str),
+        plan: &mut I,
+        other: &mut J,
+        out: &mut O,
+        extras: Extras,
+        unwritten: &mut Option<io::Error>,
+    ) -> Result<Status, Halt> {
+        let alloc = rt.alloc();
+        let ended = match self {
+            OverBoth::Verify { explain: true } => explain_verify(alloc, plan, other, out),
+            OverBoth::Verify { explain: false } => run_verify(alloc, plan, other, out),
+            OverBoth::Capture(asked) => return view_capture(rt, alloc, plan, other, out, asked),
+            OverBoth::Page(asked) => write_page_with(rt, paths.0, plan, other, out, asked),
+            OverBoth::Bench(play) => {
+                let canvas = canvas_of(play.wave, paths.0, Some(paths.1), extras);
+                bench(rt, plan, other, out, play, canvas, unwritten)
+            }
+        };
+        match ended {
+            Ok(status) => Ok(status),
+            Err(error) => Err(Halt::Run(error)),
+        }
+    }
+
+    /// The file for waves.
+    pub fn wave(self) -> Option<&'a str> {
+        match self {
+            OverBoth::Bench(play) => play.wave,
+            _ => None,
+        }
+    }
+
+    /// What hints say of a run over a plan and the second text, which have these paths.
+    pub fn about(self, plan: &'a str, other: &'a str) -> About<'a> {
+        match self {
+            OverBoth::Capture(asked) => {
+                let names = names_of(asked.scl, asked.sda, asked.scope, other);
+                About::recording(names, ["twire capture", plan, other, ""], Some(asked.view))
+            }
+            OverBoth::Page(asked) => {
+                let names = names_of(asked.scl, asked.sda, asked.scope, other);
+                About::recording(names, ["twire page", plan, "--capture", other], None)
+            }
+            OverBoth::Bench(play) => About::bench(play.starters),
+            OverBoth::Verify { .. } => About::bench(""),
+        }
+    }
+}
+
+fn canvas_of<'a>(
+    wave: Option<&'a str>,
+    plan: &'a str,
+    cert: Option<&'a str>,
+    extras: Extras,
+) -> Option<Canvas<'a>> {
+    match wave {
+        Some(file) => Some(Canvas {
+            file,
+            plan,
+            cert,
+            extras,
+        }),
+        None => None,
+    }
+}
