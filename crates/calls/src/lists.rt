@@ -1,57 +1,52 @@
 // Calls on whole lists that no command makes: of samples, events and transactions, and of the messages of a plan.
 
 use crate::scarcity::be_there_again;
+use crate::tasks::Task;
 use capture_check::{Transaction, events, explain, transactions};
+use growing_text::Text;
 use plan_core::Plan;
-use plan_text::read_plan;
-use run_parts::{Output, RunError, Status, write_lines};
+use run_parts::{RunError, Status};
 use std::alloc::{AllocError, Global};
 use vcd_read::{Reader, Sample, VcdError};
 
-/// Writes how long the copies of the plan's messages are, and how many participants explain the transactions of the capture
-/// with these names of the two lines.
-pub fn tell_lists<O: Output>(
-    alloc: Global,
-    plan: &[u8],
-    dump: &[u8],
-    scl: &str,
-    sda: &str,
-    out: &mut O,
-) -> Result<Status, RunError> {
-    let (copied, explainers) = counted(alloc, plan, dump, scl, sda)?;
-    let line = format!(in alloc; "{copied} {explainers}\n")?;
-    write_lines(out, line.as_bytes(), Status::Good)
+/// Writes how long the copies of the plan's messages are, and how many participants explain the transactions of the capture.
+pub fn tell_lists(task: &Task<'_>, plan: &Plan, page: &mut Text) -> Result<Status, RunError> {
+    let copied = copied(task.alloc, plan)?;
+    let explainers = explained(task, plan)?;
+    page.push_number(copied);
+    page.push(" ");
+    page.push_number(explainers);
+    page.push("\n");
+    Ok(Status::Good)
 }
 
-// The two numbers.
-fn counted(
-    alloc: Global,
-    plan: &[u8],
-    dump: &[u8],
-    scl: &str,
-    sda: &str,
-) -> Result<(u32, usize), RunError> {
-    let plan = read_plan(alloc, plan)?;
-    let copied = copied(alloc, &plan)?;
-    Ok((copied, explained(alloc, &plan, dump, scl, sda)?))
+fn copied(alloc: Global, plan: &Plan) -> Result<u64, AllocError> {
+    let mut slots = 0u64;
+    for k in 0..plan.messages() {
+        let copy = plan.message(k).copy(alloc)?;
+        slots = slots.saturating_add(u64::from(copy.slots()));
+    }
+    Ok(slots)
 }
 
-fn explained(
-    alloc: Global,
-    plan: &Plan,
-    dump: &[u8],
-    scl: &str,
-    sda: &str,
-) -> Result<usize, RunError> {
-    let samples = samples(alloc, dump, scl, sda)?;
-    let heard = heard(alloc, samples.as_slice())?;
-    Ok(explainers(alloc, plan, heard.as_slice())?)
+fn explained(task: &Task<'_>, plan: &Plan) -> Result<u64, RunError> {
+    match samples(task) {
+        Ok(samples) => explained_of(task.alloc, plan, samples.as_slice()),
+        Err(refusal) => Err(RunError::from(refusal)),
+    }
 }
 
-fn samples(alloc: Global, dump: &[u8], scl: &str, sda: &str) -> Result<Vec<Sample>, VcdError> {
-    let mut reader = Reader::new(alloc, scl, sda)?;
-    feed(alloc, &mut reader, dump)?;
-    reader.end()
+fn explained_of(alloc: Global, plan: &Plan, samples: &[Sample]) -> Result<u64, RunError> {
+    match events(alloc, samples) {
+        Ok(events) => explainers(alloc, plan, transactions(alloc, events.as_slice())),
+        Err(AllocError) => Err(RunError::NoMemory),
+    }
+}
+
+fn samples(task: &Task<'_>) -> Result<Vec<Sample>, VcdError> {
+    let mut reader = Reader::new(task.alloc, task.one, task.other)?;
+    let fed = feed(task.alloc, &mut reader, task.second);
+    fed.and(reader.end())
 }
 
 // Feeds a piece, and once more where memory was refused, when there is some: the reader is then as it was.
@@ -65,29 +60,15 @@ fn feed(alloc: Global, reader: &mut Reader, piece: &[u8]) -> Result<(), VcdError
     }
 }
 
-fn copied(alloc: Global, plan: &Plan) -> Result<u32, AllocError> {
-    let mut slots = 0u32;
-    for k in 0..plan.messages() {
-        let copy = plan.message(k).copy(alloc)?;
-        slots = slots.saturating_add(copy.slots());
-    }
-    Ok(slots)
-}
-
-fn heard(alloc: Global, samples: &[Sample]) -> Result<Vec<Transaction>, AllocError> {
-    let events = events(alloc, samples)?;
-    transactions(alloc, events.as_slice())
-}
-
 fn explainers(
     alloc: Global,
     plan: &Plan,
-    transactions: &[Transaction],
-) -> Result<usize, AllocError> {
-    let mut count = 0usize;
-    for transaction in transactions {
+    heard: Result<Vec<Transaction>, AllocError>,
+) -> Result<u64, RunError> {
+    let mut count = 0u64;
+    for transaction in &heard? {
         let explainers = explain(alloc, plan, transaction)?;
-        count = count.saturating_add(explainers.len());
+        count = count.saturating_add(explainers.len() as u64);
     }
     Ok(count)
 }

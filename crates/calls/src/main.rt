@@ -3,31 +3,35 @@
 //!
 //!     calls CALL [FIRST SECOND [WORD [WORD]]]
 //!
-//! `words` has the calls. `texts` makes those that take whole texts: what says what a command says (`making`, with a plan that
-//! is built again by `building`), calls on whole lists (`lists`), and the calls without memory, while every allocation is refused
-//! (`quiet`). `seats` runs a script (`scripts`) on the seats of a bench, which are one value with it (`sittings`); `quiet_seats`
-//! has them play while every allocation is refused. `scarcity` names to `tests/trials/devices.c` which allocations it refuses.
+//! `words` has the calls. `texts` makes those that take whole texts, on the plan that they are of: what says what a command
+//! says (`making`, with a plan that is built again by `building`), calls on whole lists (`lists`), and the calls without
+//! memory, while every allocation is refused (`quiet`). `seats` opens a bench, on whose seats a script is run (`scripts`), or
+//! which play while every allocation is refused; they are one value with it (`sittings`). `scarcity` names to
+//! `tests/trials/devices.c` which allocations it refuses.
 #![tactic(auto)]
 
 mod building;
 mod lists;
 mod making;
 mod quiet;
-mod quiet_seats;
 mod scarcity;
 mod scripts;
 mod seats;
 mod sittings;
+mod tasks;
 mod texts;
 mod words;
 
-use crate::quiet::are_others_quiet;
+use crate::making::accepted;
+use crate::quiet::ITEMS;
 use crate::scarcity::{is_there, obeys};
-use crate::seats::run_seats;
-use crate::texts::{Texts, run_on_texts};
-use crate::words::{Asked, Made, Words, asked_of};
+use crate::tasks::Task;
+use crate::texts::run_on_texts;
+use crate::words::{Asked, Call, asked_of};
+use growing_text::Text;
 use run_parts::devices::reading::READS;
-use run_parts::{Input, Output, RunError, Status, Watched, read_within, write_lines};
+use run_parts::{Input, RunError, Status, Watched, read_within, write_lines};
+use std::alloc::{AllocError, Global};
 use std::io::ErrorKind;
 use std::process::ExitCode;
 use std::rt::{Env, Files};
@@ -49,74 +53,90 @@ fn main(rt: HostRuntime) -> ExitCode {
 }
 
 fn run<R: Files + Env + Print + AllocGlobal + Threads + Sync>(rt: &R) -> Result<Status, RunError> {
+    let mut page = Text::new(rt.alloc());
+    let ended = run_words(rt, &mut page);
+    write_page(rt, ended, page.finish())
+}
+
+// Nothing is written of a call that is refused.
+fn write_page<R: Print>(
+    rt: &R,
+    ended: Result<Status, RunError>,
+    page: Result<String, AllocError>,
+) -> Result<Status, RunError> {
+    let status = ended?;
+    let page = page?;
+    write_lines(&mut Watched::new(io::writer(rt)), page.as_bytes(), status)
+}
+
+fn run_words<R: Files + Env + AllocGlobal + Threads + Sync>(
+    rt: &R,
+    page: &mut Text,
+) -> Result<Status, RunError> {
     let Ok(words) = env::args(rt) else {
         return Err(RunError::Read);
     };
     let words: Vec<String> = words.collect(rt.alloc())?;
-    let mut out = Watched::new(io::writer(rt));
     match asked_of(words.as_slice()) {
-        Some(asked) => run_asked(rt, asked, &mut out),
-        None => write_lines(&mut out, USAGE.as_bytes(), Status::Refused),
-    }
-}
-
-fn run_asked<R: Files + AllocGlobal + Threads + Sync, O: Output>(
-    rt: &R,
-    asked: Asked<'_>,
-    out: &mut O,
-) -> Result<Status, RunError> {
-    let alloc = rt.alloc();
-    match asked {
-        Asked::Obeys => say(
-            out,
-            is_there(alloc) && obeys(alloc),
-            "obeys\n",
-            "does not obey\n",
-        ),
-        Asked::Quiet => {
-            let is_quiet = is_there(alloc) && are_others_quiet(alloc)?;
-            say(out, is_quiet, "quiet\n", "not quiet\n")
+        Some(asked) => run_asked(rt, &asked, page),
+        None => {
+            page.push(USAGE);
+            Ok(Status::Refused)
         }
-        Asked::Made(made, words) => run_made(rt, made, words, out),
     }
 }
 
-fn say<O: Output>(out: &mut O, is_so: bool, yes: &str, no: &str) -> Result<Status, RunError> {
-    let line = if is_so { yes } else { no };
-    write_lines(out, line.as_bytes(), Status::Good)
-}
-
-fn run_made<R: Files + AllocGlobal + Threads + Sync, O: Output>(
+fn run_asked<R: Files + AllocGlobal + Threads + Sync>(
     rt: &R,
-    made: Made,
-    words: Words<'_>,
-    out: &mut O,
+    asked: &Asked<'_>,
+    page: &mut Text,
 ) -> Result<Status, RunError> {
-    let alloc = rt.alloc();
-    let mut first = Watched::new(opened(rt, words.first)?);
-    let mut second = Watched::new(opened(rt, words.second)?);
-    match made {
-        Made::Seats => run_seats(alloc, &mut first, &mut second, out, words.one, words.other),
-        _ => run_on_files(rt, made, &mut first, &mut second, words, out),
+    match asked.call {
+        Call::Obeys => Ok(tell_obeys(rt.alloc(), page)),
+        Call::Quiet => run_on_items(rt, asked, page),
+        _ => run_on_paths(rt, asked, page),
     }
 }
 
-fn run_on_files<R: AllocGlobal + Threads + Sync, I: Input, O: Output>(
+fn tell_obeys(alloc: Global, page: &mut Text) -> Status {
+    let does_obey = is_there(alloc) && obeys(alloc);
+    page.push(if does_obey {
+        "obeys\n"
+    } else {
+        "does not obey\n"
+    });
+    Status::Good
+}
+
+// The calls that need no text, on a plan of their own.
+fn run_on_items<R: AllocGlobal + Threads + Sync>(
     rt: &R,
-    made: Made,
-    first: &mut I,
-    second: &mut I,
-    words: Words<'_>,
-    out: &mut O,
+    asked: &Asked<'_>,
+    page: &mut Text,
 ) -> Result<Status, RunError> {
-    let alloc = rt.alloc();
-    let first = read_within(alloc, first, READS)?;
-    let second = read_within(alloc, second, READS)?;
-    let texts = Texts {
-        first: first.as_slice(),
-        second: second.as_slice(),
+    if !is_there(rt.alloc()) {
+        page.push("not quiet\n");
+        return Ok(Status::Good);
+    }
+    let task = Task {
+        alloc: rt.alloc(),
+        call: asked.call,
+        first: ITEMS.as_bytes(),
+        second: b"",
+        one: asked.one,
+        other: asked.other,
     };
-    run_on_texts(rt, alloc, made, texts, words, out)
+    run_on_texts(rt, &task, page)
+}
+
+fn run_on_paths<R: Files + AllocGlobal + Threads + Sync>(
+    rt: &R,
+    asked: &Asked<'_>,
+    page: &mut Text,
+) -> Result<Status, RunError> {
+    let mut first = Watched::new(opened(rt, asked.first)?);
+    let mut second = Watched::new(opened(rt, asked.second)?);
+    run_on_files(rt, asked, &mut first, &mut second, page)
 }
 
 fn opened<R: Files>(rt: &R, path: &str) -> Result<R::File, RunError> {
@@ -125,4 +145,33 @@ fn opened<R: Files>(rt: &R, path: &str) -> Result<R::File, RunError> {
         Err(error) if error.kind() == ErrorKind::OutOfMemory => Err(RunError::NoMemory),
         Err(_) => Err(RunError::Read),
     }
+}
+
+fn run_on_files<R: AllocGlobal + Threads + Sync, I: Input>(
+    rt: &R,
+    asked: &Asked<'_>,
+    first: &mut I,
+    second: &mut I,
+    page: &mut Text,
+) -> Result<Status, RunError> {
+    let first = read_first(rt.alloc(), asked.call, first)?;
+    let second = read_within(rt.alloc(), second, READS)?;
+    let task = Task {
+        alloc: rt.alloc(),
+        call: asked.call,
+        first: first.as_slice(),
+        second: second.as_slice(),
+        one: asked.one,
+        other: asked.other,
+    };
+    run_on_texts(rt, &task, page)
+}
+
+// As `twire bench` does, a script on seats has a plan refused before the second file is read.
+fn read_first<I: Input>(alloc: Global, call: Call, file: &mut I) -> Result<Vec<u8>, RunError> {
+    let text = read_within(alloc, file, READS)?;
+    if let Call::Seats = call {
+        accepted(alloc, text.as_slice(), b"")?;
+    }
+    Ok(text)
 }

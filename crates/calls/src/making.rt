@@ -1,62 +1,35 @@
 // Calls of the libraries that no command makes, and that say what a command says.
 
-use crate::building::built_again;
 use crate::scarcity::be_there_again;
+use crate::tasks::Task;
+use crate::words::Call;
 use answer_lines::{answer_line, status_of_answer};
 use cert_check::{AcceptError, Answer, accept, accept_plan};
-use certificate::{CertError, CertText, print_cert, read_cert};
+use certificate::{Cert, CertError, CertText, print_cert, read_cert};
+use growing_text::Text;
 use plan_core::Plan;
-use plan_text::{print_plan, read_plan};
-use run_parts::{Output, RunError, Status, write_lines};
-use std::alloc::Global;
+use plan_text::{PlanError, read_plan};
+use run_parts::{RunError, Status};
+use std::alloc::{AllocError, Global};
+use std::str;
 use std::thread::Threads;
-use verdicts::{NoGate, Table, table, table_with};
+use verdicts::{NoGate, Table, TableError, table, table_with};
 
-/// A call in place of a command.
-#[derive(Clone, Copy)]
-pub enum Call {
-    /// In place of `verify`, the answer to the bytes of both texts.
-    Accept,
-    /// In place of `verify`, the same for the certificate as it is printed again.
-    Reprint,
-    /// In place of `verify`, the acceptance of the plan by proofs that were all read before.
-    AcceptPlan,
-    /// In place of `certify`, the certificate of a table of all pairs.
-    Table,
-    /// The same, by so many workers.
-    TableBy(u32),
-    /// In place of `print`, the spelling of a plan that was built again, call by call.
-    Rebuild,
-}
+// ---- in place of `verify`
 
-/// Makes the call, and writes what the command would write. Only the calls in place of `verify` look at the certificate.
-pub fn make<R: Threads + Sync, O: Output>(
-    rt: &R,
-    alloc: Global,
-    call: Call,
-    plan: &[u8],
-    cert: &[u8],
-    out: &mut O,
+/// Writes what `verify` would write where this is answered.
+pub fn tell(
+    task: &Task<'_>,
+    answer: Result<Answer, RunError>,
+    page: &mut Text,
 ) -> Result<Status, RunError> {
-    match call {
-        Call::Accept => tell(alloc, accepted(alloc, plan, cert)?, out),
-        Call::Reprint => tell(alloc, accepted_again(alloc, plan, cert)?, out),
-        Call::AcceptPlan => tell(alloc, accepted_whole(alloc, plan, cert)?, out),
-        Call::Table => certify(alloc, table_of(alloc, plan)?, out),
-        Call::TableBy(workers) => certify(alloc, table_by(rt, alloc, plan, workers)?, out),
-        Call::Rebuild => {
-            let spelling = spelled_again(alloc, plan)?;
-            write_lines(out, spelling.as_slice(), Status::Good)
-        }
-    }
+    let answer = answer?;
+    page.push_made(answer_line(task.alloc, answer));
+    Ok(status_of_answer(answer))
 }
 
-fn tell<O: Output>(alloc: Global, answer: Answer, out: &mut O) -> Result<Status, RunError> {
-    let line = answer_line(alloc, answer)?;
-    write_lines(out, line.as_bytes(), status_of_answer(answer))
-}
-
-fn accepted(alloc: Global, plan: &[u8], cert: &[u8]) -> Result<Answer, RunError> {
+/// The answer to the bytes of both texts.
+pub fn accepted(alloc: Global, plan: &[u8], cert: &[u8]) -> Result<Answer, RunError> {
     match accept(alloc, plan, cert) {
         Ok(answer) => Ok(answer),
         Err(AcceptError::Plan(refusal)) => Err(RunError::from(refusal)),
@@ -64,66 +37,82 @@ fn accepted(alloc: Global, plan: &[u8], cert: &[u8]) -> Result<Answer, RunError>
     }
 }
 
-fn table_of(alloc: Global, plan: &[u8]) -> Result<Table, RunError> {
-    let plan = read_plan(alloc, plan)?;
-    Ok(table(alloc, &plan)?)
+/// The answer to the certificate as it is printed again, or to its proofs, or to what is wrong with its text.
+pub fn answered(task: &Task<'_>) -> Result<Answer, RunError> {
+    match read_cert(task.alloc, task.second) {
+        Ok(read) => answered_by(task, &read),
+        Err(CertError::Wrong(fault)) => Ok(Answer::Wrong(fault)),
+        Err(CertError::NoMemory) => Err(RunError::NoMemory),
+    }
 }
 
-fn table_by<R: Threads + Sync>(
+// Where the certificate has no proofs, the answer to both texts.
+fn answered_by(task: &Task<'_>, read: &CertText) -> Result<Answer, RunError> {
+    match (task.call, read) {
+        (Call::Reprint, _) => accepted_again(task, print_cert(task.alloc, read)),
+        (_, CertText::Proofs(proofs)) => {
+            accepted_whole(read_plan(task.alloc, task.first), proofs)
+        }
+        (_, CertText::Flaw(..)) => accepted(task.alloc, task.first, task.second),
+    }
+}
+
+fn accepted_again(
+    task: &Task<'_>,
+    printed: Result<Vec<u8>, AllocError>,
+) -> Result<Answer, RunError> {
+    match printed {
+        Ok(printed) => accepted(task.alloc, task.first, printed.as_slice()),
+        Err(AllocError) => Err(RunError::NoMemory),
+    }
+}
+
+fn accepted_whole(plan: Result<Plan, PlanError>, proofs: &[Cert]) -> Result<Answer, RunError> {
+    match plan {
+        Ok(plan) => Ok(answer_to(plan, proofs)),
+        Err(refusal) => Err(RunError::from(refusal)),
+    }
+}
+
+fn answer_to(plan: Plan, proofs: &[Cert]) -> Answer {
+    match accept_plan(plan, proofs) {
+        Ok(_) => Answer::Safe,
+        Err((_, fault)) => Answer::Wrong(fault),
+    }
+}
+
+// ---- in place of `certify`
+
+/// The table of all pairs, by so many workers where the call names them.
+pub fn table_by<R: Threads + Sync>(
     rt: &R,
-    alloc: Global,
-    plan: &[u8],
-    workers: u32,
-) -> Result<Table, RunError> {
-    let plan = read_plan(alloc, plan)?;
-    Ok(table_with(rt, alloc, &plan, workers, &NoGate)?)
-}
-
-fn spelled_again(alloc: Global, plan: &[u8]) -> Result<Vec<u8>, RunError> {
-    let again = built_again(alloc, plan)?;
-    Ok(print_plan(alloc, &again)?)
-}
-
-// The answer to the certificate as it is printed again, or to what is wrong with its text.
-fn accepted_again(alloc: Global, plan: &[u8], cert: &[u8]) -> Result<Answer, RunError> {
-    read_plan(alloc, plan)?;
-    match read_cert(alloc, cert) {
-        Ok(read) => accepted_printed(alloc, plan, &read),
-        Err(CertError::Wrong(fault)) => Ok(Answer::Wrong(fault)),
-        Err(CertError::NoMemory) => Err(RunError::NoMemory),
+    task: &Task<'_>,
+    plan: &Plan,
+) -> Result<Table, TableError> {
+    match task.call {
+        Call::TableBy(workers) => table_with(rt, task.alloc, plan, workers, &NoGate),
+        _ => match table(task.alloc, plan) {
+            Ok(table) => Ok(table),
+            Err(AllocError) => Err(TableError::NoMemory),
+        },
     }
 }
 
-fn accepted_printed(alloc: Global, plan: &[u8], cert: &CertText) -> Result<Answer, RunError> {
-    let printed = print_cert(alloc, cert)?;
-    accepted(alloc, plan, printed.as_slice())
-}
-
-// The same by the plan that was read and its proofs, or by both texts where the certificate has no proofs.
-fn accepted_whole(alloc: Global, plan: &[u8], cert: &[u8]) -> Result<Answer, RunError> {
-    let read = read_plan(alloc, plan)?;
-    match read_cert(alloc, cert) {
-        Ok(CertText::Proofs(proofs)) => Ok(match accept_plan(read, proofs.as_slice()) {
-            Ok(_) => Answer::Safe,
-            Err((_, fault)) => Answer::Wrong(fault),
-        }),
-        Ok(CertText::Flaw(..)) => accepted(alloc, plan, cert),
-        Err(CertError::Wrong(fault)) => Ok(Answer::Wrong(fault)),
-        Err(CertError::NoMemory) => Err(RunError::NoMemory),
+/// Writes the certificate of a table.
+pub fn certify(
+    task: &Task<'_>,
+    table: Result<Table, TableError>,
+    page: &mut Text,
+) -> Result<Status, RunError> {
+    match table {
+        Ok(table) => {
+            let is_safe = table.is_safe();
+            push_certificate(task, certified(task.alloc, table), page);
+            Ok(if is_safe { Status::Good } else { Status::Bad })
+        }
+        Err(TableError::Workers) => Err(RunError::Workers),
+        Err(TableError::NoMemory) => Err(RunError::NoMemory),
     }
-}
-
-fn certify<O: Output>(alloc: Global, table: Table, out: &mut O) -> Result<Status, RunError> {
-    let status = if table.is_safe() {
-        Status::Good
-    } else {
-        Status::Bad
-    };
-    let Some(cert) = certified(alloc, table) else {
-        return Err(RunError::NoMemory);
-    };
-    let text = print_cert(alloc, &cert)?;
-    write_lines(out, text.as_slice(), status)
 }
 
 // The table is handed back where memory is refused, and asked once more when there is some.
@@ -134,5 +123,20 @@ fn certified(alloc: Global, table: Table) -> Option<CertText> {
             be_there_again(alloc);
             table.certify(alloc).ok()
         }
+    }
+}
+
+fn push_certificate(task: &Task<'_>, cert: Option<CertText>, page: &mut Text) {
+    match cert {
+        Some(cert) => push_bytes(print_cert(task.alloc, &cert), page),
+        None => page.cut(),
+    }
+}
+
+/// Writes a text that was made, where there was memory for it.
+pub fn push_bytes(text: Result<Vec<u8>, AllocError>, page: &mut Text) {
+    match text {
+        Ok(text) => page.push(str::from_utf8(text.as_slice()).unwrap_or("no text")),
+        Err(AllocError) => page.cut(),
     }
 }

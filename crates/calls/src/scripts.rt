@@ -1,305 +1,172 @@
 // A script for the seats of a bench: each line is a call on one seat, a few slots that all seats play, or the end.
 
 use crate::scarcity::be_there_again;
-use crate::sittings::{End, Sitting};
-use bus_bench::{FinishFault, MOST_SLOTS, Offered, OpenError, Played, Put, Sight};
-use cert_check::Accepted;
+use crate::sittings::Sitting;
+use crate::tasks::Task;
+use bus_bench::{FinishFault, MOST_SLOTS, Offered, Played, Put, PutError, Sight};
+use growing_text::Text;
 use message_tree::{Bit, Item};
 use plan_core::Plan;
-use std::alloc::{AllocError, Global};
+use std::alloc::Global;
+use std::str;
 
-/// Plays a script on a bench of an accepted plan, and adds each of its lines with its answer to the page. `starters` has
-/// the labels of those who start, which commas part, and `answers` the bits of the targets by slot.
-///
-/// # Errors
-///
-/// Those of `open_bench`, before anything is added, and `NoMemory`.
-pub fn play_script(
-    alloc: Global,
-    accepted: &Accepted,
-    starters: &str,
-    answers: &str,
-    script: &str,
-    page: &mut String,
-) -> Result<(), OpenError> {
-    let Ok(numbers) = numbers_of(alloc, accepted.plan(), starters) else {
-        return Err(OpenError::NoMemory);
-    };
-    let sitting = opened(alloc, accepted, &numbers, answers)?;
-    let mut table = Table {
-        starters,
-        numbers: &numbers,
-        sitting: Some(sitting),
-    };
-    match table.play(alloc, script, page) {
-        Ok(()) => Ok(()),
-        Err(AllocError) => Err(OpenError::NoMemory),
-    }
-}
-
-/// A bench of an accepted plan for the starters with these numbers, whose targets answer these bits.
-///
-/// # Errors
-///
-/// Those of `open_bench`.
-pub fn opened<'a>(
-    alloc: Global,
-    accepted: &'a Accepted,
-    numbers: &[u32],
-    answers: &str,
-) -> Result<Sitting<'a>, OpenError> {
-    match bits_of(alloc, answers) {
-        Ok(bits) => Sitting::open(alloc, accepted, numbers, &bits),
-        Err(AllocError) => Err(OpenError::NoMemory),
-    }
-}
-
-// The starters with these labels. In place of a label that the plan does not have stands the greatest number.
-pub fn numbers_of(alloc: Global, plan: &Plan, starters: &str) -> Result<Vec<u32>, AllocError> {
-    let mut numbers = Vec::new(alloc);
-    if starters.is_empty() {
-        return Ok(numbers);
-    }
-    for label in starters.split(',') {
-        numbers.push(plan.find(label).unwrap_or(u32::MAX))?;
-    }
-    Ok(numbers)
-}
-
-fn bits_of(alloc: Global, answers: &str) -> Result<Vec<bool>, AllocError> {
-    let mut bits = Vec::new(alloc);
-    for byte in answers.as_bytes() {
-        bits.push(*byte == b'1')?;
-    }
-    Ok(bits)
-}
-
-// Who started, by label and by number of participant, and the bench that they sit at until it is finished.
-#[derive(Drop)]
-struct Table<'a, 'b> {
-    starters: &'b str,
-    numbers: &'b [u32],
-    sitting: Option<Sitting<'a>>,
-}
-
-// What a line of a script asks for. A seat is named by the number of its starter.
-#[derive(Clone, Copy)]
-enum Line<'a> {
-    /// What may the seat put?
-    Offers(usize),
-    Puts(usize, Put),
-    Sees(usize),
-    /// So many slots are played, or as many as there are. For open bits each starter sends its character of these, the
-    /// first one again after the last.
-    Plays(u32, &'a str),
-    /// The seats of these starters are given back, in this order.
-    Finish(&'a str),
-    Unknown,
-}
-
-impl Table<'_, '_> {
-    // Writes each line with its answer.
-    fn play(&mut self, alloc: Global, script: &str, page: &mut String) -> Result<(), AllocError> {
-        for line in script.split('\n') {
-            if !line.is_empty() {
-                write!(page, "{line} -> ")?;
-                self.answer(alloc, self.line_of(line), page)?;
-                page.push('\n')?;
-            }
-        }
-        Ok(())
-    }
-
-    fn line_of<'c>(&self, line: &'c str) -> Line<'c> {
-        let (word, rest) = line.split_once(' ').unwrap_or((line, ""));
-        match word {
-            "finish" => Line::Finish(rest),
-            "play" => plays(rest).unwrap_or(Line::Unknown),
-            _ => match self.number_of(word) {
-                Some(seat) => call_of(seat, rest),
-                None => Line::Unknown,
-            },
-        }
-    }
-
-    // The number among the starters of the one with this label.
-    fn number_of(&self, label: &str) -> Option<usize> {
-        self.starters.split(',').position(|other| other == label)
-    }
-
-    fn answer(
-        &mut self,
-        alloc: Global,
-        line: Line<'_>,
-        page: &mut String,
-    ) -> Result<(), AllocError> {
-        if let Line::Finish(seats) = line {
-            return self.finish(alloc, seats, page);
-        }
-        match &mut self.sitting {
-            Some(sitting) => answer_at(sitting, line, page),
-            None => page.push_str("no bench"),
-        }
-    }
-
-    fn finish(&mut self, alloc: Global, seats: &str, page: &mut String) -> Result<(), AllocError> {
-        let Some(mut sitting) = self.sitting.take() else {
-            return page.push_str("no bench");
-        };
-        let count = self.put_in_order(&mut sitting, seats);
-        match ended(alloc, sitting, count)? {
-            End::Played(played) => self.push_played(&played, page),
-            End::Unfinished(why, sitting) => {
-                self.sitting = Some(sitting);
-                push_fault(why, page)
-            }
-        }
-    }
-
-    // Puts the seats of these starters first, in this order, and says how many they are: all, where none is named.
-    fn put_in_order(&self, sitting: &mut Sitting<'_>, seats: &str) -> usize {
-        if seats.is_empty() {
-            return sitting.len();
-        }
-        let mut count = 0usize;
-        for label in seats.split(',') {
-            if let Some(number) = self.number_of(label) {
-                sitting.bring(number, count);
-                count = count.saturating_add(1);
-            }
-        }
-        count
-    }
-
-    // The wire, and the labels of those who were live at its end.
-    fn push_played(&self, played: &Played, page: &mut String) -> Result<(), AllocError> {
-        page.push_str("wire ")?;
-        for item in &played.wire {
-            page.push(item.symbol())?;
-        }
-        page.push_str(", won")?;
-        for winner in &played.won {
-            write!(page, " {}", self.label_of(*winner))?;
-        }
-        Ok(())
-    }
-
-    fn label_of(&self, participant: u32) -> &str {
-        let mut labels = self.starters.split(',');
-        match self.numbers.iter().position(|other| *other == participant) {
-            Some(place) => labels.nth(place).unwrap_or("?"),
-            None => "?",
+/// Plays the script of a task on a bench of the plan, and writes each of its lines with its answer. The word of the task has
+/// the labels of those who started, which commas part.
+pub fn play_script(task: &Task<'_>, plan: &Plan, sitting: Sitting<'_>, page: &mut Text) {
+    let mut sitting = Some(sitting);
+    let script = str::from_utf8(task.second).unwrap_or("");
+    for line in script.split('\n') {
+        if !line.is_empty() {
+            page.push(line);
+            page.push(" -> ");
+            answer(task, plan, &mut sitting, line, page);
+            page.push("\n");
         }
     }
 }
 
-// All is handed back where memory is refused, and given back once more when there is some.
-fn ended<'a>(alloc: Global, sitting: Sitting<'a>, count: usize) -> Result<End<'a>, AllocError> {
-    match sitting.end(alloc, count)? {
-        End::Unfinished(FinishFault::NoMemory, sitting) => {
-            be_there_again(alloc);
-            sitting.end(alloc, count)
+// The seats sit at the bench until it is finished.
+fn answer(
+    task: &Task<'_>,
+    plan: &Plan,
+    sitting: &mut Option<Sitting<'_>>,
+    line: &str,
+    page: &mut Text,
+) {
+    let (word, rest) = line.split_once(' ').unwrap_or((line, ""));
+    match sitting {
+        Some(seated) if word == "finish" => {
+            let count = put_in_order(seated, task.one, rest);
+            finish(task, plan, sitting, count, page);
         }
-        end => Ok(end),
-    }
-}
-
-// `on with FILL`, or `N slots with FILL`.
-fn plays(rest: &str) -> Option<Line<'_>> {
-    let (how, fill) = rest.split_once(" with ")?;
-    if how == "on" {
-        return Some(Line::Plays(MOST_SLOTS as u32, fill));
-    }
-    let (count, _) = how.split_once(' ')?;
-    Some(Line::Plays(count.parse().ok()?, fill))
-}
-
-fn call_of(seat: usize, rest: &str) -> Line<'_> {
-    let (verb, word) = rest.split_once(' ').unwrap_or((rest, ""));
-    match (verb, put_of(word)) {
-        ("offers", None) => Line::Offers(seat),
-        ("sees", None) => Line::Sees(seat),
-        ("puts", Some(put)) => Line::Puts(seat, put),
-        _ => Line::Unknown,
-    }
-}
-
-fn put_of(word: &str) -> Option<Put> {
-    match word {
-        "0" => Some(Put::Drive(false)),
-        "1" => Some(Put::Drive(true)),
-        "listen" => Some(Put::Listen),
-        "again" => Some(Put::Again),
-        "stop" => Some(Put::Stop),
-        "claim" => Some(Put::Claim),
-        _ => None,
-    }
-}
-
-fn answer_at(
-    sitting: &mut Sitting<'_>,
-    line: Line<'_>,
-    page: &mut String,
-) -> Result<(), AllocError> {
-    match line {
-        Line::Offers(seat) => page.push_str(offered_word(sitting.offered(seat))),
-        Line::Puts(seat, put) => match sitting.put(seat, put) {
-            Ok(()) => page.push_str("ok"),
-            Err(error) => write!(page, "refused {error}"),
+        Some(seated) if word == "play" => play(seated, rest, page),
+        Some(seated) => match number_of(task.one, word) {
+            Some(number) => answer_of(task, seated, number, rest, page),
+            None => page.push("no such line"),
         },
-        Line::Sees(seat) => push_sight(sitting.see(seat), page),
-        Line::Plays(slots, fill) => push_slots(sitting, slots, fill, page),
-        Line::Finish(_) | Line::Unknown => page.push_str("no such line"),
+        None => page.push("no bench"),
     }
 }
 
-fn offered_word(offered: Offered) -> &'static str {
-    match offered {
-        Offered::Bit(Bit::Zero) => "0",
-        Offered::Bit(Bit::One) => "1",
-        Offered::Bit(Bit::Either) => "0 or 1",
-        Offered::Listen => "listen",
-        Offered::Again => "again",
-        Offered::Stop => "stop",
-        Offered::Claim => "claim",
-        Offered::Nothing => "nothing",
+// ---- the end
+
+// Puts the seats of these starters first, in this order, and says how many they are: all, where none is named.
+fn put_in_order(sitting: &mut Sitting<'_>, starters: &str, seats: &str) -> usize {
+    if seats.is_empty() {
+        return sitting.len();
+    }
+    let mut count = 0usize;
+    for label in seats.split(',') {
+        if let Some(number) = number_of(starters, label) {
+            sitting.bring(number, count);
+            count = count.saturating_add(1);
+        }
+    }
+    count
+}
+
+// The number among the starters of the one with this label.
+fn number_of(starters: &str, label: &str) -> Option<usize> {
+    let mut number = 0usize;
+    for starter in starters.split(',') {
+        if starter == label {
+            return Some(number);
+        }
+        number = number.saturating_add(1);
+    }
+    None
+}
+
+// Gives the first so many seats back. All is handed back where memory is refused, and given back once more when there is some.
+fn finish(
+    task: &Task<'_>,
+    plan: &Plan,
+    sitting: &mut Option<Sitting<'_>>,
+    count: usize,
+    page: &mut Text,
+) {
+    match ended(task.alloc, sitting, count) {
+        Err(FinishFault::NoMemory) => {
+            be_there_again(task.alloc);
+            push_end(task, plan, ended(task.alloc, sitting, count), page);
+        }
+        end => push_end(task, plan, end, page),
     }
 }
 
-fn push_sight(sight: Sight, page: &mut String) -> Result<(), AllocError> {
-    match sight {
-        Sight::NotPut => page.push_str("not put"),
-        Sight::Waiting => page.push_str("waiting"),
-        Sight::On(item) => page.push(item.symbol()),
-        Sight::Lost(item) => write!(page, "lost, {}", item.symbol()),
-        Sight::Ended => page.push_str("ended"),
+fn ended(
+    alloc: Global,
+    sitting: &mut Option<Sitting<'_>>,
+    count: usize,
+) -> Result<Played, FinishFault> {
+    let Some(seated) = sitting.take() else {
+        return Err(FinishFault::NoMemory);
+    };
+    let (end, left) = seated.end(alloc, count);
+    *sitting = left;
+    end
+}
+
+fn push_end(task: &Task<'_>, plan: &Plan, end: Result<Played, FinishFault>, page: &mut Text) {
+    match end {
+        Ok(played) => push_played(task, plan, &played, page),
+        Err(FinishFault::Missing) => page.push("missing"),
+        Err(FinishFault::NotEnded) => page.push("not ended"),
+        Err(FinishFault::NoMemory) => page.cut(),
     }
 }
 
-fn push_fault(why: FinishFault, page: &mut String) -> Result<(), AllocError> {
-    match why {
-        FinishFault::Missing => page.push_str("missing"),
-        FinishFault::NotEnded => page.push_str("not ended"),
-        FinishFault::NoMemory => Err(AllocError),
+// The wire, and the labels of those who were live at its end.
+fn push_played(task: &Task<'_>, plan: &Plan, played: &Played, page: &mut Text) {
+    page.push("wire ");
+    for item in &played.wire {
+        page.push_char(item.symbol());
+    }
+    page.push(", won");
+    for winner in &played.won {
+        push_label(task, plan, *winner, page);
+    }
+}
+
+fn push_label(task: &Task<'_>, plan: &Plan, winner: u32, page: &mut Text) {
+    if winner < plan.participants() {
+        page.push(" ");
+        page.push_made(plan.label(task.alloc, winner));
+    }
+}
+
+// ---- slots
+
+// Plays so many slots, or as many as there are: `on with FILL`, or `N slots with FILL`. For open bits each starter sends its
+// character of these, the first one again after the last.
+fn play(sitting: &mut Sitting<'_>, rest: &str, page: &mut Text) {
+    let (how, fill) = rest.split_once(" with ").unwrap_or(("", ""));
+    match slots_of(how) {
+        Some(slots) => push_slots(sitting, slots, fill, page),
+        None => page.push("no such line"),
+    }
+}
+
+fn slots_of(how: &str) -> Option<u32> {
+    if how == "on" {
+        return Some(MOST_SLOTS as u32);
+    }
+    match how.split_once(' ') {
+        Some((count, _)) => count.parse().ok(),
+        None => None,
     }
 }
 
 // Plays so many slots, but none in which nobody sees anything, and writes what was seen in each.
-fn push_slots(
-    sitting: &mut Sitting<'_>,
-    slots: u32,
-    fill: &str,
-    page: &mut String,
-) -> Result<(), AllocError> {
+fn push_slots(sitting: &mut Sitting<'_>, slots: u32, fill: &str, page: &mut Text) {
     for slot in 0..slots {
         put_all(sitting, fill);
         match see_all(sitting) {
-            Some(item) => page.push(item.symbol())?,
-            None if slot == 0 => return page.push_str("nothing"),
-            None => return Ok(()),
+            Some(item) => page.push_char(item.symbol()),
+            None if slot == 0 => return page.push("nothing"),
+            None => return,
         }
     }
-    Ok(())
 }
 
 // Each seat puts what it may, where it has not.
@@ -341,4 +208,68 @@ pub fn see_all(sitting: &mut Sitting<'_>) -> Option<Item> {
         }
     }
     seen
+}
+
+// ---- one seat
+
+// What the seat of the starter with this number answers.
+fn answer_of(
+    task: &Task<'_>,
+    sitting: &mut Sitting<'_>,
+    number: usize,
+    rest: &str,
+    page: &mut Text,
+) {
+    let (verb, word) = rest.split_once(' ').unwrap_or((rest, ""));
+    match (verb, put_of(word)) {
+        ("offers", None) => page.push(offered_word(sitting.offered(number))),
+        ("puts", Some(put)) => push_put(task, sitting.put(number, put), page),
+        ("sees", None) => push_sight(sitting.see(number), page),
+        _ => page.push("no such line"),
+    }
+}
+
+fn put_of(word: &str) -> Option<Put> {
+    match word {
+        "0" => Some(Put::Drive(false)),
+        "1" => Some(Put::Drive(true)),
+        "listen" => Some(Put::Listen),
+        "again" => Some(Put::Again),
+        "stop" => Some(Put::Stop),
+        "claim" => Some(Put::Claim),
+        _ => None,
+    }
+}
+
+fn offered_word(offered: Offered) -> &'static str {
+    match offered {
+        Offered::Bit(Bit::Zero) => "0",
+        Offered::Bit(Bit::One) => "1",
+        Offered::Bit(Bit::Either) => "0 or 1",
+        Offered::Listen => "listen",
+        Offered::Again => "again",
+        Offered::Stop => "stop",
+        Offered::Claim => "claim",
+        Offered::Nothing => "nothing",
+    }
+}
+
+fn push_put(task: &Task<'_>, put: Result<(), PutError>, page: &mut Text) {
+    match put {
+        Ok(()) => page.push("ok"),
+        Err(error) => page.push_made(format!(in task.alloc; "refused {error}")),
+    }
+}
+
+fn push_sight(sight: Sight, page: &mut Text) {
+    match sight {
+        Sight::NotPut => page.push("not put"),
+        Sight::Waiting => page.push("waiting"),
+        Sight::On(item) => page.push_char(item.symbol()),
+        Sight::Lost(item) => {
+            page.push("lost, ");
+            page.push_char(item.symbol());
+        }
+        Sight::Ended => page.push("ended"),
+    }
 }

@@ -19,13 +19,6 @@ pub struct Sitting<'a> {
     ghost seated: { All (λ seat. seat.bench ≡ bench) seats.items },
 }
 
-/// What came of giving seats back: what was played, or why nothing was, and all that came back.
-#[derive(Drop)]
-pub enum End<'a> {
-    Played(Played),
-    Unfinished(FinishFault, Sitting<'a>),
-}
-
 impl<'a> Sitting<'a> {
     /// A bench for these starters, on which nothing has been put.
     pub fn open(
@@ -37,13 +30,15 @@ impl<'a> Sitting<'a> {
         let Ok(numbers) = numbers_below(alloc, starters.len()) else {
             return Err(OpenError::NoMemory);
         };
-        let (bench, host, seats) = open_bench(alloc, accepted, starters, answers)?;
-        Ok(Sitting {
-            bench,
-            host,
-            seats,
-            numbers,
-        })
+        match open_bench(alloc, accepted, starters, answers) {
+            Ok((bench, host, seats)) => Ok(Sitting {
+                bench,
+                host,
+                seats,
+                numbers,
+            }),
+            Err(refusal) => Err(refusal),
+        }
     }
 
     pub fn len(&self) -> usize {
@@ -88,20 +83,32 @@ impl<'a> Sitting<'a> {
     }
 
     fn place_of(&self, number: usize) -> Option<usize> {
-        self.numbers.iter().position(|other| *other == number)
+        for place in 0..self.numbers.len() {
+            if self.numbers[place] == number {
+                return Some(place);
+            }
+        }
+        None
     }
 
-    /// Gives the first so many seats back, in their order, and keeps the others.
-    pub fn end(self, alloc: Global, count: usize) -> Result<End<'a>, AllocError> {
+    /// Gives the first so many seats back, in their order, and keeps the others. Says what was played, or why nothing was,
+    /// and then all is handed back; but nothing where there was no memory to part the seats.
+    pub fn end(
+        self,
+        alloc: Global,
+        count: usize,
+    ) -> (Result<Played, FinishFault>, Option<Sitting<'a>>) {
         let Sitting {
             bench,
             host,
             mut seats,
             numbers,
         } = self;
-        let mut away = seats.split_off(count.min(seats.len()))?;
+        let Ok(mut away) = seats.split_off(count.min(seats.len())) else {
+            return (Err(FinishFault::NoMemory), None);
+        };
         match finish(alloc, bench, host, seats) {
-            Ok(played) => Ok(End::Played(played)),
+            Ok(played) => (Ok(played), None),
             Err(
                 Unfinished {
                     bench,
@@ -110,14 +117,16 @@ impl<'a> Sitting<'a> {
                     why,
                 },
             ) => {
-                seats.append(&mut away)?;
+                if seats.append(&mut away).is_err() {
+                    return (Err(FinishFault::NoMemory), None);
+                }
                 let sitting = Sitting {
                     bench,
                     host,
                     seats,
                     numbers,
                 };
-                Ok(End::Unfinished(why, sitting))
+                (Err(why), Some(sitting))
             }
         }
     }

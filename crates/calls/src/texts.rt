@@ -1,70 +1,109 @@
 // Calls that take whole texts.
 
+use crate::building::spell_again;
 use crate::lists::tell_lists;
-use crate::making::make;
-use crate::quiet::{is_cert_quiet, is_plan_quiet, is_reader_quiet, is_table_quiet};
+use crate::making::{accepted, answered, certify, table_by, tell};
+use crate::quiet::{
+    are_others_quiet, is_cert_quiet, is_plan_quiet, is_reader_quiet, is_table_quiet,
+};
 use crate::scarcity::is_there;
-use crate::seats::are_seats_quiet;
-use crate::words::{Made, Words};
-use run_parts::{Output, RunError, Status, write_lines};
-use std::alloc::Global;
+use crate::seats::run_seats;
+use crate::tasks::Task;
+use crate::words::Call;
+use growing_text::Text;
+use plan_core::Plan;
+use plan_text::{PlanError, read_plan};
+use run_parts::{RunError, Status};
 use std::thread::Threads;
 
-/// What the two files have.
-#[derive(Clone, Copy)]
-pub struct Texts<'a> {
-    pub first: &'a [u8],
-    pub second: &'a [u8],
-}
-
-/// Makes the call on these texts.
-pub fn run_on_texts<R: Threads + Sync, O: Output>(
+/// Makes a call on texts, and writes what it says.
+pub fn run_on_texts<R: Threads + Sync>(
     rt: &R,
-    alloc: Global,
-    made: Made,
-    texts: Texts<'_>,
-    words: Words<'_>,
-    out: &mut O,
+    task: &Task<'_>,
+    page: &mut Text,
 ) -> Result<Status, RunError> {
-    match made {
-        Made::Call(call) => make(rt, alloc, call, texts.first, texts.second, out),
-        Made::Lists => tell_lists(
-            alloc,
-            texts.first,
-            texts.second,
-            words.one,
-            words.other,
-            out,
-        ),
-        _ if is_there(alloc) => {
-            let line = quiet_line(is_quiet(alloc, made, texts, words)?);
-            write_lines(out, line.as_bytes(), Status::Good)
-        }
-        _ => write_lines(out, b"memory is not refused here\n", Status::Refused),
+    if is_quiet(task.call) && !is_there(task.alloc) {
+        page.push("memory is not refused here\n");
+        return Ok(Status::Refused);
+    }
+    match task.call {
+        Call::Accept => tell(task, accepted(task.alloc, task.first, task.second), page),
+        Call::QuietCertificate => Ok(tell_quiet(is_cert_quiet(task), page)),
+        Call::QuietDump => match is_reader_quiet(task) {
+            Ok(is_quiet) => Ok(tell_quiet(Some(is_quiet), page)),
+            Err(refusal) => Err(RunError::from(refusal)),
+        },
+        _ => read_and_run(rt, task, page),
     }
 }
 
-// Whether the calls without memory take none, where they can be made.
-fn is_quiet(
-    alloc: Global,
-    made: Made,
-    texts: Texts<'_>,
-    words: Words<'_>,
-) -> Result<Option<bool>, RunError> {
-    match made {
-        Made::QuietPlan => is_plan_quiet(alloc, texts.first),
-        Made::QuietTable => is_table_quiet(alloc, texts.first),
-        Made::QuietCertificate => is_cert_quiet(alloc, texts.first, texts.second),
-        Made::QuietDump => is_reader_quiet(alloc, texts.second, words.one, words.other),
-        Made::QuietSeats => Ok(are_seats_quiet(alloc, texts.first, words.one, words.other)?),
-        Made::Call(_) | Made::Lists | Made::Seats => Ok(None),
+fn is_quiet(call: Call) -> bool {
+    matches!(
+        call,
+        Call::QuietPlan
+            | Call::QuietTable
+            | Call::QuietCertificate
+            | Call::QuietDump
+            | Call::QuietSeats
+    )
+}
+
+fn read_and_run<R: Threads + Sync>(
+    rt: &R,
+    task: &Task<'_>,
+    page: &mut Text,
+) -> Result<Status, RunError> {
+    match read_plan(task.alloc, task.first) {
+        Ok(plan) => run_on_plan(rt, task, &plan, page),
+        Err(refusal) => refused(task, refusal, page),
     }
 }
 
-fn quiet_line(is_quiet: Option<bool>) -> &'static str {
-    match is_quiet {
+// Calls without memory are made on a plan, or not made.
+fn refused(task: &Task<'_>, refusal: PlanError, page: &mut Text) -> Result<Status, RunError> {
+    if is_quiet(task.call) {
+        Ok(tell_quiet(None, page))
+    } else {
+        Err(RunError::from(refusal))
+    }
+}
+
+fn run_on_plan<R: Threads + Sync>(
+    rt: &R,
+    task: &Task<'_>,
+    plan: &Plan,
+    page: &mut Text,
+) -> Result<Status, RunError> {
+    match task.call {
+        Call::Table | Call::TableBy(_) => certify(task, table_by(rt, task, plan), page),
+        Call::Rebuild => spell_again(task, plan, page),
+        Call::Lists => tell_lists(task, plan, page),
+        Call::Seats | Call::QuietSeats => run_seats(task, plan, page),
+        Call::Quiet | Call::QuietPlan | Call::QuietTable => run_quietly(task, plan, page),
+        _ => tell(task, answered(task), page),
+    }
+}
+
+fn run_quietly(task: &Task<'_>, plan: &Plan, page: &mut Text) -> Result<Status, RunError> {
+    let is_quiet = match task.call {
+        Call::Quiet => return tell_others(are_others_quiet(task.alloc, plan), page),
+        Call::QuietTable => is_table_quiet(task.alloc, plan)?,
+        _ => is_plan_quiet(task.alloc, plan),
+    };
+    Ok(tell_quiet(Some(is_quiet), page))
+}
+
+fn tell_others(are_quiet: Result<bool, RunError>, page: &mut Text) -> Result<Status, RunError> {
+    page.push(if are_quiet? { "quiet\n" } else { "not quiet\n" });
+    Ok(Status::Good)
+}
+
+/// Writes whether the calls without memory took none, where they could be made.
+pub fn tell_quiet(is_quiet: Option<bool>, page: &mut Text) -> Status {
+    page.push(match is_quiet {
         Some(true) => "quiet\n",
         Some(false) => "takes memory\n",
         None => "not made\n",
-    }
+    });
+    Status::Good
 }

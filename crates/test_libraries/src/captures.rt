@@ -1,11 +1,31 @@
 // Recorded wires: what neighbouring samples and events make.
 
-use capture_check::{Event, Listener, Until, Watch, What};
+use capture_check::{Event, Listener, Transaction, Until, Watch, What};
 use std::alloc::{AllocError, Global};
-use std::test::Fail;
 use vcd_read::{Level, Sample};
 
-// The levels of SCL and SDA: `1`, `0` and `x`.
+// The levels of SCL and SDA in two samples, `1`, `0` and `x`, and the event between them.
+const NEIGHBOURS: [(&[u8; 2], &[u8; 2], Option<What>); 18] = [
+    (b"xx", b"11", Some(What::Known(true))),
+    (b"x1", b"10", Some(What::Known(false))),
+    (b"1x", b"01", Some(What::Known(false))),
+    (b"xx", b"00", Some(What::Known(false))),
+    (b"xx", b"1x", None),
+    (b"11", b"x1", Some(What::Unknown)),
+    (b"00", b"0x", Some(What::Unknown)),
+    (b"11", b"0x", Some(What::Unknown)),
+    (b"11", b"10", Some(What::Start)),
+    (b"10", b"11", Some(What::Stop)),
+    (b"11", b"01", Some(What::Bit(true))),
+    (b"10", b"00", Some(What::Bit(false))),
+    (b"11", b"00", Some(What::Bit(true))),
+    (b"10", b"01", Some(What::Bit(false))),
+    (b"00", b"10", None),
+    (b"01", b"10", None),
+    (b"00", b"01", None),
+    (b"01", b"00", None),
+];
+
 fn level(byte: u8) -> Level {
     match byte {
         b'1' => Level::High,
@@ -14,102 +34,116 @@ fn level(byte: u8) -> Level {
     }
 }
 
-fn sample(time: u64, [scl, sda]: [u8; 2]) -> Sample {
+fn sample(time: u64, levels: &[u8; 2]) -> Sample {
     Sample {
         time,
-        scl: level(scl),
-        sda: level(sda),
+        scl: level(levels[0]),
+        sda: level(levels[1]),
     }
 }
 
 // The event between two samples, where nothing has happened in the HIGH period before.
-fn between(first: [u8; 2], second: [u8; 2]) -> Option<What> {
+fn between(first: &[u8; 2], second: &[u8; 2]) -> Option<What> {
     let mut watch = Watch::new();
     let _ = watch.next(&sample(0, first));
-    Some(watch.next(&sample(1, second))?.what)
+    match watch.next(&sample(1, second)) {
+        Some(event) => Some(event.what),
+        None => None,
+    }
 }
 
 #[test]
 fn neighbouring_samples_make_the_events_of_the_table(rt: HostRuntime) {
-    for (first, second, what) in [
-        (*b"xx", *b"11", Some(What::Known(true))),
-        (*b"x1", *b"10", Some(What::Known(false))),
-        (*b"1x", *b"01", Some(What::Known(false))),
-        (*b"xx", *b"00", Some(What::Known(false))),
-        (*b"xx", *b"1x", None),
-        (*b"11", *b"x1", Some(What::Unknown)),
-        (*b"00", *b"0x", Some(What::Unknown)),
-        (*b"11", *b"0x", Some(What::Unknown)),
-        (*b"11", *b"10", Some(What::Start)),
-        (*b"10", *b"11", Some(What::Stop)),
-        (*b"11", *b"01", Some(What::Bit(true))),
-        (*b"10", *b"00", Some(What::Bit(false))),
-        (*b"11", *b"00", Some(What::Bit(true))),
-        (*b"10", *b"01", Some(What::Bit(false))),
-        (*b"00", *b"10", None),
-        (*b"01", *b"10", None),
-        (*b"00", *b"01", None),
-        (*b"01", *b"00", None),
-    ] {
-        assert!(rt; between(first, second) == what);
+    for (first, second, what) in &NEIGHBOURS {
+        assert!(rt; between(first, second) == *what);
     }
 }
 
-// How a listener that heard these takes the next one: the transaction that it ends, and the one that goes on then.
+const START: Option<What> = Some(What::Start);
+
+const STOP: Option<What> = Some(What::Stop);
+
+const BIT: Option<What> = Some(What::Bit(true));
+
+const KNOWN: Option<What> = Some(What::Known(true));
+
+const TAKEN: Option<What> = Some(What::Known(false));
+
+const LOST: Option<What> = Some(What::Unknown);
+
+// Two events at time 1 and one at time 2; how the transaction ends that the last of them ends, and when the one began that
+// goes on then. A START is heard on a free bus alone, and each event leaves the bus free or not.
+const HEARD: [([Option<What>; 3], Option<Until>, Option<u64>); 19] = [
+    ([None, None, START], None, None),
+    ([None, STOP, START], None, Some(2)),
+    ([STOP, START, START], None, Some(1)),
+    ([STOP, START, BIT], None, Some(1)),
+    ([STOP, START, KNOWN], None, Some(1)),
+    ([STOP, START, TAKEN], None, Some(1)),
+    ([STOP, START, LOST], Some(Until::Cut(2)), None),
+    ([STOP, START, STOP], Some(Until::Stopped(2)), None),
+    ([None, STOP, STOP], None, None),
+    ([None, STOP, BIT], None, None),
+    ([None, KNOWN, START], None, Some(2)),
+    ([None, TAKEN, START], None, None),
+    ([None, LOST, START], None, None),
+    ([None, BIT, START], None, None),
+    ([STOP, KNOWN, START], None, Some(2)),
+    ([STOP, TAKEN, START], None, None),
+    ([STOP, LOST, START], None, None),
+    ([STOP, STOP, START], None, Some(2)),
+    ([STOP, BIT, START], None, Some(2)),
+];
+
+fn until(ended: Option<Transaction>) -> Option<Until> {
+    match ended {
+        Some(transaction) => Some(transaction.until),
+        None => None,
+    }
+}
+
+fn from(going_on: Option<Transaction>) -> Option<u64> {
+    match going_on {
+        Some(transaction) => Some(transaction.from),
+        None => None,
+    }
+}
+
+// How the transaction ends that this event ends.
+fn next(
+    alloc: Global,
+    listener: &mut Listener,
+    time: u64,
+    what: Option<What>,
+) -> Result<Option<Until>, AllocError> {
+    match what {
+        Some(what) => Ok(until(listener.next(alloc, &Event { time, what })?)),
+        None => Ok(None),
+    }
+}
+
+fn last(
+    alloc: Global,
+    listener: &mut Listener,
+    events: &[Option<What>; 3],
+) -> Result<Option<Until>, AllocError> {
+    next(alloc, listener, 1, events[0])?;
+    next(alloc, listener, 1, events[1])?;
+    next(alloc, listener, 2, events[2])
+}
+
 fn heard(
     alloc: Global,
-    before: [Option<What>; 2],
-    next: What,
-) -> Result<(Option<Until>, Option<u64>), AllocError> {
+    events: &[Option<What>; 3],
+) -> (Result<Option<Until>, AllocError>, Option<u64>) {
     let mut listener = Listener::new();
-    for what in before {
-        if let Some(what) = what {
-            let _ = listener.next(alloc, &Event { time: 1, what })?;
-        }
-    }
-    let ended = listener.next(
-        alloc,
-        &Event {
-            time: 2,
-            what: next,
-        },
-    )?;
-    let ended = ended.map(|transaction| transaction.until);
-    Ok((ended, listener.end().map(|transaction| transaction.from)))
+    let ended = last(alloc, &mut listener, events);
+    (ended, from(listener.end()))
 }
 
-// A START is heard on a free bus alone, and each event leaves the bus free or not.
 #[test]
-fn events_end_and_begin_transactions_as_the_table_says(rt: HostRuntime) -> Result<(), Fail> {
-    let (start, stop, bit) = (What::Start, What::Stop, What::Bit(true));
-    let (known, taken, lost) = (What::Known(true), What::Known(false), What::Unknown);
-    for (before, next, ended, going_on) in [
-        ([None, None], start, None, None),
-        ([None, Some(stop)], start, None, Some(2)),
-        ([Some(stop), Some(start)], start, None, Some(1)),
-        ([Some(stop), Some(start)], bit, None, Some(1)),
-        ([Some(stop), Some(start)], known, None, Some(1)),
-        ([Some(stop), Some(start)], taken, None, Some(1)),
-        ([Some(stop), Some(start)], lost, Some(Until::Cut(2)), None),
-        (
-            [Some(stop), Some(start)],
-            stop,
-            Some(Until::Stopped(2)),
-            None,
-        ),
-        ([None, Some(stop)], stop, None, None),
-        ([None, Some(stop)], bit, None, None),
-        ([None, Some(known)], start, None, Some(2)),
-        ([None, Some(taken)], start, None, None),
-        ([None, Some(lost)], start, None, None),
-        ([None, Some(bit)], start, None, None),
-        ([Some(stop), Some(known)], start, None, Some(2)),
-        ([Some(stop), Some(taken)], start, None, None),
-        ([Some(stop), Some(lost)], start, None, None),
-        ([Some(stop), Some(stop)], start, None, Some(2)),
-        ([Some(stop), Some(bit)], start, None, Some(2)),
-    ] {
-        assert!(rt; heard(rt.alloc(), before, next)? == (ended, going_on));
+fn events_end_and_begin_transactions_as_the_table_says(rt: HostRuntime) {
+    for (events, ended, going_on) in &HEARD {
+        assert!(rt; heard(rt.alloc(), events) == (Ok(*ended), *going_on));
     }
-    Ok(())
 }

@@ -4,7 +4,6 @@
 use message_tree::{Address, Bit, Count, Frame, Item, Tail};
 use places::{Offered, Place};
 use plan_core::Sends;
-use std::test::Fail;
 
 fn symbol(offered: Offered) -> u8 {
     match offered {
@@ -53,34 +52,42 @@ fn is_offered(sends: Sends<'_>, wire: &[u8], offers: &[u8]) -> bool {
     left.len() == 1 && left.first() == Some(&symbol(place.offered()))
 }
 
-// Where the byte may be the last or not, its acknowledge is open.
-#[test]
-fn a_read_offers_an_open_acknowledge_and_then_its_stop(rt: HostRuntime) -> Result<(), Fail> {
+// The wires of a read of two to four bytes, and what is offered along each.
+const READS: [(&str, &str); 4] = [
+    (
+        "10100111lhhhhhhhh0llllllll1s",
+        "10100xx1?????????0????????xs.",
+    ),
+    (
+        "10100001lhhhhhhhh0llllllll0hlhlhlhl1s",
+        "10100xx1?????????0????????x????????xs.",
+    ),
+    (
+        "10100101lhhhhhhhh0llllllll0hlhlhlhl0lhlhlhlh1s",
+        "10100xx1?????????0????????x????????x????????1s.",
+    ),
+    ("10100011hs", "10100xx1?s."),
+];
+
+fn are_offered(count: Count) -> bool {
     let frame = Frame::Read {
         address: Address::new(0x7c, 0b101_0000),
-        count: Count::between(2, 4).ok_or("a range")?,
+        count,
         after: Tail::Stop,
         refused: Tail::Stop,
     };
-    for (wire, offers) in [
-        (
-            "10100111lhhhhhhhh0llllllll1s",
-            "10100xx1?????????0????????xs.",
-        ),
-        (
-            "10100001lhhhhhhhh0llllllll0hlhlhlhl1s",
-            "10100xx1?????????0????????x????????xs.",
-        ),
-        (
-            "10100101lhhhhhhhh0llllllll0hlhlhlhl0lhlhlhlh1s",
-            "10100xx1?????????0????????x????????x????????1s.",
-        ),
-        ("10100011hs", "10100xx1?s."),
-    ] {
-        let sends = Sends::Message(&frame);
-        assert!(rt; is_offered(sends, wire.as_bytes(), offers.as_bytes()));
+    for (wire, offers) in &READS {
+        if !is_offered(Sends::Message(&frame), wire.as_bytes(), offers.as_bytes()) {
+            return false;
+        }
     }
-    Ok(())
+    true
+}
+
+// Where the byte may be the last or not, its acknowledge is open.
+#[test]
+fn a_read_offers_an_open_acknowledge_and_then_its_stop(rt: HostRuntime) {
+    assert!(rt; matches!(Count::between(2, 4), Some(count) if are_offered(count)));
 }
 
 #[test]

@@ -15,9 +15,13 @@ mod certificates;
 #[cfg(test)]
 mod cursor;
 #[cfg(test)]
+mod debugging;
+#[cfg(test)]
 mod devices;
 #[cfg(test)]
 mod dumps;
+#[cfg(test)]
+mod gates;
 #[cfg(test)]
 mod limits;
 #[cfg(test)]
@@ -32,5 +36,3 @@ mod queue;
 mod rehearsals;
 #[cfg(test)]
 mod workers;
-#[cfg(test)]
-mod yields;

@@ -121,38 +121,46 @@ fn has_faults(faults: &Faults) -> bool {
         && !faults.is_safe()
 }
 
-// Whether the walk of this pair has its number, and finds a fault.
-fn is_walked(alloc: Global, plan: &Plan, i: u32) -> Result<Option<bool>, AllocError> {
+// Whether a fault is found in this pair, where its walk and its search agree and the walk has its number.
+fn walked(alloc: Global, plan: &Plan, i: u32) -> Result<Option<bool>, AllocError> {
     if i >= plan.pair_count() {
         return Ok(None);
     }
-    let verdict = walk(alloc, plan, i)?;
-    let is_unsafe = is_unsafe(&verdict);
     let has_fault = first_fault(alloc, plan, i)?.is_some();
-    Ok(if verdict.pair == i && is_unsafe == has_fault {
-        Some(is_unsafe)
-    } else {
-        None
-    })
+    let verdict = walk(alloc, plan, i)?;
+    let is_right = verdict.pair == i && is_unsafe(&verdict) == has_fault;
+    Ok(if is_right { Some(has_fault) } else { None })
+}
+
+// Pairs, and whether a fault is found in them. The last is none of the plan.
+const WALKED: [(u32, Option<bool>); 8] = [
+    (0, Some(true)),
+    (1, Some(true)),
+    (2, Some(true)),
+    (16, Some(false)),
+    (71_928, Some(false)),
+    (143_854, Some(false)),
+    (143_855, Some(true)),
+    (143_856, None),
+];
+
+fn first_wrong(alloc: Global, plan: &Plan) -> Result<Option<u32>, AllocError> {
+    for (i, found) in &WALKED {
+        if walked(alloc, plan, *i)? != *found {
+            return Ok(Some(*i));
+        }
+    }
+    Ok(None)
+}
+
+fn has_lists(alloc: Global, plan: &Plan) -> Result<bool, AllocError> {
+    Ok(has_verdicts(&table(alloc, plan)?) && has_faults(&faults(alloc, plan)?))
 }
 
 #[test]
 fn the_widest_plan_has_all_its_verdicts(rt: HostRuntime) -> Result<(), Fail> {
-    let alloc = rt.alloc();
-    let plan = read_plan(alloc, WIDEST.as_bytes())?;
-    for (i, is_unsafe) in [
-        (0, true),
-        (1, true),
-        (2, true),
-        (16, false),
-        (71_928, false),
-        (143_854, false),
-        (143_855, true),
-    ] {
-        assert_eq!(rt; is_walked(alloc, &plan, i)?, Some(is_unsafe), "{i}");
-    }
-    assert!(rt; is_walked(alloc, &plan, 143_856)?.is_none());
-    assert!(rt; has_verdicts(&table(alloc, &plan)?));
-    assert!(rt; has_faults(&faults(alloc, &plan)?));
+    let plan = read_plan(rt.alloc(), WIDEST.as_bytes())?;
+    assert_eq!(rt; first_wrong(rt.alloc(), &plan), Ok(None));
+    assert!(rt; has_lists(rt.alloc(), &plan) == Ok(true));
     Ok(())
 }

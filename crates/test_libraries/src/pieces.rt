@@ -3,9 +3,8 @@
 use cert_check::{Answer, Checker, FeedError, check_certificate};
 use certificate::CertFault;
 use plan_core::Plan;
-use plan_text::read_plan;
+use plan_text::{PlanError, read_plan};
 use std::alloc::Global;
-use std::test::Fail;
 
 // Three writers, of which the last two may send the same byte.
 const SAFE: &str =
@@ -100,42 +99,44 @@ fn in_pieces(
 }
 
 // Whether the certificate is answered so: whole, byte by byte, in other pieces, and cut in two at every place.
-fn is_answered(alloc: Global, plan: &Plan, cert: &[u8], answer: Answer) -> Result<bool, FeedError> {
-    if check_certificate(alloc, plan, cert)? != answer {
-        return Ok(false);
-    }
-    for bytes in [1, 2, 7] {
-        if in_pieces(alloc, plan, cert, bytes, bytes)? != answer {
-            return Ok(false);
+fn is_answered(alloc: Global, plan: &Plan, cert: &[u8], answer: Answer) -> bool {
+    for bytes in &[1, 2, 7] {
+        if in_pieces(alloc, plan, cert, *bytes, *bytes) != Ok(answer) {
+            return false;
         }
     }
     for at in 0..cert.len() {
-        if in_pieces(alloc, plan, cert, at, cert.len())? != answer {
-            return Ok(false);
+        if in_pieces(alloc, plan, cert, at, cert.len()) != Ok(answer) {
+            return false;
         }
     }
-    Ok(true)
+    check_certificate(alloc, plan, cert) == Ok(answer)
 }
 
 // The first certificate of this plan that is answered otherwise, whole or in some pieces.
-fn first_wrong(
-    alloc: Global,
-    plan: &str,
-    certs: &[(&'static str, Answer)],
-) -> Result<Option<&'static str>, Fail> {
-    let plan = read_plan(alloc, plan.as_bytes())?;
+fn first_wrong<'a>(alloc: Global, plan: &Plan, certs: &[(&'a str, Answer)]) -> Option<&'a str> {
     for (cert, answer) in certs {
-        if !is_answered(alloc, &plan, cert.as_bytes(), *answer)? {
-            return Ok(Some(*cert));
+        if !is_answered(alloc, plan, cert.as_bytes(), *answer) {
+            return Some(*cert);
         }
     }
-    Ok(None)
+    None
+}
+
+// The same, of a plan that is read.
+fn wrong_of<'a>(
+    alloc: Global,
+    plan: &str,
+    certs: &[(&'a str, Answer)],
+) -> Result<Option<&'a str>, PlanError> {
+    match read_plan(alloc, plan.as_bytes()) {
+        Ok(plan) => Ok(first_wrong(alloc, &plan, certs)),
+        Err(refusal) => Err(refusal),
+    }
 }
 
 #[test]
-fn certificates_have_one_answer_in_any_pieces(rt: HostRuntime) -> Result<(), Fail> {
-    let alloc = rt.alloc();
-    assert_eq!(rt; first_wrong(alloc, SAFE, &OF_SAFE)?, None);
-    assert_eq!(rt; first_wrong(alloc, UNSAFE, &OF_UNSAFE)?, None);
-    Ok(())
+fn certificates_have_one_answer_in_any_pieces(rt: HostRuntime) {
+    assert_eq!(rt; wrong_of(rt.alloc(), SAFE, &OF_SAFE), Ok(None));
+    assert_eq!(rt; wrong_of(rt.alloc(), UNSAFE, &OF_UNSAFE), Ok(None));
 }

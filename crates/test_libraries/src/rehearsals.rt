@@ -1,19 +1,14 @@
 // That a rehearsal is played in threads of their own, and the same whatever the order in which they run.
 
-use crate::yields::Yields;
+use crate::gates::{Flag, Yields};
 use bench_run::{Gate, run_bench};
-use bus_bench::OpenError;
-use report::{RunError, Status, Watched};
+use report::{Status, Watched};
 use std::alloc::Global;
 use std::sync::Wait;
 use std::sync::atomic::{AtomicU64, Ordering};
-use std::test::*;
 use std::thread;
 use std::thread::Threads;
 use std::time::{Clock, Duration};
-
-/// How often a player looks at the flags of the others before a test fails.
-const MOST_TURNS: u32 = 1_000_000;
 
 /// How often a bench is played by players that yield at random.
 const RUNS: u32 = 200;
@@ -35,13 +30,13 @@ B P2 .
 B B . . .
 ";
 
-// What a run answers to all three starters, who fill with ones on a bench whose targets acknowledge, and what it has
-// written.
-fn rehearse<R: Threads + Wait + Clock + Sync, G: Gate + Sync>(
+// Whether a run answers well, and writes the one rehearsal, to all three starters, who fill with ones on a bench whose targets
+// acknowledge.
+fn is_played<R: Threads + Wait + Clock + Sync, G: Gate + Sync>(
     rt: &R,
     alloc: Global,
     gate: &G,
-) -> Result<(Result<Status, RunError>, String), Fail> {
+) -> bool {
     let mut out = Watched::new(Vec::new(alloc));
     let answer = run_bench(
         rt,
@@ -54,10 +49,8 @@ fn rehearse<R: Threads + Wait + Clock + Sync, G: Gate + Sync>(
         "000000000000000000",
         gate,
     );
-    match String::from_utf8(out.into_inner()) {
-        Ok(text) => Ok((answer, text)),
-        Err(_) => Err(Fail::from("a report that is no text")),
-    }
+    answer == Ok(Status::Good)
+        && out.into_inner().as_slice() == b"wire 10010000l11001111ls\nwon b/n c/o\n".as_slice()
 }
 
 /// A slot after the first header, in which all three starters are still live.
@@ -71,10 +64,9 @@ const NEXT_TO_LAST: u32 = 17;
 #[derive(Drop)]
 struct Flags {
     seats: u64,
-    raised_first: AtomicU64,
-    raised_later: AtomicU64,
-    raised_last: AtomicU64,
-    missed: AtomicU64,
+    first: Flag,
+    later: Flag,
+    last: Flag,
     before: AtomicU64,
     after: AtomicU64,
 }
@@ -83,27 +75,12 @@ impl Flags {
     fn new(seats: u64) -> Flags {
         Flags {
             seats,
-            raised_first: AtomicU64::new(0),
-            raised_later: AtomicU64::new(0),
-            raised_last: AtomicU64::new(0),
-            missed: AtomicU64::new(0),
+            first: Flag::new(),
+            later: Flag::new(),
+            last: Flag::new(),
             before: AtomicU64::new(0),
             after: AtomicU64::new(0),
         }
-    }
-}
-
-impl Flags {
-    // Raises a flag, and waits until so many are.
-    fn meet(&self, raised: &AtomicU64, seats: u64) {
-        raised.fetch_add(1, Ordering::SeqCst);
-        for _ in 0..MOST_TURNS {
-            if raised.load(Ordering::SeqCst) >= seats {
-                return;
-            }
-            thread::yield_now();
-        }
-        self.missed.fetch_add(1, Ordering::SeqCst);
     }
 }
 
@@ -111,9 +88,9 @@ impl Gate for Flags {
     fn before(&self, _seat: u32, slot: u32) {
         self.before.fetch_add(1, Ordering::SeqCst);
         match slot {
-            0 => self.meet(&self.raised_first, self.seats),
-            LATER => self.meet(&self.raised_later, self.seats),
-            NEXT_TO_LAST => self.meet(&self.raised_last, self.seats.min(2)),
+            0 => self.first.raise(self.seats),
+            LATER => self.later.raise(self.seats),
+            NEXT_TO_LAST => self.last.raise(self.seats.min(2)),
             _ => {}
         }
     }
@@ -124,27 +101,21 @@ impl Gate for Flags {
 }
 
 #[test]
-fn all_starters_play_at_the_same_time(rt: HostRuntime) -> Result<(), Fail> {
+fn all_starters_play_at_the_same_time(rt: HostRuntime) {
     let gate = Flags::new(3);
-    let (answer, text) = rehearse(&rt, rt.alloc(), &gate)?;
-    assert_eq!(rt; answer, Ok(Status::Good));
-    assert_eq!(rt; text.as_str(), "wire 10010000l11001111ls\nwon b/n c/o\n");
-    assert_eq!(rt; gate.raised_first.load(Ordering::SeqCst), 3);
-    assert_eq!(rt; gate.raised_later.load(Ordering::SeqCst), 3);
-    assert_eq!(rt; gate.raised_last.load(Ordering::SeqCst), 2);
-    assert_eq!(rt; gate.missed.load(Ordering::SeqCst), 0);
-    Ok(())
+    assert!(rt; is_played(&rt, rt.alloc(), &gate));
+    assert!(rt;
+        gate.first.was_raised_by(3) && gate.later.was_raised_by(3) && gate.last.was_raised_by(2)
+    );
 }
 
 #[test]
-fn the_gate_is_called_once_round_each_slot(rt: HostRuntime) -> Result<(), Fail> {
+fn the_gate_is_called_once_round_each_slot(rt: HostRuntime) {
     let gate = Flags::new(1);
-    let (answer, _text) = rehearse(&rt, rt.alloc(), &gate)?;
-    assert_eq!(rt; answer, Ok(Status::Good));
+    assert!(rt; is_played(&rt, rt.alloc(), &gate));
     // The wire has 19 slots, and a/m loses in slot 11.
     assert_eq!(rt; gate.before.load(Ordering::SeqCst), 12 + 19 + 19);
     assert_eq!(rt; gate.after.load(Ordering::SeqCst), 12 + 19 + 19);
-    Ok(())
 }
 
 // The first seat sleeps so long that the others give their seats back.
@@ -164,46 +135,14 @@ impl<R: Clock> Gate for SlowSeat<'_, R> {
 }
 
 #[test]
-fn seats_that_were_given_back_are_played_by_turns(rt: HostRuntime) -> Result<(), Fail> {
-    let (answer, text) = rehearse(&rt, rt.alloc(), &SlowSeat { rt: &rt })?;
-    assert_eq!(rt; answer, Ok(Status::Good));
-    assert_eq!(rt; text.as_str(), "wire 10010000l11001111ls\nwon b/n c/o\n");
-    Ok(())
-}
-
-// A gate that yields at random.
-#[derive(Drop)]
-struct YieldingGate {
-    yields: Yields,
-}
-
-impl Gate for YieldingGate {
-    fn before(&self, _seat: u32, _slot: u32) {
-        self.yields.pass();
-    }
-
-    fn after(&self, _seat: u32, _slot: u32) {
-        self.yields.pass();
-    }
+fn seats_that_were_given_back_are_played_by_turns(rt: HostRuntime) {
+    assert!(rt; is_played(&rt, rt.alloc(), &SlowSeat { rt: &rt }));
 }
 
 #[test]
-fn players_that_yield_at_random_play_the_same(rt: HostRuntime) -> Result<(), Fail> {
-    let gate = YieldingGate {
-        yields: Yields::new(),
-    };
+fn players_that_yield_at_random_play_the_same(rt: HostRuntime) {
+    let gate = Yields::new();
     for _ in 0..RUNS {
-        let (answer, text) = rehearse(&rt, rt.alloc(), &gate)?;
-        assert_eq!(rt; answer, Ok(Status::Good));
-        assert_eq!(rt; text.as_str(), "wire 10010000l11001111ls\nwon b/n c/o\n");
+        assert!(rt; is_played(&rt, rt.alloc(), &gate));
     }
-    Ok(())
-}
-
-// The program prints `memory` in its place.
-#[test]
-fn want_of_memory_prints_its_code(rt: HostRuntime) -> Result<(), Fail> {
-    let error = OpenError::NoMemory;
-    assert_eq!(rt; format!(in rt.alloc(); "{error}")?.as_str(), "B4");
-    Ok(())
 }

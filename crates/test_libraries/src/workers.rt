@@ -1,18 +1,15 @@
 // What several workers find, and that they really work in threads of their own.
 
-use crate::yields::Yields;
+use crate::gates::{Flag, Yields};
 use plan_core::Plan;
 use plan_text::read_plan;
 use report::{Watched, run_check};
-use std::alloc::{AllocError, Global};
+use std::alloc::Global;
+use std::fmt::Debug;
 use std::sync::atomic::{AtomicU64, Ordering};
-use std::test::*;
-use std::thread;
+use std::test::Fail;
 use std::thread::Threads;
 use verdicts::{Gate, MOST_WORKERS, NoGate, TableError, faults, faults_with, table, table_with};
-
-/// How often a worker looks at the flags of the others before a test fails.
-const MOST_TURNS: u32 = 1_000_000;
 
 /// How often each plan is checked with workers that yield at random.
 const RUNS: u32 = 200;
@@ -53,66 +50,63 @@ controller c7 m n o ;
 
 // ---- what is found
 
-// All verdicts, as text: by one thread, and by so many workers.
-fn table_text(alloc: Global, plan: &Plan) -> Result<String, AllocError> {
-    let table = table(alloc, plan)?;
-    format!(in alloc; "{table:?}")
+// All that is found, as text.
+fn text_of<T: Debug + Drop, E: Drop>(alloc: Global, found: Result<T, E>) -> Option<String> {
+    match found {
+        Ok(found) => format!(in alloc; "{found:?}").ok(),
+        Err(_) => None,
+    }
 }
 
-fn shared_table_text<R: Threads + Sync>(
-    rt: &R,
-    alloc: Global,
-    plan: &Plan,
-    workers: u32,
-) -> Result<String, TableError> {
-    let table = table_with(rt, alloc, plan, workers, &NoGate)?;
-    Ok(format!(in alloc; "{table:?}")?)
+fn are_same(alone: Option<String>, shared: Option<String>) -> bool {
+    alone.is_some() && alone == shared
 }
 
-// All faults, as text: by one thread, and by so many workers.
-fn faults_text(alloc: Global, plan: &Plan) -> Result<String, AllocError> {
-    let faults = faults(alloc, plan)?;
-    format!(in alloc; "{faults:?}")
+// All verdicts, by one thread and by so many workers.
+fn are_tables_same<R: Threads + Sync>(rt: &R, alloc: Global, plan: &Plan, workers: u32) -> bool {
+    let alone = text_of(alloc, table(alloc, plan));
+    are_same(
+        alone,
+        text_of(alloc, table_with(rt, alloc, plan, workers, &NoGate)),
+    )
 }
 
-fn shared_faults_text<R: Threads + Sync, G: Gate + Sync>(
+// All faults, by one thread and by so many workers.
+fn are_faults_same<R: Threads + Sync, G: Gate + Sync>(
     rt: &R,
     alloc: Global,
     plan: &Plan,
     workers: u32,
     gate: &G,
-) -> Result<String, TableError> {
-    let faults = faults_with(rt, alloc, plan, workers, gate)?;
-    Ok(format!(in alloc; "{faults:?}")?)
+) -> bool {
+    let alone = text_of(alloc, faults(alloc, plan));
+    are_same(
+        alone,
+        text_of(alloc, faults_with(rt, alloc, plan, workers, gate)),
+    )
 }
 
 #[test]
 fn workers_find_what_one_thread_finds(rt: HostRuntime) -> Result<(), Fail> {
-    let alloc = rt.alloc();
-    for text in [FORTY, CLASHING] {
-        let plan = read_plan(alloc, text.as_bytes())?;
-        for workers in [1u32, 2, 8] {
-            assert!(rt;
-                shared_table_text(&rt, alloc, &plan, workers)? == table_text(alloc, &plan)?
-            );
-            assert!(rt;
-                shared_faults_text(&rt, alloc, &plan, workers, &NoGate)?
-                    == faults_text(alloc, &plan)?
-            );
+    for text in &[FORTY, CLASHING] {
+        let plan = read_plan(rt.alloc(), text.as_bytes())?;
+        for workers in &[1u32, 2, 8] {
+            assert!(rt; are_tables_same(&rt, rt.alloc(), &plan, *workers));
+            assert!(rt; are_faults_same(&rt, rt.alloc(), &plan, *workers, &NoGate));
         }
     }
     Ok(())
 }
 
 #[test]
-fn no_worker_and_nine_workers_are_refused(rt: HostRuntime) -> Result<(), Fail> {
-    let alloc = rt.alloc();
-    let plan = read_plan(alloc, FORTY.as_bytes())?;
-    for workers in [0u32, 9] {
-        let found = table_with(&rt, alloc, &plan, workers, &NoGate).err();
-        assert!(rt; found == Some(TableError::Workers));
-        let found = faults_with(&rt, alloc, &plan, workers, &NoGate).err();
-        assert!(rt; found == Some(TableError::Workers));
+fn workers_that_yield_at_random_find_the_same(rt: HostRuntime) -> Result<(), Fail> {
+    let gate = Yields::new();
+    for text in &[FORTY, CLASHING] {
+        let plan = read_plan(rt.alloc(), text.as_bytes())?;
+        for run in 0..RUNS {
+            let workers = 2 + run % (MOST_WORKERS - 1);
+            assert!(rt; are_faults_same(&rt, rt.alloc(), &plan, workers, &gate));
+        }
     }
     Ok(())
 }
@@ -124,9 +118,8 @@ fn no_worker_and_nine_workers_are_refused(rt: HostRuntime) -> Result<(), Fail> {
 #[derive(Drop)]
 struct Flags {
     workers: u64,
-    raised: AtomicU64,
-    missed: AtomicU64,
-    // The workers that raised a flag, as bits.
+    flag: Flag,
+    // The workers that raised the flag, as bits.
     who: AtomicU64,
     begun: AtomicU64,
     ended: AtomicU64,
@@ -136,18 +129,16 @@ impl Flags {
     fn new(workers: u32) -> Flags {
         Flags {
             workers: u64::from(workers),
-            raised: AtomicU64::new(0),
-            missed: AtomicU64::new(0),
+            flag: Flag::new(),
             who: AtomicU64::new(0),
             begun: AtomicU64::new(0),
             ended: AtomicU64::new(0),
         }
     }
 
-    // Whether each worker raised a flag, none waited in vain, and so many pieces of work have begun and ended.
+    // Whether each worker raised the flag, none waited in vain, and so many pieces of work have begun and ended.
     fn have_met(&self, pieces: u64) -> bool {
-        self.raised.load(Ordering::SeqCst) == self.workers
-            && self.missed.load(Ordering::SeqCst) == 0
+        self.flag.was_raised_by(self.workers)
             && u64::from(self.who.load(Ordering::SeqCst).count_ones()) == self.workers
             && self.begun.load(Ordering::SeqCst) == pieces
             && self.ended.load(Ordering::SeqCst) == pieces
@@ -157,19 +148,11 @@ impl Flags {
 impl Gate for Flags {
     fn before(&self, worker: u32, pair: u32) {
         self.begun.fetch_add(1, Ordering::SeqCst);
-        if u64::from(pair) >= self.workers {
-            return;
+        if u64::from(pair) < self.workers {
+            let bit = 1u64.checked_shl(worker).unwrap_or(0);
+            self.who.fetch_or(bit, Ordering::SeqCst);
+            self.flag.raise(self.workers);
         }
-        let bit = 1u64.checked_shl(worker).unwrap_or(0);
-        self.who.fetch_or(bit, Ordering::SeqCst);
-        self.raised.fetch_add(1, Ordering::SeqCst);
-        for _ in 0..MOST_TURNS {
-            if self.raised.load(Ordering::SeqCst) >= self.workers {
-                return;
-            }
-            thread::yield_now();
-        }
-        self.missed.fetch_add(1, Ordering::SeqCst);
     }
 
     fn after(&self, _worker: u32, _pair: u32) {
@@ -178,43 +161,39 @@ impl Gate for Flags {
 }
 
 // 40 participants of 8 controllers are 700 pairs, and five messages have 25 places of two senders.
-fn meet_at_tables<R: Threads + Sync>(
-    rt: &R,
-    alloc: Global,
-    plan: &Plan,
-    workers: u32,
-) -> Result<bool, TableError> {
+fn meet_at_tables<R: Threads + Sync>(rt: &R, alloc: Global, plan: &Plan, workers: u32) -> bool {
     let flags = Flags::new(workers);
-    table_with(rt, alloc, plan, workers, &flags)?;
-    Ok(flags.have_met(700))
+    table_with(rt, alloc, plan, workers, &flags).is_ok() && flags.have_met(700)
 }
 
-fn meet_at_faults<R: Threads + Sync>(
-    rt: &R,
-    alloc: Global,
-    plan: &Plan,
-    workers: u32,
-) -> Result<bool, TableError> {
+fn meet_at_faults<R: Threads + Sync>(rt: &R, alloc: Global, plan: &Plan, workers: u32) -> bool {
     let flags = Flags::new(workers);
-    faults_with(rt, alloc, plan, workers, &flags)?;
-    Ok(flags.have_met(25))
+    faults_with(rt, alloc, plan, workers, &flags).is_ok() && flags.have_met(25)
+}
+
+// No worker, and more than eight, are refused.
+fn are_refused<R: Threads + Sync>(rt: &R, alloc: Global, plan: &Plan, workers: u32) -> bool {
+    table_with(rt, alloc, plan, workers, &NoGate).err() == Some(TableError::Workers)
+        && faults_with(rt, alloc, plan, workers, &NoGate).err() == Some(TableError::Workers)
 }
 
 #[test]
-fn all_workers_walk_and_compare_at_the_same_time(rt: HostRuntime) -> Result<(), Fail> {
-    let alloc = rt.alloc();
-    let plan = read_plan(alloc, FORTY.as_bytes())?;
-    for workers in [2u32, 8] {
-        assert!(rt; meet_at_tables(&rt, alloc, &plan, workers)?);
-        assert!(rt; meet_at_faults(&rt, alloc, &plan, workers)?);
+fn one_to_eight_workers_walk_and_compare_at_the_same_time(rt: HostRuntime) -> Result<(), Fail> {
+    let plan = read_plan(rt.alloc(), FORTY.as_bytes())?;
+    for workers in &[2u32, 8] {
+        assert!(rt; meet_at_tables(&rt, rt.alloc(), &plan, *workers));
+        assert!(rt; meet_at_faults(&rt, rt.alloc(), &plan, *workers));
+    }
+    for workers in &[0u32, 9] {
+        assert!(rt; are_refused(&rt, rt.alloc(), &plan, *workers));
     }
     Ok(())
 }
 
 fn meet_in_a_check<R: Threads + Sync>(rt: &R, alloc: Global, workers: u32) -> bool {
     let flags = Flags::new(workers);
-    let mut plan = Watched::new(FORTY.as_bytes());
     let mut page = Watched::new(Vec::new(alloc));
+    let mut plan = Watched::new(FORTY.as_bytes());
     let ended = run_check(rt, alloc, &mut plan, &mut page, workers, &flags);
     ended.is_ok()
         && page.into_inner().as_slice() == b"safe: 700 pairs\n".as_slice()
@@ -223,40 +202,7 @@ fn meet_in_a_check<R: Threads + Sync>(rt: &R, alloc: Global, workers: u32) -> bo
 
 #[test]
 fn a_check_uses_all_its_workers(rt: HostRuntime) {
-    for workers in [2u32, 8] {
-        assert!(rt; meet_in_a_check(&rt, rt.alloc(), workers));
+    for workers in &[2u32, 8] {
+        assert!(rt; meet_in_a_check(&rt, rt.alloc(), *workers));
     }
-}
-
-// A gate that yields at random.
-#[derive(Drop)]
-struct YieldingGate {
-    yields: Yields,
-}
-
-impl Gate for YieldingGate {
-    fn before(&self, _worker: u32, _pair: u32) {
-        self.yields.pass();
-    }
-
-    fn after(&self, _worker: u32, _pair: u32) {
-        self.yields.pass();
-    }
-}
-
-#[test]
-fn workers_that_yield_at_random_find_the_same(rt: HostRuntime) -> Result<(), Fail> {
-    let alloc = rt.alloc();
-    let gate = YieldingGate {
-        yields: Yields::new(),
-    };
-    for text in [FORTY, CLASHING] {
-        let plan = read_plan(alloc, text.as_bytes())?;
-        let alone = faults_text(alloc, &plan)?;
-        for run in 0..RUNS {
-            let workers = 2 + run % (MOST_WORKERS - 1);
-            assert!(rt; shared_faults_text(&rt, alloc, &plan, workers, &gate)? == alone);
-        }
-    }
-    Ok(())
 }

@@ -1,101 +1,91 @@
 // Readers of whole dumps and of dumps in pieces, and what they answer as one line.
 
+use growing_text::Text;
 use std::alloc::{AllocError, Global};
 use vcd_read::{Level, Reader, Sample, VcdError};
 
 /// What a reader answers for a dump that comes in pieces of so many bytes: a word for each sample, or the refusal. The
 /// samples are cleared after each piece. A piece for which memory was refused is fed once more.
 pub fn in_pieces(alloc: Global, dump: &[u8], bytes: usize) -> Result<String, AllocError> {
-    let mut line = String::new(alloc);
     let mut reader = Reader::new(alloc, "scl", "sda")?;
-    match feed_pieces(&mut reader, &mut line, dump, bytes)? {
-        Some(refusal) => refused(alloc, &mut reader, refusal),
-        None => put_end(line, reader.end()),
-    }
+    let mut line = Text::new(alloc);
+    let fed = feed_pieces(&mut reader, &mut line, dump, bytes);
+    ended(alloc, reader, line, fed)
 }
 
 // The first refusal, after the samples before it.
 fn feed_pieces(
     reader: &mut Reader,
-    line: &mut String,
+    line: &mut Text,
     dump: &[u8],
     bytes: usize,
-) -> Result<Option<VcdError>, AllocError> {
+) -> Result<(), VcdError> {
     for piece in dump.chunks(bytes.max(1)) {
-        let mut answer = reader.feed(piece);
-        if answer == Err(VcdError::NoMemory) {
-            answer = reader.feed(piece);
-        }
-        if let Err(refusal) = answer {
-            return Ok(Some(refusal));
-        }
-        put_samples(line, reader.samples())?;
+        feed(reader, piece)?;
+        push_samples(line, reader.samples());
         reader.clear_samples();
     }
-    Ok(None)
+    Ok(())
+}
+
+fn feed(reader: &mut Reader, piece: &[u8]) -> Result<(), VcdError> {
+    match reader.feed(piece) {
+        Err(VcdError::NoMemory) => reader.feed(piece),
+        answer => answer,
+    }
 }
 
 /// The same for a dump in two pieces, from which nothing is cleared.
 fn cut_at(alloc: Global, dump: &[u8], at: usize) -> Result<String, AllocError> {
-    let (first, second) = dump.split_at(at.min(dump.len()));
     let mut reader = Reader::new(alloc, "scl", "sda")?;
-    for piece in [first, second] {
-        if let Err(refusal) = reader.feed(piece) {
-            return refused(alloc, &mut reader, refusal);
-        }
-    }
-    put_end(String::new(alloc), reader.end())
+    let fed = feed_both(&mut reader, dump.split_at(at.min(dump.len())));
+    ended(alloc, reader, Text::new(alloc), fed)
+}
+
+fn feed_both(reader: &mut Reader, pieces: (&[u8], &[u8])) -> Result<(), VcdError> {
+    reader.feed(pieces.0)?;
+    reader.feed(pieces.1)
 }
 
 // What a reader of lines with these names answers for a whole dump.
 fn named(alloc: Global, scl: &str, sda: &str, dump: &[u8]) -> Result<String, AllocError> {
     let mut reader = Reader::new(alloc, scl, sda)?;
-    if let Err(refusal) = reader.feed(dump) {
-        return refused(alloc, &mut reader, refusal);
-    }
-    put_end(String::new(alloc), reader.end())
+    let fed = reader.feed(dump);
+    ended(alloc, reader, Text::new(alloc), fed)
 }
 
-// A reader that has refused answers the same for any other piece.
-fn refused(alloc: Global, reader: &mut Reader, refusal: VcdError) -> Result<String, AllocError> {
-    match reader.feed(b"\n#0 $end ") {
-        Err(again) if again == refusal => format!(in alloc; "{refusal}"),
-        _ => String::from_str(alloc, "another answer"),
+// The line, with what the reader ends with, or the refusal. A reader that has refused answers the same for any other piece.
+fn ended(
+    alloc: Global,
+    mut reader: Reader,
+    mut line: Text,
+    fed: Result<(), VcdError>,
+) -> Result<String, AllocError> {
+    let is_same = fed.is_ok() || reader.feed(b"\n#0 $end ") == fed;
+    match fed.and(reader.end()) {
+        Ok(samples) => push_samples(&mut line, samples.as_slice()),
+        Err(refusal) if is_same => return format!(in alloc; "{refusal}"),
+        Err(_) => line.push("another answer"),
     }
+    line.finish()
 }
 
-fn put_end(mut line: String, end: Result<Vec<Sample>, VcdError>) -> Result<String, AllocError> {
-    match end {
-        Ok(samples) => put_samples(&mut line, samples.as_slice())?,
-        Err(refusal) => {
-            line.clear();
-            write!(line, "{refusal}")?;
-        }
-    }
-    Ok(line)
-}
-
-fn put_samples(line: &mut String, samples: &[Sample]) -> Result<(), AllocError> {
+fn push_samples(line: &mut Text, samples: &[Sample]) {
     for sample in samples {
         if !line.is_empty() {
-            line.push(' ')?;
+            line.push(" ");
         }
-        write!(
-            line,
-            "{}{}{}",
-            sample.time,
-            letter(sample.scl),
-            letter(sample.sda)
-        )?;
+        line.push_number(sample.time);
+        line.push(letter(sample.scl));
+        line.push(letter(sample.sda));
     }
-    Ok(())
 }
 
-fn letter(level: Level) -> char {
+fn letter(level: Level) -> &'static str {
     match level {
-        Level::Low => 'L',
-        Level::High => 'H',
-        Level::Unknown => 'U',
+        Level::Low => "L",
+        Level::High => "H",
+        Level::Unknown => "U",
     }
 }
 
@@ -117,8 +107,8 @@ pub fn other_answer(
     dump: &[u8],
     answer: &str,
 ) -> Result<Option<String>, AllocError> {
-    for bytes in [dump.len(), 1, 2, 7] {
-        let found = in_pieces(alloc, dump, bytes)?;
+    for bytes in &[dump.len(), 1, 2, 7] {
+        let found = in_pieces(alloc, dump, *bytes)?;
         if found.as_str() != answer {
             return Ok(Some(format!(in alloc; "in pieces of {bytes} bytes: {found}")?));
         }

@@ -1,49 +1,60 @@
 // Captures, and what they say.
 
 use super::readers::{in_pieces, is_named, other_answer};
-use super::texts::{DEFINITIONS, KINDS, Kind};
+use super::texts::{DEFINITIONS, KINDS, Kind, Row};
 use std::alloc::{AllocError, Global};
 use std::test::Fail;
 use vcd_read::{Reader, VcdError};
 
+// What a row is answered, where it is not answered so.
+fn wrong(alloc: Global, definitions: &str, row: &Row) -> Result<Option<String>, AllocError> {
+    let (text, answer) = *row;
+    let dump = format!(in alloc; "{definitions}{text}")?;
+    match other_answer(alloc, dump.as_bytes(), answer)? {
+        Some(other) => Ok(Some(format!(in alloc; "{text}: {other}")?)),
+        None => Ok(None),
+    }
+}
+
 // The first row that is not answered so, with what it is answered.
 fn wrong_row(alloc: Global, kind: Kind) -> Result<Option<String>, AllocError> {
-    for (text, answer) in kind.rows() {
-        let dump = format!(in alloc; "{}{text}", kind.definitions())?;
-        if let Some(other) = other_answer(alloc, dump.as_bytes(), answer)? {
-            return Ok(Some(format!(in alloc; "{text}: {other}")?));
+    for row in kind.rows() {
+        let wrong = wrong(alloc, kind.definitions(), row)?;
+        if wrong.is_some() {
+            return Ok(wrong);
         }
     }
     Ok(None)
 }
 
 #[test]
-fn dumps_have_their_samples_or_their_refusals(rt: HostRuntime) -> Result<(), Fail> {
-    for kind in KINDS {
-        let wrong = wrong_row(rt.alloc(), kind)?;
-        assert_eq!(rt; wrong.as_deref(), None);
+fn dumps_have_their_samples_or_their_refusals(rt: HostRuntime) {
+    for kind in &KINDS {
+        assert_eq!(rt; wrong_row(rt.alloc(), *kind), Ok(None));
     }
-    Ok(())
 }
 
+const NAMED: &str =
+    "$var wire 1 a clk $end $var wire 1 b dat $end $enddefinitions $end 1a 0b #3 xa";
+
+const NAMES: [(&str, &str, &str); 7] = [
+    ("clk", "dat", "0HL 3UL"),
+    ("dat", "clk", "0LH 3LU"),
+    ("clk", "clk", "0HH 3UU"),
+    ("clk", "scl", "V1 sda"),
+    ("", "dat", "V1 scl"),
+    ("clk dat", "dat", "V1 scl"),
+    ("CLK", "dat", "V1 scl"),
+];
+
 #[test]
-fn lines_of_other_names(rt: HostRuntime) -> Result<(), Fail> {
-    let dump = "$var wire 1 a clk $end $var wire 1 b dat $end $enddefinitions $end 1a 0b #3 xa";
-    for (scl, sda, answer) in [
-        ("clk", "dat", "0HL 3UL"),
-        ("dat", "clk", "0LH 3LU"),
-        ("clk", "clk", "0HH 3UU"),
-        ("clk", "scl", "V1 sda"),
-        ("", "dat", "V1 scl"),
-        ("clk dat", "dat", "V1 scl"),
-        ("CLK", "dat", "V1 scl"),
-    ] {
+fn lines_of_other_names(rt: HostRuntime) {
+    for (scl, sda, answer) in &NAMES {
         assert!(rt;
-            is_named(rt.alloc(), scl, sda, dump.as_bytes(), answer)?,
+            is_named(rt.alloc(), scl, sda, NAMED.as_bytes(), answer) == Ok(true),
             "{scl}, {sda}"
         );
     }
-    Ok(())
 }
 
 // A time that goes back is refused with the white space behind it, and so is all that comes after.
@@ -59,19 +70,26 @@ fn is_refused_behind(reader: &mut Reader) -> bool {
         && reader.feed(b"0!") == refused
 }
 
+fn refused_behind(alloc: Global) -> Result<Option<VcdError>, AllocError> {
+    let mut reader = Reader::new(alloc, "scl", "sda")?;
+    let is_refused = is_refused_behind(&mut reader);
+    let refusal = reader.end().err();
+    Ok(if is_refused { refusal } else { None })
+}
+
 #[test]
-fn a_refusal_comes_with_the_white_space_behind_its_token(rt: HostRuntime) -> Result<(), Fail> {
-    let mut reader = Reader::new(rt.alloc(), "scl", "sda")?;
-    assert!(rt; is_refused_behind(&mut reader));
-    assert!(rt; reader.end().err() == Some(VcdError::TimeBack(8)));
-    Ok(())
+fn a_refusal_comes_with_the_white_space_behind_its_token(rt: HostRuntime) {
+    assert!(rt; refused_behind(rt.alloc()) == Ok(Some(VcdError::TimeBack(8))));
 }
 
 // Without a refused allocation each piece is fed once; 'rt try --test --fail-alloc N' refuses the Nth.
+fn is_fed_again(alloc: Global) -> Result<bool, AllocError> {
+    let dump = format!(in alloc; "{DEFINITIONS}#3 1! 1\" #4 0!")?;
+    Ok(in_pieces(alloc, dump.as_bytes(), 40)?.as_str() == "3HH 4LH")
+}
+
 #[test]
 fn a_piece_is_fed_again_after_want_of_memory(rt: HostRuntime) -> Result<(), Fail> {
-    let dump = format!(in rt.alloc(); "{DEFINITIONS}#3 1! 1\" #4 0!")?;
-    let found = in_pieces(rt.alloc(), dump.as_bytes(), 40)?;
-    assert_eq!(rt; found.as_str(), "3HH 4LH");
+    assert!(rt; is_fed_again(rt.alloc())?);
     Ok(())
 }

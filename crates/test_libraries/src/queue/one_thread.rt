@@ -24,14 +24,11 @@ fn ask(thief: &mut Thief) -> Take
 fn is_ended_by_a_thief(owner: Owner, mut thieves: Vec<Thief>) -> bool
     requires { All (λ thief. thief.queue ≡ owner.queue) thieves.items }
 {
-    if thieves.len() != 1
-        || ask(&mut thieves[0]) != Take::Pair(0)
-        || ask(&mut thieves[0]) != Take::Empty
-        || ask(&mut thieves[0]) != Take::Empty
-    {
-        return false;
-    }
-    settle(owner, thieves).is_ok()
+    let is_ended = thieves.len() == 1
+        && ask(&mut thieves[0]) == Take::Pair(0)
+        && ask(&mut thieves[0]) == Take::Empty
+        && ask(&mut thieves[0]) == Take::Empty;
+    settle(owner, thieves).is_ok() && is_ended
 }
 
 #[test]
@@ -41,23 +38,37 @@ fn a_thief_alone_finds_the_end(rt: HostRuntime) -> Result<(), Fail> {
     Ok(())
 }
 
+// The owner takes so many numbers, and then finds the end, time after time.
+fn is_ended_by_its_owner(mut owner: Owner, thieves: Vec<Thief>, numbers: u32) -> bool
+    requires { All (λ thief. thief.queue ≡ owner.queue) thieves.items }
+{
+    let are_taken = are_taken(&mut owner, numbers);
+    let is_ended = owner.take().is_none() && owner.take().is_none();
+    settle(owner, thieves).is_ok() && are_taken && is_ended
+}
+
+fn are_taken(owner: &mut Owner, numbers: u32) -> bool
+    ensures { owner.new.queue ≡ owner.old.queue }
+{
+    for i in 0..numbers {
+        if owner.take() != Some(i) {
+            return false;
+        }
+    }
+    true
+}
+
 #[test]
 fn no_numbers_and_the_most_thieves(rt: HostRuntime) -> Result<(), Fail> {
-    let (mut owner, thieves) = open_queue(rt.alloc(), 0, MOST_THIEVES)?;
+    let (owner, thieves) = open_queue(rt.alloc(), 0, MOST_THIEVES)?;
     assert!(rt; thieves.len() == MOST_THIEVES as usize);
-    assert!(rt; owner.take().is_none());
-    assert!(rt; owner.take().is_none());
-    assert!(rt; settle(owner, thieves).is_ok());
+    assert!(rt; is_ended_by_its_owner(owner, thieves, 0));
     Ok(())
 }
 
 #[test]
 fn the_most_numbers_and_no_thief(rt: HostRuntime) -> Result<(), Fail> {
-    let (mut owner, thieves) = open_queue(rt.alloc(), MOST_NUMBERS, 0)?;
-    for i in 0..MOST_NUMBERS {
-        assert!(rt; owner.take() == Some(i));
-    }
-    assert!(rt; owner.take().is_none());
-    assert!(rt; settle(owner, thieves).is_ok());
+    let (owner, thieves) = open_queue(rt.alloc(), MOST_NUMBERS, 0)?;
+    assert!(rt; is_ended_by_its_owner(owner, thieves, MOST_NUMBERS));
     Ok(())
 }
