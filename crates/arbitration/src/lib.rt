@@ -5,7 +5,6 @@
 mod beginnings;
 mod bits;
 mod compare;
-mod endings;
 mod frames;
 pub mod laws;
 mod laying;
