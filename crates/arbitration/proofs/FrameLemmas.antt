@@ -1,6 +1,6 @@
 -- Frames by their numbers.
 use Rattle.std.specs.Bool.{OnTrue}
-use Rattle.std.proofs.Common.{◌≡◌, ℕ, Bool, true, false, zero, suc, ◌+◌, ◌<◌, ◌≤◌, ◌^◌, Some, slice_get, List, [], ◌∷◌, ◌++◌, map, length, length-append, append_assoc, append-nil, refl, ap, sym, ◌∙◌, subst, arith, inl, inr, ◌⊎◌}
+use Rattle.std.proofs.Common.{◌≡◌, ℕ, Bool, true, false, zero, suc, ◌+◌, ◌<◌, ◌≤◌, ◌^◌, Some, slice_get, List, [], ◌∷◌, ◌++◌, map, drop, length, length-append, append_assoc, append-nil, refl, ap, sym, ◌∙◌, subst, arith, inl, inr, ◌⊎◌}
 use Rattle.std.proofs.lemmas.List.{map-append}
 use Rattle.std.proofs.lemmas.Option.{slice_get_within}
 use Rattle.plan_core.proofs.ListLemmas.{some_at}
@@ -16,7 +16,7 @@ use Rattle.arbitration.specs.declared.rows.NumberedByte.{NumberedByte}
 use Rattle.arbitration.specs.declared.rows.Row.{Row}
 use Rattle.message_tree.specs.Patterns.{pattern_bits}
 use Rattle.arbitration.specs.Choices.{AreChoices}
-use Rattle.arbitration.specs.Frames.{Names, Grows, AllTold, AreBeginnings, IsBegun, IsFrame, IsRow, next_height, bytes_height, row_height, frame_height, step_of, steps_of, row_tree, IsInside, IsEntry, AreFrames, next_tree, again_or_stop, frame_of, trees_after, trees_of}
+use Rattle.arbitration.specs.Frames.{Names, Grows, AllTold, AreBeginnings, IsBegun, IsEnded, IsFrame, IsRow, rest_after, next_height, bytes_height, row_height, frame_height, step_of, steps_of, row_tree, IsInside, IsEntry, AreFrames, next_tree, again_or_stop, frame_of, trees_after, trees_of}
 use Rattle.arbitration.specs.Ways.{AreOutcomes, Step, with_bytes}
 use Rattle.arbitration.proofs.RowLemmas.{told_more}
 
@@ -152,9 +152,20 @@ module _ (old new : List Entry) (grows : Grows old new) where
       let t = trees_grow in
       rw t.1 (frame_kept (trees_of old) t.0 frame (omega (arith, l, trees_long old)))
 
+  rest_grown : (row : Row) (k : ℕ) → row_height row ≤ length old → rest_after k (trees_of new) row ≡ rest_after k (trees_of old) row
+  rest_grown row k l =
+      ap (λ (ss : List Step). with_bytes (drop k ss) (last (next_tree (trees_of new) row.last))) (steps_grown row l) ∙ ap (λ (t : TailTree). with_bytes (drop k (steps_of (trees_of old) row)) (last t)) (next_grown row.last (omega (arith, l)))
+
+  ended_grown : (row : Row) → row_height row ≤ length old → IsEnded (trees_of old) row → IsEnded (trees_of new) row
+  ended_grown row l is =
+      record {
+        all = is.all;
+        each = λ n k d m e. rw (rest_grown row k l) (is.each n k d m e);
+      }
+
   begun_grown : (frame : NumberedFrame) → frame_height frame ≤ length old → IsBegun old frame → IsBegun new frame
   begun_grown (Write w) l b =
-      subst (λ (ss : List Step). AreBeginnings ss w.acked.beginnings.items) (sym (steps_grown w.acked (omega (arith, l)))) b
+      (subst (λ (ss : List Step). AreBeginnings ss w.acked.beginnings.items) (sym (steps_grown w.acked (omega (arith, l)))) b.0, ended_grown w.acked (omega (arith, l)) b.1)
   begun_grown (Read r) l b = tt
 
   is_grown : (frame : NumberedFrame) → IsFrame old frame → IsFrame new frame

@@ -2,18 +2,21 @@
 use Rattle.std.proofs.Common.{◌≡◌, ℕ, zero, suc, ◌+◌, ◌*◌, ◌<◌, ◌≤◌, get_or, List, [], ◌∷◌, ◌++◌, map, take, drop, length, length-append, ap, sym, ◌∙◌, subst, arith, inl, inr}
 use Rattle.std.proofs.Math.Numerals.{add-one}
 use Rattle.std.proofs.lemmas.Bool.{cases_lt}
-use Rattle.std.proofs.lemmas.List.{take_all, take-append-le, get_or_append_left, get_or_push, length-map, drop_all, take-map, length-take-le}
+use Rattle.std.proofs.lemmas.List.{take_all, take-append-le, get_or_append_left, get_or_push, length-map, drop_all, take-map, drop-map, length-take-le}
 use Rattle.std.proofs.lemmas.Option.{get_or_from_slice_get}
 use Rattle.plan_core.proofs.ListLemmas.{some_at}
 use Rattle.message_tree.specs.Sizes.{payload_slots, tail_slots}
 use Rattle.message_tree.specs.Trees.{FrameTree, byte, last}
 use Rattle.arbitration.specs.declared.beginnings.Beginning.{Beginning}
 use Rattle.arbitration.specs.declared.rows.NumberedByte.{NumberedByte}
+use Rattle.arbitration.specs.declared.rows.Next.{Next}
 use Rattle.arbitration.specs.declared.rows.Row.{Row}
 use Rattle.message_tree.specs.Patterns.{pattern_bits}
 use Rattle.arbitration.specs.Choices.{AreChoices}
-use Rattle.arbitration.specs.Frames.{AreBeginnings, AllTold, next_tree, next_height, bytes_height, step_of, steps_of, rest_after, row_tree}
-use Rattle.arbitration.specs.Ways.{Step, with_bytes, IsBeginning}
+use Rattle.arbitration.specs.Frames.{AreBeginnings, AreEndings, IsSameFrom, AllTold, next_tree, next_height, bytes_height, step_of, steps_of, rest_after, row_tree}
+use Rattle.arbitration.specs.declared.spans.Outcomes.{Outcomes}
+use Rattle.message_tree.specs.Texts.{PayloadText}
+use Rattle.arbitration.specs.Ways.{AreOutcomes, Step, with_bytes, IsBeginning}
 use Rattle.arbitration.proofs.CommonBytes.{slots_left}
 
 -- ---- so many bytes
@@ -97,3 +100,21 @@ longer_beginnings ss s old all new are w e =
         | inr ge ↦ (let m : length old ≡ n = omega (arith, lt, ge, f, longer) in let a : length (ss ++ s ∷ []) ≤ suc n = omega (arith, m, l, long) in rw (get_or_push old new d n m, take_all (suc n) (ss ++ s ∷ []) a) w)
       ]),
     )
+
+-- ---- rows that are the same from a place on
+
+pub same_rest : (known : List FrameTree) (first second : Row) (k : ℕ) → IsSameFrom k first second → rest_after k known first ≡ rest_after k known second
+same_rest known first second k same =
+    let e = drop-map (step_of known) k first.bytes.items ∙ (ap (map (step_of known)) same.bytes ∙ sym (drop-map (step_of known) k second.bytes.items)) in
+    ap (λ (ss : List Step). with_bytes ss (last (next_tree known first.last))) e ∙ ap (λ (next : Next). with_bytes (drop k (steps_of known second)) (last (next_tree known next))) same.last
+
+-- ---- endings
+
+pub longer_endings : (known : List FrameTree) (row : Row) (old all : List Outcomes) (new : Outcomes) (k : ℕ) → AreEndings known row old → length old + k ≡ length row.bytes.items → AreOutcomes (PayloadText (rest_after k known row)) (PayloadText (rest_after k known row)) new → all ≡ old ++ new ∷ [] → AreEndings known row all
+longer_endings known row old all new k are at w e n m d l s =
+    let f = ap length e in
+    let longer = length-append old (new ∷ []) in
+    rw e (elim (cases_lt n (length old)) [
+      | inl less ↦ rw (get_or_append_left old (new ∷ []) d n less) (are n m d less s)
+      | inr ge ↦ (let i : length old ≡ n = omega (arith, l, ge, f, longer) in let j : k ≡ m = omega (arith, i, at, s) in rw (get_or_push old new d n i) (subst (λ (p : ℕ). AreOutcomes (PayloadText (rest_after p known row)) (PayloadText (rest_after p known row)) new) j w))
+    ])

@@ -3,7 +3,7 @@
 use Rattle.std.specs.Prelude.{◌≡◌, ℕ, suc, ◌+◌, ◌<◌, ◌≤◌, ◌^◌, max, Option, Some, None, List, [], ◌∷◌, ◌++◌, length, map, take, drop, get_or, slice_get}
 use Rattle.message_tree.specs.Sizes.{frame_slots}
 use Rattle.message_tree.specs.Patterns.{pattern_bits}
-use Rattle.message_tree.specs.Texts.{FrameText, write_header, read_header}
+use Rattle.message_tree.specs.Texts.{FrameText, PayloadText, write_header, read_header}
 use Rattle.message_tree.specs.Trees.{FrameTree, write, read, PayloadTree, last, TailTree, stop, again}
 use Rattle.arbitration.specs.declared.beginnings.Beginning.{Beginning}
 use Rattle.arbitration.specs.declared.frames.Entry.{Entry}
@@ -15,6 +15,7 @@ use Rattle.arbitration.specs.declared.rows.Next.{Next}
 use Rattle.arbitration.specs.declared.rows.Next.TheVariants.{Stop, Again}
 use Rattle.arbitration.specs.declared.rows.NumberedByte.{NumberedByte}
 use Rattle.arbitration.specs.declared.rows.Row.{Row}
+use Rattle.arbitration.specs.declared.spans.Outcomes.{Outcomes}
 use Rattle.arbitration.specs.Choices.{AreChoices}
 use Rattle.arbitration.specs.Ways.{AreOutcomes, IsBeginning, Step, with_bytes}
 
@@ -88,6 +89,22 @@ AreBeginnings ss beginnings =
     (length beginnings ≡ length ss) ×
     ((n : ℕ) (d : Beginning) → n < length beginnings → IsBeginning (take (suc n) ss) (take (suc n) ss) (get_or beginnings n d))
 
+-- what two come to who both send the last n of the bytes and what follows them is the entry n
+abbrev pub AreEndings : List FrameTree → Row → List Outcomes → Type 0
+AreEndings known row endings =
+    (n k : ℕ) (d : Outcomes) → n < length endings → n + k ≡ length row.bytes.items →
+    AreOutcomes (PayloadText (rest_after k known row)) (PayloadText (rest_after k known row)) (get_or endings n d)
+
+-- all endings of the row are there
+pub record IsEnded (known : List FrameTree) (row : Row) : Type 0 where
+  pub all : length row.endings.items ≡ length row.bytes.items + 1
+  pub each : AreEndings known row row.endings.items
+
+-- from this place on the two are the same
+pub record IsSameFrom (place : ℕ) (first second : Row) : Type 0 where
+  pub bytes : drop place first.bytes.items ≡ drop place second.bytes.items
+  pub last : first.last ≡ second.last
+
 -- what follows has a number
 abbrev pub IsInside : List Entry → Next → Type 0
 IsInside es next = next_height next ≤ length es
@@ -108,7 +125,7 @@ pub record IsRow (es : List Entry) (row : Row) : Type 0 where
   pub begun : AreBeginnings (steps_of (trees_of es) row) row.beginnings.items
 
 abbrev pub IsBegun : List Entry → NumberedFrame → Type 0
-IsBegun es (Write w) = AreBeginnings (steps_of (trees_of es) w.acked) w.acked.beginnings.items
+IsBegun es (Write w) = AreBeginnings (steps_of (trees_of es) w.acked) w.acked.beginnings.items × IsEnded (trees_of es) w.acked
 IsBegun es (Read r) = Unit {0}
 
 -- the frame is in terms of these entries, and no text of it has 2 to the power 32 slots

@@ -1,23 +1,23 @@
 // The outcomes of two frames, by their numbers.
 
-ghost use Rattle.std.specs.Prelude.{◌≡◌, ℕ, ◌<◌, ◌^◌, ◌+◌, ◌*◌, min, length};
+ghost use Rattle.std.specs.Prelude.{◌≡◌, ◌<◌, ◌≤◌, ◌^◌, ◌+◌, ◌*◌, min, length};
 ghost use Rattle.message_tree.specs.Bits.{NeverSplit};
 ghost use Rattle.message_tree.specs.Counts.{greatest_of};
 ghost use Rattle.message_tree.specs.Sizes.{payload_slots, tail_slots};
 ghost use Rattle.message_tree.specs.Texts.{message, ReadThen, FrameText, PayloadText, TailText};
 ghost use Rattle.message_tree.specs.Trees.{FrameTree};
-ghost use Rattle.arbitration.specs.Frames.{AreFrames, IsFrame, IsRow, IsInside, Names};
+ghost use Rattle.arbitration.specs.Frames.{AreFrames, IsFrame, IsRow, IsEnded, IsInside, IsSameFrom, Names};
 ghost use Rattle.arbitration.specs.Frames.{frame_of, next_tree, row_tree, rest_after, trees_of};
 ghost use Rattle.arbitration.specs.Ways.{AreOutcomes, AllHaveRoom, AckedText, Answered, Way, span_of, header_of};
 
 use crate::beginnings::in_byte;
 use crate::frames::{Frames, NumberedFrame, NumberedRead};
 use crate::reads::{reads_apart, reads_met};
-use crate::rows::{Next, Row, same_bytes};
+use crate::rows::{Next, Row, same_bytes, same_from};
 use crate::spans::Outcomes;
 
 impl Frames {
-    /// What two may come to who send the frames with these numbers. Who both send one were compared once for all.
+    /// What two may come to who send the frames with these numbers. Where both send one, that stands with it.
     #[cycle(compare)]
     pub(crate) fn numbers(&self, first: u32, second: u32) -> Outcomes
         requires frames { AreFrames self.now.entries.items }
@@ -96,19 +96,22 @@ impl Frames {
         }
     }
 
-    // Two rows of bytes: those that they have in common at once, and then byte by byte.
+    // Two rows of bytes: those that they begin with in common at once, then byte by byte, and those that they end with in
+    // common at once.
     #[cycle(compare)]
     fn rows(&self, first: &Row, second: &Row) -> Outcomes
         requires frames { AreFrames self.now.entries.items }
         requires first { IsRow self.now.entries.items first.now }
         requires second { IsRow self.now.entries.items second.now }
+        requires ended { IsEnded (trees_of self.now.entries.items) first.now }
         requires slots { payload_slots (row_tree (trees_of self.now.entries.items) first.now) < 2 ^ 32 }
         ensures { AreOutcomes (PayloadText (row_tree (trees_of self.now.entries.items) first.now))
             (PayloadText (row_tree (trees_of self.now.entries.items) second.now)) result }
     {
         let alike = same_bytes(first, second);
         let mut met = first.beginning(alike);
-        for k in alike..first.bytes.len().min(second.bytes.len()) {
+        let end = same_from(first, second, alike);
+        for k in alike..end {
             let a = &first.bytes[k];
             let b = &second.bytes[k];
             let parted = a.choices.partings(b.choices);
@@ -118,19 +121,26 @@ impl Frames {
             let refused = self.nexts(a.refused, b.refused);
             met = met.and(in_byte(parted, refused));
         }
-        met.followed_by(self.ends(first, second))
+        met.followed_by(self.ends(first, second, end))
     }
 
-    // What follows where the first of the two ends.
+    // What follows from this place on, where they are the same, or one of them ends.
     #[cycle(compare)]
-    fn ends(&self, first: &Row, second: &Row) -> Outcomes
+    fn ends(&self, first: &Row, second: &Row, place: usize) -> Outcomes
         requires frames { AreFrames self.now.entries.items }
         requires first { IsInside self.now.entries.items first.now.last }
         requires second { IsInside self.now.entries.items second.now.last }
-        ensures { (n : ℕ) → n ≡ min (length first.now.bytes.items) (length second.now.bytes.items) → AreOutcomes
-            (PayloadText (rest_after n (trees_of self.now.entries.items) first.now))
-            (PayloadText (rest_after n (trees_of self.now.entries.items) second.now)) result }
+        requires ended { IsEnded (trees_of self.now.entries.items) first.now }
+        requires within { place ≤ min (length first.now.bytes.items) (length second.now.bytes.items) }
+        requires same { place < min (length first.now.bytes.items) (length second.now.bytes.items) →
+            IsSameFrom place first.now second.now }
+        ensures { AreOutcomes
+            (PayloadText (rest_after place (trees_of self.now.entries.items) first.now))
+            (PayloadText (rest_after place (trees_of self.now.entries.items) second.now)) result }
     {
+        if place < first.bytes.len().min(second.bytes.len()) {
+            return first.ending(place);
+        }
         if first.bytes.len() == second.bytes.len() {
             self.nexts(first.last, second.last)
         } else {

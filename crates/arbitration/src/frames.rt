@@ -1,13 +1,13 @@
-// The frames of a plan's messages by number: two that are equal have one number, and each is written in terms of the numbers
-// of those that follow in it. So what two come to who both send a frame is found once.
+// The frames of a plan's messages by number: one that is found again keeps its number, and each is written in terms of the
+// numbers of those that follow in it. So what two come to who both send a frame is found once.
 
 ghost use Rattle.std.specs.Prelude.{◌≡◌, ◌≤◌, true, [], List, OnOk, IfOk};
 ghost use Rattle.std.specs.Bool.{OnTrue};
 ghost use Rattle.message_tree.specs.Drops.{refused_of};
 ghost use Rattle.message_tree.specs.Texts.{message};
 ghost use Rattle.message_tree.specs.Trees.{FrameTree};
-ghost use Rattle.arbitration.specs.Frames.{AreFrames, IsFrame, Names, Grows, frame_of, frame_height, write_of, read_of, next_tree, next_height, trees_of};
-ghost use Rattle.arbitration.specs.Frames.{IsTold};
+ghost use Rattle.arbitration.specs.Frames.{AreFrames, IsFrame, IsTold, Names, Grows};
+ghost use Rattle.arbitration.specs.Frames.{frame_of, frame_height, write_of, read_of, next_tree, next_height, trees_of};
 ghost use Rattle.arbitration.specs.Choices.{AreChoices};
 ghost use Rattle.arbitration.specs.Ways.{header_of};
 
@@ -173,7 +173,7 @@ fn same_counts(c: &Count, d: &Count) -> bool
     c == d
 }
 
-// A list of 2 to the power 32 frames is want of memory.
+// More frames than a u32 has numbers for are want of memory.
 fn number(n: usize) -> Result<u32, AllocError>
     ensures { IfOk result (λ k. k ≡ n) }
 {

@@ -47,6 +47,7 @@ impl Frames {
                 let refused = self.lay_tail(alloc, refused)?;
                 let mut row = Row::new(alloc);
                 self.lay_payload(alloc, &mut row, acked)?;
+                row.endings = self.endings(alloc, &row)?;
                 Ok(NumberedFrame::Write(NumberedWrite {
                     address: *address,
                     header: Choices::of_header(address, Bit::Zero),

@@ -5,6 +5,7 @@
 mod beginnings;
 mod bits;
 mod compare;
+mod endings;
 mod frames;
 pub mod laws;
 mod laying;

@@ -26,7 +26,7 @@ pub struct LaidOut {
     pub(crate) sent: Vec<Sent>,
 }
 
-/// Lays out what the participants of a plan send: some 60 bytes for each byte of a message, and some 150 for each frame, but
+/// Lays out what the participants of a plan send: some 100 bytes for each byte of a message, and some 200 for each frame, but
 /// for the frames that are equal to one before.
 ///
 /// # Errors

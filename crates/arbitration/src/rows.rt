@@ -1,10 +1,12 @@
 // The bytes that a controller writes after an acknowledge, as a row in which what follows a refusal is a number, so that
 // those of two are compared fast.
 
-ghost use Rattle.std.specs.Prelude.{◌≡◌, true, ◌+◌, ◌*◌, ◌<◌, ◌≤◌, ◌^◌, ◌++◌, [], ◌∷◌, List, length, take, OnOk};
+ghost use Rattle.std.specs.Prelude.{◌≡◌, true, ◌+◌, ◌*◌, ◌<◌, ◌≤◌, ◌^◌, ◌++◌, [], ◌∷◌, List, length, take, min, OnOk};
 ghost use Rattle.std.specs.Bool.{OnTrue};
-ghost use Rattle.arbitration.specs.Frames.{AreBeginnings};
-ghost use Rattle.arbitration.specs.Ways.{Step, IsInByte, IsBeginning, AllHaveRoom};
+ghost use Rattle.message_tree.specs.Texts.{PayloadText};
+ghost use Rattle.message_tree.specs.Trees.{FrameTree};
+ghost use Rattle.arbitration.specs.Frames.{AreBeginnings, AreEndings, IsSameFrom, rest_after};
+ghost use Rattle.arbitration.specs.Ways.{Step, IsInByte, IsBeginning, AllHaveRoom, AreOutcomes};
 
 use crate::beginnings::Beginning;
 use crate::bits::{Choices, is_same};
@@ -35,6 +37,9 @@ pub(crate) struct Row {
     pub(crate) last: Next,
     // what two may come to who both begin with the first byte, with the first two, and so on
     pub(crate) beginnings: Vec<Beginning>,
+    // what two come to who both send the end of it, from what follows the last byte on: then the last byte too, the last
+    // two, and so on; none while the row is laid
+    pub(crate) endings: Vec<Outcomes>,
 }
 
 impl Row {
@@ -48,6 +53,7 @@ impl Row {
             bytes: Vec::new(alloc),
             last: Next::Stop,
             beginnings: Vec::new(alloc),
+            endings: Vec::new(alloc),
         }
     }
 
@@ -61,6 +67,16 @@ impl Row {
             return Beginning::none();
         }
         self.beginnings[count - 1]
+    }
+
+    /// What two come to who both send the bytes from this place on, and what follows them.
+    pub(crate) fn ending(&self, place: usize) -> Outcomes
+        requires within { place ≤ length self.now.bytes.items }
+        requires all { length self.now.endings.items ≡ length self.now.bytes.items + 1 }
+        ensures { (known : List FrameTree) → AreEndings known self.now self.now.endings.items →
+            AreOutcomes (PayloadText (rest_after place known self.now)) (PayloadText (rest_after place known self.now)) result }
+    {
+        self.endings[self.bytes.len() - place]
     }
 
     /// One more byte, within which two who both send it come to these.
@@ -118,6 +134,32 @@ pub(crate) fn same_bytes(first: &Row, second: &Row) -> usize
         }
     }
     most
+}
+
+/// The place from which on two are the same, not before `from`; where they do not end alike, the end of the shorter one.
+pub(crate) fn same_from(first: &Row, second: &Row, from: usize) -> usize
+    requires first { from ≤ length first.now.bytes.items }
+    requires second { from ≤ length second.now.bytes.items }
+    ensures from { from ≤ result }
+    ensures first { result ≤ length first.now.bytes.items }
+    ensures second { result ≤ length second.now.bytes.items }
+    ensures same { result < min (length first.now.bytes.items) (length second.now.bytes.items) →
+        IsSameFrom result first.now second.now }
+{
+    let count = first.bytes.len();
+    if count != second.bytes.len() {
+        return count.min(second.bytes.len());
+    }
+    if !is_same_next(&first.last, &second.last) {
+        return count;
+    }
+    for n in 0..count - from {
+        let place = count - 1 - n;
+        if !is_one(&first.bytes[place], &second.bytes[place]) {
+            return place + 1;
+        }
+    }
+    from
 }
 
 /// Whether two rows are the same, with the same numbers.

@@ -7,12 +7,12 @@ use Rattle.message_tree.specs.Drops.{refused_of}
 use Rattle.message_tree.specs.Patterns.{pattern_bits}
 use Rattle.message_tree.specs.Sizes.{frame_slots, payload_slots, tail_slots}
 use Rattle.message_tree.specs.Texts.{message, FrameText, PayloadText, TailText}
-use Rattle.message_tree.specs.Trees.{TailTree, last}
+use Rattle.message_tree.specs.Trees.{PayloadTree, TailTree, last}
 use Rattle.arbitration.specs.Frames.{next_tree, frame_of, rest_after, steps_of, step_of, trees_of}
 use Rattle.arbitration.specs.Ways.{header_of, AckedText, AreOutcomes, Step, IsBeginning}
 use Rattle.arbitration.proofs.CommonBytes.{with_rests, parted_room, byte_room, refused_room}
 use Rattle.arbitration.proofs.FrameLemmas.{again_at, one_name, alone_of, slots_named, named_within}
-use Rattle.arbitration.proofs.RowLemmas.{told_at, count_at, same_steps, slots_after, byte_height, one_more_step, rest_at, slots_at, rest_ended, rest_goes_on}
+use Rattle.arbitration.proofs.RowLemmas.{told_at, count_at, same_steps, slots_after, byte_height, one_more_step, rest_at, slots_at, rest_ended, rest_goes_on, same_rest}
 use Rattle.arbitration.proofs.Nodes.{all_room, payload_bound, tail_bound, frame_bound, acked_room, refused_slots, some_tail, length_of_data, bytes_part, frames_part, frames_answered, write_splits_read, read_splits_write, reads_only_part, byte_and_last, last_and_byte, stops_are, stop_and_again, again_and_stop, agains_are}
 use Rattle.arbitration.proofs.frames.Frames.+compare.Goals as goal
 
@@ -267,7 +267,9 @@ rows-followed_by-requires-2-clause-room t c =
     let n = count_at known first k le in
     let s = slots_after known first k le in
     let x = rest_after k known first in
-    all_room (PayloadText x) (PayloadText (rest_after k known c.args.second.now)) c.ends.result (payload_slots x) (9 * c.loop-k.met.bytes) (c.ends.ensures k (omega arith)) (payload_bound x) (omega (arith, n, c.loop-k.invariant.count, s, c.requires.slots))
+    let e : c.same_from-end.result ≡ k = omega arith in
+    let rest = subst (λ (i : ℕ). AreOutcomes (PayloadText (rest_after i known first)) (PayloadText (rest_after i known c.args.second.now)) c.ends.result) e c.ends.ensures in
+    all_room (PayloadText x) (PayloadText (rest_after k known c.args.second.now)) c.ends.result (payload_slots x) (9 * c.loop-k.met.bytes) rest (payload_bound x) (omega (arith, n, c.loop-k.invariant.count, s, c.requires.slots))
 
 pub rows-returns : goal.rows-returns
 rows-returns t c =
@@ -277,21 +279,33 @@ rows-returns t c =
     let second = c.args.second.now in
     let ss = steps_of known first in
     let ts = steps_of known second in
-    with_rests k ss ts (last (next_tree known first.last)) (last (next_tree known second.last)) c.followed_by-2.result (c.followed_by-2.ensures (take k ss) (take k ts) (rest_after k known first) (rest_after k known second) c.loop-k.invariant (c.ends.ensures k (omega arith)))
+    let e : c.same_from-end.result ≡ k = omega arith in
+    let rest = subst (λ (i : ℕ). AreOutcomes (PayloadText (rest_after i known first)) (PayloadText (rest_after i known second)) c.ends.result) e c.ends.ensures in
+    with_rests k ss ts (last (next_tree known first.last)) (last (next_tree known second.last)) c.followed_by-2.result (c.followed_by-2.ensures (take k ss) (take k ts) (rest_after k known first) (rest_after k known second) c.loop-k.invariant rest)
 
 -- ---- ends
 
-pub ends-returns-then-len : goal.ends-returns-then-len
-ends-returns-then-len t c n e =
+pub ends-returns-then-place-min : goal.ends-returns-then-place-min
+ends-returns-then-place-min t c =
     let known = trees_of c.args.self.now.entries.items in
+    let place = c.args.place in
+    let first = c.args.first.now in
+    let same = same_rest known first c.args.second.now place (c.requires.same (omega arith)) in
+    subst (λ (x : PayloadTree). AreOutcomes (PayloadText (rest_after place known first)) (PayloadText x) c.ending.result) same (c.ending.ensures known c.requires.ended.each)
+
+pub ends-returns-then-len : goal.ends-returns-then-len
+ends-returns-then-len t c =
+    let known = trees_of c.args.self.now.entries.items in
+    let n = c.args.place in
     let same = c.if-len.true in
     let f = rest_ended known c.args.first.now n (omega arith) in
     let g = rest_ended known c.args.second.now n (omega arith) in
     rw (f, g) c.nexts.ensures
 
 pub ends-returns-else-len : goal.ends-returns-else-len
-ends-returns-else-len t c n e =
+ends-returns-else-len t c =
     let known = trees_of c.args.self.now.entries.items in
+    let n = c.args.place in
     let first = c.args.first.now in
     let second = c.args.second.now in
     elim (cases_lt (length first.bytes.items) (length second.bytes.items)) [

@@ -91,8 +91,8 @@ pub lay_tail-returns-in_ok-number-in-Again-clause-inside : goal.lay_tail-returns
 lay_tail-returns-in_ok-number-in-Again-clause-inside t c =
     omega (arith, named_within c.lay.new.self.entries.items c.in_ok-number-in-Again.number (frame_tree c.deref.result.now) c.in_ok-number-in-Again.ensures.named)
 
-pub numbered-returns-in_ok-lay_payload-in-Write-clause-tree : goal.numbered-returns-in_ok-lay_payload-in-Write-clause-tree
-numbered-returns-in_ok-lay_payload-in-Write-clause-tree t c =
+pub numbered-returns-in_ok-row-in-Write-clause-tree : goal.numbered-returns-in_ok-row-in-Write-clause-tree
+numbered-returns-in_ok-row-in-Write-clause-tree t c =
     let i = c.in-Write in
     let put = c.in_ok-refused-in-Write in
     let lay = c.in_ok-lay_payload-in-Write.ensures in
@@ -104,11 +104,11 @@ numbered-returns-in_ok-lay_payload-in-Write-clause-tree t c =
     let f = next_grown es new lay.grows put.refused put.ensures.inside ∙ put.ensures.tree in
     ap (λ (y : PayloadTree). write i.address y (next_tree (trees_of new) put.refused)) e ∙ (ap (write i.address (payload_tree i.acked.value)) f ∙ sym (ap frame_tree i.is))
 
-pub numbered-returns-in_ok-lay_payload-in-Write-clause-frame : goal.numbered-returns-in_ok-lay_payload-in-Write-clause-frame
-numbered-returns-in_ok-lay_payload-in-Write-clause-frame t c =
+pub numbered-returns-in_ok-row-in-Write-clause-frame : goal.numbered-returns-in_ok-row-in-Write-clause-frame
+numbered-returns-in_ok-row-in-Write-clause-frame t c =
     let lay = c.in_ok-lay_payload-in-Write.ensures in
-    let e = ap frame_slots (numbered-returns-in_ok-lay_payload-in-Write-clause-tree t c) in
-    record { inside = omega (arith, lay.row.inside, c.in_ok-refused-in-Write.ensures.inside, longer c.lay_tail.new.self.entries.items c.lay_payload.new.self.entries.items lay.grows); told = (c.of_header.ensures, lay.row.told); begun = lay.row.begun; slots = omega (arith, e, c.requires.slots) }
+    let e = ap frame_slots (numbered-returns-in_ok-row-in-Write-clause-tree t c) in
+    record { inside = omega (arith, lay.row.inside, c.in_ok-refused-in-Write.ensures.inside, longer c.lay_tail.new.self.entries.items c.lay_payload.new.self.entries.items lay.grows); told = (c.of_header.ensures, lay.row.told); begun = (lay.row.begun, record { all = c.in_ok-row-in-Write.ensures.all; each = c.in_ok-row-in-Write.ensures.each }); slots = omega (arith, e, c.requires.slots) }
 
 pub numbered-returns-in_ok-refused-in-Read-clause-tree : goal.numbered-returns-in_ok-refused-in-Read-clause-tree
 numbered-returns-in_ok-refused-in-Read-clause-tree t c =
