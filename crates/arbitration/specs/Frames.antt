@@ -89,7 +89,7 @@ AreBeginnings ss beginnings =
     (length beginnings ≡ length ss) ×
     ((n : ℕ) (d : Beginning) → n < length beginnings → IsBeginning (take (suc n) ss) (take (suc n) ss) (get_or beginnings n d))
 
--- what two come to who both send the last n of the bytes and what follows them is the entry n
+-- the outcome for the last n of the bytes, and what follows them, against themselves is the entry n
 abbrev pub AreEndings : List FrameTree → Row → List Outcomes → Type 0
 AreEndings known row endings =
     (n k : ℕ) (d : Outcomes) → n < length endings → n + k ≡ length row.bytes.items →
@@ -135,7 +135,7 @@ pub record IsFrame (es : List Entry) (frame : NumberedFrame) : Type 0 where
   pub begun : IsBegun es frame
   pub slots : frame_slots (frame_of (trees_of es) frame) < 2 ^ 32
 
--- this is entry k: in terms of those before it, with its tree, and with what two come to who both send it
+-- this is entry k: in terms of those before it, with its tree, and with its outcome against itself
 pub record IsEntry (es : List Entry) (k : ℕ) (e : Entry) : Type 0 where
   pub before : frame_height e.frame ≤ k
   pub frame : IsFrame es e.frame

@@ -1,4 +1,4 @@
-// What two come to who both send the end of a row.
+// The outcomes of a row's suffixes against themselves.
 
 ghost use Rattle.std.specs.Prelude.{◌≡◌, ◌+◌, ◌<◌, ◌^◌, length, IfOk};
 ghost use Rattle.message_tree.specs.Sizes.{payload_slots};
@@ -11,7 +11,8 @@ use crate::spans::Outcomes;
 use std::alloc::{AllocError, Global};
 
 impl Frames {
-    /// What two come to who both send what follows the last byte of the row, the last byte too, the last two, and so on.
+    /// Outcomes for each suffix of the row against itself, shortest first: what follows the last byte alone, then with the
+    /// last byte, with the last two, and so on.
     pub(crate) fn endings(&self, alloc: Global, row: &Row) -> Result<Vec<Outcomes>, AllocError>
         requires frames { AreFrames self.now.entries.items }
         requires row { IsRow self.now.entries.items row.now }

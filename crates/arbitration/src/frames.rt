@@ -1,5 +1,5 @@
 // The frames of a plan's messages by number: one that is found again keeps its number, and each is written in terms of the
-// numbers of those that follow in it. So what two come to who both send a frame is found once.
+// numbers of those that follow in it. So the outcome of a frame against itself is found once.
 
 ghost use Rattle.std.specs.Prelude.{◌≡◌, ◌≤◌, true, [], List, OnOk, IfOk};
 ghost use Rattle.std.specs.Bool.{OnTrue};
@@ -28,7 +28,7 @@ pub(crate) struct NumberedWrite {
     pub(crate) refused: Next,
 }
 
-/// A header for a read, and what follows the last byte, or a refusal.
+/// A header for a read, and what follows the last byte, or a NACK of the header.
 #[derive(Clone, Copy)]
 pub(crate) struct NumberedRead {
     pub(crate) address: Address,
@@ -57,7 +57,7 @@ impl NumberedFrame {
         }
     }
 
-    /// What follows a refusal of the header.
+    /// What follows a NACK of the header.
     pub(crate) fn refused(&self) -> Next
         ensures tree { (known : List FrameTree) → next_tree known result ≡ refused_of (frame_of known self.now) }
         ensures height { next_height result ≤ frame_height self.now }
@@ -69,7 +69,7 @@ impl NumberedFrame {
     }
 }
 
-/// A frame, and what two come to who both send it.
+/// A frame, and its outcome against itself.
 #[derive(Drop)]
 pub(crate) struct Entry {
     pub(crate) frame: NumberedFrame,
@@ -173,7 +173,7 @@ fn same_counts(c: &Count, d: &Count) -> bool
     c == d
 }
 
-// More frames than a u32 has numbers for are want of memory.
+// More frames than a u32 has numbers for are answered as out of memory.
 fn number(n: usize) -> Result<u32, AllocError>
     ensures { IfOk result (λ k. k ≡ n) }
 {

@@ -1,4 +1,4 @@
-// Frames are numbered from the inside: what follows first, and then the frame in terms of its numbers.
+// Frames are interned bottom-up: what follows first, and then the frame in terms of its numbers.
 
 ghost use Rattle.std.specs.Prelude.{◌≡◌, ◌+◌, ◌*◌, ◌<◌, ◌≤◌, ◌^◌, length, OnOk, IfOk};
 ghost use Rattle.message_tree.specs.Sizes.{frame_slots, payload_slots, tail_slots};

@@ -26,12 +26,12 @@ pub struct LaidOut {
     pub(crate) sent: Vec<Sent>,
 }
 
-/// Lays out what the participants of a plan send: some 100 bytes for each byte of a message, and some 200 for each frame, but
-/// for the frames that are equal to one before.
+/// Lays out what the participants of a plan send: some 100 bytes for each byte of a message, and some 200 for each
+/// frame, but for the frames that are equal to one before.
 ///
 /// # Errors
 ///
-/// Where memory is refused.
+/// Where an allocation fails.
 pub fn laid_out(alloc: Global, plan: &Plan) -> Result<LaidOut, AllocError>
     ensures { IfOk result (λ laid. AreLaid (plan_contents plan.now) laid) }
 {

@@ -1,4 +1,4 @@
-// The bytes that a controller writes after an acknowledge, as a row in which what follows a refusal is a number, so that
+// The bytes that a controller writes after an acknowledge, as a row in which what follows a NACK is a number, so that
 // those of two are compared fast.
 
 ghost use Rattle.std.specs.Prelude.{◌≡◌, true, ◌+◌, ◌*◌, ◌<◌, ◌≤◌, ◌^◌, ◌++◌, [], ◌∷◌, List, length, take, min, OnOk};
@@ -14,7 +14,7 @@ use crate::spans::Outcomes;
 use message_tree::Pattern;
 use std::alloc::{AllocError, Global};
 
-/// How a message goes on after its last byte, or after an answer that refuses: by a STOP, or by a repeated START and the
+/// How a message goes on after its last byte, or after a NACK: by a STOP, or by a repeated START and the
 /// frame with this number.
 #[derive(Clone, Copy)]
 pub(crate) enum Next {
@@ -22,7 +22,7 @@ pub(crate) enum Next {
     Again(u32),
 }
 
-/// A byte, and what follows a refusal of it.
+/// A byte, and what follows a NACK of it.
 #[derive(Clone, Copy)]
 pub(crate) struct NumberedByte {
     pub(crate) bits: Pattern,
@@ -35,10 +35,10 @@ pub(crate) struct NumberedByte {
 pub(crate) struct Row {
     pub(crate) bytes: Vec<NumberedByte>,
     pub(crate) last: Next,
-    // what two may come to who both begin with the first byte, with the first two, and so on
+    // outcomes for each prefix against itself: the first byte, the first two, and so on
     pub(crate) beginnings: Vec<Beginning>,
-    // what two come to who both send the end of it, from what follows the last byte on: then the last byte too, the last
-    // two, and so on; none while the row is laid
+    // outcomes for each suffix against itself, shortest first: what follows the last byte, then with the last byte, with
+    // the last two, and so on; none while the row is built
     pub(crate) endings: Vec<Outcomes>,
 }
 
@@ -69,7 +69,7 @@ impl Row {
         self.beginnings[count - 1]
     }
 
-    /// What two come to who both send the bytes from this place on, and what follows them.
+    /// The outcome of the bytes from this place on, and what follows them, against themselves.
     pub(crate) fn ending(&self, place: usize) -> Outcomes
         requires within { place ≤ length self.now.bytes.items }
         requires all { length self.now.endings.items ≡ length self.now.bytes.items + 1 }
@@ -79,7 +79,7 @@ impl Row {
         self.endings[self.bytes.len() - place]
     }
 
-    /// One more byte, within which two who both send it come to these.
+    /// One more byte, with its outcomes against itself.
     pub(crate) fn push(&mut self, byte: NumberedByte, here: Outcomes) -> Result<(), AllocError>
         requires begun { (ss : List Step) × AreBeginnings ss self.old.beginnings.items ×
             (length ss ≡ length self.old.bytes.items) }
@@ -111,7 +111,7 @@ pub(crate) fn is_same_next(a: &Next, b: &Next) -> bool
     }
 }
 
-// Whether two bytes are the same, and what follows a refusal has one number.
+// Whether two bytes are the same, and what follows a NACK has one number.
 #[inline(always)]
 fn is_one(a: &NumberedByte, b: &NumberedByte) -> bool
     ensures { result ≡ true → a.now ≡ b.now }

@@ -24,16 +24,16 @@ use std::thread::Threads;
 use std::time::Clock;
 
 /// Plays the starters of an accepted plan on a bench, each in a thread of its own, and writes the wire and who was live
-/// at its end. `starters` has their labels, which commas part; `fill` is what they send for a bit that is open; `answers`
-/// has the bits of the targets by slot as `0` and `1`, and past its end they are 1. Each player calls the gate. Where the
-/// certificate is not accepted it writes the line of `run_verify`, with its status.
+/// at its end. `starters` has their labels, which commas part; `fill` is what they send for a bit that is open;
+/// `answers` has the bits of the targets by slot as `0` and `1`, and past its end they are 1. Each player calls the
+/// gate. Where the certificate is not accepted it writes the line of `run_verify`, with its status.
 ///
 /// # Errors
 ///
-/// `Read` where a reader failed or gave no end, `Plan` with the first refusal of the plan text, before the second reader
-/// is called, `Bench` with the refusal of the starters, and `Write` where the writer failed or took no bytes. `NoMemory`
-/// where memory is refused. Only after `Write` has a part of the report been written: its first bytes. After every other
-/// error the writer was not called.
+/// `Read` where a reader failed or gave no end, `Plan` with the first refusal of the plan text, before the second
+/// reader is called, `Bench` with the refusal of the starters, and `Write` where the writer failed or took no bytes.
+/// `NoMemory` where an allocation fails. Only after `Write` has a part of the report been written: its first bytes.
+/// After every other error the writer was not called.
 pub fn run_bench<R: Threads + Wait + Clock + Sync, I: Input, J: Input, O: Output, G: Gate + Sync>(
     rt: &R,
     alloc: Global,

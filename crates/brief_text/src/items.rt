@@ -31,14 +31,14 @@ use std::alloc::Global;
 ///
 /// # Errors
 ///
-/// P1 to P8 as `PlanError` has them: the first in the order of the brief, with its line there. P2 where the text does not
-/// begin with `brief 1`, P4 also at a number after `*` that is not 1 to 255, P5 also at such a number, P7 and P8 also for
-/// the names of devices and data bytes. `NoMemory` where memory is refused before another refusal is met.
+/// P1 to P8 as `PlanError` has them: the first in the order of the brief, with its line there. P2 where the text does
+/// not begin with `brief 1`, P4 also at a number after `*` that is not 1 to 255, P5 also at such a number, P7 and P8
+/// also for the names of devices and data bytes. `NoMemory` where an allocation fails before another refusal is met.
 pub fn expand_brief(alloc: Global, text: &[u8]) -> Result<Plan, PlanError>
     // What is answered is right.
     ensures meant { IfOk result (λ plan. Means text.now (plan_contents plan)) }
     ensures refused { IfErr result (λ e. (e ≡ PlanError.NoMemory) ⊎ IsRefused text.now e) }
-    // What is right is answered, unless memory is refused.
+    // What is right is answered, unless an allocation fails.
     ensures plans { (plan : Contents) → Means text.now plan →
         MatchResult result (λ it. plan_contents it ≡ plan) (λ e. e ≡ PlanError.NoMemory) }
     ensures refusals { (due : PlanError) → IsRefused text.now due →

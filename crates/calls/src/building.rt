@@ -25,8 +25,8 @@ fn push_plan(alloc: Global, builder: Builder, page: &mut Text) {
     push_bytes(print_plan(alloc, &builder.finish()), page);
 }
 
-/// Adds all that a plan has, in the same order. Where memory is refused the builder is as it was, and is asked once more when
-/// there is some.
+/// Adds all that a plan has, in the same order. Where an allocation fails the builder is as it was, and is asked once
+/// more when there is memory.
 pub fn add_all(alloc: Global, builder: &mut Builder, plan: &Plan) -> Result<(), RunError> {
     for k in 0..items_of(plan) {
         match add(alloc, builder, plan, k) {

@@ -49,7 +49,7 @@ fn samples(task: &Task<'_>) -> Result<Vec<Sample>, VcdError> {
     fed.and(reader.end())
 }
 
-// Feeds a piece, and once more where memory was refused, when there is some: the reader is then as it was.
+// Feeds a piece, and once more where an allocation failed, when there is memory: the reader is then as it was.
 fn feed(alloc: Global, reader: &mut Reader, piece: &[u8]) -> Result<(), VcdError> {
     match reader.feed(piece) {
         Err(VcdError::NoMemory) => {

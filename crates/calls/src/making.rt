@@ -115,7 +115,7 @@ pub fn certify(
     }
 }
 
-// The table is handed back where memory is refused, and asked once more when there is some.
+// The table is handed back where an allocation fails, and asked once more when there is memory.
 fn certified(alloc: Global, table: Table) -> Option<CertText> {
     match table.certify(alloc) {
         Ok(cert) => Some(cert),

@@ -77,7 +77,8 @@ fn number_of(starters: &str, label: &str) -> Option<usize> {
     None
 }
 
-// Gives the first so many seats back. All is handed back where memory is refused, and given back once more when there is some.
+// Gives the first so many seats back. All is handed back where an allocation fails, and given back once more when there
+// is memory.
 fn finish(
     task: &Task<'_>,
     plan: &Plan,

@@ -33,7 +33,8 @@ impl Follower {
         }
     }
 
-    /// The transactions that end within these samples, in order. Where memory is refused, what was followed so far is lost.
+    /// The transactions that end within these samples, in order. Where an allocation fails, what was followed so far is
+    /// lost.
     pub fn follow(
         &mut self,
         alloc: Global,

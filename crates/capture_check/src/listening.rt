@@ -68,7 +68,7 @@ impl Listener {
         }
     }
 
-    /// The transaction that the next event ends, if any. Where memory is refused, the listener stays as it was.
+    /// The transaction that the next event ends, if any. Where an allocation fails, the listener stays as it was.
     pub fn next(&mut self, alloc: Global, event: &Event) -> Result<Option<Transaction>, AllocError>
         ensures ended { IfOk result (λ t. recorded_option t ≡ ended_by (bus_of self.old) event.now.time event.now.what) }
         ensures bus { IfOk result (λ t. bus_of self.new ≡ bus_after (bus_of self.old) event.now.time event.now.what) }

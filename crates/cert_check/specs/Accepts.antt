@@ -80,7 +80,7 @@ IsAnswer plan bytes answer = IsJudged plan bytes answer
 
 -- ---- what is given
 
--- this is the answer, unless memory was refused
+-- this is the answer, unless an allocation failed
 abbrev pub Answers : Result Answer AcceptError → Result Answer AcceptError → Type 0
 Answers due given = (given ≡ due) ⊎ (given ≡ Err NoMemory)
 

@@ -4,7 +4,7 @@ use Rattle.plan_text.specs.declared.errors.PlanError.TheVariants as plan
 use Rattle.cert_check.specs.declared.answers.AcceptError.{AcceptError}
 use Rattle.cert_check.specs.declared.answers.AcceptError.TheVariants.{Plan, NoMemory}
 
--- want of memory by itself, whatever it was wanted for
+-- out of memory alone, whatever the allocation was for
 abbrev pub refused_with : PlanError → AcceptError
 refused_with plan.NoMemory = NoMemory
 refused_with e = Plan e

@@ -36,12 +36,12 @@ use std::alloc::{AllocError, Global};
 
 /// Whether the certificate proves that the plan is safe, or shows that it is not.
 ///
-/// The plan is read first, then the certificate, one line at a time: where a line proves its pair as it stands, no proof is
-/// made of it; of any other line the proof is read, its pair is checked, and the proof is dropped. A line that proves its
-/// pair is remembered for the two senders, as long as there is room for it: where the text has the same line for a further
-/// pair of them, nothing is looked at again. So it takes memory for the plan, for one proof, and for the lines that are
-/// remembered (64 MiB of lines at most, and a place of some 32 bytes for each two messages or interrupts, 2.6 MB at most),
-/// however long the certificate is.
+/// The plan is read first, then the certificate, one line at a time: where a line proves its pair as it stands, no
+/// proof is made of it; of any other line the proof is read, its pair is checked, and the proof is dropped. A line that
+/// proves its pair is remembered for the two senders, as long as there is room for it: where the text has the same line
+/// for a further pair of them, nothing is looked at again. So it takes memory for the plan, for one proof, and for the
+/// lines that are remembered (64 MiB of lines at most, and a place of some 32 bytes for each two messages or
+/// interrupts, 2.6 MB at most), however long the certificate is.
 ///
 /// Where it answers `Safe`, no run of the bus has a fault, whatever participants start together and whatever the
 /// targets return: no repeated START or STOP meets another's data bit or each other (UM10204, 3.1.8), no controller
@@ -51,8 +51,8 @@ use std::alloc::{AllocError, Global};
 ///
 /// # Errors
 ///
-/// `Plan` with the first refusal of the plan's text. `NoMemory` where memory is refused before another refusal is met.
-/// What is wrong with the certificate is an answer: first what is wrong with its text, by itself; then, of proofs,
+/// `Plan` with the first refusal of the plan's text. `NoMemory` where an allocation fails before another refusal is
+/// met. What is wrong with the certificate is an answer: first what is wrong with its text, by itself; then, of proofs,
 /// another number than that of the plan's pairs, and else the first pair that is not proved; of a fault, that its pair
 /// does not have it.
 pub fn accept(alloc: Global, plan: &[u8], cert: &[u8]) -> Result<Answer, AcceptError>
@@ -61,7 +61,7 @@ pub fn accept(alloc: Global, plan: &[u8], cert: &[u8]) -> Result<Answer, AcceptE
     ensures not_safe { result ≡ Ok Answer.Unsafe → IsRefuted plan.now cert.now }
     ensures wrong { (fault : CertFault) → result ≡ Ok (Answer.Wrong fault) → IsMistaken plan.now cert.now fault }
     ensures refused { (e : PlanError) → result ≡ Err (AcceptError.Plan e) → First plan.now e }
-    // What is right is answered, unless memory is refused.
+    // What is right is answered, unless an allocation fails.
     ensures finds_safe { IsCertified plan.now cert.now → Answers (Ok Answer.Safe) result }
     ensures finds_unsafe { IsRefuted plan.now cert.now → Answers (Ok Answer.Unsafe) result }
     ensures finds_wrong { (fault : CertFault) →

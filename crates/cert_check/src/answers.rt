@@ -26,7 +26,7 @@ pub enum AcceptError {
     /// P1 to P8: the first refusal of the plan's text.
     #[error("{0}")]
     Plan(PlanError),
-    /// P9 or C4: memory was refused before another refusal was met.
+    /// P9 or C4: an allocation failed before another refusal was met.
     #[error("memory")]
     NoMemory,
 }

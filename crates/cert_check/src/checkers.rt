@@ -73,7 +73,7 @@ impl Checker {
     ///
     /// # Errors
     ///
-    /// `NoMemory` where memory is refused, and `TooLong` only where the text has 2 to the power 63 bytes or more.
+    /// `NoMemory` where an allocation fails, and `TooLong` only where the text has 2 to the power 63 bytes or more.
     pub fn feed(mut self, alloc: Global, plan: &Plan, piece: &[u8]) -> Result<Checker, FeedError>
         requires { IsOf (plan_contents plan.now) self }
         ensures plan { IfOk result (IsOf (plan_contents plan.now)) }

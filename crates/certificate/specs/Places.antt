@@ -18,7 +18,7 @@ unread source = length source.rest.now
 abbrev pub parts_of : Fault → List Item × Kind × Kind
 parts_of fault = (fault.wire.items, fault.first, fault.second)
 
--- the error is the refusal, or memory was refused
+-- the error is the refusal, or an allocation failed
 abbrev pub Refuses : {A : Type 0} → Result A FormFault → CertError → Type 0
 Refuses given NoMemory = Unit {0}
 Refuses given (Wrong (Format line)) = given ≡ Err (misplaced line)

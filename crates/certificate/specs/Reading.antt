@@ -22,11 +22,11 @@ abbrev pub Fails : List ℕ → CertError → Type 0
 Fails text (Wrong fault) = First text fault
 Fails text NoMemory = Unit {0}
 
--- reading answers this certificate, or that memory was refused
+-- reading answers this certificate, or that an allocation failed
 abbrev pub AnswersValue : Result CertText CertError → Certificate → Type 0
 AnswersValue answer value = MatchResult answer (λ it. certificate_of it ≡ value) (λ e. e ≡ NoMemory)
 
--- reading answers this refusal, or that memory was refused
+-- reading answers this refusal, or that an allocation failed
 abbrev pub AnswersFault : Result CertText CertError → CertFault → Type 0
 AnswersFault answer fault = MatchResult answer (λ it. ⊥) (λ e. (e ≡ NoMemory) ⊎ (e ≡ Wrong fault))
 

@@ -30,7 +30,7 @@ pub enum CertError {
     /// C1, C2, C3 or C5.
     #[error("{0}")]
     Wrong(CertFault),
-    /// C4: memory was refused before a fault was met.
+    /// C4: an allocation failed before a fault was met.
     #[error("C4")]
     NoMemory,
 }

@@ -54,8 +54,8 @@ impl<'a> ProofLines<'a> {
     ///
     /// # Errors
     ///
-    /// C1 and C3 with the line of the next proof, C2 at the end of the text, `NoMemory` where memory is refused for the
-    /// proof before it is refused itself. What is left is then as it was.
+    /// C1 and C3 with the line of the next proof, C2 at the end of the text, `NoMemory` where an allocation fails for
+    /// the proof before it is refused itself. What is left is then as it was.
     pub fn next_proof(&mut self, alloc: Global) -> Result<Option<Cert>, CertError>
         ensures read { IfOk result (λ next. IfSome next (λ proof. AddsProof proof self.old self.new)) }
         ensures less { IfOk result (λ next. IfSome next (λ proof. bytes_left self.new < bytes_left self.old)) }

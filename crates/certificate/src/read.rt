@@ -21,12 +21,12 @@ use std::alloc::Global;
 /// # Errors
 ///
 /// C1 to C3 as `CertFault` has them: the first of C1 and C3 in the order of the text, with its line, else C2.
-/// `NoMemory` where memory is refused before another refusal is met. `Pair` is never answered.
+/// `NoMemory` where an allocation fails before another refusal is met. `Pair` is never answered.
 pub fn read_cert(alloc: Global, text: &[u8]) -> Result<CertText, CertError>
     // What is answered is right.
     ensures spelled { IfOk result (λ it. Spells text.now (certificate_of it)) }
     ensures refused { IfErr result (λ e. Fails text.now e) }
-    // What is right is answered, unless memory is refused.
+    // What is right is answered, unless an allocation fails.
     ensures values { (value : Certificate) → Spells text.now value → AnswersValue result value }
     ensures refusals { (fault : CertFault) → First text.now fault → AnswersFault result fault }
 {
@@ -71,7 +71,7 @@ pub enum Head<'a> {
 /// # Errors
 ///
 /// C1 at the line where these two lines break the form, or at the line after a fault where the text goes on after it.
-/// `NoMemory` where memory is refused for the wire of a fault before that.
+/// `NoMemory` where an allocation fails for the wire of a fault before that.
 #[tactic(auto, using(crate::proofs::EitherText::fails_from), unfolding(crate::specs::Reader::text_said))]
 pub fn read_head(alloc: Global, text: &[u8]) -> Result<Head<'_>, CertError>
     ensures read { IfOk result (λ head. HeadRead text.now head) }

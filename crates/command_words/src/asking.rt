@@ -62,7 +62,7 @@ pub enum Request<'a> {
         plan: &'a str,
         vcd: &'a str,
         lines: Lines<'a>,
-        /// A level that lasts less is as if it had not been.
+        /// A level that lasts less is ignored.
         min_pulse: Option<Time>,
         view: View,
         explain: bool,

@@ -49,7 +49,7 @@ impl Scale {
         }
     }
 
-    /// A time of a dump as people write it: the greatest unit of which it has at least one, with as many digits behind the
+    /// A time of a dump as people write it: the greatest unit of which it has at least one, with as many digits after the
     /// point as it takes, as `15.5 us`.
     pub fn told(self, alloc: Global, time: u64) -> Result<String, AllocError> {
         let time = self.femtoseconds(time);
@@ -70,7 +70,7 @@ fn told_in(alloc: Global, time: u128, unit: Unit) -> Result<String, AllocError> 
     if rest > 0 {
         text.push('.')?;
     }
-    // a second has the most digits behind the point: fifteen
+    // a second has the most digits after the point: fifteen
     for _ in 0..15 {
         if rest == 0 {
             break;

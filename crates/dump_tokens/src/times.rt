@@ -2,7 +2,7 @@
 
 use crate::units::Unit;
 
-/// A time: a number, in the unit that was written behind it or else in that of the dump.
+/// A time: a number, in the unit that was written after it or else in that of the dump.
 #[derive(Clone, Copy, Debug, PartialEq, Eq)]
 pub struct Time {
     pub number: u64,
@@ -10,7 +10,7 @@ pub struct Time {
 }
 
 impl Time {
-    /// Reads digits, and perhaps a unit directly behind them, as `15us`. None for anything else, and for a number that is
+    /// Reads digits, and perhaps a unit directly after them, as `15us`. None for anything else, and for a number that is
     /// not below 2 to the power 64.
     pub fn read(text: &str) -> Option<Time> {
         let digits = text

@@ -102,7 +102,7 @@ impl Lines {
     ///
     /// # Errors
     ///
-    /// Where memory was refused for one of their parts.
+    /// Where an allocation failed for one of their parts.
     pub fn finish(self) -> Result<String, AllocError> {
         self.text.finish()
     }

@@ -6,7 +6,8 @@ ghost use Rattle.growing_text.specs.Texts.{said, is_whole, cut_short, two_digits
 
 use std::alloc::{AllocError, Global};
 
-/// A text that grows by parts. From the first part on for which memory was refused, no more is added, and `finish` says so.
+/// A text that grows by parts. From the first part on for which an allocation failed, no more is added, and `finish`
+/// says so.
 #[derive(Drop)]
 pub struct Text {
     text: String,
@@ -103,7 +104,7 @@ impl Text {
     ///
     /// # Errors
     ///
-    /// Where memory was refused for one of its parts.
+    /// Where an allocation failed for one of its parts.
     pub fn finish(self) -> Result<String, AllocError>
         ensures { MatchResult result (λ text. (is_whole self ≡ true) × (string_bytes text ≡ said self))
             (λ _. is_whole self ≡ false) }

@@ -65,7 +65,7 @@ pub fn on_workers(alloc: Global) -> Result<String, AllocError> {
     said(alloc, "'--workers' takes 1 to 8", None)
 }
 
-/// After want of memory.
+/// After out of memory.
 pub fn on_memory(alloc: Global) -> Result<String, AllocError> {
     said(
         alloc,

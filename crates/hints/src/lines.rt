@@ -14,8 +14,8 @@ const DETAIL_HEAD: &str = "hint:   ";
 /// How many columns a detail has.
 pub const DETAIL: usize = COLUMNS - DETAIL_HEAD.len();
 
-/// Lines of text, each of which begins with `hint:` and fits 80 columns, unless one word is longer. That memory was refused
-/// for one of them is told once, by `finish`.
+/// Lines of text, each of which begins with `hint:` and fits 80 columns, unless one word is longer. That an allocation
+/// failed for one of them is told once, by `finish`.
 #[derive(Drop)]
 pub struct Lines {
     alloc: Global,
@@ -92,7 +92,7 @@ impl Lines {
     ///
     /// # Errors
     ///
-    /// Where memory was refused for something that was to be said.
+    /// Where an allocation failed for something that was to be said.
     pub fn finish(self) -> Result<String, AllocError> {
         self.text.finish()
     }

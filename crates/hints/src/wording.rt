@@ -3,7 +3,7 @@
 use crate::languages::Language;
 use plan_text::PlanError;
 
-/// What the refusal of a text means. There is nothing to say of want of memory.
+/// What the refusal of a text means. There is nothing to say of out of memory.
 pub(crate) fn of_text(language: Language, refusal: PlanError) -> Option<&'static str> {
     match language {
         Language::Plan => of_plan(refusal),

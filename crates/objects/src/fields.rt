@@ -54,7 +54,7 @@ impl Objects {
         }
     }
 
-    /// All that was written, unless memory was refused for some of it.
+    /// All that was written, unless an allocation failed for some of it.
     pub(crate) fn finish(self) -> Result<String, AllocError> {
         self.text.finish()
     }
@@ -188,7 +188,7 @@ impl Objects {
     }
 
     fn quoted(&mut self, words: &str) {
-        // JSON refuses no text, so an error is want of memory
+        // JSON refuses no text, so an error is out of memory
         match serde_json::to_string(self.alloc, &words) {
             Ok(quoted) => self.text.push(quoted.as_str()),
             Err(_) => self.cut(),

@@ -7,16 +7,16 @@ use run_parts::{Input, Output, RunError, Status, read_within, write_lines};
 use std::alloc::Global;
 use verdicts::faults;
 
-/// Writes who wins arbitration in each pair of the plan that the reader gives (UM10204, 3.1.8): in which slots both may end
-/// together, in which the first may go on while the second has lost, and in which the second may; the earliest and the latest
-/// of each. A pair with a fault is named as unsafe. Then, for each participant, in how many pairs it alone can win, either
-/// can, and the other alone can. The status is `Good` where the plan is safe, and else `Bad`.
+/// Writes who wins arbitration in each pair of the plan that the reader gives (UM10204, 3.1.8): in which slots both may
+/// end together, in which the first may go on while the second has lost, and in which the second may; the earliest and
+/// the latest of each. A pair with a fault is named as unsafe. Then, for each participant, in how many pairs it alone
+/// can win, either can, and the other alone can. The status is `Good` where the plan is safe, and else `Bad`.
 ///
 /// # Errors
 ///
 /// `Read` where the reader failed or gave no end, `Plan` with the first refusal of the plan text, and `Write` where the
-/// writer failed or took no bytes. `NoMemory` where memory is refused. Only after `Write` has a part of the report been
-/// written: its first bytes. After every other error the writer was not called.
+/// writer failed or took no bytes. `NoMemory` where an allocation fails. Only after `Write` has a part of the report
+/// been written: its first bytes. After every other error the writer was not called.
 pub fn run_order<I: Input, O: Output>(
     alloc: Global,
     plan: &mut I,

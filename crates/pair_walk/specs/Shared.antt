@@ -1,4 +1,4 @@
--- The messages of a plan as one list of nodes, in which a node names by its number what follows it, so that trees may
+-- The messages of a plan as hash-consed nodes, in which a node names by its number what follows it, so that trees may
 -- share what they have in common. Only private contracts and proofs use what is below `AreNodesOf`.
 use Rattle.std.specs.Prelude.{◌≡◌, ℕ, Some, None, List, length, slice_get}
 use Rattle.std.specs.Map.{values_of}

@@ -1,4 +1,4 @@
-// Why a comparison makes nothing: a clash with the wire before it, or want of memory.
+// Why a comparison gives no proof: a clash with the wire before it, or out of memory.
 
 ghost use Rattle.std.specs.Prelude.{◌≡◌, [], ◌∷◌, ◌++◌, length, reverse};
 ghost use Rattle.message_tree.specs.declared.items.Item.TheVariants.{Heard};
@@ -10,7 +10,7 @@ use crate::wires::push_reversed;
 use message_tree::{Item, Kind};
 use std::alloc::{AllocError, Global};
 
-/// Why a comparison makes nothing.
+/// Why a comparison gives no proof.
 #[derive(Drop)]
 pub(crate) enum Halt {
     /// The two clash.

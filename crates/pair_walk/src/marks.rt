@@ -143,7 +143,7 @@ fn step_of(node: Node, before: u32) -> Option<(Node, u32)>
     }
 }
 
-// A list of 2 to the power 32 beginnings is want of memory.
+// A list of 2 to the power 32 beginnings is answered as out of memory.
 fn after(k: u32) -> Result<u32, AllocError>
     ensures { IfOk result (λ n. n ≡ k + 1) }
 {

@@ -1,4 +1,4 @@
-// The messages of a plan as one list of nodes. What follows a node is named by its number, so that trees share what they
+// The messages of a plan as hash-consed nodes. What follows a node is named by its number, so that trees share what they
 // have in common: two numbers that are equal show one tree.
 
 ghost use Rattle.std.specs.Prelude.{◌≡◌, ◌<◌, ℕ, [], length, slice_get, Some, IfOk, OnOk};
@@ -36,7 +36,7 @@ pub(crate) enum Node {
     },
 }
 
-/// The messages of a plan as one list of nodes, at most as many as the plan has, and the number of each message's first.
+/// The messages of a plan as hash-consed nodes, at most as many as the plan has, and the number of each message's first.
 /// Its marks say how far two messages are alike from their beginning on.
 #[derive(Drop)]
 pub struct SharedNodes {
@@ -52,7 +52,7 @@ pub(crate) struct Gathering {
     seen: HashMap<(u32, u32, u32), u32>,
 }
 
-/// The messages of the plan as one list of nodes.
+/// The messages of the plan as hash-consed nodes.
 pub fn shared_nodes(alloc: Global, plan: &Plan) -> Result<SharedNodes, AllocError>
     ensures { IfOk result (AreNodesOf (plan_contents plan.now)) }
 {
@@ -278,7 +278,7 @@ fn same_count(c: Count, d: Count) -> bool
     c == d
 }
 
-// A list of 2 to the power 32 nodes is want of memory.
+// A list of 2 to the power 32 nodes is answered as out of memory.
 fn number(n: usize) -> Result<u32, AllocError>
     ensures { IfOk result (λ k. k ≡ n) }
 {

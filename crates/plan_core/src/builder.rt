@@ -103,7 +103,7 @@ impl Builder {
     ///
     /// # Errors
     ///
-    /// Where memory is refused. The builder is then as it was.
+    /// Where an allocation fails. The builder is then as it was.
     pub fn add_message(&mut self, name: Name, frame: Frame) -> Result<(), AllocError>
         requires { message_refusal (builder_contents self.old) (name_bytes name) (frame_tree frame) ≡ None }
         ensures added { OnOk result (builder_contents self.new ≡
@@ -156,7 +156,7 @@ impl Builder {
     ///
     /// # Errors
     ///
-    /// Where memory is refused. The builder is then as it was.
+    /// Where an allocation fails. The builder is then as it was.
     pub fn add_controller(&mut self, name: Name, messages: &[Name]) -> Result<(), AllocError>
         requires { controller_refusal (builder_contents self.old) (name_bytes name) (map name_bytes messages.now) ≡
             None }
@@ -238,7 +238,7 @@ impl Builder {
     ///
     /// # Errors
     ///
-    /// Where memory is refused. The builder is then as it was.
+    /// Where an allocation fails. The builder is then as it was.
     pub fn add_interrupt(&mut self, name: Name, address: u8) -> Result<(), AllocError>
         requires { interrupt_refusal (builder_contents self.old) (name_bytes name) ≡ None }
         ensures added { OnOk result (builder_contents self.new ≡
@@ -297,7 +297,7 @@ impl Builder {
     ///
     /// # Errors
     ///
-    /// Where memory is refused. The builder is then as it was.
+    /// Where an allocation fails. The builder is then as it was.
     pub fn add_never(&mut self, first: &Name, second: &Name) -> Result<(), AllocError>
         requires { never_refusal (builder_contents self.old) (name_bytes first.now) (name_bytes second.now) ≡ None }
         ensures added { OnOk result (builder_contents self.new ≡
@@ -360,7 +360,7 @@ impl Builder {
         index_of(&self.plan.interrupts, name)
     }
 
-    // Why this message is refused, apart from want of memory.
+    // Why this message is refused, apart from out of memory.
     #[tactic(auto, unfolding(crate::specs::Building::message_refusal, crate::specs::Building::message_name_refusal, crate::specs::Building::size_refusal))]
     fn message_refusal(&self, name: &Name, frame: &Frame) -> Option<BuildError>
         ensures { result ≡ message_refusal (builder_contents self.now) (name_bytes name.now) (frame_tree frame.now) }
@@ -374,7 +374,7 @@ impl Builder {
         }
     }
 
-    // Why this controller is refused, apart from want of memory.
+    // Why this controller is refused, apart from out of memory.
     #[tactic(auto, unfolding(crate::specs::Building::controller_refusal, crate::specs::Building::controller_name_refusal))]
     fn controller_refusal(&self, name: &Name, messages: &[Name]) -> Option<BuildError>
         ensures { result ≡ controller_refusal (builder_contents self.now) (name_bytes name.now)

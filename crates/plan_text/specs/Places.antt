@@ -29,7 +29,7 @@ ahead reader = place reader.source
 abbrev pub before : Token → Place → Place
 before token after = record after { tokens = with_token token after.tokens }
 
--- the error is the refusal, or memory was refused
+-- the error is the refusal, or an allocation failed
 abbrev pub Refuses : {A : Type 0} → Result A PlanError → PlanError → Type 0
 Refuses given e = (e ≡ NoMemory) ⊎ (given ≡ Err e)
 

@@ -34,7 +34,7 @@ pub enum PlanError {
     /// P8: a name that nothing before it has.
     #[error("P8 line {0}")]
     Unknown(u64),
-    /// P9: memory was refused before another refusal was met.
+    /// P9: an allocation failed before another refusal was met.
     #[error("P9")]
     NoMemory,
 }

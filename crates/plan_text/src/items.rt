@@ -23,13 +23,13 @@ use std::alloc::Global;
 ///
 /// # Errors
 ///
-/// P1 to P8 as `PlanError` has them: the first in the order of the text, with its line. `NoMemory` where memory is refused
-/// before another refusal is met.
+/// P1 to P8 as `PlanError` has them: the first in the order of the text, with its line. `NoMemory` where an allocation
+/// fails before another refusal is met.
 pub fn read_plan(alloc: Global, text: &[u8]) -> Result<Plan, PlanError>
     // What is answered is right.
     ensures spelled { IfOk result (λ plan. Spells text.now (plan_contents plan)) }
     ensures refused { IfErr result (λ e. (e ≡ PlanError.NoMemory) ⊎ First text.now e) }
-    // What is right is answered, unless memory is refused.
+    // What is right is answered, unless an allocation fails.
     ensures plans { (plan : Contents) → Spells text.now plan →
         MatchResult result (λ it. plan_contents it ≡ plan) (λ e. e ≡ PlanError.NoMemory) }
     ensures refusals { (due : PlanError) → First text.now due →

@@ -102,7 +102,7 @@ impl<'a> Tokens<'a> {
         })
     }
 
-    /// Whether `else stop` came next, each after one blank and with a blank behind them; else nothing is taken.
+    /// Whether `else stop` came next, each after one blank and with a blank after them; else nothing is taken.
     pub(crate) fn else_stop(&mut self) -> bool
         ensures taken { result ≡ true →
             (one (keyword keywords.Else) ▸ one (keyword keywords.Stop)) (left self.old) (left self.new) }

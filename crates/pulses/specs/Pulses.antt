@@ -1,8 +1,8 @@
--- Pulses: levels that a line has for less than a least time. A run is the time from one change of a line to its next, and
--- each line is looked at by itself. A run that does not last is as if it had not been: the level of the last run before it
--- that lasted goes on. So of short runs that follow one another none is left. The first run of a line lasts, since it may
--- have begun before the capture, and so does its last, which goes on where the capture ends. A level that is not known is a
--- level as any other.
+-- Pulses: levels that a line has for less than a least time. A run is the time from one change of a line to its next,
+-- and each line is looked at by itself. A run that does not last is ignored: the level of the last run before it that
+-- lasted goes on. So of short runs that follow one another none is left. The first run of a line lasts, since it may
+-- have begun before the capture, and so does its last, which goes on where the capture ends. A level that is not known
+-- is a level as any other.
 use Rattle.std.specs.Prelude.{ℕ, ◌-◌, Bool, true, false, ◌&&◌, ◌==◌, nat_le, List, [], ◌∷◌, if◌then◌else◌}
 use Rattle.vcd_read.specs.declared.samples.Level.{Level}
 use Rattle.vcd_read.specs.declared.samples.Sample.{Sample}
@@ -18,7 +18,7 @@ scl sample = sample.scl
 abbrev pub sda : Line
 sda sample = sample.sda
 
--- Whether a line that has this level now keeps it for so much longer. Behind the last sample it does.
+-- Whether a line that has this level now keeps it for so much longer. After the last sample it does.
 abbrev pub keeps : Line → Level → (longer now : ℕ) → List Sample → Bool
 keeps line level longer now [] = true
 keeps line level longer now (sample ∷ samples) =

@@ -47,8 +47,8 @@ impl Filter {
         }
     }
 
-    /// Takes the next samples, and puts those that are now known behind the ones in `quiet`. Where memory is refused, what
-    /// was filtered so far is lost.
+    /// Takes the next samples, and puts those that are now known after the ones in `quiet`. Where an allocation fails,
+    /// what was filtered so far is lost.
     pub fn feed(&mut self, samples: &[Sample], quiet: &mut Vec<Sample>) -> Result<(), AllocError>
         ensures { OnOk result ((more : List Sample) →
             quiet.new.items ++ behind self.new more ≡ quiet.old.items ++ behind self.old (samples.now ++ more)) }
@@ -59,7 +59,7 @@ impl Filter {
         Ok(())
     }
 
-    /// The end of the capture: the samples that are left are put behind the ones in `quiet`.
+    /// The end of the capture: the samples that are left are put after the ones in `quiet`.
     pub fn end(mut self, quiet: &mut Vec<Sample>) -> Result<(), AllocError>
         ensures { OnOk result (quiet.new.items ≡ quiet.old.items ++ behind self []) }
     {
@@ -71,7 +71,7 @@ impl Filter {
         Ok(())
     }
 
-    /// Takes the last samples, and puts all that are left behind the ones in `quiet`.
+    /// Takes the last samples, and puts all that are left after the ones in `quiet`.
     pub fn feed_to_end(
         mut self,
         samples: &[Sample],
@@ -117,7 +117,7 @@ impl Filter {
         self.first = First::Both;
     }
 
-    // It is so late now, and neither line has changed.
+    // Advance time; levels unchanged.
     #[inline(always)]
     fn pass(&mut self, time: u64)
         ensures least { self.new.least ≡ self.old.least }
@@ -235,8 +235,8 @@ impl Filter {
         }
     }
 
-    // The levels of a sample, up to whose time neither line has changed. A run that ends before it has lasted is as if it
-    // had not been.
+    // The levels of a sample, up to whose time neither line has changed. A run that ends before it has lasted is
+    // ignored.
     #[inline(always)]
     fn hear(&mut self, sample: &Sample)
         requires time { self.old.time ≡ sample.now.time }

@@ -38,8 +38,8 @@ impl QuietFollower {
         }
     }
 
-    /// The transactions that are known to have ended, of these samples and those before, in order. Where memory is refused,
-    /// what was followed so far is lost.
+    /// The transactions that are known to have ended, of these samples and those before, in order. Where an allocation
+    /// fails, what was followed so far is lost.
     pub fn follow(
         &mut self,
         alloc: Global,

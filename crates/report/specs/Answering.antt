@@ -6,7 +6,7 @@ use Rattle.run_parts.specs.Runs.{ReadsText, most_reads}
 use Rattle.run_parts.specs.declared.errors.RunError.{RunError}
 use Rattle.run_parts.specs.declared.errors.RunError.TheVariants.{NoMemory}
 
--- the certificate was not read to its end, or memory was refused after that
+-- the certificate was not read to its end, or an allocation failed after that
 pub data HaltsAtAnswer {D : Type 0} (reader : Reader D) (before : D) : RunError → D → Type 0 where
   unread : {error : RunError} {now : D} →
       ReadingStops reader most_reads before error now →

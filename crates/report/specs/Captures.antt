@@ -43,13 +43,13 @@ pub record Captured (least : ℕ) (scl sda : Finder) (texts : List ℕ × List �
 abbrev pub PassesSoFar : Finder → Finder → List ℕ → Type 0
 PassesSoFar scl sda text = MatchResult (said_so_far scl sda text) (λ _. Unit {0}) (λ _. ⊥)
 
--- A dump that begins so is refused whatever follows, by the first refusal in what was read; or memory was refused.
+-- A dump that begins so is refused whatever follows, by the first refusal in what was read; or an allocation failed.
 abbrev pub RefusesBeginning : Finder → Finder → List ℕ → RunError → Type 0
 RefusesBeginning scl sda text (error.Vcd e) = (r : Refusal) × (said_so_far scl sda text ≡ Err r) × (e ≡ error_of r)
 RefusesBeginning scl sda text error.NoMemory = Unit {0}
 RefusesBeginning scl sda text _ = ⊥
 
--- the whole dump is refused; or memory was refused
+-- the whole dump is refused; or an allocation failed
 abbrev pub RefusesDump : Finder → Finder → List ℕ → RunError → Type 0
 RefusesDump scl sda text (error.Vcd e) = (r : Refusal) × (samples_of scl sda text ≡ Err r) × (e ≡ error_of r)
 RefusesDump scl sda text error.NoMemory = Unit {0}
@@ -61,8 +61,8 @@ module _ {E : Type 0} (second : Reader E) where
     pub given : HasGiven second before reads text now
     pub passes : PassesSoFar scl sda text
 
-  -- Why the reading of a dump goes no further: a read answered an error, the reads met no end, memory was refused, a read
-  -- gave the first bytes that are refused with what was there, or the whole dump is refused.
+  -- Why the reading of a dump goes no further: a read answered an error, the reads met no end, an allocation failed, a
+  -- read gave the first bytes that are refused with what was there, or the whole dump is refused.
   pub data HaltsAtDump (scl sda : Finder) (before : E) : RunError → E → Type 0 where
     read_fails : {reads room : ℕ} {text : List ℕ} {last now : E} →
         reads < most_reads →

@@ -27,7 +27,7 @@ pub record Expanded (brief report : List ℕ) (status : Status) : Type 0 where
   pub read_back : Spells report plan
   pub good : status ≡ Good
 
--- the first refusal of the brief is the answer, but for want of memory, which may come at any brief
+-- the first refusal of the brief is the answer, but for out of memory, which may come at any brief
 abbrev pub RefusesBrief : List ℕ → RunError → Type 0
 RefusesBrief brief (error.Plan e) = IsRefused brief e
 RefusesBrief brief error.NoMemory = Unit {0}
@@ -41,7 +41,7 @@ pub record Abbreviated (text report : List ℕ) (status : Status) : Type 0 where
   pub meant : Means report plan
   pub good : status ≡ Good
 
--- the first refusal of the text is the answer, or why the plan that it spells has no brief; but for want of memory
+-- the first refusal of the text is the answer, or why the plan that it spells has no brief; but for out of memory
 abbrev pub GivesNoBrief : List ℕ → RunError → Type 0
 GivesNoBrief text (error.Plan e) = First text e
 GivesNoBrief text (error.Brief why) = (plan : Contents) × Spells text plan × LacksBrief plan why

@@ -18,7 +18,7 @@ use std::alloc::Global;
 ///
 /// # Errors
 ///
-/// `Read` where the reader failed or gave no end. `NoMemory` where memory is refused.
+/// `Read` where the reader failed or gave no end. `NoMemory` where an allocation fails.
 pub(crate) fn read_answer<J: Input>(
     alloc: Global,
     plan: &Plan,

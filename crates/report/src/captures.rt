@@ -17,18 +17,18 @@ use std::alloc::Global;
 use std::thread::Threads;
 use vcd_read::Probe;
 
-/// Explains the capture that the second reader gives, a value change dump, by the plan that the first reader gives: a line
-/// for each transaction, and one that counts those that a STOP ended and those of them that nobody explains. `scl` and
-/// `sda` are the names of the two lines in the dump. The dump is read block by block, and no more of it is kept than what
-/// is open; after a block in which it is refused nothing is read. The status is `Good` where all is explained, and else
-/// `Bad`.
+/// Explains the capture that the second reader gives, a value change dump, by the plan that the first reader gives: a
+/// line for each transaction, and one that counts those that a STOP ended and those of them that nobody explains. `scl`
+/// and `sda` are the names of the two lines in the dump. The dump is read block by block, and no more of it is kept
+/// than what is open; after a block in which it is refused nothing is read. The status is `Good` where all is
+/// explained, and else `Bad`.
 ///
 /// # Errors
 ///
-/// `Read` where a reader failed or gave no end, `Plan` with the first refusal of the plan text, before the second reader is
-/// called, `Vcd` with the first refusal of the dump, and `Write` where the writer failed or took no bytes. `NoMemory`
-/// where memory is refused. Only after `Write` has a part of the report been written: its first bytes. After every other
-/// error the writer was not called.
+/// `Read` where a reader failed or gave no end, `Plan` with the first refusal of the plan text, before the second
+/// reader is called, `Vcd` with the first refusal of the dump, and `Write` where the writer failed or took no bytes.
+/// `NoMemory` where an allocation fails. Only after `Write` has a part of the report been written: its first bytes.
+/// After every other error the writer was not called.
 pub fn run_capture<I: Input, J: Input, O: Output>(
     rt: &(impl Threads + Sync),
     alloc: Global,
@@ -58,9 +58,8 @@ pub fn run_capture<I: Input, J: Input, O: Output>(
     )
 }
 
-/// The same, where each of the two lines is found in the definitions of the dump by its name or by its code, and where a
-/// level that a line has for less than `least`, in the unit of the dump, is as if it had not been. No level lasts less
-/// than 0.
+/// The same, where each of the two lines is found in the definitions of the dump by its name or by its code, and where
+/// a level that a line has for less than `least`, in the unit of the dump, is ignored. No level lasts less than 0.
 ///
 /// # Errors
 ///

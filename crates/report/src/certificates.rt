@@ -18,14 +18,14 @@ use std::alloc::Global;
 use verdicts::{certificate_lines, faults};
 
 /// Writes the certificate of the plan that the reader gives: the proofs of all pairs where the plan is safe, and else
-/// the first fault of the first pair that has one. The status is `Good` or `Bad`. A line that stands in it many times is
-/// held once, and the writer is given it in blocks, a part of what is left in each call.
+/// the first fault of the first pair that has one. The status is `Good` or `Bad`. A line that stands in it many times
+/// is held once, and the writer is given it in blocks, a part of what is left in each call.
 ///
 /// # Errors
 ///
 /// `Read` where the reader failed or gave no end, `Plan` with the first refusal of the plan text, and `Write` where the
-/// writer failed or took no bytes. `NoMemory` where memory is refused. Only after `Write` has a part of the certificate
-/// been written: its first bytes. After every other error the writer was not called.
+/// writer failed or took no bytes. `NoMemory` where an allocation fails. Only after `Write` has a part of the
+/// certificate been written: its first bytes. After every other error the writer was not called.
 pub fn run_certify<I: Input, O: Output>(
     alloc: Global,
     plan: &mut I,
@@ -47,16 +47,17 @@ pub fn run_certify<I: Input, O: Output>(
     Ok(status)
 }
 
-/// Writes what the certificate that the second reader gives says of the plan that the first reader gives: `accepted safe`,
-/// `accepted unsafe`, or what is wrong with it. The certificate is judged block by block. Of it are kept what is not judged
-/// yet, lines that were proved (64 MiB at most), and all that comes from a line on that is refused. The status is `Good`,
-/// `Bad` or `Refused`.
+/// Writes what the certificate that the second reader gives says of the plan that the first reader gives: `accepted
+/// safe`, `accepted unsafe`, or what is wrong with it. The certificate is judged block by block. Of it are kept what is
+/// not judged yet, lines that were proved (64 MiB at most), and all that comes from a line on that is refused. The
+/// status is `Good`, `Bad` or `Refused`.
 ///
 /// # Errors
 ///
-/// `Read` where a reader failed or gave no end, `Plan` with the first refusal of the plan text, before the second reader
-/// is called, and `Write` where the writer failed or took no bytes. `NoMemory` where memory is refused. Only after
-/// `Write` has a part of the line been written: its first bytes. After every other error the writer was not called.
+/// `Read` where a reader failed or gave no end, `Plan` with the first refusal of the plan text, before the second
+/// reader is called, and `Write` where the writer failed or took no bytes. `NoMemory` where an allocation fails. Only
+/// after `Write` has a part of the line been written: its first bytes. After every other error the writer was not
+/// called.
 pub fn run_verify<I: Input, J: Input, O: Output>(
     alloc: Global,
     plan: &mut I,

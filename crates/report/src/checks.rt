@@ -27,10 +27,10 @@ use verdicts::{Faults, Gate, MOST_WORKERS, faults_with};
 ///
 /// # Errors
 ///
-/// `Workers` for 0 and for more than 8 workers. Then `Read` where the reader failed or gave no end, `Plan` with the first
-/// refusal of the plan text, and `Write` where the writer failed or took no bytes. `NoMemory` where memory is refused.
-/// Only after `Write` has a part of the report been written: its first bytes. After every other error the writer was not
-/// called.
+/// `Workers` for 0 and for more than 8 workers. Then `Read` where the reader failed or gave no end, `Plan` with the
+/// first refusal of the plan text, and `Write` where the writer failed or took no bytes. `NoMemory` where an allocation
+/// fails. Only after `Write` has a part of the report been written: its first bytes. After every other error the writer
+/// was not called.
 pub fn run_check<R: Threads + Sync, I: Input, O: Output, G: Gate + Sync>(
     rt: &R,
     alloc: Global,

@@ -11,13 +11,14 @@ use run_parts::devices::reading::READS;
 use run_parts::{Input, Output, RunError, Status, read_within, write_lines};
 use std::alloc::Global;
 
-/// Writes the canonical spelling of the plan that the reader gives. Reading it gives the same plan. The status is `Good`.
+/// Writes the canonical spelling of the plan that the reader gives. Reading it gives the same plan. The status is
+/// `Good`.
 ///
 /// # Errors
 ///
 /// `Read` where the reader failed or gave no end, `Plan` with the first refusal of the plan text, and `Write` where the
-/// writer failed or took no bytes. `NoMemory` where memory is refused. Only after `Write` has a part of the spelling been
-/// written: its first bytes. After every other error the writer was not called.
+/// writer failed or took no bytes. `NoMemory` where an allocation fails. Only after `Write` has a part of the spelling
+/// been written: its first bytes. After every other error the writer was not called.
 pub fn run_print<I: Input, O: Output>(
     alloc: Global,
     plan: &mut I,
@@ -39,9 +40,9 @@ pub fn run_print<I: Input, O: Output>(
 ///
 /// # Errors
 ///
-/// `Read` where the reader failed or gave no end, `Plan` with the first refusal of the brief, and `Write` where the writer
-/// failed or took no bytes. `NoMemory` where memory is refused. Only after `Write` has a part of the spelling been written:
-/// its first bytes. After every other error the writer was not called.
+/// `Read` where the reader failed or gave no end, `Plan` with the first refusal of the brief, and `Write` where the
+/// writer failed or took no bytes. `NoMemory` where an allocation fails. Only after `Write` has a part of the spelling
+/// been written: its first bytes. After every other error the writer was not called.
 pub fn run_expand<I: Input, O: Output>(
     alloc: Global,
     brief: &mut I,
@@ -63,9 +64,10 @@ pub fn run_expand<I: Input, O: Output>(
 ///
 /// # Errors
 ///
-/// `Read` where the reader failed or gave no end, `Plan` with the first refusal of the plan text, `Brief` where the plan has
-/// no brief, and `Write` where the writer failed or took no bytes. `NoMemory` where memory is refused. Only after `Write`
-/// has a part of the brief been written: its first bytes. After every other error the writer was not called.
+/// `Read` where the reader failed or gave no end, `Plan` with the first refusal of the plan text, `Brief` where the
+/// plan has no brief, and `Write` where the writer failed or took no bytes. `NoMemory` where an allocation fails. Only
+/// after `Write` has a part of the brief been written: its first bytes. After every other error the writer was not
+/// called.
 pub fn run_brief<I: Input, O: Output>(
     alloc: Global,
     plan: &mut I,

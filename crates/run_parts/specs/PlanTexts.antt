@@ -6,7 +6,7 @@ use Rattle.plan_text.specs.Refusals.{First}
 use Rattle.run_parts.specs.declared.errors.RunError.{RunError}
 use Rattle.run_parts.specs.declared.errors.RunError.TheVariants as error
 
--- the first refusal of the text is the answer, but for want of memory, which may come at any text
+-- the first refusal of the text is the answer, but for out of memory, which may come at any text
 abbrev pub RefusesPlan : List ℕ → RunError → Type 0
 RefusesPlan text (error.Plan e) = First text e
 RefusesPlan text error.NoMemory = Unit {0}

@@ -10,7 +10,7 @@ use Rattle.run_parts.specs.declared.errors.RunError.TheVariants.{Plan, Brief, Vc
 use Rattle.vcd_read.specs.declared.errors.VcdError.{VcdError}
 use Rattle.vcd_read.specs.declared.errors.VcdError.TheVariants as vcd
 
--- the same refusal; want of memory has no place in the text
+-- the same refusal; out of memory has no place in the text
 abbrev pub run_error : PlanError → RunError
 run_error plan.NoMemory = NoMemory
 run_error e = Plan e

@@ -43,8 +43,8 @@ module _ {D E : Type 0} (first : Reader D) (second : Reader E) where
   abbrev pub ReadsBoth : Readings (D × E) (List ℕ × List ℕ)
   ReadsBoth before texts now = ReadsText first before.0 texts.0 now.0 × ReadsText second before.1 texts.1 now.1
 
-  -- The run halted at the first text, and the second reader is as it was. Or the first text passed and the second was not
-  -- read to its end, or memory was refused after both.
+  -- The run halted at the first text, and the second reader is as it was. Or the first text passed and the second was
+  -- not read to its end, or an allocation failed after both.
   pub data HaltsAtBoth (Refuses : List ℕ → RunError → Type 0) (Passes : List ℕ → Type 0) (before : D × E) : RunError →
       D × E → Type 0 where
     at_first : {error : RunError} {now : D} →

@@ -13,16 +13,16 @@ use vcd_read::VcdError;
 /// Why a run ends without its report. Only after `Write` has a part of the report been written: its first bytes.
 #[derive(Clone, Copy, Debug, PartialEq, Eq, Error)]
 pub enum RunError {
-    /// The text of a plan or of a brief is refused. For want of memory the refusal is `NoMemory`.
+    /// The text of a plan or of a brief is refused. For out of memory the refusal is `NoMemory`.
     #[error("{0}")]
     Plan(PlanError),
-    /// The plan has no brief. For want of memory the refusal is `NoMemory`.
+    /// The plan has no brief. For out of memory the refusal is `NoMemory`.
     #[error("{0}")]
     Brief(NoBrief),
-    /// The dump is refused. For want of memory the refusal is `NoMemory`.
+    /// The dump is refused. For out of memory the refusal is `NoMemory`.
     #[error("{0}")]
     Vcd(VcdError),
-    /// The bench is not opened. For want of memory the refusal is `NoMemory`.
+    /// The bench is not opened. For out of memory the refusal is `NoMemory`.
     #[error("{0}")]
     Bench(OpenError),
     /// The number of workers is 0, or above 8.

@@ -219,13 +219,13 @@ impl Blocks for Changes {
     }
 }
 
-/// Lists the signals of one bit of the dump that the reader gives, in its order: for each its code, how often it changes,
-/// its scope and its name; and then the pairs of signals that look like the two lines of a bus.
+/// Lists the signals of one bit of the dump that the reader gives, in its order: for each its code, how often it
+/// changes, its scope and its name; and then the pairs of signals that look like the two lines of a bus.
 ///
 /// # Errors
 ///
-/// `Read` where the reader failed or gave no end, `Vcd` with the first refusal of the dump, where V1 says that it has no
-/// signal of one bit, and `Write` where the writer failed or took no bytes. `NoMemory` where memory is refused.
+/// `Read` where the reader failed or gave no end, `Vcd` with the first refusal of the dump, where V1 says that it has
+/// no signal of one bit, and `Write` where the writer failed or took no bytes. `NoMemory` where an allocation fails.
 pub fn run_signals<J: Input, O: Output>(
     alloc: Global,
     vcd: &mut J,

@@ -140,7 +140,7 @@ impl<'a, R: Files + Print + Eprint + Clock + AllocGlobal> Sheet<'a, R> {
         }
     }
 
-    // Where memory was refused for a file or for objects, that is why the run ended.
+    // Where an allocation failed for a file or for objects, that is why the run ended.
     fn named(&self, ended: Result<Status, RunError>) -> Result<Status, RunError> {
         match (self.form, &self.error, ended) {
             (Form::File(_) | Form::Objects, Some(error), Err(RunError::Write))

@@ -310,7 +310,7 @@ fn refuse<R: Eprint>(rt: &R, text: &str) -> u8 {
     2
 }
 
-// The words of the command line are not there: memory was refused, or one of them is not UTF-8.
+// The words of the command line are not there: an allocation failed, or one of them is not UTF-8.
 fn no_words<R: Eprint>(rt: &R, error: &io::Error) -> Result<u8, RunError> {
     if error.kind() == io::ErrorKind::OutOfMemory {
         return Err(RunError::NoMemory);

@@ -21,7 +21,7 @@ pub struct Asked<'a> {
     pub sda: Probe<'a>,
     /// Where names are looked for: the names of scopes, joined by points.
     pub scope: Option<&'a str>,
-    /// A level that lasts less is as if it had not been.
+    /// A level that lasts less is ignored.
     pub min_pulse: Option<Time>,
     pub view: View,
     /// Whether lines for people stand below those of the report.

@@ -29,7 +29,7 @@ StandsFor (Some refusal) scan cleared k = scan ≡ Err (record { refusal = refus
 unfoldable pub Fed : (scl sda : Finder) (text : List ℕ) → List Sample → Reading → Type 0
 Fed scl sda text cleared r = StandsFor r.refused (bytes_read (kept_at_first scl sda) text) cleared r.kept
 
--- This holds after the call, unless it answered want of memory.
+-- This holds after the call, unless it answered out of memory.
 abbrev pub UnlessMemory : {A : Type 0} → Result A VcdError → Type 0 → Type 0
 UnlessMemory result P = MatchResult result (λ _. P) (λ e. (e ≡ NoMemory) ⊎ P)
 
@@ -37,7 +37,7 @@ UnlessMemory result P = MatchResult result (λ _. P) (λ e. (e ≡ NoMemory) ⊎
 abbrev pub IsRefusal : {A : Type 0} → Result A Refusal → VcdError → Type 0
 IsRefusal given e = MatchResult given (λ _. ⊥) (λ refusal. e ≡ error_of refusal)
 
--- A call returns Ok exactly where the definition refuses nothing, and else its refusal; want of memory aside.
+-- A call returns Ok exactly where the definition refuses nothing, and else its refusal; out of memory aside.
 abbrev pub Answers : {A B : Type 0} → Result A VcdError → Result B Refusal → Type 0
 Answers result given =
     MatchResult result (λ _. MatchResult given (λ _. Unit {0}) (λ _. ⊥)) (λ e. (e ≡ NoMemory) ⊎ IsRefusal given e)

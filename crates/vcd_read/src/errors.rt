@@ -36,7 +36,7 @@ pub enum VcdError {
     /// V4: the dump ends inside something that began on this line.
     #[error("V4 line {0}")]
     Unended(u64),
-    /// V5: memory was refused. The reader is as before the call, and may be fed the same piece again.
+    /// V5: an allocation failed. The reader is as before the call, and may be fed the same piece again.
     #[error("V5")]
     NoMemory,
 }

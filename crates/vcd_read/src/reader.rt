@@ -35,7 +35,7 @@ impl Reader {
     ///
     /// # Errors
     ///
-    /// V5 where memory is refused.
+    /// V5 where an allocation fails.
     pub fn new(alloc: Global, scl: &str, sda: &str) -> Result<Reader, AllocError>
         ensures { IfOk result (λ r. Fed (by_name scl.now) (by_name sda.now) [] [] (reading_of r)) }
     {
@@ -46,7 +46,7 @@ impl Reader {
     ///
     /// # Errors
     ///
-    /// V5 where memory is refused.
+    /// V5 where an allocation fails.
     pub fn of(alloc: Global, scl: Probe<'_>, sda: Probe<'_>) -> Result<Reader, AllocError>
         ensures { IfOk result (λ r. Fed (asked scl.entry) (asked sda.entry) [] [] (reading_of r)) }
     {
@@ -60,10 +60,10 @@ impl Reader {
     ///
     /// # Errors
     ///
-    /// V1 to V4 in the call in which their token is read, and then in every later call. V5 where memory is refused: the
-    /// reader is then as before the call, and may be fed the same piece again.
+    /// V1 to V4 in the call in which their token is read, and then in every later call. V5 where an allocation fails:
+    /// the reader is then as before the call, and may be fed the same piece again.
     pub fn feed(&mut self, piece: &[u8]) -> Result<(), VcdError>
-        // The text that it was fed grows by the piece, unless memory is refused.
+        // The text that it was fed grows by the piece, unless an allocation fails.
         ensures fed { (scl sda : Finder) (text : List ℕ) (cleared : List Sample) →
             Fed scl sda text cleared (reading_of self.old) →
             UnlessMemory result (Fed scl sda (text ++ piece.now) cleared (reading_of self.new)) }

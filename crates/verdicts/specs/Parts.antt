@@ -31,6 +31,6 @@ module _ {X V E : Type 0} (items : V → List X) where
   items_or_none (Ok v) = items v
   items_or_none (Err e) = []
 
--- what a part found, or nothing where memory was refused
+-- what a part found, or nothing where an allocation failed
 abbrev pub items_of : {X : Type 0} → Part X → List (Found X)
 items_of p = items_or_none (λ v. v.items) p.found

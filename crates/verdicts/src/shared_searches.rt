@@ -14,17 +14,18 @@ use plan_core::Plan;
 use std::alloc::Global;
 use std::thread::Threads;
 
-/// The pairs of the plan that are not safe, each with its first fault, in the order of the pairs: the list that `faults`
-/// gives, whatever the gate does and however many threads could be made.
+/// The pairs of the plan that are not safe, each with its first fault, in the order of the pairs: the list that
+/// `faults` gives, whatever the gate does and however many threads could be made.
 ///
 /// Worker 0 is the caller. What the workers share out are the places of two senders, of which each is a message or an
 /// interrupt. Each place is worked on once, by the worker that takes it, which calls the gate before and after with the
-/// number of the place: where the two make a pair, they are compared. The pairs are looked up afterwards, by the caller.
+/// number of the place: where the two make a pair, they are compared. The pairs are looked up afterwards, by the
+/// caller.
 ///
 /// # Errors
 ///
-/// `Workers` exactly for 0 and for more than `MOST_WORKERS`, before anything else is done. Else `NoMemory` where memory
-/// is refused.
+/// `Workers` exactly for 0 and for more than `MOST_WORKERS`, before anything else is done. Else `NoMemory` where an
+/// allocation fails.
 pub fn faults_with<R: Threads + Sync, G: Gate + Sync>(
     rt: &R,
     alloc: Global,

@@ -24,8 +24,8 @@ use std::thread::Threads;
 ///
 /// # Errors
 ///
-/// `Workers` exactly for 0 and for more than `MOST_WORKERS`, before anything else is done. Else `NoMemory` where memory
-/// is refused.
+/// `Workers` exactly for 0 and for more than `MOST_WORKERS`, before anything else is done. Else `NoMemory` where an
+/// allocation fails.
 pub fn table_with<R: Threads + Sync, G: Gate + Sync>(
     rt: &R,
     alloc: Global,

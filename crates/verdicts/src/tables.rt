@@ -35,7 +35,8 @@ impl Table {
         all_safe(&self.verdicts)
     }
 
-    /// All proofs, or the fault of the first pair that is not safe. Where memory is refused, the table is handed back.
+    /// All proofs, or the fault of the first pair that is not safe. Where an allocation fails, the table is handed
+    /// back.
     pub fn certify(self, alloc: Global) -> Result<CertText, Table>
         ensures certificate { IfOk result (λ cert. certificate_of cert ≡ certificate_for (table_verdicts self)) }
         ensures unchanged { IfErr result (λ table. table_verdicts table ≡ table_verdicts self) }

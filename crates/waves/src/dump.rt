@@ -109,7 +109,7 @@ impl Dump {
     ///
     /// # Errors
     ///
-    /// Where memory was refused for one of its parts.
+    /// Where an allocation failed for one of its parts.
     pub(crate) fn finish(mut self, time: u64) -> Result<String, AllocError> {
         self.push_time(time);
         self.text.finish()

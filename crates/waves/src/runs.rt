@@ -8,12 +8,12 @@ use run_parts::RunError;
 use std::alloc::{AllocError, Global};
 use verdicts::faults;
 
-/// The waves of an unsafe pair of the plan with this text, up to the slot of its first fault: of the pair with this number, or
-/// of the first one. There are none where that pair is safe, or is none of the plan.
+/// The waves of an unsafe pair of the plan with this text, up to the slot of its first fault: of the pair with this
+/// number, or of the first one. There are none where that pair is safe, or is none of the plan.
 ///
 /// # Errors
 ///
-/// `Plan` with the first refusal of the text. `NoMemory` where memory is refused.
+/// `Plan` with the first refusal of the text. `NoMemory` where an allocation fails.
 pub fn wave_of_check(
     alloc: Global,
     text: &[u8],
@@ -39,12 +39,12 @@ fn wave_of_pair(
     Ok(None)
 }
 
-/// The waves of a rehearsal of these starters under the plan with this text, of which this is the report. There are none where
-/// nothing was rehearsed.
+/// The waves of a rehearsal of these starters under the plan with this text, of which this is the report. There are
+/// none where nothing was rehearsed.
 ///
 /// # Errors
 ///
-/// `Plan` with the first refusal of the text. `NoMemory` where memory is refused.
+/// `Plan` with the first refusal of the text. `NoMemory` where an allocation fails.
 pub fn wave_of_bench(
     alloc: Global,
     text: &[u8],

@@ -60,8 +60,8 @@ fn unended(opened: Opened) -> &'static str {
     }
 }
 
-/// Says what the refusal of a dump means, where the token is not known. There is nothing to say of a missing signal here,
-/// nor of want of memory.
+/// Says what the refusal of a dump means, where the token is not known. There is nothing to say of a missing signal
+/// here, nor of out of memory.
 pub(crate) fn push_dump(lines: &mut Lines, refusal: VcdError) {
     match refusal {
         VcdError::BadToken(line) => lines.say(format_args!(

@@ -19,7 +19,7 @@ pub const READS: u32 = u32::MAX;
 /// # Errors
 ///
 /// `Read` where the reader failed, which is then not called again, or where `limit` calls met no end. `NoMemory` where
-/// memory was refused before that.
+/// an allocation failed before that.
 pub fn read_within<I: Input>(alloc: Global, reader: &mut I, limit: u32) -> Result<Vec<u8>, RunError>
     ensures all { IfOk result (λ bytes. ReadsAll I.reader limit reader.old bytes.items reader.new) }
     ensures stops { IfErr result (λ error. ReadingStops I.reader limit reader.old error reader.new) }

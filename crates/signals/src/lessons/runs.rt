@@ -28,8 +28,8 @@ const MOST_MESSAGES: usize = 256;
 ///
 /// # Errors
 ///
-/// `Read` where the reader failed or gave no end, `Vcd` with the first refusal of the dump, and `Write` where the writer
-/// failed or took no bytes. `NoMemory` where memory is refused.
+/// `Read` where the reader failed or gave no end, `Vcd` with the first refusal of the dump, and `Write` where the
+/// writer failed or took no bytes. `NoMemory` where an allocation fails.
 pub fn run_learn<J: Input, O: Output>(
     alloc: Global,
     vcd: &mut J,

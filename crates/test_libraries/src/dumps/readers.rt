@@ -5,7 +5,7 @@ use std::alloc::{AllocError, Global};
 use vcd_read::{Level, Reader, Sample, VcdError};
 
 /// What a reader answers for a dump that comes in pieces of so many bytes: a word for each sample, or the refusal. The
-/// samples are cleared after each piece. A piece for which memory was refused is fed once more.
+/// samples are cleared after each piece. A piece for which an allocation failed is fed once more.
 pub fn in_pieces(alloc: Global, dump: &[u8], bytes: usize) -> Result<String, AllocError> {
     let mut reader = Reader::new(alloc, "scl", "sda")?;
     let mut line = Text::new(alloc);
