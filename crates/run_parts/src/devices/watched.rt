@@ -1,9 +1,10 @@
 // A device that remembers whether it failed.
 
-ghost use Rattle.std.specs.Prelude.{◌≡◌, ◌≢◌, ◌↔◌, false, IsTrue, IfErr};
+ghost use Rattle.std.specs.Prelude.{◌≡◌, ◌≢◌, ◌↔◌, false, IsTrue, IfErr, is_err, length};
 ghost use Rattle.std.specs.Io.{ReadsAtMost, WritesAtMost};
 ghost use Rattle.std.specs.Io.KnownBytes.{ReadConsumes, WriteAppends};
 ghost use Rattle.std.specs.IoError.{error_kind};
+ghost use Rattle.run_parts.specs.Devices.{given, taken};
 ghost use Rattle.run_parts.specs.WatchedDevices.{watched_reader, watched_writer};
 
 use super::traits::{Input, Output};
@@ -44,7 +45,13 @@ impl<D> Watched<D> {
 impl<R: Read> Input for Watched<R> {
     ghost reader = { watched_reader R.remaining };
 
-    fn read(&mut self, buf: &mut [u8]) -> io::Result<usize> {
+    fn read(&mut self, buf: &mut [u8]) -> io::Result<usize>
+        ensures bound { ReadsAtMost result buf.new }
+        ensures bytes { ReadConsumes ((watched_reader R.remaining).remaining self.old) ((watched_reader R.remaining).remaining self.new) result buf.new }
+        ensures call { (watched_reader R.remaining).gives self.old (length buf.new) (given result buf.new) self.new }
+        ensures failed { (watched_reader R.remaining).has_failed self.new ≡ is_err result }
+        ensures through { IfErr result (λ error. error_kind error ≢ ErrorKind.Interrupted) }
+    {
         let count = read_through(&mut self.device, buf);
         self.failed = count.is_err();
         count
@@ -58,7 +65,13 @@ impl<R: Read> Input for Watched<R> {
 impl<W: Write> Output for Watched<W> {
     ghost writer = { watched_writer W.contents };
 
-    fn write(&mut self, buf: &[u8]) -> io::Result<usize> {
+    fn write(&mut self, buf: &[u8]) -> io::Result<usize>
+        ensures bound { WritesAtMost result buf.now }
+        ensures bytes { WriteAppends ((watched_writer W.contents).contents self.old) ((watched_writer W.contents).contents self.new) result buf.now }
+        ensures call { (watched_writer W.contents).takes self.old buf.now (taken result) self.new }
+        ensures failed { (watched_writer W.contents).has_failed self.new ≡ is_err result }
+        ensures through { IfErr result (λ error. error_kind error ≢ ErrorKind.Interrupted) }
+    {
         let written = write_through(&mut self.device, buf);
         self.failed = written.is_err();
         written
