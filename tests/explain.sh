@@ -82,7 +82,7 @@ want 1 "pair 0 main/write_output service/probe_10: data against stop after 00100
     slot 9, UM10204 3.1.8: a data bit meets a STOP. Both send alike until here.
 unsafe: 1 of 2 pairs
     to mend it: a bit before that slot, known in both and different; or the same
-    shape from there on; or never main service ;" ""
+    shape from there on; or never main service ; (leaves 2 pairs unchecked)" ""
 run "a STOP meets a data bit" check --explain "$examples/stop_meets_data.plan"
 
 plan 'plan 1' \
@@ -98,7 +98,7 @@ want 1 "pair 0 a/w b/r: data against restart after 10010000l00000001l
     b/r may send either bit before it in slot 16
 unsafe: 1 of 1 pairs
     to mend it: a bit before that slot, known in both and different; or the same
-    shape from there on; or never a b ;" ""
+    shape from there on; or never a b ; (leaves 1 pairs unchecked)" ""
 run "a repeated START meets a data bit, after an open bit" check --explain p.plan
 
 plan 'plan 1' 'message get read 1001000 1 stop else stop ;' 'controller a get ;' 'interrupt al 1001000 ;' \
@@ -122,9 +122,8 @@ pair 2 !al !second: claim against claim after 10010001
     slot 8, the profile of interrupts: a wait for the answer meets a wait for
     the answer. Both send alike until here.
 unsafe: 3 of 3 pairs
-    to mend each: a bit before its slot, known in both and different; or the
-    same shape from there on
-    no 'never' keeps an interrupt away: pair 0 pair 1 pair 2" ""
+    to mend each: a bit before its slot, known in both and different
+    no shape and no 'never' mends a pair with an interrupt: pair 0 pair 1 pair 2" ""
 run "interrupts, which no never keeps away" check --explain p.plan
 
 plan 'plan 2' 'message one read 1001000 1 again write 1001000 stop else stop else stop ;' \
@@ -138,7 +137,7 @@ want 1 "pair 0 a/one b/few: restart against stop after 10010001lllllllll1
     b/few may send either bit before it in slot 17
 unsafe: 1 of 1 pairs
     to mend it: a bit before that slot, known in both and different; or the same
-    shape from there on; or never a b ;" ""
+    shape from there on; or never a b ; (leaves 1 pairs unchecked)" ""
 run "reads that may end alike: the last acknowledge of one is open" check --explain p.plan
 
 # ---- How many are explained.
@@ -154,19 +153,21 @@ pair 1 a/w c/p: data against stop after 10010000l
     (not explained from here on: 1; --most N explains N pairs)
 unsafe: 2 of 3 pairs
     to mend each: a bit before its slot, known in both and different; or the
-    same shape from there on; or never a b ; never a c ;" ""
+    same shape from there on; or never a b ; never a c ; (leaves 2 pairs
+    unchecked)" ""
 run "one pair is explained where --most is 1" check --explain --most 1 p.plan
 want 1 "pair 0 a/w b/p: data against stop after 10010000l
     (not explained from here on: 2; --most N explains N pairs)
 pair 1 a/w c/p: data against stop after 10010000l
 unsafe: 2 of 3 pairs
     to mend each: a bit before its slot, known in both and different; or the
-    same shape from there on; or never a b ; never a c ;" ""
+    same shape from there on; or never a b ; never a c ; (leaves 2 pairs
+    unchecked)" ""
 run "none is explained where --most is 0" check --explain --most 0 p.plan
 printf 'never a b ; never a c ;\n' >>p.plan
 want 0 "safe: 1 pairs
-    where targets acknowledge: 0 must part in a header, 0 later, 0 at a read's
-    end; 1 may end alike
+    where targets acknowledge, decided in the header: 0, later: 0, at a read's
+    end: 0; alike to the end: 1
     2 pairs were not checked: 'never' keeps their controllers apart" ""
 run "the never items that are named make the plan safe" check --explain p.plan
 
@@ -183,8 +184,9 @@ pair 11 b/p c/w: stop against data after 10010000l
 pair 15 b/q !al: answer against claim after 00100001
 unsafe: 6 of 18 pairs
     to mend each: a bit before its slot, known in both and different; or the
-    same shape from there on; or never a b ; never a c ; never b c ;
-    no 'never' keeps an interrupt away: pair 15" ""
+    same shape from there on; or never a b ; never a c ; never b c ; (leaves 12
+    pairs unchecked)
+    no shape and no 'never' mends a pair with an interrupt: pair 15" ""
 run "several pairs of two controllers, beside one with an interrupt" check --explain --most 0 p.plan
 printf 'never b a ;\n' >>p.plan
 want 1 "pair 0 a/w c/p: data against stop after 10010000l
@@ -194,36 +196,38 @@ pair 7 b/p c/w: stop against data after 10010000l
 pair 11 b/q !al: answer against claim after 00100001
 unsafe: 4 of 14 pairs
     to mend each: a bit before its slot, known in both and different; or the
-    same shape from there on; or never a c ; never b c ;
-    no 'never' keeps an interrupt away: pair 11" ""
+    same shape from there on; or never a c ; never b c ; (leaves 8 pairs
+    unchecked)
+    no shape and no 'never' mends a pair with an interrupt: pair 11
+    4 pairs were not checked: 'never' keeps their controllers apart" ""
 run "a never that the plan has is not named" check --explain --most 0 p.plan
 printf 'never a c ; never b c ;\n' >>p.plan
 want 1 "pair 3 b/q !al: answer against claim after 00100001
     (not explained from here on: 1; --most N explains N pairs)
 unsafe: 1 of 6 pairs
-    to mend it: a bit before that slot, known in both and different; or the same
-    shape from there on
-    no 'never' keeps an interrupt away: pair 3" ""
+    to mend it: a bit before that slot, known in both and different
+    no shape and no 'never' mends a pair with an interrupt: pair 3
+    12 pairs were not checked: 'never' keeps their controllers apart" ""
 run "with these items the pair with the interrupt is left" check --explain --most 0 p.plan
 
 # ---- Safe plans.
 
 want 0 "safe: 2 pairs
-    where targets acknowledge: 0 must part in a header, 1 later, 0 at a read's
-    end; 1 may end alike" ""
+    where targets acknowledge, decided in the header: 0, later: 1, at a read's
+    end: 0; alike to the end: 1" ""
 run "two writers: one pair ends alike, one parts in a data byte" check --explain "$examples/two_writers.plan"
 plan 'plan 1' 'message short read 1001000 1 stop else stop ;' 'message long read 1001000 2 stop else stop ;' \
     'message other read 1001001 2 stop else stop ;' 'message spare write 1001000 stop else stop ;' \
     'controller a short ;' 'controller b long ;' 'controller c other ;'
 want 0 "safe: 3 pairs
-    where targets acknowledge: 2 must part in a header, 0 later, 1 at a read's
-    end; 0 may end alike
+    where targets acknowledge, decided in the header: 2, later: 0, at a read's
+    end: 1; alike to the end: 0
     nobody sends spare" ""
 run "a read's end, headers, and a message that nobody sends" check --explain p.plan
 plan 'plan 1'
 want 0 "safe: 0 pairs
-    where targets acknowledge: 0 must part in a header, 0 later, 0 at a read's
-    end; 0 may end alike
+    where targets acknowledge, decided in the header: 0, later: 0, at a read's
+    end: 0; alike to the end: 0
     no two participants may start together, so nothing was checked" ""
 run "a plan without pairs" check --explain p.plan
 
@@ -299,15 +303,15 @@ plan 'plan 1' 'message fetch_some write 1001000 00000001 again read 1001000 4 st
     'message warn write 1001000 00000011 stop else stop else stop ;' 'controller main fetch_some ;' \
     'controller guard warn ;'
 want 0 "wire 10010000l00000001lr10010001lllllllll0llllllll0llllllll0llllllll1s
-    slot             0          9            19         28         37
-    byte             48 Wr    A 01       A S 48 Rd    A 00       A 00       A
-    wire             10010000 l 00000001 l r 10010001 l llllllll 0 llllllll 0
-    main/fetch_some  10010000 . 00000001 . r 10010001 . ........ 0 ........ 0
+    slot             0          9             19         28         37
+    byte             48 Wr    A 01       A Sr 48 Rd    A 00       A 00       A
+    wire             10010000 l 00000001 l r  10010001 l llllllll 0 llllllll 0
+    main/fetch_some  10010000 . 00000001 . r  10010001 . ........ 0 ........ 0
     guard/warn       10010000 . 0000001  lost in slot 15
     slot             46         55
-    byte             00       A 00       N P
-    wire             llllllll 0 llllllll 1 s
-    main/fetch_some  ........ 0 ........ 1 s  won
+    byte             00       A 00       NA P
+    wire             llllllll 0 llllllll 1  s
+    main/fetch_some  ........ 0 ........ 1  s  won
 won main/fetch_some" ""
 run "a wire in two blocks, with a repeated START" bench --explain p.plan --certify main/fetch_some,guard/warn --rest 0
 
@@ -331,13 +335,31 @@ run "who goes along furthest with a transaction that nobody explains" capture --
     "$examples/stop_meets_data.vcd"
 "$tests/../tools/dump" 00100000000 >d.vcd
 want 1 "5-190 unexplained
-    S 10 Wr A 00 P
+    S 10 Wr A 0b00(cut) P
     the STOP comes after 2 of a byte's nine bits: is it a glitch?
     b/n leaves at slot 11: it sends 0 there, the wire has a STOP
     b/o leaves at slot 9: it sends 1 there, the wire has 0
     b/q leaves at slot 7: it sends 1 there, the wire has 0
 1 transactions, 1 unexplained" ""
 run "a STOP in the middle of a byte" capture --explain p.plan d.vcd
+"$tests/../tools/dump" 00100000 >d.vcd
+want 1 "5-145 unexplained
+    S 10 Wr(cut) P
+    the STOP comes after 8 of a byte's nine bits: is it a glitch?
+    b/n leaves at slot 8: a target answers it there, the wire has a STOP
+    b/o leaves at slot 8: a target answers it there, the wire has a STOP
+    b/q leaves at slot 7: it sends 1 there, the wire has 0
+1 transactions, 1 unexplained" ""
+run "a STOP after a whole byte, in the place of its acknowledge" capture --explain p.plan d.vcd
+"$tests/../tools/dump" 00100000010r001000010 >d.vcd
+want 1 "5-345 unexplained
+    S 10 Wr A 0b10(cut) Sr 10 Rd A P
+    the repeated START comes after 2 of a byte's nine bits: is it a glitch?
+    b/o leaves at slot 11: it sends a bit there, the wire has a repeated START
+    b/n leaves at slot 9: it sends 0 there, the wire has 1
+    b/q leaves at slot 7: it sends 1 there, the wire has 0
+1 transactions, 1 unexplained" ""
+run "a repeated START in the middle of a byte" capture --explain p.plan d.vcd
 "$tests/../tools/dump" 001000000r001000010101010101 >d.vcd
 want 1 "5-450 unexplained
     S 10 Wr A Sr 10 Rd A aa NA P

@@ -114,7 +114,7 @@ dump=$examples/stop_meets_data.vcd
 run "an unsafe plan" 1 '{"kind":"pair","pair":0,"participants":["main/write_output","service/probe_10"],"meet":["data","stop"],"after":"00100000l"}
 {"kind":"plan","safe":false,"pairs":2,"unsafe_pairs":1}' "" check --format json "$stop"
 run "an unsafe plan, explained" 1 '{"kind":"pair","pair":0,"participants":["main/write_output","service/probe_10"],"meet":["data","stop"],"after":"00100000l","explain":{"slot":9,"bus":"S 10 Wr A","bytes":["S 10 Wr A xxxxxxxx","S 10 Wr A P"],"next":["a data bit","a STOP"],"notes":["bus                S 10 Wr A","main/write_output  S 10 Wr A xxxxxxxx  next: a data bit","service/probe_10   S 10 Wr A P         next: a STOP","slot 9, UM10204 3.1.8: a data bit meets a STOP. Both send alike until here."]}}
-{"kind":"plan","safe":false,"pairs":2,"unsafe_pairs":1,"explain":{"never":[["main","service"]],"notes":["to mend it: a bit before that slot, known in both and different; or the same","shape from there on; or never main service ;"]}}' \
+{"kind":"plan","safe":false,"pairs":2,"unsafe_pairs":1,"explain":{"never":[["main","service"]],"notes":["to mend it: a bit before that slot, known in both and different; or the same","shape from there on; or never main service ; (leaves 2 pairs unchecked)"]}}' \
     "" --format json check --explain "$stop"
 run "a safe plan" 0 '{"kind":"plan","safe":true,"pairs":2,"unsafe_pairs":0}' "" check --format=json "$two"
 run "a certificate" 0 '{"kind":"certificate","accepted":true,"safe":true}' "" verify --format json "$two" "${two%.plan}.cert"

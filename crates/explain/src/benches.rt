@@ -99,10 +99,10 @@ fn fitting(cells: &[Cell], room: usize) -> usize {
     let mut left = room;
     let mut count = 0usize;
     for cell in cells {
-        if left <= cell.size {
+        if left <= cell.width() {
             break;
         }
-        left = left.saturating_sub(cell.size).saturating_sub(1);
+        left = left.saturating_sub(cell.width()).saturating_sub(1);
         count = count.saturating_add(1);
     }
     count
@@ -116,7 +116,7 @@ fn tell_slots(alloc: Global, lines: &mut Lines, columns: usize, block: &[Cell]) 
             pad(&mut line, column);
             line.push_number(cell.from as u64);
         }
-        column = column.saturating_add(cell.size).saturating_add(1);
+        column = column.saturating_add(cell.width()).saturating_add(1);
     }
     begin_titled(lines, "slot", columns);
     lines.words_made(line.finish());
@@ -128,7 +128,7 @@ fn tell_bytes(alloc: Global, lines: &mut Lines, columns: usize, wire: &[Item], b
     let mut column = 0usize;
     for cell in block {
         cell.push_to(alloc, &mut line, column, wire);
-        column = column.saturating_add(cell.size).saturating_add(1);
+        column = column.saturating_add(cell.width()).saturating_add(1);
     }
     begin_titled(lines, "byte", columns);
     lines.words_made(line.finish());
@@ -143,7 +143,7 @@ fn tell_wire(alloc: Global, lines: &mut Lines, columns: usize, wire: &[Item], bl
         for item in cell.items(wire) {
             line.push_char(item.symbol());
         }
-        column = column.saturating_add(cell.size).saturating_add(1);
+        column = column.saturating_add(cell.width()).saturating_add(1);
     }
     begin_titled(lines, "wire", columns);
     lines.words_made(line.finish());
@@ -168,7 +168,7 @@ impl Row<'_> {
                 pad(&mut line, column);
                 self.push_to(&mut line, cell.from, cell.items(wire), fill);
             }
-            column = column.saturating_add(cell.size).saturating_add(1);
+            column = column.saturating_add(cell.width()).saturating_add(1);
         }
         begin_titled(lines, self.label, columns);
         lines.words_made(line.finish());

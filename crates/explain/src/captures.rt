@@ -42,19 +42,22 @@ fn tell_bytes(alloc: Global, lines: &mut Lines, marks: &[Mark]) {
         words.mark(*mark);
     }
     begin(lines);
-    lines.words_made(words.finish());
+    lines.words_made(words.finish_cut());
     lines.end();
 }
 
-// A STOP in the middle of a byte, and one after which so many bits go on as if there had been none.
+// A repeated START or a STOP in the middle of a byte, and a STOP after which so many bits go on as if there had been none.
 fn tell_glitch(lines: &mut Lines, marks: &[Mark], following: u64) {
-    let bits = last_bits(marks);
-    if bits != 0 {
-        begin(lines);
-        lines.words("the STOP comes after");
-        lines.number(bits, "");
-        lines.words("of a byte's nine bits: is it a glitch?");
-        lines.end();
+    let mut bits = 0u64;
+    for mark in marks {
+        match mark {
+            Mark::Level(_) => bits = bits.saturating_add(1) % 9,
+            Mark::Again => {
+                tell_cut(lines, "the repeated START", bits);
+                bits = 0;
+            }
+            Mark::Stop => tell_cut(lines, "the STOP", bits),
+        }
     }
     if following != 0 {
         begin(lines);
@@ -64,17 +67,17 @@ fn tell_glitch(lines: &mut Lines, marks: &[Mark], following: u64) {
     }
 }
 
-// How many bits of a byte that is not whole come before the STOP at the end.
-fn last_bits(marks: &[Mark]) -> u64 {
-    let mut bits = 0u64;
-    for mark in marks {
-        match mark {
-            Mark::Level(_) => bits = bits.saturating_add(1) % 9,
-            Mark::Again => bits = 0,
-            Mark::Stop => {}
-        }
+// This comes after so many bits of a byte that is not whole.
+fn tell_cut(lines: &mut Lines, what: &str, bits: u64) {
+    if bits == 0 {
+        return;
     }
-    bits
+    begin(lines);
+    lines.words(what);
+    lines.words("comes after");
+    lines.number(bits, "");
+    lines.words("of a byte's nine bits: is it a glitch?");
+    lines.end();
 }
 
 // Where a participant leaves a transaction: how many marks it goes along with, and what it does then.

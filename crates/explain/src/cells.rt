@@ -31,6 +31,14 @@ impl Cell {
         self.from.saturating_add(self.size)
     }
 
+    /// How many columns it takes: one for each slot, and as many as its word has.
+    pub(crate) fn width(&self) -> usize {
+        match self.part {
+            Part::Header | Part::Data => self.size,
+            Part::Slot(word) => self.size.max(word.len()),
+        }
+    }
+
     /// Whether these are the bits of a byte.
     pub(crate) fn is_byte(&self) -> bool {
         !matches!(self.part, Part::Slot(_))
@@ -80,7 +88,7 @@ fn next_part(last: Option<&mut Cell>, item: Item, byte: &mut Part) -> Option<Par
         Item::Sent(bit) | Item::Heard(bit) => next_bit(last, bit, byte),
         Item::Again => {
             *byte = Part::Header;
-            Some(Part::Slot("S"))
+            Some(Part::Slot("Sr"))
         }
         Item::Stop => Some(Part::Slot("P")),
         Item::Claim => Some(Part::Slot("")),
@@ -97,7 +105,7 @@ fn next_bit(last: Option<&mut Cell>, bit: bool, byte: &mut Part) -> Option<Part>
         }
         Some(cell) if cell.is_byte() => {
             *byte = Part::Data;
-            Some(Part::Slot(if bit { "N" } else { "A" }))
+            Some(Part::Slot(if bit { "NA" } else { "A" }))
         }
         _ => Some(*byte),
     }

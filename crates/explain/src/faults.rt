@@ -2,6 +2,7 @@
 
 use crate::below::{begin, pad, room_after, row, say_all};
 use crate::meeting::{Pair, label_of, pair_of};
+use crate::plans::{pairs_of, tell_apart};
 use crate::sending::{Followed, deed, follow_wire};
 use crate::wires::items_of;
 use crate::words::Words;
@@ -19,7 +20,7 @@ const LABELS: usize = 24;
 const NEXT: usize = 30;
 
 // How many pairs with an interrupt are named.
-const NAMED: u64 = 6;
+const NAMED: usize = 6;
 
 /// What is said below the line `pair I X Y: KIND against KIND after WIRE` of an unsafe pair in the report of a check: the
 /// bytes on the bus and those of both participants up to the slot of the fault, what meets there, and which bits before it
@@ -160,8 +161,8 @@ fn push_range(words: &mut Text, range: (usize, usize)) {
 }
 
 /// What is said below `unsafe: F of N pairs`, where these are the faults: what mends one of these pairs, and the `never` items
-/// that keep the controllers apart, each as the numbers of two. An interrupt starts when it likes, so a pair with one cannot
-/// be mended so.
+/// that keep the controllers apart, each as the numbers of two, with how many pairs they leave unchecked. A pair with an
+/// interrupt is mended by a bit of the header alone: an interrupt starts when it likes, and two equal headers are its fault.
 pub fn below_unsafe(
     alloc: Global,
     plan: &Plan,
@@ -169,26 +170,49 @@ pub fn below_unsafe(
     nevers: &[(u32, u32)],
 ) -> Result<String, AllocError> {
     let mut lines = Lines::new(alloc);
-    tell_mends(alloc, &mut lines, plan, faults.len(), nevers);
-    tell_with_interrupts(&mut lines, plan, faults);
+    let interrupted = count_interrupted(plan, faults);
+    tell_mends(alloc, &mut lines, plan, faults.len(), interrupted, nevers);
+    tell_interrupted(&mut lines, plan, faults, interrupted);
+    tell_apart(&mut lines, plan);
     lines.finish()
 }
 
-fn tell_mends(alloc: Global, lines: &mut Lines, plan: &Plan, pairs: usize, nevers: &[(u32, u32)]) {
+fn tell_mends(
+    alloc: Global,
+    lines: &mut Lines,
+    plan: &Plan,
+    pairs: usize,
+    interrupted: usize,
+    nevers: &[(u32, u32)],
+) {
     let mut words = Text::new(alloc);
     words.push(if pairs == 1 {
         "to mend it: a bit before that slot,"
     } else {
         "to mend each: a bit before its slot,"
     });
-    words.push(" known in both and different; or the same shape from there on");
-    if !nevers.is_empty() {
-        words.push("; or");
+    words.push(" known in both and different");
+    if interrupted < pairs {
+        words.push("; or the same shape from there on");
     }
-    for never in nevers {
-        push_never(&mut words, plan, *never);
-    }
+    push_nevers(&mut words, plan, nevers);
     say_all(lines, words);
+}
+
+// The items, and how many pairs they leave unchecked.
+fn push_nevers(words: &mut Text, plan: &Plan, nevers: &[(u32, u32)]) {
+    if nevers.is_empty() {
+        return;
+    }
+    words.push("; or");
+    let mut unchecked = 0u64;
+    for (c, d) in nevers {
+        push_never(words, plan, (*c, *d));
+        unchecked = unchecked.saturating_add(pairs_of(plan, *c, *d));
+    }
+    words.push(" (leaves ");
+    words.push_number(unchecked);
+    words.push(" pairs unchecked)");
 }
 
 fn push_never(words: &mut Text, plan: &Plan, never: (u32, u32)) {
@@ -202,32 +226,38 @@ fn push_never(words: &mut Text, plan: &Plan, never: (u32, u32)) {
     }
 }
 
-// The first unsafe pairs that have an interrupt, and how many more there are.
-fn tell_with_interrupts(lines: &mut Lines, plan: &Plan, faults: &Faults) {
-    let mut count = 0u64;
+// How many unsafe pairs have an interrupt.
+fn count_interrupted(plan: &Plan, faults: &Faults) -> usize {
+    let mut count = 0usize;
     for k in 0..faults.len() {
         let (pair, _) = faults.get(k);
-        if !has_interrupt(plan, pair) {
-            continue;
-        }
-        if count == 0 {
-            begin(lines);
-            lines.words("no 'never' keeps an interrupt away:");
-        }
-        if count < NAMED {
+        count = count.saturating_add(usize::from(has_interrupt(plan, pair)));
+    }
+    count
+}
+
+// The first unsafe pairs that have an interrupt, of so many, and how many more there are.
+fn tell_interrupted(lines: &mut Lines, plan: &Plan, faults: &Faults, interrupted: usize) {
+    if interrupted == 0 {
+        return;
+    }
+    begin(lines);
+    lines.words("no shape and no 'never' mends a pair with an interrupt:");
+    let mut named = 0usize;
+    for k in 0..faults.len() {
+        let (pair, _) = faults.get(k);
+        if named < NAMED && has_interrupt(plan, pair) {
             lines.word("pair");
             lines.number(u64::from(pair), "");
+            named = named.saturating_add(1);
         }
-        count = count.saturating_add(1);
     }
-    if count > NAMED {
+    if NAMED < interrupted {
         lines.word("and");
-        lines.number(count.saturating_sub(NAMED), "");
+        lines.number(interrupted.saturating_sub(NAMED) as u64, "");
         lines.word("more");
     }
-    if count != 0 {
-        lines.end();
-    }
+    lines.end();
 }
 
 // Interrupts come after all sendings, so where a pair has one its second participant is one.

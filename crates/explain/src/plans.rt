@@ -24,25 +24,26 @@ pub fn below_safe(alloc: Global, plan: &Plan, endings: Endings) -> Result<String
             lines.end();
         }
     }
-    tell_apart(&mut lines, kept_apart(plan));
+    tell_apart(&mut lines, plan);
     lines.finish()
 }
 
 fn tell_endings(lines: &mut Lines, endings: Endings) {
     begin(lines);
-    lines.words("where targets acknowledge:");
-    lines.number(endings.header, "");
-    lines.words("must part in a header,");
-    lines.number(endings.later, "");
-    lines.word("later,");
-    lines.number(endings.read, "");
-    lines.words("at a read's end;");
+    lines.words("where targets acknowledge, decided in the header:");
+    lines.number(endings.header, ",");
+    lines.word("later:");
+    lines.number(endings.later, ",");
+    lines.words("at a read's end:");
+    lines.number(endings.read, ";");
+    lines.words("alike to the end:");
     lines.number(endings.alike, "");
-    lines.words("may end alike");
     lines.end();
 }
 
-fn tell_apart(lines: &mut Lines, apart: u64) {
+/// How many pairs `never` leaves out, if any.
+pub(crate) fn tell_apart(lines: &mut Lines, plan: &Plan) {
+    let apart = kept_apart(plan);
     if apart == 0 {
         return;
     }
@@ -68,12 +69,16 @@ fn kept_apart(plan: &Plan) -> u64 {
     for c in 0..plan.controllers() {
         for d in 0..c {
             if is_never(plan, c, d) {
-                let both = sendings(plan, c).saturating_mul(sendings(plan, d));
-                pairs = pairs.saturating_add(both);
+                pairs = pairs.saturating_add(pairs_of(plan, c, d));
             }
         }
     }
     pairs
+}
+
+/// How many pairs of sendings two controllers have.
+pub(crate) fn pairs_of(plan: &Plan, c: u32, d: u32) -> u64 {
+    sendings(plan, c).saturating_mul(sendings(plan, d))
 }
 
 fn sendings(plan: &Plan, c: u32) -> u64 {

@@ -39,7 +39,7 @@ impl Words {
     /// A bit of a byte, or the acknowledge after eight of them.
     pub(crate) fn bit(&mut self, bit: Bit) {
         if self.bits == 8 {
-            self.end_byte();
+            self.end_byte(false);
             self.is_header = false;
             self.text.push(acknowledge(bit));
             return;
@@ -51,20 +51,20 @@ impl Words {
 
     /// A repeated START.
     pub(crate) fn again(&mut self) {
-        self.end_byte();
+        self.end_byte(true);
         self.is_header = true;
         self.text.push(" Sr");
     }
 
     /// A STOP.
     pub(crate) fn stop(&mut self) {
-        self.end_byte();
+        self.end_byte(true);
         self.text.push(" P");
     }
 
     /// An interrupt waits for the answer to its header.
     pub(crate) fn claim(&mut self) {
-        self.end_byte();
+        self.end_byte(false);
         self.text.push(" (waits)");
     }
 
@@ -92,18 +92,28 @@ impl Words {
         self.bits != 0 && self.bits != 8
     }
 
-    /// All words.
+    /// All words, of what may go on.
     pub(crate) fn finish(mut self) -> Result<String, AllocError> {
-        self.end_byte();
+        self.end_byte(false);
         self.text.finish()
     }
 
-    fn end_byte(&mut self) {
+    /// All words, of what goes no further: a byte without its acknowledge is cut short.
+    pub(crate) fn finish_cut(mut self) -> Result<String, AllocError> {
+        self.end_byte(true);
+        self.text.finish()
+    }
+
+    // A byte that is cut short is written as `0b10(cut)`, and as `d4(cut)` where it lacks its acknowledge alone.
+    fn end_byte(&mut self, is_cut: bool) {
         if self.bits == 0 {
             return;
         }
         if !self.text.is_empty() {
             self.text.push(" ");
+        }
+        if is_cut && self.bits != 8 {
+            self.text.push("0b");
         }
         if self.is_header && self.bits == 8 {
             self.push_bits(self.value >> 1, self.open >> 1, 7);
@@ -111,6 +121,9 @@ impl Words {
                 .push(if self.value & 1 == 1 { " Rd" } else { " Wr" });
         } else {
             self.push_bits(self.value, self.open, self.bits);
+        }
+        if is_cut {
+            self.text.push("(cut)");
         }
         self.value = 0;
         self.open = 0;

@@ -113,6 +113,7 @@ pub(crate) fn unbroken(alloc: Global, notes: &[&str]) -> Result<String, AllocErr
 // Whether a line begins what is said of a STOP or of a participant.
 fn begins(line: &str) -> bool {
     line.starts_with("the STOP comes after ")
+        || line.starts_with("the repeated START comes after ")
         || line.contains(" bits follow on ")
         || line.split(' ').nth(1) == Some("leaves")
 }

@@ -183,21 +183,25 @@ function drawingOf(pair, one, other) {
   return { svg, run };
 }
 
-// What makes a pair safe. An interrupt cannot be kept away by a never.
+const withInterrupt = pair => [pair.first, pair.second].some(label => label.startsWith('!'));
+
+// What makes a pair safe. An interrupt cannot be kept away by a never, and two equal headers are its fault.
 function mendingText(pair) {
+  const parted = 'To mend it: let a bit before that slot be known in both and different, so that one of them loses first';
+  if (withInterrupt(pair)) return parted + '.';
   const controllers = [pair.first, pair.second].map(label => label.split('/')[0]);
-  const never = controllers.some(name => name.startsWith('!')) ? '' : '; or say never ' + controllers.join(' ') + ' ;';
-  return 'To mend it: let a bit before that slot be known in both and different, so that one of them loses first; or let both do '
-    + 'the same from that slot on' + never + '.';
+  return parted + '; or let both do the same from that slot on; or say never ' + controllers.join(' ')
+    + ' ;, which leaves the pairs of the two unchecked.';
 }
 
 function meetingText(pair, run) {
   const slot = run.slots[run.end];
   if (pair.way === 'unsafe') {
-    return 'Slot ' + run.end + ', UM10204 3.1.8: ' + pair.kinds[0] + ' meets ' + pair.kinds[1]
+    const rule = withInterrupt(pair) ? 'the profile of interrupts' : 'UM10204 3.1.8';
+    return 'Slot ' + run.end + ', ' + rule + ': ' + pair.kinds[0] + ' meets ' + pair.kinds[1]
       + '. Both send alike until here, so neither has lost, and what follows is undefined. ' + mendingText(pair);
   }
-  if (!slot.parts) return 'Both send the same to the end, and neither loses.';
+  if (!slot.parts) return 'Where every byte is acknowledged, both send the same to the end, and neither loses.';
   const winner = run.lost === 0 ? pair.second : pair.first;
   return slot.may ? 'Slot ' + run.end + ': the first in which they may part. Here ' + winner + ' sends 0 and wins.'
     : 'Slot ' + run.end + ': ' + winner + ' sends 0 and wins; the other one has lost.';
