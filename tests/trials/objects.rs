@@ -1,4 +1,4 @@
-//! The lines that the objects of `--format json` stand for, by the schema in docs/FORMATS.md: each field in its place, and
+//! The lines that the objects of `--format json` stand for, by the schema in docs/COMMAND_LINE.md: each field in its place, and
 //! none besides. What an object has beside the notes of `--explain` is compared with the notes.
 
 use crate::json::{read, Value};

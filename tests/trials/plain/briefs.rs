@@ -1,5 +1,5 @@
 //! Briefs, read word by word: the text of the plan that one means, or its first refusal
-//! (docs/FORMATS.md, "Brief").
+//! (docs/PLANS.md, "Brief").
 //!
 //! A message is written level by level. A level is the whole message, or what stands between two
 //! parentheses: its words come one after another as in the text of a plan, but for what follows a

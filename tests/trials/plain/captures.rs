@@ -1,5 +1,5 @@
 //! Recorded wires: samples, events, transactions and who explains them, each looked up again from
-//! the beginning (docs/FORMATS.md, "Samples" and "Bus events and transactions").
+//! the beginning (docs/CAPTURES.md, "Samples", "Bus events", "Transactions").
 
 use super::dumps::{Change, Level, Signal};
 use super::senders::{Part, Place, Sender};

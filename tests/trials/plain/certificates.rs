@@ -1,5 +1,5 @@
 //! Certificate texts, read line by line: the lines of proofs or the parts of a fault line, or the
-//! first refusal (docs/FORMATS.md, "Certificate text").
+//! first refusal (docs/CERTIFICATES.md).
 
 use super::pairs::Clash;
 use super::wires::{Item, Kind};

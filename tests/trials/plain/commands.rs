@@ -1,5 +1,5 @@
 //! The commands, from the bytes of their files to what they write and their status
-//! (docs/FORMATS.md, "The program").
+//! (docs/COMMAND_LINE.md).
 
 use super::benches::{play_on, Answers, Player};
 use super::briefs::{expansion, has_brief_word};

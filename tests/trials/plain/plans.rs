@@ -1,5 +1,5 @@
 //! Plan texts, read word by word: the items of a plan as they stand in the text, or its first
-//! refusal (docs/FORMATS.md, "Plan text").
+//! refusal (docs/PLANS.md, "Plan").
 
 use super::senders::{Part, Sender};
 use super::words::{count_ends, has_form, Language, Reading, Refusal, Word, BITS, KNOWN};

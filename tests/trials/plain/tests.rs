@@ -1,6 +1,6 @@
 //! Tests of the plain programs alone: what they say of worked plans, and that they say what the
 //! definitions of docs/BUS.md say, listed text by text and played run by run. The worked examples
-//! of docs/FORMATS.md are cases of the trials.
+//! of the pages on formats are cases of the trials.
 
 use super::benches::{play_on, Answers, Player};
 use super::captures::{events_of, explains, samples_of, transactions_of, Until};

@@ -1,5 +1,5 @@
-//! The words of a plan text or of a brief, each with its line (docs/FORMATS.md, "Characters,
-//! comments, tokens" of both).
+//! The words of a plan text or of a brief, each with its line (docs/PLANS.md, "Plan tokens" and
+//! "Brief tokens").
 //!
 //! The first byte that is not ASCII is refused, and nothing after it is looked at. So bytes that
 //! are no UTF-8 may come as any characters that are not ASCII.
