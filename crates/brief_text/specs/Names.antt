@@ -1,6 +1,6 @@
 -- The names that a plan may have and a brief can't.
-use Rattle.std.specs.Prelude.{◌≡◌, ℕ, Bool, true, false, ◌||◌, List, [], ◌∷◌, codes}
-use Rattle.std.specs.List.{list_any}
+use Rattle.std.specs.Prelude.{◌≡◌, ℕ, Bool, true, false, ◌||◌, List, [], ◌∷◌, ◌++◌, Option, codes}
+use Rattle.std.specs.List.{list_any, find}
 use Rattle.std.specs.Map.{keys_of}
 use Rattle.std.specs.Str.{bytes_eq}
 use Rattle.plan_core.specs.Contents.{Contents}
@@ -17,6 +17,10 @@ abbrev pub has_brief_word : Contents → Bool
 has_brief_word plan =
     list_any is_brief_word (keys_of plan.messages) || list_any is_brief_word (keys_of plan.controllers)
     || list_any is_brief_word (keys_of plan.interrupts)
+
+-- the first name that is such a word: of the messages, then of the controllers, then of the interrupts
+abbrev pub first_brief_word : Contents → Option (List ℕ)
+first_brief_word plan = find is_brief_word (keys_of plan.messages ++ (keys_of plan.controllers ++ keys_of plan.interrupts))
 
 -- this is why the plan has no brief
 abbrev pub LacksBrief : Contents → NoBrief → Type 0

@@ -1,11 +1,13 @@
 // A brief of a plan.
 
 ghost use Rattle.std.specs.Prelude.{◌≡◌, ◌<◌, ◌⊎◌, All, IfOk, IfErr, length, true, false, is_some};
-ghost use Rattle.std.specs.List.{list_any};
+ghost use Rattle.std.specs.List.{find};
 ghost use Rattle.std.specs.Map.{keys_of};
+ghost use Rattle.std.specs.Option.{option_map};
+ghost use Rattle.plan_core.specs.NameBytes.{name_bytes};
 ghost use Rattle.plan_core.specs.PlanContents.{plan_contents};
 ghost use Rattle.brief_text.specs.Briefs.{Means};
-ghost use Rattle.brief_text.specs.Names.{is_brief_word, has_brief_word, LacksBrief};
+ghost use Rattle.brief_text.specs.Names.{is_brief_word, has_brief_word, first_brief_word, LacksBrief};
 
 use crate::items::expand_brief;
 use message_tree::{Address, Bit, Count, Frame, Pattern, Payload, Tail};
@@ -36,22 +38,20 @@ pub fn brief_of(alloc: Global, plan: &Plan) -> Result<Vec<u8>, NoBrief>
     }
 }
 
-/// The first name of the plan that is a word of briefs: of a message, else of a controller, else of an interrupt. There is
-/// none in a plan whose names a brief can say.
+/// The first name of the plan that is a word of briefs: of the messages, then of the controllers, then of the interrupts,
+/// each in plan order. There is none in a plan whose names a brief can say.
 pub fn brief_word(plan: &Plan) -> Option<&Name>
-    ensures { is_some result ≡ has_brief_word (plan_contents plan.now) }
+    ensures some { is_some result ≡ has_brief_word (plan_contents plan.now) }
+    ensures first { option_map (λ name. name_bytes name.now) result ≡ first_brief_word (plan_contents plan.now) }
 {
-    if let Some(name) = word_of_message(plan) {
-        return Some(name);
-    }
-    if let Some(name) = word_of_controller(plan) {
-        return Some(name);
-    }
-    word_of_interrupt(plan)
+    word_of_message(plan)
+        .or(word_of_controller(plan))
+        .or(word_of_interrupt(plan))
 }
 
 fn word_of_message(plan: &Plan) -> Option<&Name>
-    ensures { is_some result ≡ list_any is_brief_word (keys_of (plan_contents plan.now).messages) }
+    ensures { option_map (λ name. name_bytes name.now) result ≡
+        find is_brief_word (keys_of (plan_contents plan.now).messages) }
 {
     for k in 0..plan.messages() {
         let name = plan.message_name(k);
@@ -63,7 +63,8 @@ fn word_of_message(plan: &Plan) -> Option<&Name>
 }
 
 fn word_of_controller(plan: &Plan) -> Option<&Name>
-    ensures { is_some result ≡ list_any is_brief_word (keys_of (plan_contents plan.now).controllers) }
+    ensures { option_map (λ name. name_bytes name.now) result ≡
+        find is_brief_word (keys_of (plan_contents plan.now).controllers) }
 {
     for k in 0..plan.controllers() {
         let name = plan.controller_name(k);
@@ -75,7 +76,8 @@ fn word_of_controller(plan: &Plan) -> Option<&Name>
 }
 
 fn word_of_interrupt(plan: &Plan) -> Option<&Name>
-    ensures { is_some result ≡ list_any is_brief_word (keys_of (plan_contents plan.now).interrupts) }
+    ensures { option_map (λ name. name_bytes name.now) result ≡
+        find is_brief_word (keys_of (plan_contents plan.now).interrupts) }
 {
     for k in 0..plan.interrupts() {
         let name = plan.interrupt_name(k);

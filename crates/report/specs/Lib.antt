@@ -2,6 +2,7 @@ pub mod Blocks
 pub mod Lines
 pub mod FaultLines
 pub mod Checks
+pub mod FaultyStreams
 pub mod Certificates
 pub mod Answering
 pub mod Spellings

@@ -1,4 +1,4 @@
-// The run of a check.
+// The run of a check, with a gate and without.
 
 ghost use Rattle.std.specs.Prelude.{◌≡◌, ◌<◌, ◌≤◌, ◌⊎◌, ◌↔◌, IsTrue, IfOk, IfErr};
 ghost use Rattle.plan_core.specs.Contents.{Contents};
@@ -16,14 +16,13 @@ use run_parts::devices::reading::READS;
 use run_parts::{Input, Output, RunError, Status, read_within, write_lines};
 use std::alloc::{AllocError, Global};
 use std::thread::Threads;
-use verdicts::{Faults, Gate, MOST_WORKERS, faults_with};
+use verdicts::{Faults, Gate, MOST_WORKERS, NoGate, faults_with};
 
 /// Checks the plan that the reader gives, and writes the verdicts of its unsafe pairs and their number.
 ///
 /// The work is shared among so many workers, each in a thread of its own where one can be made; the report is the same
-/// for each number of them. A worker calls the gate before and after each two senders that it takes; what the gate does
-/// changes nothing. The number of workers is looked at before the first read. The report is complete before its first
-/// byte is written. The status is `Good` or `Bad`.
+/// for each number of them. The number of workers is looked at before the first read. The report is complete before its
+/// first byte is written. The status is `Good` or `Bad`.
 ///
 /// # Errors
 ///
@@ -31,7 +30,31 @@ use verdicts::{Faults, Gate, MOST_WORKERS, faults_with};
 /// first refusal of the plan text, and `Write` where the writer failed or took no bytes. `NoMemory` where an allocation
 /// fails. Only after `Write` has a part of the report been written: its first bytes. After every other error the writer
 /// was not called.
-pub fn run_check<R: Threads + Sync, I: Input, O: Output, G: Gate + Sync>(
+pub fn run_check<I: Input, O: Output>(
+    rt: &(impl Threads + Sync),
+    alloc: Global,
+    plan: &mut I,
+    out: &mut O,
+    workers: u32,
+) -> Result<Status, RunError>
+    ensures report { IfOk result (λ status.
+        Reports (ReadsText I.reader) Checked O.writer plan.old out.old status plan.new out.new) }
+    ensures stops { (1 ≤ workers) × (workers ≤ MOST_WORKERS) → IfErr result (λ error.
+        Stops (ReadsText I.reader) Checked O.writer (HaltsAtText I.reader RefusesPlan)
+        plan.old out.old error plan.new out.new) }
+    ensures workers { result ≡ Err RunError.Workers ↔ ((workers < 1) ⊎ (MOST_WORKERS < workers)) }
+    ensures unread { (workers < 1) ⊎ (MOST_WORKERS < workers) → (plan.new ≡ plan.old) × (out.new ≡ out.old) }
+{
+    run_check_with(rt, alloc, plan, out, workers, &NoGate)
+}
+
+/// The same, where a worker calls the gate before and after each two senders that it takes. What the gate does changes
+/// nothing.
+///
+/// # Errors
+///
+/// Those of `run_check`, in the same order.
+pub fn run_check_with<R: Threads + Sync, I: Input, O: Output, G: Gate + Sync>(
     rt: &R,
     alloc: Global,
     plan: &mut I,

@@ -17,8 +17,6 @@ mod cursor;
 #[cfg(test)]
 mod debugging;
 #[cfg(test)]
-mod devices;
-#[cfg(test)]
 mod dumps;
 #[cfg(test)]
 mod gates;
@@ -34,5 +32,7 @@ mod plans;
 mod queue;
 #[cfg(test)]
 mod rehearsals;
+#[cfg(test)]
+mod streams;
 #[cfg(test)]
 mod workers;

@@ -3,7 +3,7 @@
 use crate::gates::{Flag, Yields};
 use plan_core::Plan;
 use plan_text::read_plan;
-use report::{Watched, run_check};
+use report::{Watched, run_check_with};
 use std::alloc::Global;
 use std::fmt::Debug;
 use std::sync::atomic::{AtomicU64, Ordering};
@@ -194,7 +194,7 @@ fn meet_in_a_check<R: Threads + Sync>(rt: &R, alloc: Global, workers: u32) -> bo
     let flags = Flags::new(workers);
     let mut page = Watched::new(Vec::new(alloc));
     let mut plan = Watched::new(FORTY.as_bytes());
-    let ended = run_check(rt, alloc, &mut plan, &mut page, workers, &flags);
+    let ended = run_check_with(rt, alloc, &mut plan, &mut page, workers, &flags);
     ended.is_ok()
         && page.into_inner().as_slice() == b"safe: 700 pairs\n".as_slice()
         && flags.have_met(25)

@@ -3,7 +3,7 @@
 use crate::drawings::{Canvas, check_drawn};
 use crate::explaining::explain_check;
 use crate::progress::{Comparing, Watcher};
-use report::{Input, Output, RunError, Status, run_check};
+use report::{Input, Output, RunError, Status, run_check_with};
 use std::io;
 use std::rt::Files;
 use std::thread::Threads;
@@ -47,7 +47,7 @@ pub fn look_over<R: Eprint + Clock + AllocGlobal + Threads + Sync, I: Input, O: 
         Some(most) => explain_check(rt, rt.alloc(), plan, out, look.workers, most),
         None => {
             let gate = Comparing::new(rt, watcher);
-            run_check(rt, rt.alloc(), plan, out, look.workers, &gate)
+            run_check_with(rt, rt.alloc(), plan, out, look.workers, &gate)
         }
     }
 }

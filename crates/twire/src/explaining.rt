@@ -10,8 +10,8 @@ use explain::{
 };
 use plan_text::read_plan;
 use report::{
-    Input, NoGate, Output, Probe, RunError, Status, Watched, read_within, run_capture_of,
-    run_check, run_verify,
+    Input, Output, Probe, RunError, Status, Watched, read_within, run_capture_of, run_check,
+    run_verify,
 };
 use std::alloc::Global;
 use std::sync::Wait;
@@ -97,7 +97,7 @@ fn check_text<R: Threads + Sync, O: Output>(
 ) -> Result<Status, RunError> {
     let mut read = Watched::new(text);
     let mut written = Watched::new(Vec::new(alloc));
-    match run_check(rt, alloc, &mut read, &mut written, workers, &NoGate) {
+    match run_check(rt, alloc, &mut read, &mut written, workers) {
         Ok(status) => {
             let report = written.into_inner();
             tell(

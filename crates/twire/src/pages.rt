@@ -4,7 +4,7 @@ use crate::inputs::READS;
 use crate::rewriting::{Rewriting, rewritten};
 use crate::viewing::{Asked, Halt, view_capture};
 use page::{Texts, page_of};
-use report::{Input, NoGate, Output, RunError, Status, Watched, read_within, run_check};
+use report::{Input, Output, RunError, Status, Watched, read_within, run_check};
 use run_parts::write_lines;
 use std::alloc::Global;
 use std::str;
@@ -91,7 +91,7 @@ fn with_check<R: AllocGlobal + Threads + Sync, O: Output>(
 ) -> Result<Status, RunError> {
     let mut read = Watched::new(text);
     let mut written = Watched::new(Vec::new(rt.alloc()));
-    match run_check(rt, rt.alloc(), &mut read, &mut written, 1, &NoGate) {
+    match run_check(rt, rt.alloc(), &mut read, &mut written, 1) {
         Ok(checked) => {
             let check = written.into_inner();
             let texts = Texts {

@@ -1,5 +1,5 @@
 use Rattle.std.proofs.Common.{◌≡◌, drop}
-use Rattle.std.specs.List.{list_any}
+use Rattle.std.specs.List.{find}
 use Rattle.std.specs.Map.{keys_of}
 use Rattle.plan_core.specs.PlanContents.{plan_contents}
 use Rattle.brief_text.specs.Names.{is_brief_word}
@@ -9,4 +9,4 @@ use Rattle.brief_text.proofs.writing.word_of_message.Given as goal
 abbrev pub invariant-loop-k : goal.invariant-loop-k
 invariant-loop-k l =
     let names = keys_of (plan_contents l.plan).messages in
-    list_any is_brief_word (drop l.k names) ≡ list_any is_brief_word names
+    find is_brief_word (drop l.k names) ≡ find is_brief_word names

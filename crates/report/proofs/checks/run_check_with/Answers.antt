@@ -10,7 +10,7 @@ use Rattle.report.proofs.CheckLemmas.{checks, enough_workers}
 use Rattle.run_parts.proofs.PlanTextLemmas.{refuses_plan}
 use Rattle.report.proofs.LineLemmas.{report_is}
 use Rattle.run_parts.proofs.RunLemmas.{halting_stops, writing_reports, writing_stops}
-use Rattle.report.proofs.checks.run_check.Goals as goal
+use Rattle.report.proofs.checks.run_check_with.Goals as goal
 
 pub returns-in_err-text-clause-stops : goal.returns-in_err-text-clause-stops
 returns-in_err-text-clause-stops g c one =

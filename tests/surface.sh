@@ -1,0 +1,71 @@
+#!/usr/bin/env bash
+# The public surface of the libraries, as tools/surface lists it: that it is the one of tests/expected/surface.txt, so that a
+# clause which is weakened or lost shows in the diff of a change. Where a change of the surface is wanted:
+#
+#     tools/surface >tests/expected/surface.txt
+#
+# The last line is 'N passed, M failed', and the exit status is 1 where a case fails. It needs no program.
+set -u
+
+tests=$(dirname -- "$(readlink -f -- "${BASH_SOURCE[0]}")")
+here=$(dirname -- "$tests")
+work=$(mktemp -d)
+trap 'rm -rf -- "$work"' EXIT
+cd -- "$work" || exit 1
+
+passed=0
+failed=0
+
+# want NAME: that the command before this one succeeded.
+want() {
+    if (($? == 0)); then
+        passed=$((passed + 1))
+    else
+        failed=$((failed + 1))
+        echo "FAILED: $1"
+    fi
+}
+
+"$here/tools/surface" >found
+want "tools/surface"
+diff -u --label tests/expected/surface.txt --label found "$tests/expected/surface.txt" found
+want "another surface than tests/expected/surface.txt"
+
+# A copy of what is listed, in which lines are changed.
+mkdir -p copy
+(cd -- "$here" && tar -cf - tools/surface crates.txt crates/*/src crates/*/specs) | tar -xf - -C copy
+want "a copy of the sources"
+
+calls() {
+    (cd -- copy && for crate in crates/*/specs; do grep -rh '^ *pub fn ' "${crate%specs}src"; done) | sed 's/^ *//; s/[(<].*//' | sort
+}
+diff <(calls) <(grep '^ *pub fn ' found | sed 's/^ *//; s/[(<].*//' | sort)
+want "calls that are not listed"
+
+# shows NAME FILE SCRIPT: a file that sed has changed shows in the listing.
+shows() {
+    cp -- "copy/$2" kept
+    sed -i "$3" "copy/$2"
+    ! cmp -s kept "copy/$2" && ! copy/tools/surface | cmp -s found -
+    want "$1 does not show"
+    cp -- kept "copy/$2"
+}
+
+shows "a clause that is lost" crates/pair_walk/src/laws.rt '0,/^ *ensures /{/^ *ensures /d}'
+shows "a condition that is new" crates/run_parts/src/devices/reading.rt '0,/^ *ensures /s/^ *ensures /    requires { 1 ≤ limit }\n&/'
+shows "another result" crates/plan_core/src/plans.rt '0,/-> u32$/s/-> u32$/-> u64/'
+shows "a call that is gone" crates/message_tree/src/bits.rt '0,/pub fn bit/s/pub fn bit/fn bit/'
+shows "what a type keeps" crates/message_tree/src/counts.rt '/ghost positive/d'
+shows "what a trait promises" crates/run_parts/src/devices/traits.rt '/ensures failed/d'
+shows "a definition" crates/plan_core/specs/Faults.antt 's/^IsSafe .*/IsSafe plan = Unit {0}/'
+shows "a definition that only others name" crates/message_tree/specs/Sizes.antt 's/tail_bytes stop = 0/tail_bytes stop = 1/'
+shows "a field of a definition" crates/report/specs/Checks.antt '/pub judged/d'
+
+copy/tools/surface | cmp -s found -
+want "the copy is listed as the sources are"
+sed -i '1i // a comment, and lines below one another\n\n' copy/crates/report/src/lines.rt copy/crates/report/src/checks.rt
+copy/tools/surface | cmp -s found -
+want "a comment does not show"
+
+echo "$passed passed, $failed failed"
+((failed == 0))
