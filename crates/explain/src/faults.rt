@@ -1,10 +1,9 @@
 // Below the lines of unsafe pairs.
 
 use crate::below::{begin, pad, room_after, row, say_all};
-use crate::meeting::{Pair, label_of, pair_of};
+use crate::meeting::label_of;
 use crate::plans::{pairs_of, tell_apart};
 use crate::sending::{Followed, deed, follow_wire};
-use crate::wires::items_of;
 use crate::words::Words;
 use growing_text::{Lines, Text};
 use message_tree::Item;
@@ -22,25 +21,16 @@ const NEXT: usize = 30;
 // How many pairs with an interrupt are named.
 const NAMED: usize = 6;
 
-/// What is said below the line `pair I X Y: KIND against KIND after WIRE` of an unsafe pair in the report of a check: the
-/// bytes on the bus and those of both participants up to the slot of the fault, what meets there, and which bits before it
-/// are open. Nothing is said below another line, and where the plan has no such pair.
-pub fn below_pair(alloc: Global, plan: &Plan, line: &str) -> Result<String, AllocError> {
-    let Some(pair) = pair_of(plan, "pair ", line) else {
-        return Ok(String::new(alloc));
-    };
-    let wire = items_of(alloc, line.rsplit(' ').next().unwrap_or(""))?;
-    below_meeting(alloc, plan, pair, wire.as_slice())
-}
-
-fn below_meeting(
+/// What is said below the line of an unsafe pair: the bytes on the bus and those of both participants up to the slot of the
+/// fault, which comes after this wire, what meets there, and which bits before it are open.
+pub(crate) fn below_pair(
     alloc: Global,
     plan: &Plan,
-    pair: Pair,
+    participants: (u32, u32),
     wire: &[Item],
 ) -> Result<String, AllocError> {
-    let one = side_of(alloc, plan, pair.first, wire)?;
-    let other = side_of(alloc, plan, pair.second, wire)?;
+    let one = side_of(alloc, plan, participants.0, wire)?;
+    let other = side_of(alloc, plan, participants.1, wire)?;
     let mut lines = Lines::new(alloc);
     tell_sides(alloc, &mut lines, wire, &one, &other);
     lines.finish()

@@ -29,6 +29,6 @@ mod words;
 
 pub use hearing::{Heard, Notes};
 pub use reports::{
-    Overheard, Rehearsed, explain_answer, explain_pairs, explain_rehearsal, explain_transactions,
+    Overheard, Rehearsed, explain_answer, explain_check, explain_rehearsal, explain_transactions,
 };
 pub use views::{View, has_unit, shown, steps};

@@ -9,7 +9,7 @@ use crate::benches::below_wire;
 use crate::captures::below_transaction;
 use crate::certificates::below_answer;
 use crate::hearing::Heard;
-use crate::reports::checks::below_check;
+pub use checks::explain_check;
 use growing_text::Text;
 pub use overheard::Overheard;
 use plan_core::Plan;
@@ -18,7 +18,7 @@ use std::alloc::{AllocError, Global};
 use std::{mem, str};
 
 // How many bytes are gathered before they are written.
-const BLOCK: usize = 65_536;
+pub(crate) const BLOCK: usize = 65_536;
 
 /// What was rehearsed: a plan with the text of its certificate, who started, and what they sent for open bits.
 #[derive(Clone, Copy)]
@@ -32,30 +32,11 @@ pub struct Rehearsed<'a> {
 // What a report is of.
 #[derive(Clone, Copy)]
 enum Subject<'a> {
-    // a check, of which so many unsafe pairs are explained
-    Check(&'a Plan, u32),
     // a certificate, by its text
     Answer(&'a Plan, &'a [u8]),
     // a capture, by its transactions
     Capture(&'a Plan, &'a [Heard]),
     Rehearsal(Rehearsed<'a>),
-}
-
-/// Passes on the report of a check of the plan, and writes below each line of an unsafe pair, of at most so many, the bytes of
-/// both participants; and at the end what would mend the plan, or how the pairs of a safe one are kept apart.
-///
-/// # Errors
-///
-/// `Write` where the writer failed or took no bytes, and `NoMemory`. A part of the report may have been written.
-pub fn explain_pairs<O: Output>(
-    alloc: Global,
-    plan: &Plan,
-    report: &[u8],
-    most: u32,
-    out: &mut O,
-) -> Result<(), RunError> {
-    let subject = Subject::Check(plan, most);
-    pass_on(alloc, Text::new(alloc), report, subject, out)
 }
 
 /// Passes on what a certificate says of the plan, and says below it which pair is meant, and where its proof breaks off.
@@ -130,7 +111,7 @@ fn pass_on<O: Output>(
     write_block(text, out)
 }
 
-fn write_block<O: Output>(text: Text, out: &mut O) -> Result<(), RunError> {
+pub(crate) fn write_block<O: Output>(text: Text, out: &mut O) -> Result<(), RunError> {
     let text = text.finish()?;
     write_report(out, text.as_bytes())
 }
@@ -144,7 +125,6 @@ fn below(
     line: &str,
 ) -> Result<String, AllocError> {
     match subject {
-        Subject::Check(plan, most) => below_check(alloc, plan, report, k, line, most),
         Subject::Answer(plan, proofs) => below_answer(alloc, plan, proofs, line),
         Subject::Capture(plan, heard) => match heard.get(k) {
             Some(heard) => below_transaction(alloc, plan, heard, line.ends_with(" unexplained")),

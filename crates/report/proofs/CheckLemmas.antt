@@ -1,25 +1,24 @@
 -- What a check knows of a plan text that is refused, and of one that is not.
-use Rattle.std.proofs.Common.{◌≡◌, ◌<◌, ◌≤◌, ◌⊎◌, List, ℕ, inl, inr, subst, arith}
-use Rattle.plan_core.specs.Contents.{Contents}
-use Rattle.pair_walk.specs.declared.walk_pair.Verdict.{Verdict}
-use Rattle.plan_text.specs.Grammar.{Spells}
-use Rattle.verdicts.specs.Verdicts.{AreVerdicts}
+use Rattle.std.proofs.Common.{◌≡◌, ◌∙◌, List, ℕ}
+use Rattle.plan_core.specs.PlanContents.{plan_contents}
 use Rattle.report.specs.Checks.{Judges, Checked}
-use Rattle.report.specs.Lines.{check_lines}
+use Rattle.report.specs.FaultLines.{fault_report}
+use Rattle.report.specs.Found.{CheckOf}
+use Rattle.report.specs.declared.found.Checked as value
+use Rattle.report.proofs.LineLemmas.{report_is}
 use Rattle.run_parts.specs.declared.runs.Status.{Status}
-use Rattle.verdicts.specs.declared.sharing.TheConstants.{MOST_WORKERS}
+use Rattle.verdicts.specs.Faults.{AreFaults, fault_list}
 
--- what a run knows of the plan that it has read, and of the report that it writes
-pub checks : (text slice report : List ℕ) (plan : Contents) (verdicts : List Verdict) (status : Status) → slice ≡ text → Spells slice plan → AreVerdicts plan verdicts → report ≡ check_lines plan verdicts → Judges status plan → Checked text report status
-checks text slice report plan verdicts status same spelled right lines judged = record {
-  plan = plan;
-  spelled = subst (λ (t : List ℕ). Spells t plan) same spelled;
-  verdicts = verdicts;
-  right = right;
-  lines = lines;
-  judged = judged;
+-- the report of what was found is due for the text
+pub due_report : (text report bytes : List ℕ) (status : Status) (it : value.Checked) → CheckOf text it →
+    bytes ≡ report → report ≡ fault_report (plan_contents it.plan) (fault_list it.faults) →
+    (AreFaults (plan_contents it.plan) (fault_list it.faults) → Judges status (plan_contents it.plan)) →
+    Checked text bytes status
+due_report text report bytes status it found whole same judged = record {
+  plan = plan_contents it.plan;
+  spelled = found.spelled;
+  verdicts = found.right.verdicts;
+  right = found.right.right;
+  lines = whole ∙ (same ∙ report_is (plan_contents it.plan) found.right.verdicts (fault_list it.faults) found.right.right found.right.these);
+  judged = judged found.right;
 }
-
-pub enough_workers : (workers : ℕ) → 1 ≤ workers → workers ≤ MOST_WORKERS → (workers < 1) ⊎ (MOST_WORKERS < workers) → ⊥
-enough_workers workers least most (inl few) = absurd (omega (arith, least, few))
-enough_workers workers least most (inr many) = absurd (omega (arith, most, many))

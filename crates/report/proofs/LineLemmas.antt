@@ -1,4 +1,6 @@
 -- The lines of faults, and those of the verdicts that they stand for.
+use Rattle.std.proofs.Math.Bridge.{le_prop}
+use Rattle.std.proofs.Math.Logic.{∥∥₁_elim}
 use Rattle.std.proofs.Common.{◌≡◌, ℕ, zero, suc, ◌+◌, ◌<◌, Some, List, [], ◌∷◌, ◌++◌, length, slice_get, drop, refl, ap, sym, ◌∙◌, append_assoc, add-one, subst, arith}
 use Rattle.certificate.specs.declared.values.Fault.{Fault}
 use Rattle.pair_walk.specs.declared.walk_pair.Outcome.{Outcome}
@@ -6,7 +8,7 @@ use Rattle.pair_walk.specs.declared.walk_pair.Outcome.TheVariants.{Safe, Unsafe}
 use Rattle.pair_walk.specs.declared.walk_pair.Verdict.{Verdict}
 use Rattle.plan_core.specs.Contents.{Contents}
 use Rattle.plan_core.specs.Pairs.{pairs_of}
-use Rattle.verdicts.specs.Faults.{outcome_fault, faults_of}
+use Rattle.verdicts.specs.Faults.{AreFaults, outcome_fault, faults_of}
 use Rattle.verdicts.specs.Verdicts.{AreVerdicts}
 use Rattle.report.specs.FaultLines.{line_of, fault_lines, fault_report}
 use Rattle.report.specs.Lines.{outcome_line, outcome_lines, fault_line, faulty, fault_count, last_line, check_lines}
@@ -91,3 +93,6 @@ within_of n (v ∷ vs) h k f e =
 pub fault_within : (plan : Contents) (vs : List Verdict) (faults : List (ℕ × Fault)) (k : ℕ) (f : ℕ × Fault) → AreVerdicts plan vs → faults ≡ faults_of vs → slice_get faults k ≡ Some f → f.0 < length (pairs_of plan)
 fault_within plan vs faults k f right these e =
     within_of (length (pairs_of plan)) vs (λ j v d. omega (arith, numbers_are plan vs right j v d, right.whole, at_within vs j v d)) k f (ap (λ fs. slice_get fs k) (sym these) ∙ e)
+
+pub listed_within : (plan : Contents) (faults : List (ℕ × Fault)) (k : ℕ) (f : ℕ × Fault) → ∥ AreFaults plan faults ∥₁ → slice_get faults k ≡ Some f → f.0 < length (pairs_of plan)
+listed_within plan faults k f right e = ∥∥₁_elim right le_prop (λ r. fault_within plan r.verdicts faults k f r.right r.these e)

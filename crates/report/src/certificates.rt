@@ -2,6 +2,7 @@
 
 ghost use Rattle.std.specs.Prelude.{◌≡◌, IfOk, IfErr, string_bytes};
 ghost use Rattle.report.specs.Certificates.{Certified, Verified};
+ghost use Rattle.report.specs.Found.{Finds, AnswerOf};
 ghost use Rattle.answer_lines.specs.Answers.{verify_line, answer_status};
 ghost use Rattle.run_parts.specs.Devices.{by_parts};
 ghost use Rattle.run_parts.specs.PlanTexts.{RefusesPlan, SpellsPlan};
@@ -10,6 +11,8 @@ ghost use Rattle.run_parts.specs.Runs.{ReadsText, HaltsAtText, ReadsBoth, HaltsA
 use crate::answering::read_answer;
 use crate::blocks::{BLOCK, write_in_blocks};
 use crate::checks::status_of;
+use crate::finding::find_plan;
+use crate::found::Answered;
 use answer_lines::{answer_line, status_of_answer};
 use plan_text::read_plan;
 use run_parts::devices::reading::READS;
@@ -71,9 +74,29 @@ pub fn run_verify<I: Input, J: Input, O: Output>(
         Stops (ReadsBoth I.reader J.reader) Verified O.writer (HaltsAtBoth I.reader J.reader RefusesPlan SpellsPlan)
         (plan.old, cert.old) out.old error (plan.new, cert.new) out.new) }
 {
-    let plan_text = read_within(alloc, plan, READS)?;
-    let plan = read_plan(alloc, plan_text.as_slice())?;
+    let found = verify_plan(alloc, plan, cert)?;
+    let report = answer_line(alloc, found.answer)?;
+    write_lines(out, report.as_bytes(), status_of_answer(found.answer))
+}
+
+/// What the certificate that the second reader gives says of the plan that the first reader gives. It is judged block by
+/// block.
+///
+/// # Errors
+///
+/// `Read` where a reader failed or gave no end, and `Plan` with the first refusal of the plan text, before the second reader
+/// is called. `NoMemory` where an allocation fails.
+pub fn verify_plan<I: Input, J: Input>(
+    alloc: Global,
+    plan: &mut I,
+    cert: &mut J,
+) -> Result<Answered, RunError>
+    ensures found { IfOk result (λ it.
+        Finds (ReadsBoth I.reader J.reader) AnswerOf (plan.old, cert.old) it (plan.new, cert.new)) }
+    ensures stops { IfErr result (λ error.
+        HaltsAtBoth I.reader J.reader RefusesPlan SpellsPlan (plan.old, cert.old) error (plan.new, cert.new)) }
+{
+    let plan = find_plan(alloc, plan)?;
     let answer = read_answer(alloc, &plan, cert)?;
-    let report = answer_line(alloc, answer)?;
-    write_lines(out, report.as_bytes(), status_of_answer(answer))
+    Ok(Answered { plan, answer })
 }

@@ -3,20 +3,16 @@
 ghost use Rattle.std.specs.Prelude.{◌≡◌, ◌<◌, ◌≤◌, ◌⊎◌, ◌↔◌, IsTrue, IfOk, IfErr};
 ghost use Rattle.plan_core.specs.Contents.{Contents};
 ghost use Rattle.plan_core.specs.Faults.{IsSafe};
-ghost use Rattle.plan_core.specs.PlanContents.{plan_contents};
 ghost use Rattle.report.specs.Checks.{Judges, Checked};
 ghost use Rattle.run_parts.specs.PlanTexts.{RefusesPlan};
 ghost use Rattle.run_parts.specs.Runs.{ReadsText, HaltsAtText, Reports, Stops};
-ghost use Rattle.verdicts.specs.Faults.{AreFaults, fault_list};
 
+use crate::checked::check_plan;
 use crate::lines::check_report;
-use plan_core::Plan;
-use plan_text::read_plan;
-use run_parts::devices::reading::READS;
-use run_parts::{Input, Output, RunError, Status, read_within, write_lines};
-use std::alloc::{AllocError, Global};
+use run_parts::{Input, Output, RunError, Status, write_lines};
+use std::alloc::Global;
 use std::thread::Threads;
-use verdicts::{Faults, Gate, MOST_WORKERS, NoGate, faults_with};
+use verdicts::{Gate, MOST_WORKERS, NoGate};
 
 /// Checks the plan that the reader gives, and writes the verdicts of its unsafe pairs and their number.
 ///
@@ -70,32 +66,9 @@ pub fn run_check_with<R: Threads + Sync, I: Input, O: Output, G: Gate + Sync>(
     ensures workers { result ≡ Err RunError.Workers ↔ ((workers < 1) ⊎ (MOST_WORKERS < workers)) }
     ensures unread { (workers < 1) ⊎ (MOST_WORKERS < workers) → (plan.new ≡ plan.old) × (out.new ≡ out.old) }
 {
-    if workers < 1 || MOST_WORKERS < workers {
-        return Err(RunError::Workers);
-    }
-    let text = read_within(alloc, plan, READS)?;
-    let plan = read_plan(alloc, text.as_slice())?;
-    let faults = faults_by(rt, alloc, &plan, workers, gate)?;
-    let report = check_report(alloc, &plan, &faults)?;
-    write_lines(out, report.as_bytes(), status_of(faults.is_safe()))
-}
-
-// The faults of the plan, found by so many workers, where these are not too few and not too many.
-fn faults_by<R: Threads + Sync, G: Gate + Sync>(
-    rt: &R,
-    alloc: Global,
-    plan: &Plan,
-    workers: u32,
-    gate: &G,
-) -> Result<Faults, AllocError>
-    requires some { 1 ≤ workers }
-    requires few { workers ≤ MOST_WORKERS }
-    ensures { IfOk result (λ faults. AreFaults (plan_contents plan.now) (fault_list faults)) }
-{
-    match faults_with(rt, alloc, plan, workers, gate) {
-        Ok(faults) => Ok(faults),
-        Err(_) => Err(AllocError),
-    }
+    let checked = check_plan(rt, alloc, plan, workers, gate)?;
+    let report = check_report(alloc, &checked)?;
+    write_lines(out, report.as_bytes(), status_of(checked.faults.is_safe()))
 }
 
 // The status of a run over a plan that is safe, or is not.

@@ -4,25 +4,21 @@ ghost use Rattle.std.specs.Prelude.{◌≡◌, ℕ, ◌<◌, ◌++◌, length, s
 ghost use Rattle.plan_core.specs.PlanContents.{plan_contents};
 ghost use Rattle.plan_core.specs.Pairs.{pairs_of};
 ghost use Rattle.message_tree.specs.Symbols.{wire_text};
-ghost use Rattle.verdicts.specs.Faults.{AreFaults, fault_list};
+ghost use Rattle.verdicts.specs.Faults.{fault_list};
 ghost use Rattle.report.specs.FaultLines.{fault_report};
 ghost use Rattle.report.specs.Lines.{fault_text, fault_line, last_line};
 
+use crate::found::Checked;
 use certificate::{Fault, push_wire};
 use plan_core::Plan;
 use std::alloc::{AllocError, Global};
-use verdicts::Faults;
 
 /// The report of a check: a line for each pair that is not safe, in the order of the pairs, and one that counts them.
-pub(crate) fn check_report(
-    alloc: Global,
-    plan: &Plan,
-    faults: &Faults,
-) -> Result<String, AllocError>
-    requires { AreFaults (plan_contents plan.now) (fault_list faults.now) }
+pub fn check_report(alloc: Global, checked: &Checked) -> Result<String, AllocError>
     ensures { IfOk result (λ report.
-        string_bytes report ≡ fault_report (plan_contents plan.now) (fault_list faults.now)) }
+        string_bytes report ≡ fault_report (plan_contents checked.now.plan) (fault_list checked.now.faults)) }
 {
+    let Checked { plan, faults } = checked;
     let mut report = String::new(alloc);
     for k in 0..faults.len() {
         let (i, fault) = faults.get(k);
@@ -32,8 +28,8 @@ pub(crate) fn check_report(
     Ok(report)
 }
 
-// One line for a pair with a fault.
-fn push_fault(
+/// Adds the line of pair i, which has this fault: `pair I X Y: KIND against KIND after WIRE`.
+pub fn push_fault(
     alloc: Global,
     report: &mut String,
     plan: &Plan,
@@ -73,9 +69,9 @@ fn push_fault_text(
     Ok(())
 }
 
-// The line that counts the pairs with a fault.
+/// Adds the line that counts the pairs, and those with a fault: `safe: N pairs` or `unsafe: F of N pairs`.
 #[tactic(auto, unfolding(crate::specs::Lines::last_line))]
-fn push_count(report: &mut String, pairs: u32, faults: usize) -> Result<(), AllocError>
+pub fn push_count(report: &mut String, pairs: u32, faults: usize) -> Result<(), AllocError>
     ensures { OnOk result (string_bytes report.new ≡ string_bytes report.old ++ last_line pairs faults) }
 {
     if faults == 0 {
