@@ -1,7 +1,6 @@
 // Streams for tests, which fail where they are asked to.
 
 ghost use Rattle.std.specs.Prelude.{◌≡◌, ◌+◌, ◌≤◌, false, [], IfOk, vec_len, vec_capacity};
-ghost use Rattle.report.specs.FaultyStreams.{faulty_reader, faulty_writer};
 
 use run_parts::{Input, Output};
 use std::alloc::{AllocError, Global};
@@ -40,6 +39,8 @@ impl<'a> FaultyReader<'a> {
 }
 
 impl Input for FaultyReader<'_> {
+    ghost use Rattle.report.specs.FaultyStreams.{faulty_reader};
+
     ghost reader = { faulty_reader };
 
     fn read(&mut self, buf: &mut [u8]) -> io::Result<usize> {
@@ -94,6 +95,8 @@ impl FaultyWriter {
 }
 
 impl Output for FaultyWriter {
+    ghost use Rattle.report.specs.FaultyStreams.{faulty_writer};
+
     ghost writer = { faulty_writer };
 
     fn write(&mut self, buf: &[u8]) -> io::Result<usize> {
