@@ -1,5 +1,5 @@
 -- What the streams for tests do that fail where they are asked to.
-use Rattle.std.specs.Prelude.{◌≡◌, ℕ, ◌-◌, ◌==◌, ◌&&◌, min, max, Bool, List, ◌++◌, length, take, drop, Option, None, Some, is_none, if◌then◌else◌}
+use Rattle.std.specs.Prelude.{◌≡◌, ℕ, ◌-◌, ◌==◌, ◌&&◌, min, max, List, ◌++◌, length, take, drop, Option, None, Some, is_none, if◌then◌else◌}
 use Rattle.report.specs.declared.faulty.FaultyReader.{FaultyReader}
 use Rattle.report.specs.declared.faulty.FaultyWriter.{FaultyWriter}
 use Rattle.run_parts.specs.Devices.{Reader, Writer}
