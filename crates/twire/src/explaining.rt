@@ -5,25 +5,21 @@ use crate::inputs::READS;
 use crate::quieting::Quiet;
 use bench_run::run_bench;
 use explain::{
-    Heard, Notes, Overheard, Rehearsed, explain_answer, explain_pairs, explain_rehearsal,
-    explain_transactions,
+    Heard, Notes, Overheard, Rehearsed, explain_answer, explain_rehearsal, explain_transactions,
 };
 use plan_text::read_plan;
 use report::{
-    Input, Output, Probe, RunError, Status, Watched, read_within, run_capture_of, run_check,
-    run_verify,
+    Input, NoGate, Output, Probe, RunError, Status, Watched, check_plan, read_within,
+    run_capture_of, run_verify,
 };
 use std::alloc::Global;
 use std::sync::Wait;
 use std::thread::Threads;
 use std::time::Clock;
-use verdicts::MOST_WORKERS;
 
 // What a report is of, and what its lines for people are made of beside the plan.
 #[derive(Clone, Copy)]
 enum Subject<'a> {
-    // a check, of which so many unsafe pairs are explained
-    Check(u32),
     // a certificate, by its text
     Answer(&'a [u8]),
     // a capture, by its transactions, and so many levels that were left out
@@ -43,7 +39,6 @@ fn tell<O: Output>(
 ) -> Result<Status, RunError> {
     let plan = read_plan(alloc, text)?;
     let told = match subject {
-        Subject::Check(most) => explain_pairs(alloc, &plan, report, most, out),
         Subject::Answer(proofs) => explain_answer(alloc, &plan, proofs, report, out),
         Subject::Capture(heard, quiet, short) => {
             let above = quiet.told(alloc, short);
@@ -80,35 +75,10 @@ pub fn explain_check<R: Threads + Sync, I: Input, O: Output>(
     workers: u32,
     most: u32,
 ) -> Result<Status, RunError> {
-    if workers < 1 || MOST_WORKERS < workers {
-        return Err(RunError::Workers);
-    }
-    let text = read_within(alloc, plan, READS)?;
-    check_text(rt, alloc, text.as_slice(), out, workers, most)
-}
-
-fn check_text<R: Threads + Sync, O: Output>(
-    rt: &R,
-    alloc: Global,
-    text: &[u8],
-    out: &mut O,
-    workers: u32,
-    most: u32,
-) -> Result<Status, RunError> {
-    let mut read = Watched::new(text);
-    let mut written = Watched::new(Vec::new(alloc));
-    match run_check(rt, alloc, &mut read, &mut written, workers) {
-        Ok(status) => {
-            let report = written.into_inner();
-            tell(
-                alloc,
-                text,
-                report.as_slice(),
-                status,
-                Subject::Check(most),
-                out,
-            )
-        }
+    let checked = check_plan(rt, alloc, plan, workers, &NoGate)?;
+    match explain::explain_check(alloc, &checked.plan, &checked.faults, most, out) {
+        Ok(()) if checked.faults.is_safe() => Ok(Status::Good),
+        Ok(()) => Ok(Status::Bad),
         Err(error) => Err(error),
     }
 }
