@@ -1,34 +1,53 @@
 // Below the answer to a certificate.
 
+ghost use Rattle.std.specs.Prelude.{◌<◌, length};
+ghost use Rattle.plan_core.specs.PlanContents.{plan_contents};
+ghost use Rattle.plan_core.specs.Pairs.{pairs_of};
+
 use crate::below::{begin, say, say_all};
 use crate::breaks::{Break, break_of};
-use crate::meeting::{Pair, label_of, pair_of};
+use crate::meeting::{Pair, label_of};
+use cert_check::Answer;
+use certificate::CertFault;
 use growing_text::{Lines, Text};
 use plan_core::Plan;
 use std::alloc::{AllocError, Global};
 
-/// What is said below the line in which `verify` answers that a certificate is wrong: which pair it is and where its proof
-/// breaks off, or how many proofs and pairs there are; and what to do. Nothing is said below another line.
-pub fn below_answer(
+/// What is said below the line of an answer that the certificate is wrong: which pair it is and where its proof breaks off, or
+/// how many proofs and pairs there are; and what to do. Nothing is said below another answer.
+pub(crate) fn below_answer(
     alloc: Global,
     plan: &Plan,
     cert: &[u8],
-    line: &str,
+    answer: Answer,
 ) -> Result<String, AllocError> {
     let mut lines = Lines::new(alloc);
-    if line.starts_with("wrong") {
-        if let Some(pair) = pair_of(plan, "wrong C5 pair ", line) {
-            tell_pair(alloc, &mut lines, plan, pair);
-            if let Some(proof) = proof_line(cert, pair.number) {
-                tell_break(&mut lines, break_of(alloc, plan, pair, proof));
+    if let Answer::Wrong(fault) = answer {
+        match fault {
+            CertFault::Pair(number) if number < plan.pair_count() => {
+                tell_proof(alloc, &mut lines, plan, cert, number);
             }
-        }
-        if line == "wrong C2" {
-            tell_counts(&mut lines, plan, cert);
+            CertFault::Count => tell_counts(&mut lines, plan, cert),
+            _ => {}
         }
         say(&mut lines, AFTER_A_CHANGE);
     }
     lines.finish()
+}
+
+fn tell_proof(alloc: Global, lines: &mut Lines, plan: &Plan, cert: &[u8], number: u32)
+    requires { number < length (pairs_of (plan_contents plan.now)) }
+{
+    let (first, second) = plan.pair(number);
+    let pair = Pair {
+        number,
+        first,
+        second,
+    };
+    tell_pair(alloc, lines, plan, pair);
+    if let Some(proof) = proof_line(cert, number) {
+        tell_break(lines, break_of(alloc, plan, pair, proof));
+    }
 }
 
 const AFTER_A_CHANGE: &str = "a plan that was changed wants a new certificate: twire certify PLAN";

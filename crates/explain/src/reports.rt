@@ -1,6 +1,6 @@
-// Reports with lines for people between their own. A report is passed on line by line, as it is, and what is said to people
-// stands below the line that it speaks of. Lines for people begin with four spaces; what is left without them is the
-// report. Who made the report hands it over in memory, with the texts that it was made of.
+// Reports with lines for people between their own: what is said to people stands below the line that it speaks of. Lines for
+// people begin with four spaces; what is left without them is the report. Those of a check and of a certificate are
+// written from what was found. That of a capture or a rehearsal is passed on line by line, as it is.
 
 mod checks;
 mod overheard;
@@ -9,6 +9,8 @@ use crate::benches::below_wire;
 use crate::captures::below_transaction;
 use crate::certificates::below_answer;
 use crate::hearing::Heard;
+use answer_lines::answer_line;
+use cert_check::Answer;
 pub use checks::explain_check;
 use growing_text::Text;
 pub use overheard::Overheard;
@@ -20,11 +22,10 @@ use std::{mem, str};
 // How many bytes are gathered before they are written.
 pub(crate) const BLOCK: usize = 65_536;
 
-/// What was rehearsed: a plan with the text of its certificate, who started, and what they sent for open bits.
+/// What was rehearsed: a plan, who started, and what they sent for open bits.
 #[derive(Clone, Copy)]
 pub struct Rehearsed<'a> {
     pub plan: &'a Plan,
-    pub proofs: &'a [u8],
     pub starters: &'a str,
     pub fill: bool,
 }
@@ -32,15 +33,13 @@ pub struct Rehearsed<'a> {
 // What a report is of.
 #[derive(Clone, Copy)]
 enum Subject<'a> {
-    // a certificate, by its text
-    Answer(&'a Plan, &'a [u8]),
     // a capture, by its transactions
     Capture(&'a Plan, &'a [Heard]),
     Rehearsal(Rehearsed<'a>),
 }
 
-/// Passes on what a certificate says of the plan, and says below it which pair is meant, and where its proof breaks off.
-/// `proofs` is the text of the certificate.
+/// Writes the line of the answer to a certificate of the plan, and below it which pair is meant, and where its proof breaks
+/// off. `proofs` is the text of the certificate.
 ///
 /// # Errors
 ///
@@ -49,11 +48,13 @@ pub fn explain_answer<O: Output>(
     alloc: Global,
     plan: &Plan,
     proofs: &[u8],
-    report: &[u8],
+    answer: Answer,
     out: &mut O,
 ) -> Result<(), RunError> {
-    let subject = Subject::Answer(plan, proofs);
-    pass_on(alloc, Text::new(alloc), report, subject, out)
+    let mut text = Text::new(alloc);
+    text.push_made(answer_line(alloc, answer));
+    text.push_made(below_answer(alloc, plan, proofs, answer));
+    write_block(text, out)
 }
 
 /// Passes on the report of a capture, whose transactions are these, and writes below each of them its bytes, and below one
@@ -125,7 +126,6 @@ fn below(
     line: &str,
 ) -> Result<String, AllocError> {
     match subject {
-        Subject::Answer(plan, proofs) => below_answer(alloc, plan, proofs, line),
         Subject::Capture(plan, heard) => match heard.get(k) {
             Some(heard) => below_transaction(alloc, plan, heard, line.ends_with(" unexplained")),
             None => Ok(String::new(alloc)),
@@ -133,13 +133,12 @@ fn below(
         Subject::Rehearsal(
             Rehearsed {
                 plan,
-                proofs,
                 starters,
                 fill,
             },
         ) => match line.strip_prefix("wire ") {
             Some(wire) => below_wire(alloc, plan, starters, fill, wire),
-            None => below_answer(alloc, plan, proofs, line),
+            None => Ok(String::new(alloc)),
         },
     }
 }

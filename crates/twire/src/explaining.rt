@@ -3,14 +3,17 @@
 
 use crate::inputs::READS;
 use crate::quieting::Quiet;
+use answer_lines::status_of_answer;
 use bench_run::run_bench;
+use cert_check::check_certificate;
 use explain::{
     Heard, Notes, Overheard, Rehearsed, explain_answer, explain_rehearsal, explain_transactions,
 };
+use plan_core::Plan;
 use plan_text::read_plan;
 use report::{
-    Input, NoGate, Output, Probe, RunError, Status, Watched, check_plan, read_within,
-    run_capture_of, run_verify,
+    Input, NoGate, Output, Probe, RunError, Status, Watched, check_plan, find_plan, read_within,
+    run_capture_of,
 };
 use std::alloc::Global;
 use std::sync::Wait;
@@ -20,12 +23,9 @@ use std::time::Clock;
 // What a report is of, and what its lines for people are made of beside the plan.
 #[derive(Clone, Copy)]
 enum Subject<'a> {
-    // a certificate, by its text
-    Answer(&'a [u8]),
     // a capture, by its transactions, and so many levels that were left out
     Capture(&'a [Heard], Quiet, u64),
-    // a rehearsal by the certificate of this text
-    Rehearsal(&'a [u8], Starting<'a>),
+    Rehearsal(Starting<'a>),
 }
 
 // Passes on the report of a run that ended with this status. The text is that of the plan.
@@ -39,15 +39,13 @@ fn tell<O: Output>(
 ) -> Result<Status, RunError> {
     let plan = read_plan(alloc, text)?;
     let told = match subject {
-        Subject::Answer(proofs) => explain_answer(alloc, &plan, proofs, report, out),
         Subject::Capture(heard, quiet, short) => {
             let above = quiet.told(alloc, short);
             explain_transactions(alloc, &plan, heard, report, above, out)
         }
-        Subject::Rehearsal(proofs, starting) => {
+        Subject::Rehearsal(starting) => {
             let rehearsed = Rehearsed {
                 plan: &plan,
-                proofs,
                 starters: starting.starters,
                 fill: starting.fill,
             };
@@ -96,49 +94,23 @@ pub fn explain_verify<I: Input, J: Input, O: Output>(
     cert: &mut J,
     out: &mut O,
 ) -> Result<Status, RunError> {
-    let (text, proofs) = read_both(alloc, plan, cert)?;
-    verify_texts(alloc, text.as_slice(), proofs.as_slice(), out)
-}
-
-// The texts of a plan and of its certificate. A plan that is refused is, before a second file is read.
-fn read_both<I: Input, J: Input>(
-    alloc: Global,
-    plan: &mut I,
-    cert: &mut J,
-) -> Result<(Vec<u8>, Vec<u8>), RunError> {
-    let text = read_within(alloc, plan, READS)?;
-    if let Err(refusal) = read_plan(alloc, text.as_slice()) {
-        return Err(RunError::from(refusal));
-    }
+    let plan = find_plan(alloc, plan)?;
     match read_within(alloc, cert, READS) {
-        Ok(proofs) => Ok((text, proofs)),
+        Ok(proofs) => tell_answer(alloc, &plan, proofs.as_slice(), out),
         Err(error) => Err(error),
     }
 }
 
-fn verify_texts<O: Output>(
+// What this text of a certificate says of the plan.
+fn tell_answer<O: Output>(
     alloc: Global,
-    text: &[u8],
+    plan: &Plan,
     proofs: &[u8],
     out: &mut O,
 ) -> Result<Status, RunError> {
-    let mut read = Watched::new(text);
-    let mut second = Watched::new(proofs);
-    let mut written = Watched::new(Vec::new(alloc));
-    match run_verify(alloc, &mut read, &mut second, &mut written) {
-        Ok(status) => {
-            let report = written.into_inner();
-            tell(
-                alloc,
-                text,
-                report.as_slice(),
-                status,
-                Subject::Answer(proofs),
-                out,
-            )
-        }
-        Err(error) => Err(error),
-    }
+    let answer = check_certificate(alloc, plan, proofs)?;
+    explain_answer(alloc, plan, proofs, answer, out)?;
+    Ok(status_of_answer(answer))
 }
 
 // ---- a capture
@@ -259,11 +231,32 @@ fn bench_texts<R: Threads + Wait + Clock + Sync, O: Output>(
         starting.answers,
         &bench_run::NoGate,
     ) {
-        Ok(status) => {
+        Ok(Status::Good) => {
             let report = written.into_inner();
-            let subject = Subject::Rehearsal(proofs, starting);
-            tell(alloc, text, report.as_slice(), status, subject, out)
+            let subject = Subject::Rehearsal(starting);
+            tell(alloc, text, report.as_slice(), Status::Good, subject, out)
         }
+        // The plan was not accepted.
+        Ok(_) => {
+            let plan = read_plan(alloc, text)?;
+            tell_answer(alloc, &plan, proofs, out)
+        }
+        Err(error) => Err(error),
+    }
+}
+
+// The texts of a plan and of its certificate. A plan that is refused is, before a second file is read.
+fn read_both<I: Input, J: Input>(
+    alloc: Global,
+    plan: &mut I,
+    cert: &mut J,
+) -> Result<(Vec<u8>, Vec<u8>), RunError> {
+    let text = read_within(alloc, plan, READS)?;
+    if let Err(refusal) = read_plan(alloc, text.as_slice()) {
+        return Err(RunError::from(refusal));
+    }
+    match read_within(alloc, cert, READS) {
+        Ok(proofs) => Ok((text, proofs)),
         Err(error) => Err(error),
     }
 }
