@@ -143,6 +143,29 @@ expect "hints on a report on exchanged lines of which none ended" 0 "25- unfinis
 $silent" "$exchanged" plan one_start --scl sda --sda scl --hints always
 expect "no hints on a report with a transaction" 0 $'5-160 a/m\n1 transactions, 0 unexplained' "" plan acknowledged --hints always
 expect "no hints on one that goes on" 0 $'5- unfinished\n0 transactions, 0 unexplained' "" plan cut --hints always
+# A dump that begins in the acknowledge of a header, and one that begins before a START but LOW.
+within=$(hint "the capture begins in a transaction, which is passed over: one is told" "from its START on")
+dump begun '#0 0! 0" #5 1! #9 0! #12 1! #15 1"' '#20 0" #25 1"'
+expect "hints on a dump that begins in a transaction" 1 $'20-25 unexplained\n1 transactions, 1 unexplained' "$within" \
+    plan begun --hints always
+head -n 8 begun >begun_alone
+{ cat begun_alone; sed -n '/^#0/d; s/^#//p' acknowledged | awk '{ $1 = "#" $1 + 100; print }'; } >begun_whole
+expect "the same before one that is explained" 0 $'105-260 a/m\n1 transactions, 0 unexplained' "$within" plan begun_whole --hints always
+expect "the same where nothing follows" 0 "$silent" "$(hint "the capture has 5 samples of the two lines, and no START on a free bus" \
+    "the bus is free at times, but SDA never falls there while SCL stays HIGH")
+$within
+$(hint "the names of the two lines are given with --scl NAME and --sda NAME")" plan begun_alone --hints always
+dump risen '#0 0! 0" #3 1! #4 1"' '#20 0" #25 1"'
+expect "no hints on lines that are LOW at first" 1 $'20-25 unexplained\n1 transactions, 1 unexplained' "" plan risen --hints always
+
+# Bits after a STOP count as long as both levels are known.
+dump following '#0 1! 1" #10 0" #11 1" #20 0! #30 1! #35 x! #36 1! #40 0! #45 1! #50 0!'
+expect "bits that follow before a level is unknown" 1 '10-11 unexplained
+    S P
+    a/m leaves at slot 0: it sends 1 there, the wire has a STOP
+    b/n leaves at slot 0: it sends 1 there, the wire has a STOP
+1 transactions, 1 unexplained' "" plan following --explain
+
 expect "hints on a missing file" 2 "" "refused read"$'\n'"$(hint "VCD, the capture \"missing\", cannot be opened:" \
     "No such file or directory (os error 2)")" plan missing --hints always
 
@@ -201,6 +224,49 @@ fi
     found=$("$twire" capture plan /dev/stdin)
     [[ $found == $'5-160 a/m\n1 transactions, 0 unexplained' ]]
 } && passed=$((passed + 1)) || { failed=$((failed + 1)); echo "FAILED: a dump from a pipe"; }
+
+# ---- waves
+
+# A fault: a STOP meets the bit 0 after the header 0010000 and its acknowledge. Slot k begins at 16 + 10 k; the last one, in
+# which SCL stays HIGH, is the ninth.
+"$twire" check "$example" --wave fault.vcd >/dev/null
+awk 'BEGIN {
+    print "$version twire $end\n$timescale 1 us $end\n$scope module bus $end"
+    split("scl sda targets main/write_output service/probe_10 fault", name, " ")
+    for (k = 1; k <= 6; k++) print "$var wire 1 " substr("!\"#$%&", k, 1) " " name[k] " $end"
+    print "$upscope $end\n$enddefinitions $end\n#0\n1!\n1\"\n1#\n1$\n1%\n0&\n#10\n0$\n0%\n0\"\n#15\n0!"
+    for (k = 0; k < 9; k++) {
+        if (k == 2) print "#36\n1$\n1%\n1\""
+        if (k == 3) print "#46\n0$\n0%\n0\""
+        if (k == 8) print "#96\n0#\n1$\n1%"
+        print "#" 20 + 10 * k "\n1!\n#" 25 + 10 * k "\n0!"
+    }
+    print "#106\n1&\n1#\n0$\n0%\n#110\n1!\n#115\n1%\n#116\n0&\n#126"
+}' >fault_due
+if cmp fault.vcd fault_due; then
+    passed=$((passed + 1))
+else
+    failed=$((failed + 1))
+    echo "FAILED: the waves of a fault"
+fi
+
+# What sigrok decodes of a run: a byte that is written, a repeated START, and a read of two bytes, the last not acknowledged.
+if command -v sigrok-cli >/dev/null; then
+    printf 'brief 1\nmessage get write 0x48 0x01 read 0x48 2 ;\ncontroller a get ;\n' >get.brief
+    "$twire" expand get.brief -o get.plan
+    "$twire" bench get.plan a/get --certify --answers 000000000000000000000000000011000001 --rest 0 --wave run.vcd >/dev/null
+    found=$(sigrok-cli -I vcd -i run.vcd -P i2c | sed -n 's/^i2c-1: \(..\)/\1/p' | tr '\n' ',')
+    due='Start,Write,Address write: 48,ACK,Data write: 01,ACK,Start repeat,Read,Address read: 48,ACK,'
+    due+='Data read: C1,ACK,Data read: 00,NACK,Stop,'
+    if [[ $found == "$due" ]]; then
+        passed=$((passed + 1))
+    else
+        failed=$((failed + 1))
+        printf 'FAILED: waves as sigrok decodes them: wanted %s\nfound %s\n' "$due" "$found"
+    fi
+else
+    echo "left out: waves as sigrok decodes them (no command 'sigrok-cli')"
+fi
 
 # A long dump: 72,000 transactions, of which every tenth is a header that is not acknowledged, and each other one a START and
 # a STOP with nothing between. The report that is due is written beside it.

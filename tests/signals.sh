@@ -177,6 +177,155 @@ hint:   scl
 hint: give the name that the line has in the file with --sda NAME
 hint: this lists the signals: twire signals cut_definitions" capture plan cut_definitions --hints always
 
+# Hints look at the whole of a name too.
+expect "a hint on a name with a blank" 2 "" "refused V1 scl
+hint: no signal of one bit has the name 'I2C SCK'
+hint: these signals have one bit, the nearest names first:
+hint:   I2C SCL
+hint:   I2C SDA
+hint: give the name that the line has in the file with --scl NAME
+hint: two signals look like a bus; try
+hint:   twire capture plan blanks --scl-code '!' --sda-code '\"'" \
+    capture plan blanks --scl "I2C SCK" --sda " I2C  SDA" --hints always
+sed 's/\$upscope/$var wire 1 # I2C SCL $end $var wire 1 $ I2C SCL $end &/' blanks >blank_twins
+expect "a hint on signals of one name with a blank" 0 "$first" "hint: 3 signals of one bit have the name 'I2C SCL', and the first of them counts
+hint:   in scope libsigrok, code !
+hint:   in scope libsigrok, code #
+hint:   in scope libsigrok, code \$
+hint: choose with --scope PATH, or by codes with --scl-code and --sda-code;
+hint: 'twire signals blank_twins' shows what each does" \
+    capture plan blank_twins --scl "I2C SCL" --sda "I2C SDA" --hints always
+# Five codes, of which each comes twice.
+{ printf '$var wire 1 %s scl $end\n' ! a b c d d c b a !; sed 1d blanks; } >named_twice
+expect "a hint on signals of one name counts each code once" 0 "$first" "hint: 5 signals of one bit have the name 'scl', and the first of them counts
+hint:   outside all scopes, code !
+hint:   outside all scopes, code a
+hint:   outside all scopes, code b
+hint:   outside all scopes, code c
+hint:   ..
+hint: choose with --scope PATH, or by codes with --scl-code and --sda-code;
+hint: 'twire signals named_twice' shows what each does" capture plan named_twice --sda "I2C SDA" --hints always
+expect "a hint on an empty code" 2 "" "refused V1 scl
+hint: no signal of one bit has the code ''
+hint: these signals have one bit, the nearest names first:
+hint:   I2C SCL
+hint:   I2C SDA
+hint: give the name that the line has in the file with --scl NAME
+hint: two signals look like a bus; try
+hint:   twire capture plan blanks --scl-code '!' --sda-code '\"'" \
+    capture plan blanks --scl-code '' --sda "I2C SDA" --hints always
+expect "a hint on signals of no dump" 2 "" "refused V1 scl
+hint: the capture declares no signal of one bit" signals empty --hints always
+
+# Codes and names that begin as options do. The options that are printed are run.
+sed 's/! I2C SCL/-a -scl/; s/" I2C  SDA/--sda-code --/; s/!$/-a/; s/"$/--sda-code/; s/^#0 .*/#0 1-a 1--sda-code/' blanks >hyphens
+expect "signals whose codes are options" 0 "signal -a 20 libsigrok -scl
+signal --sda-code 6 libsigrok --
+bus 1 transactions --scl-code '-a' --sda-code '--sda-code'
+2 signals, 1 buses" "" signals hyphens
+eval "set -- $("$twire" signals hyphens | sed -n 's/^bus 1 transactions //p')"
+expect "the options that signals prints" 0 "$first" "" capture plan hyphens "$@"
+eval "set -- $("$twire" capture plan hyphens --hints always 2>&1 | sed -n 's/^hint:   twire capture plan hyphens //p')"
+expect "the options that hints print" 0 "$first" "" capture plan hyphens "$@"
+expect "codes after an equals sign" 0 "$first" "" capture plan hyphens --scl-code=-a --sda-code=--sda-code
+expect "names that begin as options do" 0 "$first" "" capture plan hyphens --scl -scl --sda --
+expect "a lesson by such names" 0 "$("$twire" learn hyphens --scl-code=-a --sda=--)" "" learn hyphens --scl -scl --sda --
+
+# ---- which signals look like a bus
+
+buses() {
+    local name=$1 wanted=$2
+    shift 2
+    local found
+    found=$("$twire" signals "$@" 2>&1 | grep -v '^signal ')
+    if [[ $found == "$wanted" ]]; then
+        passed=$((passed + 1))
+    else
+        failed=$((failed + 1))
+        printf 'FAILED: %s: wanted %s, found %s\n' "$name" "$wanted" "$found"
+    fi
+}
+the_bus="bus 1 transactions --scl-code '!' --sda-code '\"'"
+one_bus() {
+    printf '%s\n' '$timescale 1 us $end $var wire 1 ! scl $end $var wire 1 " sda $end' "$@" '$enddefinitions $end' '#0 1! 1"'
+}
+awk '{ print } /^#[0-9]+ [01]!$/ { print $1 " x!"; print $1; print }' two >again
+expect "a time that comes again" 0 "$("$twire" signals two)" "" signals again
+# Nine transactions without a byte, and then ten with one.
+{
+    one_bus
+    for k in {0..8}; do transaction ! '"' '' $((1000 * k + 1000)); done
+    for k in {9..18}; do transaction ! '"' 100100000 $((1000 * k + 1000)); done
+} >broken_first
+buses "more whole parts than broken ones, which come first" "${the_bus/1/19}
+2 signals, 1 buses" broken_first
+sed '/^#19/,$d' broken_first >broken_half
+buses "no more whole parts than broken ones" "2 signals, 0 buses" broken_half
+# Signals before the two lines, which fall and rise while these are HIGH.
+{
+    for k in {0..299}; do echo "\$var wire 1 n$k net$k \$end"; done
+    one_bus
+    for k in {0..299}; do echo "1n$k"; done
+    transaction ! '"' 100100000 5
+} >wide_design
+buses "names of lines among more than 256 signals" "$the_bus
+302 signals, 1 buses" wide_design
+buses "a hint on more than 256 signals" "$the_bus
+302 signals, 1 buses
+hint: of the 302 codes of signals 256 were looked at for a bus: first those with
+hint: 'scl' or 'sda' in their name, and then in order" wide_design --hints always
+"$tests/../tools/dump" 100100000 >few
+buses "no hint on fewer" "$the_bus
+3 signals, 1 buses" few --hints always
+# The same lines under two more codes each, as a simulator writes those of modules in one another.
+{
+    one_bus '$var wire 1 # scl $end $var wire 1 % sda $end $var wire 1 & scl_i $end $var wire 1 ( sda_i $end'
+    echo '1# 1% 1& 1('
+    transaction ! '"' 100100000 5 | awk '{
+        print
+        level = substr($2, 1, 1)
+        print ($2 ~ /!$/) ? level "# " level "&" : level "% " level "("
+    }'
+} >copies
+buses "lines under several codes" "$the_bus
+6 signals, 1 buses" copies
+# What the controller pulls: SDA without the acknowledge, which a target pulls.
+{
+    one_bus '$var wire 1 & scl_low $end $var wire 1 % sda_low $end'
+    echo 'z& z%'
+    transaction ! '"' 100100000 5 | awk '{
+        print
+        pull = (substr($2, 1, 1) == "0" && $0 != "#135 0\"") ? "0" : "z"
+        print pull (($2 ~ /!$/) ? "&" : "%")
+    }'
+} >pulls
+buses "what a controller pulls" "$the_bus
+4 signals, 1 buses" pulls
+# What is LOW while the bus is busy falls and rises with SDA, and does not stand for it.
+{
+    one_bus '$var wire 1 % busy_n $end'
+    echo '1%'
+    transaction ! '"' 100100000 5 | awk '{ print } NR == 1 { print "0%" } { last = $0 } END { print "1%" }'
+} >busy
+buses "a signal that is LOW while the bus is busy" "$the_bus
+bus 1 transactions --scl-code '!' --sda-code '%'
+3 signals, 2 buses" busy
+long_vector=$(printf '0%.0s' {1..300})
+sed "s/^\(#[0-9]* \)\([01]\)\([!\"]\)\$/\1b$long_vector\2 \3/" two >long_vectors
+expect "vectors of 301 digits" 0 "$("$twire" signals two)" "" signals long_vectors
+{ printf '$var wire 1 \377 odd $end\n'; cat two; } >odd_code
+expect "a code that is not UTF-8" 0 "signal \\xff 0 - odd
+$("$twire" signals two | sed 's/^4 signals/5 signals/')" "" signals odd_code
+expect "no code that is UTF-8" 0 "signal \\xff 0 - odd
+1 signals, 0 buses" "" signals <(printf '$var wire 1 \377 odd $end $enddefinitions $end #1')
+a150=$(printf 'a%.0s' {1..150})
+n300=$(printf 'n%.0s' {1..300})
+printf '%s\n' "\$scope module $a150 \$end \$scope module $a150 \$end" '$var wire 1 ! scl $end' \
+    "\$scope module $n300 \$end" '$var wire 1 " sda $end' '$enddefinitions $end' >long_scopes
+expect "long scopes" 0 "signal ! 0 ..$a150 scl
+signal \" 0 ..${n300:100} sda
+2 signals, 0 buses" "" signals long_scopes
+
 # ---- dumps of simulators and logic analysers: examples, made by the programs or in their forms
 
 example=$tests/../examples
@@ -353,9 +502,28 @@ expect "pulses are counted" 0 '    3 pulses shorter than 2 were left out
 5-160 a/m
     S 48 Wr A P
 1 transactions, 0 unexplained' "" capture plan chatter --min-pulse 2 --explain
+# SCL is HIGH before the first START, and for 5 in each bit.
+lost_clock='hint: --min-pulse leaves out the clock: SCL is HIGH 10 times, and 9 of these are
+hint: shorter'
+no_clock=$'5-160 unexplained\n1 transactions, 1 unexplained'
+expect "a hint on a clock that is left out" 1 "$no_clock" "$lost_clock" capture plan two --min-pulse 6 --scope top.i2c0 --hints always
+expect "the same by a unit" 1 "$no_clock" "$lost_clock" capture plan two --min-pulse 5001ns --scope top.i2c0 --hints always
+expect "no hint on one that is not" 0 "$first" "" capture plan two --min-pulse 5 --scope top.i2c0 --hints always
 refuses "a pulse of no time" "the value for '--min-pulse <T>' is no time as 15 or 15us" capture plan two --min-pulse 1.5us
 
 # ---- command lines
+
+# ---- lines that are exchanged
+
+sed 's/ ! scl / ! sda /; s/ " sda / " scl /' <("$tests/../tools/dump" 100100000) >swapped
+swapped_hint="hint: 0 of the transactions have whole bytes; with the two lines exchanged 1
+hint: would: are SCL and SDA exchanged?"
+expect "a hint on exchanged lines, of signals" 0 "$("$twire" signals swapped)" "$swapped_hint" signals swapped --hints always
+expect "a hint on exchanged lines, of a lesson" 1 "$("$twire" learn swapped)" "$swapped_hint" learn swapped --hints always
+expect "a hint on exchanged lines, of a page" 1 "$("$twire" page plan --capture swapped)" "$swapped_hint" \
+    page plan --capture swapped --hints always
+expect "no hint on lines that are not" 0 "$("$twire" learn twice)" "" learn twice --hints always
+expect "no hint on signals of other names" 0 "$("$twire" signals blanks)" "" signals blanks --hints always
 
 refuses "both ways for SCL" "'--scl' and '--scl-code' both say which signal is SCL: give one" \
     capture plan two --scl scl --scl-code '#'
@@ -453,6 +621,22 @@ controller seen write_48 ;" "" expand learned
 expect "a refused dump" 2 "" "refused V2 line $(wc -l <stray)" learn stray
 expect "a signal that is not there" 2 "" "refused V1 scl" learn blanks
 
+# A read whose header is not acknowledged has one byte in a brief, for which 256 bytes leave no room.
+many_bytes() {
+    local data
+    data=$(printf '000000010%.0s' $(seq "$1"))
+    one_bus
+    transaction ! '"' "100100000${data}r100100011" 1000
+}
+many_bytes 254 >bytes_256
+expect "a path of 256 bytes that ends in a read" 1 'brief 1
+# seen: 1 transactions, 0 messages
+# in no message: 1, first at 1000: more than 256 bytes (a read has one byte at
+#   least)
+
+controller seen ;' "" learn bytes_256
+many_bytes 253 >bytes_255
+
 # again NAME DUMP ARG..: what is learned of a dump explains each transaction of it that a STOP ended.
 again() {
     local name=$1 dump=$2
@@ -473,6 +657,7 @@ again "an example" "$tests/../examples/stop_meets_data.vcd"
 again "an example of sigrok" "$tests/../examples/probe_sigrok.vcd" --scl D0 --sda D1
 again "an example of Icarus Verilog" "$tests/../examples/probe_icarus.vcd"
 again "an example of GHDL" "$tests/../examples/write_ghdl.vcd"
+again "a path of 255 bytes that ends in a read" bytes_255
 again "the first bus" two --scope top.i2c0
 again "the second bus" two --scope top.i2c1
 again "names with blanks" blanks --scl "I2C SCL" --sda "I2C SDA"

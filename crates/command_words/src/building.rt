@@ -81,6 +81,11 @@ fn argument<'a>(alloc: Global, argument: Argument) -> Result<Arg<'a>, AllocError
             value_name,
             help,
         } => option(alloc, id, value_name, help),
+        Argument::Name {
+            id,
+            value_name,
+            help,
+        } => option(alloc, id, value_name, help).allow_hyphen_values(true),
         Argument::Count {
             id,
             value_name,

@@ -196,7 +196,7 @@ changes, its scope ('-' for none) and its name as it stands in the capture:
 A line 'bus' has two signals that look like the two lines of a bus: a STOP ended
 so many transactions, and most have whole bytes. Its options choose the two for
 'twire capture'; so do '--scope top.i2c1', and '--scl' and '--sda' with names.
-Pairs are looked for among the first 256 codes.
+Pairs are looked for among 256 codes, names with scl or sda first.
 
 Refusals are those of 'twire capture'; V1 says that no signal has one bit.
 Exit status: 0 listed, 2 refused.";

@@ -49,6 +49,12 @@ pub enum Argument {
         value_name: &'static str,
         help: &'static str,
     },
+    /// An option that takes any text, also one that begins with `-`, and need not be given.
+    Name {
+        id: &'static str,
+        value_name: &'static str,
+        help: &'static str,
+    },
     /// An option that takes a number of 32 bits, and need not be given.
     Count {
         id: &'static str,
@@ -296,31 +302,31 @@ const RECORDED: Argument = Argument::Option {
     help: "A capture, a value change dump, to show with it",
 };
 
-const SCL: Argument = Argument::Option {
+const SCL: Argument = Argument::Name {
     id: "scl",
     value_name: "NAME",
     help: "The name of SCL in the capture [default: scl]",
 };
 
-const SDA: Argument = Argument::Option {
+const SDA: Argument = Argument::Name {
     id: "sda",
     value_name: "NAME",
     help: "The name of SDA in the capture [default: sda]",
 };
 
-const SCOPE: Argument = Argument::Option {
+const SCOPE: Argument = Argument::Name {
     id: "scope",
     value_name: "PATH",
     help: "The scope that has the two names, as top.board.i2c1",
 };
 
-const SCL_CODE: Argument = Argument::Option {
+const SCL_CODE: Argument = Argument::Name {
     id: "scl-code",
     value_name: "CODE",
     help: "The identifier code of SCL, in place of a name",
 };
 
-const SDA_CODE: Argument = Argument::Option {
+const SDA_CODE: Argument = Argument::Name {
     id: "sda-code",
     value_name: "CODE",
     help: "The identifier code of SDA, in place of a name",

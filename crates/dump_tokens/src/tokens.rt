@@ -4,7 +4,8 @@ use crate::reading::Reading;
 use std::alloc::{AllocError, Global};
 use std::io;
 
-/// How many bytes of a token are kept. No word of a dump that has a meaning is longer, and no name of use.
+/// How many bytes of a token are kept. No word of a dump that has a meaning is longer, and no name of use. Of a longer
+/// token the last byte stands in the place of the last one that is kept: it is the digit of a vector that counts.
 pub const KEPT: usize = 256;
 
 /// Where a token begins: how many bytes stand before it, and on which line it is.
@@ -16,7 +17,7 @@ pub struct Place {
 
 /// Who is given the tokens of a dump.
 pub trait Sink {
-    /// The first bytes of the next token, and where it stands. Says whether more are wanted.
+    /// The next token, or what is kept of it, and where it stands. Says whether more are wanted.
     fn token(&mut self, token: &[u8], place: Place) -> Result<bool, AllocError>;
 }
 
@@ -24,7 +25,7 @@ pub trait Sink {
 #[derive(Drop)]
 pub struct Cutter<L> {
     sink: L,
-    // the first bytes of the token that has not ended, and where it began
+    // what is kept of the token that has not ended, and where it began
     held: Vec<u8>,
     began: Place,
     // where the next byte stands
@@ -68,6 +69,8 @@ impl<L: Sink> Cutter<L> {
         }
         if self.held.len() < KEPT {
             self.held.push(byte)?;
+        } else if let Some(last) = self.held.last_mut() {
+            *last = byte;
         }
         Ok(())
     }

@@ -146,7 +146,7 @@ impl Ear {
     fn event(&mut self, event: Event) {
         match event.what {
             What::Bit(_) if self.is_free => self.count_bit(),
-            What::Start => self.is_free = false,
+            What::Start | What::Unknown => self.is_free = false,
             _ => {}
         }
         match self.listener.next(self.alloc, &event) {

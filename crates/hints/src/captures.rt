@@ -3,8 +3,8 @@
 //
 // Nothing here decides anything. A refusal is the caller's, and the file is read once more, in blocks, to find its place:
 // `dumps` follows it token by token (`judging`), and `naming` lists the signals that it declares, or `scoping` the scopes
-// of a name. After a report `silence` tells what was seen of the bus (`looking`), also with the two lines exchanged, and
-// `choosing` looks at names that several signals have. Where the file cannot be read once more, or has changed, only the
+// of a name. After a report `silence` tells what was seen of the bus (`looking`), also with the two lines exchanged,
+// `choosing` looks at names that several signals have, and `recordings` is for the other runs over a dump. Where the file cannot be read once more, or has changed, only the
 // words are left (`wording`).
 
 mod choosing;
@@ -12,6 +12,7 @@ mod dumps;
 mod judging;
 mod looking;
 mod naming;
+mod recordings;
 mod scoping;
 mod silence;
 mod wording;
@@ -19,4 +20,5 @@ mod wording;
 pub use choosing::on_choice;
 pub use dumps::on_dump;
 pub use naming::Names;
+pub use recordings::{on_recording, on_signals};
 pub use silence::{on_silence, on_unexplained};

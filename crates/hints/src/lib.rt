@@ -30,7 +30,9 @@ mod starters;
 mod wording;
 mod words;
 
-pub use captures::{Names, on_choice, on_dump, on_silence, on_unexplained};
+pub use captures::{
+    Names, on_choice, on_dump, on_recording, on_signals, on_silence, on_unexplained,
+};
 pub use certs::{Wrong, on_certificate, wrong_of};
 pub use devices::{
     Named, on_closed_input, on_memory, on_opening, on_reading, on_workers, on_writing,

@@ -1,5 +1,6 @@
 // Pairs of signals that look like the two lines of a bus: the events are those of a capture (docs/FORMATS.md, bus events),
-// found for all pairs at once.
+// found for all pairs at once. Of signals that are LOW at the same times, and of what a single device pulls, the bus is told
+// once.
 
 use crate::masks::{MOST, Mask};
 use std::alloc::{AllocError, Global};
@@ -45,14 +46,17 @@ struct Signal {
     likely: Mask,
     free: Mask,
     busy: Mask,
+    // those that were LOW whenever this one came to LOW, and those that were not LOW whenever this one left it
+    low_with: Mask,
+    left_with: Mask,
     // how often it has risen
     rises: u64,
 }
 
-// So many broken ones, and no more whole ones, and a pair is no bus.
-const PATIENCE: u32 = 8;
+// So many more broken ones than whole ones, and a pair is given up: what it shows from then on takes no time.
+const PATIENCE: u32 = 256;
 
-/// The pairs of the first 256 signals.
+/// The pairs of 256 signals at most.
 #[derive(Drop)]
 pub(crate) struct Buses {
     count: usize,
@@ -76,6 +80,8 @@ impl Buses {
             likely: all,
             free: Mask::empty(),
             busy: Mask::empty(),
+            low_with: all,
+            left_with: all,
             rises: 0,
         };
         Ok(Buses {
@@ -95,9 +101,20 @@ impl Buses {
             self.high.set(change.signal, change.now == Level::High);
         }
         let stays_high = was_high.and(&self.high);
+        let low = self.known.without(&self.high);
         for change in changes {
-            if change.signal < self.count {
-                self.change(change, &stays_high);
+            self.compare(change, &low);
+            self.change(change, &stays_high);
+        }
+    }
+
+    // With those that are LOW now.
+    fn compare(&mut self, change: &Change, low: &Mask) {
+        if let Some(own) = self.signals.get_mut(change.signal) {
+            if change.now == Level::Low {
+                own.low_with = own.low_with.and(low);
+            } else {
+                own.left_with = own.left_with.without(low);
             }
         }
     }
@@ -184,7 +201,7 @@ impl Buses {
         } else {
             pair.broken = pair.broken.saturating_add(1);
         }
-        if pair.broken >= PATIENCE && pair.broken >= pair.whole {
+        if pair.broken.saturating_sub(pair.whole) >= PATIENCE {
             if let Some(own) = self.signals.get_mut(sda) {
                 own.likely.set(scl, false);
             }
@@ -231,9 +248,21 @@ impl Buses {
         }
     }
 
-    /// The pairs that look like a bus: some transaction was ended by a STOP, more parts have whole bytes than not, and SDA
-    /// rises no more often than SCL.
+    /// The pairs that look like a bus: some transaction was ended by a STOP, more parts have whole bytes than not, SDA
+    /// rises no more often than SCL, and they are no other pair's lines, in whole or in what one device pulls.
     pub(crate) fn found(&self, alloc: Global) -> Result<Vec<Bus>, AllocError> {
+        let alike = self.alike(alloc)?;
+        let mut found = Vec::new(alloc);
+        for (number, bus) in alike.iter().enumerate() {
+            if !self.is_another(number, bus, alike.as_slice()) {
+                found.push(*bus)?;
+            }
+        }
+        Ok(found)
+    }
+
+    // The same, with those that are another pair's lines.
+    fn alike(&self, alloc: Global) -> Result<Vec<Bus>, AllocError> {
         let mut found = Vec::new(alloc);
         for scl in 0..self.count {
             for sda in 0..self.count {
@@ -257,5 +286,43 @@ impl Buses {
             .pairs
             .get(sda.saturating_mul(self.count).saturating_add(scl))?;
         (pair.stopped > 0 && pair.whole > pair.broken).then_some(pair.stopped)
+    }
+
+    // Whether the lines of a pair are those of another one, of which the first counts, or what one device pulls there.
+    fn is_another(&self, number: usize, bus: &Bus, all: &[Bus]) -> bool {
+        for (place, other) in all.iter().enumerate() {
+            if place != number && self.pull(bus, other) {
+                let is_it = if self.pull(other, bus) {
+                    place < number
+                } else {
+                    self.sends_ones(other)
+                };
+                if is_it {
+                    return true;
+                }
+            }
+        }
+        false
+    }
+
+    // Whether SDA rises at other times than STOPs. A signal that does not may say that a bus is busy, and have no bytes.
+    fn sends_ones(&self, bus: &Bus) -> bool {
+        match self.rises(bus.sda) {
+            Some(rises) => rises > u64::from(bus.stopped),
+            None => false,
+        }
+    }
+
+    // Whether both lines of the other pair are LOW whenever those of this one are.
+    fn pull(&self, bus: &Bus, other: &Bus) -> bool {
+        self.pulls(bus.scl, other.scl) && self.pulls(bus.sda, other.sda)
+    }
+
+    // Whether a signal is LOW whenever this one is.
+    fn pulls(&self, signal: usize, other: usize) -> bool {
+        match (self.signals.get(signal), self.signals.get(other)) {
+            (Some(own), Some(line)) => own.low_with.has(other) && line.left_with.has(signal),
+            _ => false,
+        }
     }
 }

@@ -18,6 +18,32 @@ pub struct Found<'a> {
     pub name: &'a [u8],
 }
 
+impl Found<'_> {
+    /// Whether this is its reference, or the whole of its name. White space in what is given counts as one blank, and at its
+    /// ends not at all.
+    pub fn is_called(&self, name: &str) -> bool {
+        is_spelled(self.reference, name) || is_spelled(self.name, name)
+    }
+}
+
+// Whether a name in a dump has these words, with one blank between two.
+fn is_spelled(name: &[u8], words: &str) -> bool {
+    let mut rest = name;
+    let mut blank: &[u8] = &[];
+    for word in words.split_ascii_whitespace() {
+        let after = match rest.strip_prefix(blank) {
+            Some(after) => after.strip_prefix(word.as_bytes()),
+            None => None,
+        };
+        match after {
+            Some(after) => rest = after,
+            None => return false,
+        }
+        blank = b" ";
+    }
+    rest.is_empty()
+}
+
 /// Who is told of the signals.
 pub trait Listing {
     /// One more signal of one bit.

@@ -1,9 +1,11 @@
 // The changes of a dump, counted signal by signal. Whether the dump is right is for its reader to say.
 
-use crate::buses::{Buses, Change};
+use crate::buses::{Bus, Buses, Change};
+use crate::candidates::Candidates;
 use crate::codes::Codes;
 use dump_tokens::tokens::{Place, Sink};
 use std::alloc::{AllocError, Global};
+use std::str;
 use vcd_read::Level;
 
 // What the next token belongs to.
@@ -40,7 +42,10 @@ const UNSEEN: One = One {
 #[derive(Drop)]
 pub(crate) struct Levels {
     codes: Codes,
+    candidates: Candidates,
     doing: Doing,
+    // that of the changes that have not been settled
+    time: u64,
     ones: Vec<One>,
     touched: Vec<usize>,
     changed: Vec<Change>,
@@ -48,16 +53,23 @@ pub(crate) struct Levels {
 }
 
 impl Levels {
-    /// Before the first token.
-    pub(crate) fn new(alloc: Global, codes: Codes) -> Result<Levels, AllocError> {
+    /// Before the first token. The lines of a bus are looked for among the candidates.
+    pub(crate) fn new(
+        alloc: Global,
+        codes: Codes,
+        candidates: Candidates,
+    ) -> Result<Levels, AllocError> {
         let count = codes.count() as usize;
+        let buses = Buses::new(alloc, candidates.count())?;
         Ok(Levels {
             codes,
+            candidates,
+            time: 0,
             doing: Doing::Defining(false),
             ones: vec![in alloc; UNSEEN; count]?,
             touched: Vec::new(alloc),
             changed: Vec::new(alloc),
-            buses: Buses::new(alloc, count)?,
+            buses,
         })
     }
 
@@ -69,9 +81,14 @@ impl Levels {
         }
     }
 
-    /// The pairs that look like buses.
-    pub(crate) fn buses(&self) -> &Buses {
-        &self.buses
+    /// The pairs that look like buses, by the numbers of their signals.
+    pub(crate) fn found(&self, alloc: Global) -> Result<Vec<Bus>, AllocError> {
+        let mut found = self.buses.found(alloc)?;
+        for bus in found.iter_mut() {
+            bus.scl = self.candidates.number(bus.scl);
+            bus.sda = self.candidates.number(bus.sda);
+        }
+        Ok(found)
     }
 
     fn change(&mut self, level: Level, code: &[u8]) -> Result<(), AllocError> {
@@ -102,9 +119,11 @@ impl Levels {
             }
             one.has_level = true;
             one.before = now;
-            if before != now {
+            if before != now
+                && let Some(signal) = self.candidates.place(*number)
+            {
                 self.changed.push(Change {
-                    signal: *number,
+                    signal,
                     before,
                     now,
                 })?;
@@ -116,13 +135,23 @@ impl Levels {
         Ok(())
     }
 
+    // A time. One that comes again goes on with its time stamp.
+    fn reach(&mut self, digits: &[u8]) -> Result<(), AllocError> {
+        match time_of(digits) {
+            Some(time) if time == self.time => return Ok(()),
+            Some(time) => self.time = time,
+            None => {}
+        }
+        self.settle()
+    }
+
     // A token among the changes, outside commands.
     fn outside(&mut self, token: &[u8]) -> Result<(), AllocError> {
         let Some((first, rest)) = token.split_first() else {
             return Ok(());
         };
         match *first {
-            b'#' => self.settle()?,
+            b'#' => self.reach(rest)?,
             b'$' => {
                 if !is_mark(token) {
                     self.doing = Doing::Skipping;
@@ -146,6 +175,11 @@ fn is_mark(token: &[u8]) -> bool {
         || token == b"$dumpall".as_slice()
         || token == b"$dumpoff".as_slice()
         || token == b"$dumpon".as_slice()
+}
+
+// The number that digits make.
+fn time_of(digits: &[u8]) -> Option<u64> {
+    str::from_utf8(digits).ok()?.parse::<u64>().ok()
 }
 
 // The level of the last digit of a vector.

@@ -3,7 +3,7 @@
 //! `blocks` reads a dump block by block. `definitions` follows the definitions of a dump token by token, and `beginning` reads
 //! them ahead of the dump and gives them back before the rest. `picking` finds the codes of the two lines of a bus there, by names and a scope. `listing` is
 //! the run of `twire signals`: it lists the signals (`codes` finds them again by their codes), counts their changes
-//! (`levels`), and looks for pairs that are the two lines of a bus (`buses`, with `masks` for sets of signals). What a dump
+//! (`levels`), and looks for pairs that are the two lines of a bus (`buses`, among `candidates`, with `masks` for sets of signals). What a dump
 //! says, and why it is refused, is decided by the reader of `vcd_read` alone. `lessons` is the run of `twire learn`, which
 //! writes a brief of what the bus has shown.
 #![tactic(auto)]
@@ -11,6 +11,7 @@
 mod beginning;
 mod blocks;
 mod buses;
+mod candidates;
 mod codes;
 mod definitions;
 mod lessons;
@@ -23,4 +24,5 @@ pub use beginning::{Again, read_beginning};
 pub use definitions::{Found, Listing};
 pub use lessons::{Lesson, run_learn};
 pub use listing::{bus_options, run_signals};
-pub use picking::{Picked, Picker, needs_picking, pick};
+pub use masks::MOST as CANDIDATES;
+pub use picking::{Picked, needs_picking, pick};

@@ -3,6 +3,7 @@
 use crate::beginning::read_beginning;
 use crate::blocks::{Blocks, read_all};
 use crate::buses::Bus;
+use crate::candidates::{Candidates, Choosing, is_like_line};
 use crate::codes::Codes;
 use crate::definitions::{Found, Listing};
 use crate::levels::Levels;
@@ -14,8 +15,15 @@ use std::alloc::{AllocError, Global};
 use std::str;
 use vcd_read::{Probe, Reader};
 
-// How many bytes of a scope are shown: the last ones, from a point on.
+// How many bytes of a scope are shown: the last ones, from a point on where there is one.
 const SHOWN: usize = 200;
+
+// The end of the path of a scope, and whether more stands before it.
+#[derive(Drop)]
+struct Scope {
+    end: Vec<u8>,
+    is_cut: bool,
+}
 
 // One signal of one bit.
 #[derive(Drop)]
@@ -29,8 +37,8 @@ struct Entry {
 // The signals that the definitions declare.
 #[derive(Drop)]
 struct Declared {
-    // the end of the path of each scope that has signals
-    scopes: Vec<Vec<u8>>,
+    // the scopes that have signals
+    scopes: Vec<Scope>,
     entries: Vec<Entry>,
     // for each number its code
     by_number: Vec<usize>,
@@ -61,20 +69,23 @@ impl Entries {
 impl Listing for Entries {
     fn signal(&mut self, found: Found<'_>) -> Result<(), AllocError> {
         let number = self.codes.add(self.alloc, found.code)?;
-        self.declared.enter(self.alloc, end_of(found.scope))?;
+        self.declared.enter(self.alloc, found.scope)?;
         self.declared.add(self.alloc, number, found)
     }
 }
 
 impl Declared {
-    // The scope of the next signals.
-    fn enter(&mut self, alloc: Global, scope: &[u8]) -> Result<(), AllocError> {
+    // The path of the scope of the next signals.
+    fn enter(&mut self, alloc: Global, path: &[u8]) -> Result<(), AllocError> {
+        let end = end_of(path);
+        let is_cut = end.len() < path.len();
         let is_same = match self.scopes.last() {
-            Some(last) => last.as_slice() == scope,
+            Some(last) => last.end.as_slice() == end && last.is_cut == is_cut,
             None => false,
         };
         if !is_same {
-            self.scopes.push(scope.to_vec(alloc)?)?;
+            let end = end.to_vec(alloc)?;
+            self.scopes.push(Scope { end, is_cut })?;
         }
         Ok(())
     }
@@ -92,12 +103,33 @@ impl Declared {
         Ok(())
     }
 
-    // The code of the first of them.
-    fn first_code(&self) -> &str {
-        match self.entries.first() {
-            Some(entry) => str::from_utf8(entry.code.as_slice()).unwrap_or(""),
-            None => "",
+    // How the reader of two lines finds one of them: by the first code that is text, or else by the first reference.
+    fn probe(&self) -> Probe<'_> {
+        for entry in self.entries.iter() {
+            if let Ok(code) = str::from_utf8(entry.code.as_slice()) {
+                return Probe::Coded(code);
+            }
         }
+        for entry in self.entries.iter() {
+            if let Ok(name) = str::from_utf8(entry.name.as_slice()) {
+                return Probe::Named(name.split(' ').next().unwrap_or(name));
+            }
+        }
+        Probe::Coded("")
+    }
+
+    // The signals among which buses are looked for.
+    fn candidates(&self, alloc: Global) -> Result<Candidates, AllocError> {
+        let mut choosing = Choosing::new(alloc, self.by_number.len())?;
+        for entry in self.entries.iter() {
+            if is_like_line(entry.name.as_slice()) {
+                choosing.choose(entry.number as usize);
+            }
+        }
+        for number in 0..self.by_number.len() {
+            choosing.choose(number);
+        }
+        choosing.finish(alloc)
     }
 
     // The first signal with the code that has this number.
@@ -132,14 +164,16 @@ impl Declared {
     }
 }
 
-// The last scopes of a path, as many as are shown.
+// The last scopes of a path, as many as are shown, or the end of a last one that is longer.
 fn end_of(path: &[u8]) -> &[u8] {
     let end = path.get(path.len().saturating_sub(SHOWN)..).unwrap_or(path);
     if end.len() == path.len() {
         return path;
     }
-    let point = end.iter().position(is_point).unwrap_or(0);
-    end.get(point..).unwrap_or(end)
+    match end.iter().position(is_point) {
+        Some(point) => end.get(point.saturating_add(1)..).unwrap_or(end),
+        None => end,
+    }
 }
 
 fn is_point(byte: &u8) -> bool {
@@ -161,21 +195,20 @@ fn list<J: Input>(alloc: Global, vcd: &mut J) -> Result<Listed, RunError> {
         declared,
         ..
     } = entries;
-    let code = declared.first_code();
-    match levels_of(alloc, &mut Watched::new(again), codes, code) {
+    match levels_of(alloc, &mut Watched::new(again), codes, &declared) {
         Ok(levels) => Ok(Listed { declared, levels }),
         Err(error) => Err(error),
     }
 }
 
-// The levels of the signals with these codes, of which this is one.
+// The levels of these signals, which have these codes.
 fn levels_of<J: Input>(
     alloc: Global,
     vcd: &mut J,
     codes: Codes,
-    code: &str,
+    declared: &Declared,
 ) -> Result<Levels, RunError> {
-    let mut changes = Changes::new(alloc, codes, code)?;
+    let mut changes = Changes::new(alloc, codes, declared)?;
     read_all(alloc, vcd, &mut changes)?;
     changes.finish()
 }
@@ -188,10 +221,12 @@ struct Changes {
 }
 
 impl Changes {
-    // The reader of two lines finds them by a code alone.
-    fn new(alloc: Global, codes: Codes, code: &str) -> Result<Changes, AllocError> {
-        let reader = Reader::of(alloc, Probe::Coded(code), Probe::Coded(code))?;
-        let levels = Levels::new(alloc, codes)?;
+    // The reader of two lines, for which one signal is both, refuses what it refuses.
+    fn new(alloc: Global, codes: Codes, declared: &Declared) -> Result<Changes, AllocError> {
+        let probe = declared.probe();
+        let reader = Reader::of(alloc, probe, probe)?;
+        let candidates = declared.candidates(alloc)?;
+        let levels = Levels::new(alloc, codes, candidates)?;
         Ok(Changes {
             reader,
             cutter: Cutter::new(alloc, levels),
@@ -260,7 +295,7 @@ pub fn bus_options<J: Input>(alloc: Global, vcd: &mut J) -> Result<Option<String
 
 impl Listed {
     fn text(&self, alloc: Global) -> Result<String, AllocError> {
-        let buses = self.levels.buses().found(alloc)?;
+        let buses = self.levels.found(alloc)?;
         let mut text = Text::new(alloc);
         self.push_all(&mut text, buses.as_slice());
         text.finish()
@@ -284,7 +319,7 @@ impl Listed {
     }
 
     fn options(&self, alloc: Global) -> Result<Option<String>, AllocError> {
-        let buses = self.levels.buses().found(alloc)?;
+        let buses = self.levels.found(alloc)?;
         match buses.first() {
             Some(bus) => self.options_of(alloc, bus),
             None => Ok(None),
@@ -318,7 +353,7 @@ impl Listed {
         text.push_number(self.levels.changes(entry.number));
         text.push(" ");
         match self.declared.scopes.get(entry.scope) {
-            Some(scope) if !scope.is_empty() => push_scope(text, scope.as_slice()),
+            Some(scope) if !scope.end.is_empty() => push_scope(text, scope),
             _ => text.push("-"),
         }
         text.push(" ");
@@ -347,11 +382,11 @@ fn is_called(entry: &Entry, name: &[u8]) -> bool {
     }
 }
 
-fn push_scope(text: &mut Text, scope: &[u8]) {
-    if scope.starts_with(b".") {
-        text.push(".");
+fn push_scope(text: &mut Text, scope: &Scope) {
+    if scope.is_cut {
+        text.push("..");
     }
-    push_bytes(text, scope);
+    push_bytes(text, scope.end.as_slice());
 }
 
 // A code as a shell takes it.

@@ -1,7 +1,7 @@
 // Sets of signals.
 
-/// How many signals a set can have.
-pub(crate) const MOST: usize = 256;
+/// How many signals a set can have: among so many the lines of a bus are looked for.
+pub const MOST: usize = 256;
 
 const WORDS: usize = 4;
 

@@ -65,48 +65,33 @@ pub fn pick<'a, J: Input>(
     sda: Probe<'_>,
     scope: Option<&str>,
 ) -> Result<(Again<'a, J>, Picked), RunError> {
-    let picker = Picker::new(alloc, scl, sda, scope)?;
+    let picker = Picker {
+        alloc,
+        scl: Sought::new(scl),
+        sda: Sought::new(sda),
+        scope,
+    };
     let (again, picker, scale) = read_beginning(alloc, vcd, picker)?;
     Ok((again, picker.into_picked(scale)))
 }
 
-/// What is looked for among the signals.
+// What is looked for among the signals.
 #[derive(Drop)]
-pub struct Picker {
+struct Picker<'a> {
     alloc: Global,
-    scl: Sought,
-    sda: Sought,
-    scope: Option<Vec<u8>>,
+    scl: Sought<'a>,
+    sda: Sought<'a>,
+    scope: Option<&'a str>,
 }
 
 // A line that is looked for, and its code once it is found.
 #[derive(Drop)]
-struct Sought {
-    word: Vec<u8>,
-    by_code: bool,
+struct Sought<'a> {
+    probe: Probe<'a>,
     code: Option<Vec<u8>>,
 }
 
-impl Picker {
-    /// Nothing has been found.
-    pub fn new(
-        alloc: Global,
-        scl: Probe<'_>,
-        sda: Probe<'_>,
-        scope: Option<&str>,
-    ) -> Result<Picker, AllocError> {
-        let scope = match scope {
-            Some(scope) => Some(scope.as_bytes().to_vec(alloc)?),
-            None => None,
-        };
-        Ok(Picker {
-            alloc,
-            scl: Sought::new(alloc, scl)?,
-            sda: Sought::new(alloc, sda)?,
-            scope,
-        })
-    }
-
+impl Picker<'_> {
     fn into_picked(self, scale: Option<Scale>) -> Picked {
         let Picker { scl, sda, .. } = self;
         Picked {
@@ -117,29 +102,16 @@ impl Picker {
     }
 }
 
-impl Sought {
-    fn new(alloc: Global, probe: Probe<'_>) -> Result<Sought, AllocError> {
-        Ok(match probe {
-            Probe::Named(name) => Sought {
-                word: with_single_blanks(alloc, name)?,
-                by_code: false,
-                code: None,
-            },
-            Probe::Coded(code) => Sought {
-                word: code.as_bytes().to_vec(alloc)?,
-                by_code: true,
-                code: None,
-            },
-        })
+impl<'a> Sought<'a> {
+    fn new(probe: Probe<'a>) -> Sought<'a> {
+        Sought { probe, code: None }
     }
 
     // A name counts where the signal stands in the scope, and a code everywhere.
     fn see(&mut self, alloc: Global, found: Found<'_>, in_scope: bool) -> Result<(), AllocError> {
-        let word = self.word.as_slice();
-        let is_it = if self.by_code {
-            found.code == word
-        } else {
-            in_scope && (found.reference == word || found.name == word)
+        let is_it = match self.probe {
+            Probe::Named(name) => in_scope && found.is_called(name),
+            Probe::Coded(code) => found.code == code.as_bytes(),
         };
         if is_it && self.code.is_none() {
             self.code = Some(found.code.to_vec(alloc)?);
@@ -154,22 +126,10 @@ impl Sought {
     }
 }
 
-// The words of a name, with one blank between two.
-fn with_single_blanks(alloc: Global, name: &str) -> Result<Vec<u8>, AllocError> {
-    let mut word = Vec::new(alloc);
-    for part in name.split_ascii_whitespace() {
-        if !word.is_empty() {
-            word.push(b' ')?;
-        }
-        word.extend_from_slice(part.as_bytes())?;
-    }
-    Ok(word)
-}
-
-impl Listing for Picker {
+impl Listing for Picker<'_> {
     fn signal(&mut self, found: Found<'_>) -> Result<(), AllocError> {
-        let in_scope = match &self.scope {
-            Some(scope) => found.scope == scope.as_slice(),
+        let in_scope = match self.scope {
+            Some(scope) => found.scope == scope.as_bytes(),
             None => true,
         };
         self.scl.see(self.alloc, found, in_scope)?;

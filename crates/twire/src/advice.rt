@@ -2,12 +2,13 @@
 
 use crate::inputs::Inputs;
 use crate::voices::{Voice, say};
+use dump_tokens::Time;
 use explain::View;
 use growing_text::Text;
 use hints::{
     Named, Names, on_brief, on_certificate, on_choice, on_closed_input, on_dump, on_memory,
-    on_no_brief, on_opening, on_plan, on_reading, on_safe, on_silence, on_starters, on_unexplained,
-    on_workers, on_writing, wrong_of,
+    on_no_brief, on_opening, on_plan, on_reading, on_recording, on_safe, on_signals, on_silence,
+    on_starters, on_unexplained, on_workers, on_writing, wrong_of,
 };
 use report::{Probe, RunError, Status};
 use std::alloc::{AllocError, Global};
@@ -22,30 +23,41 @@ pub struct About<'a> {
     pub names: Names<'a>,
     /// The words of that command, as it can be given once more. Some may be empty.
     pub words: [&'a str; 4],
-    /// What was told of a capture, where one was explained.
-    pub view: Option<View>,
+    /// What was made of a dump, where one was read.
+    pub told: Option<Recorded>,
+}
+
+/// What is made of a dump.
+#[derive(Clone, Copy)]
+pub enum Recorded {
+    /// This was told of it.
+    Capture(View),
+    /// Its signals were listed.
+    Signals,
+    /// It was made into a brief or a page.
+    Other,
 }
 
 impl<'a> About<'a> {
     /// A run with these starters, or with none where it is no bench.
     pub fn bench(starters: &'a str) -> About<'a> {
         let none = Probe::Coded("");
-        let names = names_of(none, none, None, "");
+        let names = names_of(none, none, None, None, "");
         About {
             starters,
             names,
             words: ["", "", "", ""],
-            view: None,
+            told: None,
         }
     }
 
     /// A run over a dump.
-    pub fn recording(names: Names<'a>, words: [&'a str; 4], view: Option<View>) -> About<'a> {
+    pub fn recording(names: Names<'a>, words: [&'a str; 4], told: Recorded) -> About<'a> {
         About {
             starters: "",
             names,
             words,
-            view,
+            told: Some(told),
         }
     }
 }
@@ -55,12 +67,14 @@ pub fn names_of<'a>(
     scl: Probe<'a>,
     sda: Probe<'a>,
     scope: Option<&'a str>,
+    min_pulse: Option<Time>,
     vcd: &'a str,
 ) -> Names<'a> {
     Names {
         scl,
         sda,
         scope,
+        min_pulse,
         command: "",
         vcd,
     }
@@ -180,8 +194,13 @@ fn on_report<F: Read + Seek + Drop>(
 ) -> Result<String, AllocError> {
     let Inputs { plan, other, .. } = read;
     let report = outcome.report.as_str();
-    if let Some(view) = outcome.about.view {
-        return on_capture(alloc, other, names, status, told_by(report, view));
+    match outcome.about.told {
+        Some(Recorded::Capture(view)) => {
+            return on_capture(alloc, other, names, status, told_by(report, view));
+        }
+        Some(Recorded::Signals) => return on_signals(alloc, other, names),
+        Some(Recorded::Other) => return on_recording(alloc, other, names),
+        None => {}
     }
     match (status, wrong_of(report)) {
         (Status::Good, _) if says_safe(report) => on_safe(alloc, plan),

@@ -1,6 +1,6 @@
 // What a request comes to: a run over one text or over two, and where its report goes.
 
-use crate::advice::{About, names_of};
+use crate::advice::{About, Recorded, names_of};
 use crate::checking::{Look, check};
 use crate::drawings::Canvas;
 use crate::explaining::explain_verify;
@@ -254,12 +254,12 @@ impl<'a> Over<'a> {
         match self {
             Over::Rewrite(Rewriting::Signals) => {
                 let none = Probe::Coded("");
-                let names = names_of(none, none, None, path);
-                About::recording(names, ["", "", "", ""], None)
+                let names = names_of(none, none, None, None, path);
+                About::recording(names, ["", "", "", ""], Recorded::Signals)
             }
             Over::Rewrite(Rewriting::Learn(lesson)) => {
-                let names = names_of(lesson.scl, lesson.sda, lesson.scope, path);
-                About::recording(names, ["twire learn", path, "", ""], None)
+                let names = names_of(lesson.scl, lesson.sda, lesson.scope, None, path);
+                About::recording(names, ["twire learn", path, "", ""], Recorded::Other)
             }
             Over::Bench(play) => About::bench(play.starters),
             _ => About::bench(""),
@@ -314,12 +314,14 @@ impl<'a> OverBoth<'a> {
     pub fn about(self, plan: &'a str, other: &'a str) -> About<'a> {
         match self {
             OverBoth::Capture(asked) => {
-                let names = names_of(asked.scl, asked.sda, asked.scope, other);
-                About::recording(names, ["twire capture", plan, other, ""], Some(asked.view))
+                let names = names_of(asked.scl, asked.sda, asked.scope, asked.min_pulse, other);
+                let told = Recorded::Capture(asked.view);
+                About::recording(names, ["twire capture", plan, other, ""], told)
             }
             OverBoth::Page(asked) => {
-                let names = names_of(asked.scl, asked.sda, asked.scope, other);
-                About::recording(names, ["twire page", plan, "--capture", other], None)
+                let names = names_of(asked.scl, asked.sda, asked.scope, None, other);
+                let words = ["twire page", plan, "--capture", other];
+                About::recording(names, words, Recorded::Other)
             }
             OverBoth::Bench(play) => About::bench(play.starters),
             OverBoth::Verify { .. } => About::bench(""),

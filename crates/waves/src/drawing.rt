@@ -7,7 +7,7 @@ use places::Place;
 use plan_core::Plan;
 use std::alloc::{AllocError, Global};
 
-// The signals: the two lines, what targets pull, and what each participant does.
+// The signals: the two lines, what targets pull, what each participant does, and of a wire that leads to a fault its slot.
 const SCL: usize = 0;
 
 const SDA: usize = 1;
@@ -34,8 +34,8 @@ const FALL: u64 = 9;
 
 /// The waves of a run: these participants start together, and the wire shows these items. For an open bit they send `fill`,
 /// or else what the wire has. A wire that ends neither in a STOP nor in a claim is one that leads to a fault: one slot more
-/// is drawn, in which what they do meets, and SDA is not known at its end. After a claim, a slot that nobody pulls and a STOP
-/// are drawn, so that the waves have an end; what really follows an interrupt's header is not twire's to say.
+/// is drawn, in which what they do meets, SCL stays HIGH, and one more signal is HIGH. After a claim, a slot that nobody pulls
+/// and a STOP are drawn, so that the waves have an end; what really follows an interrupt's header is not twire's to say.
 pub fn wave_of(
     alloc: Global,
     plan: &Plan,
@@ -44,7 +44,7 @@ pub fn wave_of(
     fill: Option<bool>,
 ) -> Result<String, AllocError> {
     let mut rows = rows_of(alloc, plan, participants)?;
-    let mut dump = dump_of(alloc, plan, participants);
+    let mut dump = dump_of(alloc, plan, participants, is_of_fault(wire));
     let end = push_run(&mut dump, rows.as_mut_slice(), wire, fill);
     dump.finish(end)
 }
@@ -64,8 +64,12 @@ fn rows_of<'a>(
     Ok(rows)
 }
 
+fn is_of_fault(wire: &[Item]) -> bool {
+    !matches!(wire.last(), Some(Item::Stop | Item::Claim))
+}
+
 // The definitions of the signals.
-fn dump_of(alloc: Global, plan: &Plan, participants: &[u32]) -> Dump {
+fn dump_of(alloc: Global, plan: &Plan, participants: &[u32], has_fault: bool) -> Dump {
     let mut dump = Dump::new(alloc);
     for name in ["scl", "sda", "targets"] {
         dump.define(name);
@@ -74,6 +78,9 @@ fn dump_of(alloc: Global, plan: &Plan, participants: &[u32]) -> Dump {
         if *p < plan.participants() {
             dump.define_made(plan.label(alloc, *p));
         }
+    }
+    if has_fault {
+        dump.define("fault");
     }
     dump.begin();
     dump
@@ -88,7 +95,7 @@ fn push_run(dump: &mut Dump, rows: &mut [Row<'_>], wire: &[Item], fill: Option<b
         see(rows, fill, *item);
         begin = begin.saturating_add(SLOT);
     }
-    push_end(dump, rows, begin, fill, wire.last().copied())
+    push_end(dump, rows, begin, fill, wire)
 }
 
 fn see(rows: &mut [Row<'_>], fill: Option<bool>, item: Item) {
@@ -97,13 +104,14 @@ fn see(rows: &mut [Row<'_>], fill: Option<bool>, item: Item) {
     }
 }
 
-// A free bus, and START by all of them together.
+// A free bus, no fault, and START by all of them together.
 fn push_start(dump: &mut Dump, rows: usize) {
     dump.at(0);
     dump.show(SCL, Shown::High);
     dump.show(SDA, Shown::High);
-    dump.show(TARGETS, Shown::Free);
-    show_all(dump, rows, Shown::Free);
+    dump.show(TARGETS, Shown::High);
+    show_all(dump, rows, Shown::High);
+    dump.show(ROWS.saturating_add(rows), Shown::Low);
     dump.at(START);
     show_all(dump, rows, Shown::Low);
     dump.show(SDA, Shown::Low);
@@ -127,21 +135,31 @@ fn push_slot(
 ) {
     dump.at(begin);
     let answers = item == Some(Item::Heard(false));
-    dump.show(TARGETS, low_where(answers, Shown::Free));
+    dump.show(TARGETS, low_where(answers));
     let is_pulled = show_pulls(dump, rows, fill, item);
-    dump.show(SDA, low_where(answers || is_pulled, Shown::High));
+    dump.show(SDA, low_where(answers || is_pulled));
     dump.at(begin.saturating_add(RISE));
     dump.show(SCL, Shown::High);
     dump.at(begin.saturating_add(AGAIN));
     show_acts(dump, rows, fill, item, Act::Again, Shown::Low);
-    if item == Some(Item::Again) {
+    if item == Some(Item::Again) || item.is_none() && does(rows, fill, Act::Again) {
         dump.show(SDA, Shown::Low);
     }
     push_last_move(dump, rows, begin, fill, item);
 }
 
-fn low_where(is_low: bool, other: Shown) -> Shown {
-    if is_low { Shown::Low } else { other }
+fn low_where(is_low: bool) -> Shown {
+    if is_low { Shown::Low } else { Shown::High }
+}
+
+// Whether one of them does this in the slot of a fault.
+fn does(rows: &[Row<'_>], fill: Option<bool>, act: Act) -> bool {
+    for row in rows {
+        if row.act(fill, None) == act {
+            return true;
+        }
+    }
+    false
 }
 
 // What participants pull, and whether one does.
@@ -150,7 +168,7 @@ fn show_pulls(dump: &mut Dump, rows: &[Row<'_>], fill: Option<bool>, item: Optio
     for (k, row) in rows.iter().enumerate() {
         let pulls = matches!(row.act(fill, item), Act::Pull | Act::Stop);
         is_pulled = is_pulled || pulls;
-        dump.show(ROWS.saturating_add(k), low_where(pulls, Shown::Free));
+        dump.show(ROWS.saturating_add(k), low_where(pulls));
     }
     is_pulled
 }
@@ -180,9 +198,12 @@ fn push_last_move(
     item: Option<Item>,
 ) {
     dump.at(begin.saturating_add(FALL));
-    show_acts(dump, rows, fill, item, Act::Stop, Shown::Free);
+    show_acts(dump, rows, fill, item, Act::Stop, Shown::High);
     match item {
-        None => dump.show(SDA, Shown::Unknown),
+        None => {
+            let is_pulled = does(rows, fill, Act::Pull) || does(rows, fill, Act::Again);
+            dump.show(SDA, low_where(is_pulled));
+        }
         Some(Item::Stop) => dump.show(SDA, Shown::High),
         Some(_) => dump.show(SCL, Shown::Low),
     }
@@ -196,7 +217,7 @@ fn push_stop(dump: &mut Dump, rows: &[Row<'_>], begin: u64) {
     dump.at(begin.saturating_add(RISE));
     dump.show(SCL, Shown::High);
     dump.at(begin.saturating_add(FALL));
-    show_live(dump, rows, Shown::Free);
+    show_live(dump, rows, Shown::High);
     dump.show(SDA, Shown::High);
 }
 
@@ -214,12 +235,22 @@ fn push_end(
     rows: &[Row<'_>],
     begin: u64,
     fill: Option<bool>,
-    last: Option<Item>,
+    wire: &[Item],
 ) -> u64 {
-    match last {
-        Some(Item::Stop) => {}
-        Some(Item::Claim) => push_stop(dump, rows, begin),
-        _ => push_slot(dump, rows, begin, fill, None),
+    if is_of_fault(wire) {
+        push_fault(dump, rows, begin, fill);
+    } else if wire.last() == Some(&Item::Claim) {
+        push_stop(dump, rows, begin);
     }
     begin.saturating_add(SLOT).saturating_add(SLOT)
+}
+
+// The slot of a fault, with the signal that marks it.
+fn push_fault(dump: &mut Dump, rows: &[Row<'_>], begin: u64, fill: Option<bool>) {
+    let fault = ROWS.saturating_add(rows.len());
+    dump.at(begin);
+    dump.show(fault, Shown::High);
+    push_slot(dump, rows, begin, fill, None);
+    dump.at(begin.saturating_add(SLOT));
+    dump.show(fault, Shown::Low);
 }

@@ -3,13 +3,12 @@
 use growing_text::Text;
 use std::alloc::{AllocError, Global};
 
-/// What a signal shows: LOW, HIGH, let go (the line is HIGH unless another pulls it), or not known.
+/// What a signal shows. Who lets a line go shows HIGH, as the line does unless another pulls it: programs that show waves read
+/// `z` as LOW.
 #[derive(Clone, Copy, PartialEq, Eq)]
 pub(crate) enum Shown {
     Low,
     High,
-    Free,
-    Unknown,
 }
 
 impl Shown {
@@ -17,8 +16,6 @@ impl Shown {
         match self {
             Shown::Low => '0',
             Shown::High => '1',
-            Shown::Free => 'z',
-            Shown::Unknown => 'x',
         }
     }
 }
@@ -34,7 +31,8 @@ fn code(signal: usize) -> char {
 #[derive(Drop)]
 pub(crate) struct Dump {
     text: Text,
-    shown: Vec<Shown>,
+    // None where it has not been shown yet
+    shown: Vec<Option<Shown>>,
     time: u64,
     // whether the time of the next change stands in the text
     is_told: bool,
@@ -60,7 +58,7 @@ impl Dump {
         self.text.push(" ");
         self.text.push(name);
         self.text.push(" $end\n");
-        if self.shown.push(Shown::Unknown).is_err() {
+        if self.shown.push(None).is_err() {
             self.text.cut();
         }
     }
@@ -80,14 +78,16 @@ impl Dump {
 
     /// The changes from here on are of this time.
     pub(crate) fn at(&mut self, time: u64) {
-        self.time = time;
-        self.is_told = false;
+        if time != self.time {
+            self.time = time;
+            self.is_told = false;
+        }
     }
 
     /// The signal shows this from now on.
     pub(crate) fn show(&mut self, signal: usize, shown: Shown) {
         match self.shown.get_mut(signal) {
-            Some(it) if *it != shown => *it = shown,
+            Some(it) if *it != Some(shown) => *it = Some(shown),
             _ => return,
         }
         if !self.is_told {

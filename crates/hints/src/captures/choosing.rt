@@ -1,19 +1,22 @@
 // Names that several signals of a dump have, and how one of them is chosen.
 
-use crate::captures::naming::{Names, word_of};
+use crate::captures::naming::{Names, is_named, word_of};
+use crate::captures::silence::push_passed;
 use crate::lines::Lines;
 use crate::marking::{push_name, push_quoted};
 use run_parts::Watched;
 use signals::{Found, Listing, read_beginning};
 use std::alloc::{AllocError, Global};
+use std::collections::BTreeSet;
 use std::io::{Read, Seek, SeekFrom};
 use vcd_read::Probe;
 
 // How many signals of one name are told.
 const TOLD: usize = 4;
 
-/// What to say after a report on a capture of which the names are those of several signals: which these are, and how to
-/// choose. There is nothing to say where each name is that of one signal, or where the lines are found in other ways.
+/// What to say after a report on a capture that begins in a transaction, or of which the names are those of several signals:
+/// which these are, and how to choose. Of names there is nothing to say where each is that of one signal, or where the lines
+/// are found in other ways.
 pub fn on_choice<F: Read + Seek + Drop>(
     alloc: Global,
     file: Option<F>,
@@ -21,6 +24,7 @@ pub fn on_choice<F: Read + Seek + Drop>(
 ) -> Result<String, AllocError> {
     let mut lines = Lines::new(alloc);
     if let Some(mut file) = file {
+        push_passed(alloc, &mut lines, &mut file, names);
         push_twins(alloc, &mut lines, &mut file, names);
     }
     lines.finish()
@@ -75,55 +79,47 @@ impl Told {
 // The signals that have the name of one of the lines.
 #[derive(Drop)]
 struct Twin<'a> {
-    name: &'a [u8],
-    is_named: bool,
-    count: u64,
-    // the first of them: signals of one code are one
+    probe: Probe<'a>,
+    // their codes: signals of one code are one
+    codes: BTreeSet<Vec<u8>>,
+    // the first of them
     told: Vec<Told>,
 }
 
 impl<'a> Twin<'a> {
     fn new(alloc: Global, probe: Probe<'a>) -> Twin<'a> {
         Twin {
-            name: word_of(probe).as_bytes(),
-            is_named: matches!(probe, Probe::Named(_)),
-            count: 0,
+            probe,
+            codes: BTreeSet::new(alloc),
             told: Vec::new(alloc),
         }
     }
 
     fn see(&mut self, alloc: Global, found: Found<'_>) -> Result<(), AllocError> {
-        if !self.is_named || found.reference != self.name || self.has(found.code) {
+        if !is_named(found, self.probe) || self.codes.contains(found.code) {
             return Ok(());
         }
-        self.count = self.count.saturating_add(1);
+        if self.codes.insert(found.code.to_vec(alloc)?).is_err() {
+            return Err(AllocError);
+        }
         if self.told.len() < TOLD {
             self.told.push(Told::new(alloc, found)?)?;
         }
         Ok(())
     }
 
-    fn has(&self, code: &[u8]) -> bool {
-        for told in self.told.iter() {
-            if told.code.as_slice() == code {
-                return true;
-            }
-        }
-        false
-    }
-
     fn push_to(&self, lines: &mut Lines) {
-        if self.count < 2 {
+        let count = self.codes.len();
+        if count < 2 {
             return;
         }
-        let count = self.count;
         lines.part(format_args!("{count} signals of one bit have the name '"));
-        push_name(lines, self.name);
+        push_name(lines, word_of(self.probe).as_bytes());
         lines.say("', and the first of them counts");
         for told in self.told.iter() {
             told.push_to(lines);
         }
-        if self.count > self.told.len() as u64 {
+        if count > self.told.len() {
             lines.detail("..");
         }
     }
@@ -143,7 +139,7 @@ impl Twins<'_> {
         if word_of(names.scl) != word_of(names.sda) {
             self.sda.push_to(lines);
         }
-        if self.scl.count < 2 && self.sda.count < 2 {
+        if self.scl.codes.len() < 2 && self.sda.codes.len() < 2 {
             return;
         }
         let vcd = names.vcd;

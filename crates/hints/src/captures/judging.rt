@@ -53,8 +53,12 @@ pub(crate) enum Opened {
 #[derive(Clone, Copy)]
 pub(crate) enum Said {
     Nothing,
-    /// It is the name of a signal, and whether this is one of one bit.
+    /// It begins the name of a signal: its reference, and whether this is one of one bit.
     Name { one_bit: bool },
+    /// It goes on with the name.
+    More,
+    /// It ends the name.
+    Named,
     /// It ends the definitions.
     Defined,
     Wrong(Wrong),
@@ -145,7 +149,7 @@ impl Judge {
             return if seen < 4 {
                 Said::Wrong(Wrong::ShortVar)
             } else {
-                Said::Nothing
+                Said::Named
             };
         }
         let one_bit = if seen == 1 {
@@ -154,10 +158,10 @@ impl Judge {
             one_bit
         };
         self.doing = Doing::Var(began, seen.saturating_add(1), one_bit);
-        if seen == 3 {
-            Said::Name { one_bit }
-        } else {
-            Said::Nothing
+        match seen {
+            0..=2 => Said::Nothing,
+            3 => Said::Name { one_bit },
+            _ => Said::More,
         }
     }
 

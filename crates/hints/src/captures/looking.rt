@@ -1,16 +1,18 @@
 // What a capture shows of the two lines, as they are given and with the two exchanged.
 
 use crate::captures::naming::{Names, reader_of};
-use capture_check::{Follower, Mark, Transaction, Until};
+use capture_check::{Follower, Mark, Transaction, Until, Watch, What};
 use dump_tokens::reading::{Reading, read_again};
+use dump_tokens::{Scale, Time};
 use std::alloc::{AllocError, Global};
+use std::cmp::Ordering;
 use std::io::{self, Read, Seek};
 use vcd_read::{Level, Reader, Sample};
 
 /// What is looked at in the samples of a capture.
 pub(crate) trait Looking {
-    /// Further samples.
-    fn take(&mut self, alloc: Global, samples: &[Sample]) -> Result<(), AllocError>;
+    /// Further samples. Whether more are wanted.
+    fn take(&mut self, alloc: Global, samples: &[Sample]) -> Result<bool, AllocError>;
 }
 
 /// Reads the capture once more, if that can be done.
@@ -24,6 +26,7 @@ pub(crate) fn look<F: Read + Seek, L: Looking>(
         alloc,
         reader: reader_of(alloc, file, names)?,
         looking,
+        is_done: false,
     };
     let is_whole = matches!(read_again(alloc, file, &mut dump), Ok(true));
     dump.finish(is_whole)
@@ -34,6 +37,8 @@ struct Dump<'a, L> {
     alloc: Global,
     reader: Reader,
     looking: &'a mut L,
+    // whether no more samples are wanted
+    is_done: bool,
 }
 
 impl<L: Looking> Dump<'_, L> {
@@ -43,12 +48,19 @@ impl<L: Looking> Dump<'_, L> {
             alloc,
             reader,
             looking,
+            is_done,
         } = self;
+        if is_done {
+            return Some(());
+        }
         if !is_whole {
             return None;
         }
         let samples = reader.end().ok()?;
-        looking.take(alloc, samples.as_slice()).ok()
+        match looking.take(alloc, samples.as_slice()) {
+            Ok(_) => Some(()),
+            Err(_) => None,
+        }
     }
 }
 
@@ -57,9 +69,10 @@ impl<L: Looking> Reading for Dump<'_, L> {
         if self.reader.feed(block).is_err() {
             return Ok(false);
         }
-        self.looking.take(self.alloc, self.reader.samples())?;
+        let more = self.looking.take(self.alloc, self.reader.samples())?;
+        self.is_done = !more;
         self.reader.clear_samples();
-        Ok(true)
+        Ok(more)
     }
 }
 
@@ -109,14 +122,14 @@ impl Seen {
 }
 
 impl Looking for Levels {
-    fn take(&mut self, alloc: Global, samples: &[Sample]) -> Result<(), AllocError> {
+    fn take(&mut self, alloc: Global, samples: &[Sample]) -> Result<bool, AllocError> {
         for sample in samples {
             self.seen.count(sample.scl, sample.sda);
         }
         let others = exchanged(alloc, samples)?;
         let found = self.follower.follow(alloc, others.as_slice())?;
         self.seen.exchanged = self.seen.exchanged.saturating_add(found.len() as u64);
-        Ok(())
+        Ok(true)
     }
 }
 
@@ -143,13 +156,145 @@ impl Wholes {
 }
 
 impl Looking for Wholes {
-    fn take(&mut self, alloc: Global, samples: &[Sample]) -> Result<(), AllocError> {
+    fn take(&mut self, alloc: Global, samples: &[Sample]) -> Result<bool, AllocError> {
         let whole = whole_count(alloc, &mut self.as_given, samples)?;
         self.given = self.given.saturating_add(whole);
         let others = exchanged(alloc, samples)?;
         let whole = whole_count(alloc, &mut self.as_exchanged, others.as_slice())?;
         self.exchanged = self.exchanged.saturating_add(whole);
-        Ok(())
+        Ok(true)
+    }
+}
+
+/// Looks whether a capture begins in a transaction, whose START it does not have.
+#[derive(Clone, Copy)]
+pub(crate) struct Beginning {
+    pub(crate) is_within: bool,
+    watch: Watch,
+    // whether the bus was not free when its levels became known
+    is_busy: bool,
+}
+
+impl Beginning {
+    /// Nothing has been looked at.
+    pub(crate) fn new() -> Beginning {
+        Beginning {
+            is_within: false,
+            watch: Watch::new(),
+            is_busy: false,
+        }
+    }
+
+    // What happens next on the bus. Whether more is wanted.
+    fn see(&mut self, what: What) -> bool {
+        match what {
+            What::Known(is_free) => {
+                self.is_busy = !is_free;
+                self.is_busy
+            }
+            What::Bit(_) | What::Start => {
+                self.is_within = self.is_busy;
+                false
+            }
+            What::Stop | What::Unknown => false,
+        }
+    }
+}
+
+impl Looking for Beginning {
+    fn take(&mut self, _alloc: Global, samples: &[Sample]) -> Result<bool, AllocError> {
+        for sample in samples {
+            if let Some(event) = self.watch.next(sample)
+                && !self.see(event.what)
+            {
+                return Ok(false);
+            }
+        }
+        Ok(true)
+    }
+}
+
+/// Looks how long SCL is HIGH and LOW, beside a least time: where most of either is shorter, a capture without short levels
+/// has no clock.
+#[derive(Clone, Copy)]
+pub(crate) struct Clock {
+    least: Time,
+    scale: Option<Scale>,
+    // the level of SCL, and since when
+    level: Level,
+    since: u64,
+    highs: Lasting,
+    lows: Lasting,
+}
+
+/// How many levels there were, and how many of them were short.
+#[derive(Clone, Copy)]
+pub(crate) struct Lasting {
+    pub(crate) all: u64,
+    pub(crate) short: u64,
+}
+
+impl Lasting {
+    const NONE: Lasting = Lasting { all: 0, short: 0 };
+
+    fn count(&mut self, is_short: bool) {
+        self.all = self.all.saturating_add(1);
+        self.short = self.short.saturating_add(u64::from(is_short));
+    }
+
+    // Whether most of them are short.
+    fn is_lost(&self) -> bool {
+        self.short > self.all / 2
+    }
+}
+
+impl Clock {
+    /// Nothing has been looked at.
+    pub(crate) fn new(least: Time, scale: Option<Scale>) -> Clock {
+        Clock {
+            least,
+            scale,
+            level: Level::Unknown,
+            since: 0,
+            highs: Lasting::NONE,
+            lows: Lasting::NONE,
+        }
+    }
+
+    /// The levels of SCL of which most are too short, by their name.
+    pub(crate) fn lost(&self) -> Option<(&'static str, Lasting)> {
+        if self.highs.is_lost() {
+            Some(("HIGH", self.highs))
+        } else if self.lows.is_lost() {
+            Some(("LOW", self.lows))
+        } else {
+            None
+        }
+    }
+
+    fn is_short(&self, lasted: u64) -> bool {
+        match self.scale {
+            Some(scale) => scale.compare(lasted, self.least) == Ordering::Less,
+            None => self.least.unit.is_none() && lasted < self.least.number,
+        }
+    }
+}
+
+impl Looking for Clock {
+    fn take(&mut self, _alloc: Global, samples: &[Sample]) -> Result<bool, AllocError> {
+        for sample in samples {
+            if sample.scl != self.level {
+                let is_short = self.is_short(sample.time.saturating_sub(self.since));
+                match self.level {
+                    Level::High => self.highs.count(is_short),
+                    Level::Low => self.lows.count(is_short),
+                    Level::Unknown => {}
+                }
+                self.level = sample.scl;
+                self.since = sample.time;
+            }
+        }
+        Ok(true)
     }
 }
 

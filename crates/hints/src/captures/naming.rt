@@ -6,9 +6,10 @@ use crate::likeness::Nearest;
 use crate::lines::Lines;
 use crate::marking::push_name;
 use dump_tokens::reading::read_again;
-use dump_tokens::tokens::{Cutter, Place, Sink};
+use dump_tokens::tokens::{Cutter, KEPT, Place, Sink};
+use dump_tokens::{Scale, Time};
 use run_parts::Watched;
-use signals::{Picked, bus_options, needs_picking, pick};
+use signals::{Found, Picked, bus_options, needs_picking, pick};
 use std::alloc::{AllocError, Global};
 use std::io::{Read, Seek, SeekFrom};
 use vcd_read::{Probe, Reader, Signal};
@@ -24,7 +25,10 @@ pub struct Names<'a> {
     pub sda: Probe<'a>,
     /// The scope in which names are looked for, where there is one.
     pub scope: Option<&'a str>,
-    /// The command and its files, as they can be given once more with other options.
+    /// Levels that last less were left out.
+    pub min_pulse: Option<Time>,
+    /// The command and its files, as they can be given once more with other options. It is empty where the command looks for
+    /// no lines.
     pub command: &'a str,
     /// The file of the dump, as a command takes it.
     pub vcd: &'a str,
@@ -73,6 +77,26 @@ pub(crate) fn reader_of<F: Read + Seek>(
     reader_with(alloc, &picked)
 }
 
+/// What one step of the dump's time is, where the dump says it and can be read once more.
+pub(crate) fn scale_of<F: Read + Seek + Drop>(
+    alloc: Global,
+    file: &mut F,
+    names: Names<'_>,
+) -> Option<Scale> {
+    if file.seek(SeekFrom::Start(0)).is_err() {
+        return None;
+    }
+    let mut input = Watched::new(file);
+    let Ok((_, picked)) = pick(alloc, &mut input, names.scl, names.sda, names.scope) else {
+        return None;
+    };
+    scale_in(&picked)
+}
+
+fn scale_in(picked: &Picked) -> Option<Scale> {
+    picked.scale
+}
+
 fn reader_with(alloc: Global, picked: &Picked) -> Option<Reader> {
     Reader::of(alloc, picked.scl(), picked.sda()).ok()
 }
@@ -80,7 +104,7 @@ fn reader_with(alloc: Global, picked: &Picked) -> Option<Reader> {
 // One of the two lines, as it is looked for.
 #[derive(Clone, Copy)]
 struct Wanted<'a> {
-    word: &'a [u8],
+    probe: Probe<'a>,
     // whether a signal of one bit has the name, or one of another size
     is_there: bool,
     is_wide: bool,
@@ -89,17 +113,25 @@ struct Wanted<'a> {
 impl<'a> Wanted<'a> {
     fn new(probe: Probe<'a>) -> Wanted<'a> {
         Wanted {
-            word: word_of(probe).as_bytes(),
+            probe,
             is_there: false,
             is_wide: false,
         }
     }
 
-    fn see(&mut self, name: &[u8], one_bit: bool) {
-        if name == self.word {
+    fn see(&mut self, found: Found<'_>, one_bit: bool) {
+        if is_named(found, self.probe) {
             self.is_there = self.is_there || one_bit;
             self.is_wide = self.is_wide || !one_bit;
         }
+    }
+}
+
+/// Whether a signal is looked for by its name, and has it.
+pub(crate) fn is_named(found: Found<'_>, probe: Probe<'_>) -> bool {
+    match probe {
+        Probe::Named(name) => found.is_called(name),
+        Probe::Coded(_) => false,
     }
 }
 
@@ -111,6 +143,10 @@ struct Declared<'a> {
     scl: Wanted<'a>,
     sda: Wanted<'a>,
     nearest: Nearest<'a>,
+    // the name that goes on, how much of it is the reference, and whether the signal has one bit
+    name: Vec<u8>,
+    reference: usize,
+    one_bit: bool,
     // whether the definitions come to their end
     have_ended: bool,
 }
@@ -123,8 +159,42 @@ impl<'a> Declared<'a> {
             scl: Wanted::new(names.scl),
             sda: Wanted::new(names.sda),
             nearest: Nearest::new(alloc, word_of(names.of(signal)).as_bytes()),
+            name: Vec::new(alloc),
+            reference: 0,
+            one_bit: false,
             have_ended: false,
         }
+    }
+
+    fn begin_name(&mut self, token: &[u8], one_bit: bool) -> Result<(), AllocError> {
+        self.reference = token.len();
+        self.one_bit = one_bit;
+        self.name.clear();
+        self.name.extend_from_slice(token)
+    }
+
+    fn go_on(&mut self, token: &[u8]) -> Result<(), AllocError> {
+        if self.name.len().saturating_add(token.len()) < KEPT {
+            self.name.push(b' ')?;
+            self.name.extend_from_slice(token)?;
+        }
+        Ok(())
+    }
+
+    fn end_name(&mut self) -> Result<(), AllocError> {
+        let name = self.name.as_slice();
+        let found = Found {
+            scope: &[],
+            code: &[],
+            reference: name.get(..self.reference).unwrap_or(name),
+            name,
+        };
+        self.scl.see(found, self.one_bit);
+        self.sda.see(found, self.one_bit);
+        if self.one_bit {
+            self.nearest.add(self.alloc, name)?;
+        }
+        Ok(())
     }
 
     fn is_wide(&self, signal: Signal) -> bool {
@@ -138,21 +208,17 @@ impl<'a> Declared<'a> {
 impl Sink for Declared<'_> {
     fn token(&mut self, token: &[u8], place: Place) -> Result<bool, AllocError> {
         match self.judge.token(token, place) {
-            Said::Nothing => Ok(true),
-            Said::Name { one_bit } => {
-                self.scl.see(token, one_bit);
-                self.sda.see(token, one_bit);
-                if one_bit {
-                    self.nearest.add(self.alloc, token)?;
-                }
-                Ok(true)
-            }
+            Said::Nothing => {}
+            Said::Name { one_bit } => self.begin_name(token, one_bit)?,
+            Said::More => self.go_on(token)?,
+            Said::Named => self.end_name()?,
             Said::Defined => {
                 self.have_ended = true;
-                Ok(false)
+                return Ok(false);
             }
-            Said::Wrong(_) => Ok(false),
+            Said::Wrong(_) => return Ok(false),
         }
+        Ok(true)
     }
 }
 
@@ -164,7 +230,7 @@ pub(crate) fn push_names<F: Read + Seek + Drop>(
     names: Names<'_>,
     signal: Signal,
 ) {
-    if let Probe::Coded("") = names.of(signal) {
+    if names.command.is_empty() {
         lines.say("the capture declares no signal of one bit");
         return;
     }

@@ -1,6 +1,6 @@
 // The scopes in which the name of a line stands, for those who gave another.
 
-use crate::captures::naming::{Names, word_of};
+use crate::captures::naming::{Names, is_named, word_of};
 use crate::lines::Lines;
 use crate::marking::push_name;
 use run_parts::Watched;
@@ -29,7 +29,7 @@ pub(crate) fn push_scopes<F: Read + Seek>(
     }
     let scopes = Scopes {
         alloc,
-        name: word_of(probe).as_bytes(),
+        probe,
         told: Vec::new(alloc),
         is_outside: false,
         are_more: false,
@@ -44,7 +44,7 @@ pub(crate) fn push_scopes<F: Read + Seek>(
 #[derive(Drop)]
 struct Scopes<'a> {
     alloc: Global,
-    name: &'a [u8],
+    probe: Probe<'a>,
     // the first of them
     told: Vec<Vec<u8>>,
     // whether one stands outside all scopes
@@ -56,11 +56,12 @@ impl Scopes<'_> {
     // Whether there was one.
     fn push_to(&self, lines: &mut Lines) -> bool {
         let has_told = !self.told.is_empty();
+        let name = word_of(self.probe).as_bytes();
         if has_told {
-            push_name(lines, self.name);
+            push_name(lines, name);
             self.push_told(lines);
         } else if self.is_outside {
-            push_name(lines, self.name);
+            push_name(lines, name);
             lines.say(" stands outside all scopes: leave --scope out");
         }
         has_told || self.is_outside
@@ -95,7 +96,7 @@ impl Scopes<'_> {
 
 impl Listing for Scopes<'_> {
     fn signal(&mut self, found: Found<'_>) -> Result<(), AllocError> {
-        if found.reference != self.name && found.name != self.name {
+        if !is_named(found, self.probe) {
             return Ok(());
         }
         if found.scope.is_empty() {

@@ -1,8 +1,8 @@
 // After a report on a capture that has no transaction, or of which nobody explains one.
 
 use crate::captures::choosing::push_twins;
-use crate::captures::looking::{Levels, Seen, Wholes, look};
-use crate::captures::naming::{BREAKS_OFF, Names, breaks_off};
+use crate::captures::looking::{Beginning, Clock, Levels, Seen, Wholes, look};
+use crate::captures::naming::{BREAKS_OFF, Names, breaks_off, scale_of};
 use crate::lines::Lines;
 use std::alloc::{AllocError, Global};
 use std::io::{Read, Seek};
@@ -30,16 +30,65 @@ pub fn on_unexplained<F: Read + Seek + Drop>(
     let mut lines = Lines::new(alloc);
     push_one_for_both(&mut lines, names);
     if let Some(mut file) = file {
-        let mut wholes = Wholes::new();
-        if look(alloc, &mut file, names, &mut wholes).is_some() {
-            push_exchanged(&mut lines, wholes.given, wholes.exchanged);
-        }
+        push_lost_clock(alloc, &mut lines, &mut file, names);
+        push_exchanged(alloc, &mut lines, &mut file, names);
+        push_passed(alloc, &mut lines, &mut file, names);
         push_twins(alloc, &mut lines, &mut file, names);
     }
     lines.finish()
 }
 
-fn push_exchanged(lines: &mut Lines, whole: u64, exchanged: u64) {
+/// Says where a capture begins in a transaction.
+pub(crate) fn push_passed<F: Read + Seek>(
+    alloc: Global,
+    lines: &mut Lines,
+    file: &mut F,
+    names: Names<'_>,
+) {
+    let mut beginning = Beginning::new();
+    if look(alloc, file, names, &mut beginning).is_some() && beginning.is_within {
+        lines.say(
+            "the capture begins in a transaction, which is passed over: one is told from its START on",
+        );
+    }
+}
+
+// Says where most levels of SCL are so short that they were left out, and whether it is so.
+fn push_lost_clock<F: Read + Seek + Drop>(
+    alloc: Global,
+    lines: &mut Lines,
+    file: &mut F,
+    names: Names<'_>,
+) -> bool {
+    let Some(least) = names.min_pulse else {
+        return false;
+    };
+    let mut clock = Clock::new(least, scale_of(alloc, file, names));
+    if look(alloc, file, names, &mut clock).is_none() {
+        return false;
+    }
+    let Some((level, lasting)) = clock.lost() else {
+        return false;
+    };
+    let (short, all) = (lasting.short, lasting.all);
+    lines.say(format_args!(
+        "--min-pulse leaves out the clock: SCL is {level} {all} times, and {short} of these are shorter"
+    ));
+    true
+}
+
+/// Says where more transactions would have whole bytes with the two lines exchanged.
+pub(crate) fn push_exchanged<F: Read + Seek>(
+    alloc: Global,
+    lines: &mut Lines,
+    file: &mut F,
+    names: Names<'_>,
+) {
+    let mut wholes = Wholes::new();
+    if look(alloc, file, names, &mut wholes).is_none() {
+        return;
+    }
+    let (whole, exchanged) = (wholes.given, wholes.exchanged);
     if exchanged > whole {
         lines.say(format_args!(
             "{whole} of the transactions have whole bytes; with the two lines exchanged {exchanged} would: are SCL and SDA exchanged?"
@@ -71,6 +120,9 @@ fn push_looked<F: Read + Seek + Drop>(
     names: Names<'_>,
     file: &mut F,
 ) {
+    if push_lost_clock(alloc, lines, file, names) {
+        return;
+    }
     let mut levels = Levels::new();
     if look(alloc, file, names, &mut levels).is_none() {
         return push_causes(lines, names);
@@ -85,6 +137,7 @@ fn push_looked<F: Read + Seek + Drop>(
     if let Some(words) = cause(seen) {
         lines.say(words);
     }
+    push_passed(alloc, lines, file, names);
     push_twins(alloc, lines, file, names);
     lines.say("the names of the two lines are given with --scl NAME and --sda NAME");
 }

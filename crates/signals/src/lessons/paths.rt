@@ -29,7 +29,7 @@ pub(crate) enum NoPath {
     OddRead,
     /// Something was sent after a refusal.
     OnRefused,
-    /// It has more than 256 bytes.
+    /// It has more than 256 bytes as it is written.
     Long,
     /// The messages so far leave no room.
     NoRoom,
@@ -55,7 +55,7 @@ pub(crate) fn path_of(
             return Ok(Err(no));
         }
     }
-    if path.bytes > MOST_BYTES {
+    if path.written() > MOST_BYTES {
         return Ok(Err(NoPath::Long));
     }
     Ok(Ok(path.steps))
@@ -85,6 +85,19 @@ struct Path {
 }
 
 impl Path {
+    // How many bytes the path has as a brief writes it: a read whose header was never acknowledged has one byte there.
+    fn written(&self) -> usize {
+        match self.steps.last() {
+            Some(
+                Step {
+                    sent: Sent::Read(_, None),
+                    ..
+                },
+            ) => self.bytes.saturating_add(1),
+            _ => self.bytes,
+        }
+    }
+
     fn mark(&mut self, mark: Mark) -> Result<Result<(), NoPath>, AllocError> {
         match mark {
             Mark::Level(level) => return self.level(level),

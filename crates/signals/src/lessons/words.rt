@@ -85,7 +85,7 @@ pub(crate) fn why(no: NoPath) -> &'static str {
         NoPath::Broken => "a START or STOP stands in the midst of a byte, or no byte between two",
         NoPath::OddRead => "a read that does not end with its first byte that is not acknowledged",
         NoPath::OnRefused => "bytes go on after one that was not acknowledged",
-        NoPath::Long => "more than 256 bytes",
+        NoPath::Long => "more than 256 bytes (a read has one byte at least)",
         NoPath::NoRoom => "a plan has at most 256 messages",
     }
 }
