@@ -50,7 +50,7 @@ begun_sda first.Scl a b y samples e = no_sample (record { scl = a.kept; sda = b.
 begun_sda first.Sda a b y samples e = ap (λ (them : List Sample). before (record { scl = a.kept; sda = b.kept }) (record { scl = a.kept; sda = y }) b.from them) (no_sample (record { scl = a.kept; sda = y }) a.from samples)
 
 -- the next sample, as the definition has it
-quiet_next : (least : ℕ) (old kept new : Levels) (s : Sample) (more : List Sample) → level_at least scl old.scl kept.scl s more ≡ new.scl → level_at least sda old.sda kept.sda s more ≡ new.sda → quiet_from least old kept (s ∷ more) ≡ before kept new s.time (quiet_from least (levels_in s) new more)
+pub quiet_next : (least : ℕ) (old kept new : Levels) (s : Sample) (more : List Sample) → level_at least scl old.scl kept.scl s more ≡ new.scl → level_at least sda old.sda kept.sda s more ≡ new.sda → quiet_from least old kept (s ∷ more) ≡ before kept new s.time (quiet_from least (levels_in s) new more)
 quiet_next least old kept new s more e f =
     ap (λ (x : Level). before kept (record { scl = x; sda = level_at least sda old.sda kept.sda s more }) s.time (quiet_from least (levels_in s) (record { scl = x; sda = level_at least sda old.sda kept.sda s more }) more)) e
     ∙ ap (λ (y : Level). before kept (record { scl = new.scl; sda = y }) s.time (quiet_from least (levels_in s) (record { scl = new.scl; sda = y }) more)) f

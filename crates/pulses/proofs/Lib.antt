@@ -1,3 +1,4 @@
 pub mod LevelLemmas
+pub mod LawLemmas
 pub mod RunLemmas
 pub mod ComingLemmas

@@ -1,4 +1,5 @@
 pub mod Pulses
+pub mod Laws
 pub mod Wires
 pub mod Filtering
 pub mod Following

@@ -6,6 +6,7 @@
 
 pub mod filtering;
 pub mod following;
+pub mod laws;
 mod wires;
 
 pub use filtering::Filter;
