@@ -22,7 +22,7 @@ use thiserror::Error;
 /// Why a checker goes no further.
 #[derive(Clone, Copy, Debug, PartialEq, Eq, Error)]
 pub enum FeedError {
-    /// Memory was refused.
+    /// An allocation failed.
     #[error("memory")]
     NoMemory,
     /// The text has 2 to the power 63 bytes or more.

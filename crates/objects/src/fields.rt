@@ -59,7 +59,7 @@ impl Objects {
         self.text.finish()
     }
 
-    /// Memory was refused for what would come next.
+    /// An allocation failed for what would come next.
     pub(crate) fn cut(&mut self) {
         self.text.cut();
     }

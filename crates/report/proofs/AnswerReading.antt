@@ -58,7 +58,7 @@ module _ {D : Type 0} (reader : Reader D) (start : D) (plan : Contents) where
   ended (Err e) reads last now checker on few all h =
       subst (λ (x : RunError). HaltsAtAnswer reader start x now) (sym (h on.text on.fed (is_short on.text reads on.short few))) (no_memory all)
 
-  -- a read that gave a piece, at which memory was refused
+  -- a read that gave a piece, at which an allocation failed
   pub piece_halts : (reads n : ℕ) (buf : List ℕ) (before after : D) (checker : Checker) (e : RunError) → (on : ReadsOn reader start plan reads before checker) → reads < 4_294_967_295 → reader.gives before (length buf) (Some (take n buf)) after → 0 < n → n ≤ length buf → length buf ≡ 65_536 → reader.has_failed after ≡ false → Consumes (reader.remaining before) (reader.remaining after) (take n buf) → ((text : List ℕ) → IsFed plan checker text → length (text ++ take n buf) < 2 ^ 63 → e ≡ error.NoMemory) → HaltsAtAnswer reader start e after
   piece_halts reads n buf before after checker e on few call some within size sound lost h =
       let now = one_more_read reader start reads (length buf) n on.text buf (on.text ++ take n buf) before after on.reading call some within sound lost refl in

@@ -34,7 +34,7 @@ pub enum RunError {
     /// The writer failed, or took no bytes.
     #[error("write")]
     Write,
-    /// Memory was refused.
+    /// An allocation failed.
     #[error("memory")]
     NoMemory,
 }

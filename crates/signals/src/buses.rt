@@ -1,4 +1,4 @@
-// Pairs of signals that look like the two lines of a bus: the events are those of a capture (docs/FORMATS.md, bus events),
+// Pairs of signals that look like the two lines of a bus: the events are those of a capture (docs/CAPTURES.md, bus events),
 // found for all pairs at once. Of signals that are LOW at the same times, and of what a single device pulls, the bus is told
 // once.
 

@@ -1,4 +1,4 @@
--- A dump as the grammar of docs/FORMATS.md spells it (after IEEE 1364-2005, clause 18, and wider: every token that
+-- A dump as the grammar of docs/CAPTURES.md spells it (after IEEE 1364-2005, clause 18, and wider: every token that
 -- begins with `$` is a command, changes of strings are read, times may stand inside blocks, and a code needs no `$var`),
 -- and its samples, told by whole time stamps.
 use Rattle.std.specs.Prelude.{◌≡◌, ℕ, ◌<◌, ◌⊎◌, Bool, true, false, ◌&&◌, not, List, [], ◌∷◌, ◌++◌}

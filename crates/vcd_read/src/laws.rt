@@ -20,7 +20,7 @@ pub fn tokens_are_the_runs_between_white_space()
     ensures { (text : List ℕ) → AreRuns 1 text (tokens_of 1 text) }
 {}
 
-/// The texts that are accepted are those that the grammar of docs/FORMATS.md spells. Their samples are those of their
+/// The texts that are accepted are those that the grammar of docs/CAPTURES.md spells. Their samples are those of their
 /// time stamps: the levels of the last changes, where they differ from those of the stamp before.
 pub fn accepted_dumps_are_those_that_the_grammar_spells()
     ensures spelled { (scl sda : Finder) (text : List ℕ) (samples : List Sample) →

@@ -4,7 +4,7 @@
 //! `Reader` takes a dump in pieces of any size, cut anywhere, and answers its samples. `scanner` cuts the pieces into
 //! tokens, with `bytes`, which tells white space and counts lines. `words` says what a single token is. `dumps` has
 //! what the tokens so far have said, with `definitions` and `changes` for the two parts of a dump, `wires` for the two
-//! lines and `probes` for how they are found. `laws` says of the dumps that the grammar of docs/FORMATS.md spells which samples they have, and of others
+//! lines and `probes` for how they are found. `laws` says of the dumps that the grammar of docs/CAPTURES.md spells which samples they have, and of others
 //! which token is refused, or which signal is missing.
 #![tactic(auto)]
 

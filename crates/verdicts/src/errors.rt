@@ -12,7 +12,7 @@ pub enum TableError {
     /// The number of workers is 0, or above `MOST_WORKERS`.
     #[error("workers")]
     Workers,
-    /// Memory was refused.
+    /// An allocation failed.
     #[error("memory")]
     NoMemory,
 }
