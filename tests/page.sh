@@ -94,9 +94,9 @@ if [[ -z $browser ]]; then
     exit
 fi
 
-# opened FILE: the page as the browser has it after its script, in the file dom; its errors go into the file errors.
+# opened FILE [OPTION]: the page as the browser has it after its script, in the file dom; its errors go into the file errors.
 opened() {
-    timeout 120 "$browser" --headless --no-sandbox --disable-gpu --disable-dev-shm-usage --user-data-dir="$work/profile" \
+    timeout 120 "$browser" ${2:-} --headless --no-sandbox --disable-gpu --disable-dev-shm-usage --user-data-dir="$work/profile" \
         --enable-logging=stderr --virtual-time-budget=10000 --dump-dom "file://$work/$1" >dom 2>log
     grep -E 'CONSOLE|Uncaught' log >errors
 }
@@ -122,6 +122,33 @@ for plan in examples/*.plan; do
     want "$name in a browser: the verdict" "$("$twire" check "$plan" | tail -n 1)" \
         "$(sed -n 's/.*<p id="verdict" class="[a-z -]*">\([^<]*\)<.*/\1/p' dom)"
 done
+
+# A narrow window: the slot of the fault, after 45 others, is seen beside the names, and open bits and bytes stand there.
+cat >long.plan <<'PLAN'
+plan 1
+message two write 1010000 00000000 00000000 xxxxxxxx xxxxxxxx stop else stop else stop else stop else stop else stop ;
+message four write 1010000 00000000 00000000 xxxxxxxx xxxxxxxx xxxxxxxx xxxxxxxx stop
+  else stop else stop else stop else stop else stop else stop else stop ;
+controller a two ;
+controller b four ;
+PLAN
+"$twire" page long.plan -o page.html
+cat >seen.js <<'SCRIPT'
+<script>
+setTimeout(() => {
+  const slot = document.querySelector('.meeting').getBoundingClientRect();
+  const names = document.querySelector('.names').getBoundingClientRect();
+  const room = document.querySelector('.drawn').getBoundingClientRect();
+  document.body.dataset.seen = names.left >= room.left && slot.left >= names.right && slot.right <= room.right;
+}, 1000);
+</script>
+SCRIPT
+sed '/^<\/body>/e cat seen.js' page.html >followed.html
+opened followed.html --window-size=500,900
+want "a fault in a narrow window: errors" "" "$(<errors)"
+want "a fault in a narrow window is seen" 1 "$(grep -c '<body data-seen="true">' dom)"
+want "its open bits, sixteen of each and one that meets the STOP" 33 "$(grep -o 'class="open">x<' dom | wc -l)"
+want "its bytes and acknowledges" 5 "$(grep -oE 'class="faint">(00|A)<' dom | wc -l)"
 
 "$twire" page "$odd" -o page.html
 opened page.html

@@ -2,10 +2,12 @@
 // and SCL.
 
 pub(crate) const DRAWINGS: &str = r#"
-// ---- A run of a pair, slot by slot: { wire, puts, kinds } up to where the two meet or part, and then what the winner goes on
-// with to the end of the byte. Of a safe pair it is the one in which every byte is acknowledged.
+// ---- A run of a pair, slot by slot: { wire, puts, kinds, open } up to where the two meet or part, and then what the winner
+// goes on with to the end of the byte. Of a safe pair it is the one in which every byte is acknowledged.
 
 const SYMBOLS = { answer: 'l', restart: 'r', stop: 's', claim: 'c' };
+
+const isOpen = place => Boolean(place) && place.kind === 'data' && place.bit === 'x';
 
 // What each may put of an open bit, so that they part where they may.
 function partedOf(first, second) {
@@ -19,12 +21,12 @@ function metRun(pair, one, other) {
   const slots = [];
   let first = one.start(), second = other.start();
   for (const symbol of pair.wire) {
-    slots.push({ wire: symbol, puts: [symbol, symbol], kinds: [first.kind, second.kind] });
+    slots.push({ wire: symbol, puts: [symbol, symbol], kinds: [first.kind, second.kind], open: [first, second].map(isOpen) });
     first = first.after(symbol);
     second = second.after(symbol);
   }
   const puts = [first, second].map(place => place.kind === 'data' ? place.bit : SYMBOLS[place.kind]);
-  slots.push({ wire: '?', puts, kinds: [first.kind, second.kind], meets: true });
+  slots.push({ wire: '?', puts, kinds: [first.kind, second.kind], open: [first, second].map(isOpen), meets: true });
   return { slots, end: pair.wire.length };
 }
 
@@ -39,14 +41,14 @@ function partedRun(one, other) {
         lost = parted[0] === '1' ? 0 : 1;
         end = slots.length;
         const may = !isKnown(places[0].bit + places[1].bit);
-        slots.push({ wire: '0', puts: parted, kinds, parts: true, may });
+        slots.push({ wire: '0', puts: parted, kinds, open: places.map(isOpen), parts: true, may });
         places = places.map((place, k) => k === lost ? null : place.after('0'));
         continue;
       }
     }
     const live = places.find(place => place);
     const symbol = live.kind === 'data' ? live.bit.replace('x', '0') : SYMBOLS[live.kind];
-    slots.push({ wire: symbol, puts: places.map(place => place ? symbol : null), kinds });
+    slots.push({ wire: symbol, puts: places.map(place => place ? symbol : null), kinds, open: places.map(isOpen) });
     places = places.map(place => place && place.after(symbol));
     if (symbol === 's' || symbol === 'c') break;
     if (lost !== null && (symbol === 'l' || slots.length - end > 12)) break;
@@ -81,7 +83,30 @@ function wordsOf(symbols) {
   return words.join(' ');
 }
 
-// ---- The drawing: the last slots before the end, and what comes after it.
+// The parts of a wire, each with its first slot and how many it has: { from, size, text }.
+function partsOf(symbols) {
+  const parts = [];
+  let header = true;
+  symbols.forEach((symbol, k) => {
+    const last = parts[parts.length - 1];
+    if (symbol === 'r' || symbol === 's') {
+      parts.push({ from: k, size: 1, text: symbol === 'r' ? 'Sr' : 'P' });
+      header = true;
+    } else if (last && last.bits && last.size < 8) {
+      last.bits += isLow(symbol) ? '0' : '1';
+      last.size += 1;
+    } else if (last && last.bits) {
+      parts.push({ from: k, size: 1, text: isLow(symbol) ? 'A' : 'NA' });
+      header = false;
+    } else if (symbol !== 'c' && symbol !== '?') {
+      parts.push({ from: k, size: 1, bits: isLow(symbol) ? '0' : '1', header });
+    }
+  });
+  return parts.map(part => ({ ...part, text: part.text || (part.size < 8 ? ''
+    : part.header ? hexOf(part.bits.slice(0, 7)) + (part.bits[7] === '1' ? ' Rd' : ' Wr') : hexOf(part.bits)) }));
+}
+
+// ---- The drawing: the last slots before the end, and what comes after it. The names beside it stay where it is scrolled.
 
 const WIDE = 34, TALL = 18, LEFT = 4, BEFORE = 20;
 const ROWS = { first: 40, second: 86, sda: 132, scl: 178 };
@@ -140,12 +165,16 @@ function drawingOf(pair, one, other) {
   const from = Math.max(0, run.end - BEFORE);
   const shown = run.slots.slice(from);
   const begins = from === 0;
-  const margin = 8 + 7.4 * Math.max(one.label.length, other.label.length, 3);
-  const x = k => LEFT + margin + (k + (begins ? 1 : 0)) * WIDE;
+  const margin = LEFT + 8 + 7.4 * Math.max(one.label.length, other.label.length, 4);
+  const x = k => LEFT + (k + (begins ? 1 : 0)) * WIDE;
   const width = x(shown.length) + 70;
-  const svg = element('svg:svg', { viewBox: '0 0 ' + width + ' 232', width, height: 232, role: 'img',
+  const names = element('svg:svg', { viewBox: '0 0 ' + margin + ' 248', width: margin, height: 248, class: 'names' });
+  const svg = element('svg:svg', { viewBox: '0 0 ' + width + ' 248', width, height: 248, role: 'img',
     'aria-label': saidOf(pair) });
-  const add = (name, attributes, text) => svg.append(element('svg:' + name, attributes, ...(text === undefined ? [] : [text])));
+  const put = (to, name, attributes, text) =>
+    to.append(element('svg:' + name, attributes, ...(text === undefined ? [] : [text])));
+  const add = (name, attributes, text) => put(svg, name, attributes, text);
+  const call = (y, text, faint) => put(names, 'text', faint ? { x: LEFT, y, class: 'faint' } : { x: LEFT, y }, text);
   const mark = run.slots[run.end] || {};
   if (mark.meets || mark.parts) {
     add('rect', { x: x(run.end - from), y: 24, width: WIDE, height: 180, class: mark.meets ? 'meeting' : 'parting' });
@@ -155,10 +184,18 @@ function drawingOf(pair, one, other) {
     add('text', { x: x(k) + WIDE / 2, y: 14, 'text-anchor': 'middle', class: 'faint' }, String(from + k));
     add('text', { x: x(k) + WIDE / 2, y: 222, 'text-anchor': 'middle' }, slot.wire);
   });
-  add('text', { x: LEFT, y: 14, class: 'faint' }, 'slot');
-  add('text', { x: LEFT, y: 222, class: 'faint' }, 'wire');
+  for (const part of partsOf(run.slots.map(slot => slot.wire))) {
+    const middle = part.from + part.size / 2 - from;
+    if (middle >= 0) add('text', { x: x(middle), y: 241, 'text-anchor': 'middle', class: 'faint' }, part.text);
+  }
+  call(14, 'slot', true);
+  call(222, 'wire', true);
+  call(241, 'byte', true);
   [[one, ROWS.first, 0], [other, ROWS.second, 1]].forEach(([participant, top, k]) => {
-    add('text', { x: LEFT, y: top + 14 }, participant.label);
+    call(top + 14, participant.label);
+    shown.forEach((slot, j) => {
+      if (slot.open[k]) add('text', { x: x(j) + WIDE / 2, y: top - 5, 'text-anchor': 'middle', class: 'open' }, 'x');
+    });
     for (const stretch of stretchesOf(shown.map(slot => slot.puts[k]), shown.map(slot => slot.kinds[k]))) {
       const opens = begins && stretch.from === 0;
       const puts = opens ? ['S', ...stretch.puts] : stretch.puts;
@@ -170,8 +207,8 @@ function drawingOf(pair, one, other) {
   const wire = shown.map(slot => slot.wire).filter(symbol => symbol !== '?');
   const symbols = begins ? ['S', ...wire] : wire;
   const at = k => x(k - (begins ? 1 : 0));
-  add('text', { x: LEFT, y: ROWS.sda + 14 }, 'SDA');
-  add('text', { x: LEFT, y: ROWS.scl + 14 }, 'SCL');
+  call(ROWS.sda + 14, 'SDA');
+  call(ROWS.scl + 14, 'SCL');
   if (symbols.length > 0) {
     add('path', { d: levelPath(symbols, ROWS.sda, at), class: 'level' });
     add('path', { d: clockPath(symbols, ROWS.scl, at), class: 'level' });
@@ -180,7 +217,10 @@ function drawingOf(pair, one, other) {
     add('text', { x: x(run.end - from) + WIDE / 2, y: ROWS.sda + 13, 'text-anchor': 'middle' }, '?');
     [0, 1].forEach(k => add('text', { x: x(run.end - from) + WIDE + 4, y: (k === 0 ? ROWS.first : ROWS.second) + 14 }, pair.kinds[k]));
   }
-  return { svg, run };
+  const drawn = element('div', { class: 'wide drawn' }, names, svg);
+  // (once it stands in the page, and has a width)
+  requestAnimationFrame(() => { drawn.scrollLeft = x(run.end - from + 2) + margin - drawn.clientWidth; });
+  return { drawn, run };
 }
 
 const withInterrupt = pair => [pair.first, pair.second].some(label => label.startsWith('!'));
@@ -209,7 +249,7 @@ function meetingText(pair, run) {
 
 function shownPair(pair, byLabel) {
   const one = byLabel.get(pair.first), other = byLabel.get(pair.second);
-  const { svg, run } = drawingOf(pair, one, other);
+  const { drawn, run } = drawingOf(pair, one, other);
   const before = wordsOf(run.slots.slice(0, run.end).map(slot => slot.wire));
   return element('div', { class: 'drawing', id: 'pair-' + pair.number },
     element('h3', {}, 'pair ' + pair.number + ': ' + pair.first + ' and ' + pair.second + ' ',
@@ -217,6 +257,6 @@ function shownPair(pair, byLabel) {
     element('p', {}, saidOf(pair).replace(/^.*?: /, '') + '.'),
     element('p', { class: 'mono' }, before),
     element('p', {}, meetingText(pair, run)),
-    element('div', { class: 'wide' }, svg));
+    drawn, element('p', { class: 'open' }, run.slots.some(slot => slot.open.includes(true)) ? 'x: an open bit' : ''));
 }
 "#;

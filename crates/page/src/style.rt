@@ -54,9 +54,13 @@ select, button { font: inherit; color: inherit; background: var(--soft); border:
 .drawing { border: 1px solid var(--rule); padding: .8rem; margin: .8rem 0; break-inside: avoid; }
 .drawing h3 { margin-top: 0; }
 .drawing svg, .times svg { display: block; }
+.drawn { display: flex; }
+.drawn svg { flex: none; }
+.drawn .names { position: sticky; left: 0; background: var(--paper); }
+p.open { color: var(--faint); font-size: .88rem; }
 .times svg { max-width: 100%; height: auto; }
 svg text { fill: var(--ink); font: 12px ui-monospace, 'DejaVu Sans Mono', Consolas, monospace; }
-svg .faint { fill: var(--faint); }
+svg .faint, svg .open { fill: var(--faint); }
 svg .level { fill: none; stroke: var(--ink); stroke-width: 2; }
 svg .idle { fill: none; stroke: var(--faint); stroke-width: 1.5; stroke-dasharray: 3 3; }
 svg .grid { stroke: var(--rule); stroke-width: 1; }
