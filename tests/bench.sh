@@ -186,13 +186,24 @@ expect "hints on a 'never' of a plan from standard input" 2 "" "refused B8
 $(hint "two of these starters are of controllers that a 'never' of the plan keeps" "apart")" \
     - a/m,b/n,c/o --certify --hints always <never.plan
 expect "hints on a certificate of another plan" 2 "wrong C2" \
-    "$(hint "a certificate speaks of one plan alone: where the plan was changed, have" \
-        "it written again by 'twire certify PLAN -o CERT'")" never.plan three.cert a/m --hints always
+    "$(hint "the certificate does not prove the pairs of this plan: where the plan was" \
+        "changed, have it written again by 'twire certify PLAN -o CERT'")" never.plan three.cert a/m --hints always
+
+# The bus is one without targets, unless more is said.
+silent=$(hint "nothing was acknowledged, as on a bus without targets: '--rest 0'" \
+    "acknowledges each byte, and '--answers' has a bit for each slot")
+expect "hints on a bus without targets" 0 "wire 10010000hs
+won a/m" "$silent" three.plan three.cert a/m --hints always
+expect "hints on a bit for the first slot alone" 0 "wire 10010000hs
+won a/m" "$silent" three.plan three.cert a/m --answers 0 --hints always
+expect "no hints where something is acknowledged" 0 "wire 10010000l11110000ls
+won a/m" "" three.plan three.cert a/m --rest 0 --hints always
 
 # Command lines.
 fault "a rest that is no bit" three.plan three.cert a/m --rest l
 fault "a certificate beside --certify" three.plan three.cert a/m --certify
 fault "no starters beside --certify" three.plan --certify
+grep -q '<STARTERS> is missing' err || { failed=$((failed + 1)) && echo "FAILED: what is missing" && cat err; }
 fault "standard input twice" - - a/m
 fault "a fill that is no bit" three.plan three.cert a/m --fill 2
 fault "a fill of two bits" three.plan three.cert a/m --fill 01

@@ -44,13 +44,13 @@ run() {
     compare "$name"
 }
 
-# The first call may build the program, and says so on standard error. To the program's line the launcher adds which program
-# it runs, and the first digits of the hash of its sources.
+# The first call may build the program, and says so on standard error. What the launcher runs knows which of the two it is, and
+# the first digits of the hash of its sources; what the kit has just made does not.
 "$twire" --version >out 2>err
 echo "$?" >status
-if [[ $twire -ef $tests/../twire ]]; then
-    sed -i -E 's/^(.*) \((proved|trial), sources [0-9a-f]{12}\)$/\1/; t; s/$/ without its sources/' out
-fi
+build='(proved|trial), sources [0-9a-f]{12}'
+[[ $twire -ef $tests/../twire ]] || build+='|unknown build'
+sed -i -E "s/^(.*) \\(($build)\\)\$/\1/; t; s/\$/ of no build/" out
 want 0 "twire 0.1.0" ""
 : >err
 compare "version"
@@ -375,8 +375,8 @@ want 0 "safe: 1 pairs" ""
 run "no hints on a safe plan" check safe.plan --hints always
 want 1 "$unsafe_report" ""
 run "no hints on an unsafe plan" check unsafe.plan --hints always
-want 2 "wrong C5 pair 0" "hint: a certificate speaks of one plan alone: where the plan was changed, have
-hint: it written again by 'twire certify PLAN -o CERT'"
+want 2 "wrong C5 pair 0" "hint: the certificate does not prove the pairs of this plan: where the plan was
+hint: changed, have it written again by 'twire certify PLAN -o CERT'"
 run "hints on a certificate of another plan" verify unsafe.plan safe.cert --hints always
 want 2 "wrong C1 line 3" "hint: line 3 of the certificate:
 hint:   B B . .
@@ -438,7 +438,7 @@ hint: CERT, the certificate \"missing.cert\", cannot be opened:
 hint: $none"
 run "hints on a missing certificate" verify safe.plan missing.cert --hints always
 want 2 "" "refused read
-hint: VCD, the capture \"a\\nb.vcd\", cannot be opened:
+hint: VCD, the capture \$'a\\nb.vcd', cannot be opened:
 hint: $none"
 run "hints on a missing capture whose name has a line feed" capture safe.plan $'a\nb.vcd' --hints always
 want 2 "" "refused read

@@ -127,6 +127,46 @@ ran 2 "refused write" certify plan -o /dev/fd/9 9>&-
 judge "a closed descriptor"
 rm link other_name
 
+# A file that is read as standard input is not written over either, by whatever name of the two.
+cp unsafe unsafe_kept && cp new.cert cert_kept && ln unsafe hard_link
+for input in - /dev/stdin /dev/fd/0 /proc/self/fd/0; do
+    for name in unsafe hard_link; do
+        "$twire" check "$input" --wave "$name" --hints always <unsafe >out 2>err
+        [[ $? == 2 ]] || echo "another status" >>wrong
+        has err "refused write
+hint: the output \"$name\" was not written:
+hint: it is a file that was read"
+        has unsafe "$(cat unsafe_kept)"
+        has hard_link "$(cat unsafe_kept)"
+        judge "waves over the plan, $name, that is read as $input"
+    done
+done
+"$twire" certify plan -o plan.cert
+"$twire" bench plan - a/m,b/n --wave plan.cert <plan.cert >out 2>err
+[[ $? == 2 && $(cat err) == "refused write" ]] || cat err >>wrong
+has plan.cert "$cert"
+judge "waves over the certificate from standard input"
+"$twire" bench - plan.cert a/m,b/n --wave plan <plan >out 2>err
+[[ $? == 2 && $(cat err) == "refused write" ]] || cat err >>wrong
+has plan "$plan"
+judge "waves of a bench over the plan from standard input"
+"$tests/../tools/dump" 100100000 >read.vcd
+cp read.vcd dump_kept
+for command in "page plan --capture - -o read.vcd" "learn - -o read.vcd" "page plan --capture read.vcd -o read.vcd"; do
+    ran 2 "refused write" $command <read.vcd
+    has read.vcd "$(cat dump_kept)"
+    judge "$command, over the capture"
+done
+cp plan appended
+"$twire" check appended >>appended 2>err
+[[ $? == 2 && $(cat err) == "refused write" ]] || cat err >>wrong
+has appended "$plan"
+"$twire" check appended --format json 1<>appended 2>err
+[[ $? == 2 ]] || echo "another status" >>wrong
+has appended "$plan"
+judge "standard output that is the plan"
+rm unsafe_kept cert_kept hard_link read.vcd dump_kept appended plan.cert
+
 # Where the file cannot be written.
 mkdir folder
 for name in folder folder/ missing/new.cert plan/new.cert "" /; do
@@ -202,6 +242,35 @@ ran 0 "" certify plan -o link.cert
 has folder/old.cert "$cert"
 [[ -L link.cert ]] || echo "it is no link any more" >>wrong
 judge "a link stays one, and its file is replaced"
+ln -s folder/made.cert dangling.cert
+ran 0 "" certify plan -o dangling.cert
+has folder/made.cert "$cert"
+[[ $(readlink dangling.cert) == folder/made.cert ]] || echo "it is no link any more" >>wrong
+judge "a link to nothing stays one, and its file is made"
+ln -s ../chained.cert folder/second.link && ln -s folder/second.link first.link
+ran 0 "" certify plan -o first.link
+has chained.cert "$cert"
+[[ -L first.link && -L folder/second.link ]] || echo "they are no links any more" >>wrong
+judge "links to a link to nothing stay ones"
+for target in missing/new.cert $'not\xfftext'; do
+    ln -s "$target" broken.cert
+    ran 2 "refused write" certify plan -o broken.cert
+    [[ -L broken.cert && ! -e broken.cert ]] || echo "it is no link any more" >>wrong
+    rm broken.cert
+    judge "a link to what cannot be written"
+done
+mkdir $'folder\xff'
+for name in old.cert link.cert new.cert; do
+    (
+        cd $'folder\xff' || exit
+        echo "old" >old.cert && echo "old" >linked.cert && ln -sf linked.cert link.cert
+        ran 0 "" certify ../plan -o "$name"
+        has "$name" "$cert"
+        [[ -L link.cert ]] || echo "it is no link any more" >>wrong
+        cat wrong >>../wrong 2>/dev/null
+    )
+    judge "$name in a folder whose name is no text"
+done
 echo "old" >mode.cert
 chmod 640 mode.cert
 ran 0 "" certify plan -o mode.cert
@@ -230,6 +299,86 @@ judge "the path of standard output"
 "$twire" certify plan -o /dev/stdout 2>err | cat >out
 has out "$cert"
 judge "the path of standard output, which is a pipe"
+for name in /dev/stdout /dev/fd/1 /proc/self/fd/1; do
+    (echo "before" && "$twire" certify plan -o "$name" && echo "after") >out 2>err
+    has out "before
+$cert
+after"
+    judge "standard output by the name $name is written from where it is"
+done
+(echo "before" && "$twire" check unsafe --wave /dev/stdout) >out 2>err
+[[ $(head -n 4 out) == "before
+pair 0 a/m b/n: stop against data after 10010000l
+unsafe: 1 of 1 pairs
+\$version twire \$end" ]] || cat out >>wrong
+judge "waves into standard output come after the report"
+
+# The certificate of an unsafe plan is a fault, which hints say, since nothing else does.
+ran 1 "hint: the plan is not safe: what was written, \"new.cert\", is a fault, and no
+hint: proof
+hint: 'twire check PLAN --explain' shows the unsafe pairs" certify unsafe -o new.cert --hints always
+has new.cert "$unsafe_cert"
+"$twire" certify unsafe --hints always >out 2>err
+has err "hint: the plan is not safe: what was written is a fault, and no proof
+hint: 'twire check PLAN --explain' shows the unsafe pairs"
+judge "what is said of the certificate of an unsafe plan"
+ran 0 "" certify plan -o new.cert --hints always
+judge "nothing is said of that of a safe one"
+
+# Files in hints can be pasted into a shell: there each word of these is the name that was given.
+# pasted WORD NAME: what bash makes of this word.
+pasted() {
+    local word
+    eval "word=$1"
+    [[ $word == "$2" ]] || printf '%s is %s, and not %s\n' "$1" "$word" "$2" >>wrong
+    ! LC_ALL=C grep -q '[^ -~]' <<<"$1" || echo "it does not print" >>wrong
+}
+for name in missing "my plan; \$(touch made)" "it's" 'a"b`c`' $'it\'s \\ $HOME!' $'a\nb\tc' $'\e[31mred' $'a\u202eb' $'\u00ad\ufeff' '*' '~' ''; do
+    "$twire" check "$name" --hints always >out 2>err
+    word=$(sed -n 's/^hint: PLAN, the plan \(.*\), cannot be opened:$/\1/p' err)
+    pasted "$word" "$name"
+    [[ ! -e made ]] || echo "a command in it was run" >>wrong
+    judge "the name $word in a hint"
+done
+ran 2 "refused read
+hint: PLAN, the plan \"./-x\", cannot be opened:
+hint: No such file or directory (os error 2)" check --hints always -- -x
+judge "a name that would be an option"
+ran 2 '{"kind":"refusal","code":"read"}
+{"kind":"hint","text":"PLAN, the plan $'"'a\\\\xe2\\\\x80\\\\xaeb'"', cannot be opened:"}
+{"kind":"hint","text":"No such file or directory (os error 2)"}' check $'a\u202eb' --hints always --format json
+judge "a mark of direction in an object"
+long="a name with many words that is broken nowhere, as it could not be pasted then"
+"$twire" check plan --wave "$long" --hints always >out 2>err
+has err "hint: there is nothing to draw, so
+hint: \"$long\"
+hint: was not written"
+judge "a name with blanks is broken nowhere"
+"$twire" check plan $'\e[31m\u202e' >out 2>err
+head -n 1 err >first
+has first "error: unexpected argument '\x1b[31m\xe2\x80\xae' found"
+judge "a word that is refused is escaped"
+"$tests/../tools/dump" 100100000 >"my dump.vcd"
+cp plan 'my plan; $(touch made)'
+"$twire" capture 'my plan; $(touch made)' "my dump.vcd" --scl clock --hints always >out 2>err
+command=$(sed -n 's/^hint:   twire \(capture .*\)/\1/p' err)
+[[ $command == "capture 'my plan; \$(touch made)' \"my dump.vcd\" --scl scl --sda sda" ]] || cat err >>wrong
+eval "\"\$twire\" $command" >out 2>err
+has out "5-160 a/m
+1 transactions, 0 unexplained"
+[[ ! -e made ]] || echo "a command in a name was run" >>wrong
+judge "a command to try works"
+rm "my dump.vcd" 'my plan; $(touch made)' first
+
+# A mark after the end of a text whose last line is cut: no line has more than 80 columns.
+printf 'plan 1\nmessage m write 1001000 00000000 00000001 00000010 00000011 00000100 00000101' >short
+ran 2 "refused P3 line 2
+hint: line 2 of the plan:
+hint:   ..m write 1001000 00000000 00000001 00000010 00000011 00000100 00000101
+hint:                                                                          ^
+hint: the text ends here
+hint: expected here: 'stop', 'again' or a data byte (eight of '0', '1' and 'x')" check short --hints always
+judge "a mark after a long last line"
 
 # Colours are in no file, and nowhere where nobody sees a terminal. Where they are asked for, the words alone have them.
 red=$'\e[31m'
@@ -257,6 +406,9 @@ hint:   plan 1 ;
 hint:          ${red}^${plain}
 hint: expected here: 'message', 'controller' or 'interrupt'" check refused --color always --hints always
 shown "no colours in a certificate" "$cert" certify plan --color always
+"$tests/../tools/dump" 100101000 >timed.vcd
+shown "the same, with times in parts of a second" "5 us-160 us ${red}unexplained${plain}
+1 transactions, 1 unexplained" capture plan timed.vcd --color always --times si
 NO_COLOR=1 shown "colours that are asked for, where the environment has none" "${green}safe${plain}: 1 pairs" check plan --color always
 shown "no word on colours" "safe: 1 pairs" check plan
 shown "colours where somebody sees a terminal" "safe: 1 pairs" check plan --color auto
@@ -273,6 +425,9 @@ if type -P script >/dev/null; then
     NO_COLOR=1 script -qec "'$twire' check plan" /dev/null </dev/null | tr -d '\r' >out
     has out "safe: 1 pairs"
     judge "no colours on a terminal, where the environment has none"
+    NO_COLOR=$'\xff' script -qec "'$twire' check plan" /dev/null </dev/null | tr -d '\r' >out
+    has out "safe: 1 pairs"
+    judge "no colours on a terminal, where the environment says so by what is no text"
 else
     echo "left out: colours on a terminal (no command 'script')"
 fi

@@ -15,8 +15,10 @@ pub enum Asked<'a> {
         request: Request<'a>,
         manner: Manner,
     },
-    /// The help or the version, for standard output.
+    /// The help, for standard output.
     Show(String),
+    /// The program's name and version, for standard output.
+    Version(String),
     /// Why the line does not parse, for standard error.
     Refuse(String),
 }
@@ -138,6 +140,9 @@ type Fault = &'static str;
 
 const TOO_MANY_WORDS: Fault = "'--certify' stands for CERT: give PLAN and STARTERS alone";
 
+const NO_STARTERS: Fault =
+    "'--certify' stands for CERT: <STARTERS> is missing, as 'main/set,guard/get'";
+
 const NOT_BITS: Fault = "the value for '--answers <BITS>' is not of 0 and 1";
 
 const NO_FILE: Fault = "'--wave' wants a file, since the report goes to standard output";
@@ -150,10 +155,10 @@ fn told<'a>(alloc: Global, error: &Error) -> Result<Asked<'a>, AllocError> {
         return Err(AllocError);
     }
     let text = format!(in alloc; "{error}")?;
-    Ok(if error.use_stderr() {
-        Asked::Refuse(text)
-    } else {
-        Asked::Show(text)
+    Ok(match error.kind() {
+        ErrorKind::DisplayVersion => Asked::Version(text),
+        _ if error.use_stderr() => Asked::Refuse(text),
+        _ => Asked::Show(text),
     })
 }
 
@@ -345,11 +350,15 @@ fn bench_of<'a>(matches: &ArgMatches<'a>) -> Result<Request<'a>, Fault> {
 
 // With `--certify` the starters stand in the place of the certificate.
 fn cert_and_starters<'a>(matches: &ArgMatches<'a>) -> Result<(Option<&'a str>, &'a str), Fault> {
-    let first = word(matches, "CERT");
-    match (matches.get_flag("certify"), matches.get_str("STARTERS")) {
-        (true, Some(_)) => Err(TOO_MANY_WORDS),
-        (true, None) => Ok((None, first)),
-        (false, starters) => Ok((Some(first), starters.unwrap_or(""))),
+    let cert = matches.get_str("CERT");
+    let starters = matches.get_str("STARTERS");
+    if !matches.get_flag("certify") {
+        return Ok((cert, starters.unwrap_or("")));
+    }
+    match (cert, starters) {
+        (_, Some(_)) => Err(TOO_MANY_WORDS),
+        (Some(starters), None) => Ok((None, starters)),
+        (None, None) => Err(NO_STARTERS),
     }
 }
 

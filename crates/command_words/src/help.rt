@@ -70,8 +70,9 @@ one line, with the first fault of the first pair that has one.
 
 Keep the certificate beside the plan: '-o FILE' replaces the file at once, and
 leaves it where the plan is refused. Whoever builds on the plan checks it by
-'twire verify', which trusts nothing that made the certificate. It speaks of
-this plan alone: change the plan, and write the certificate again.
+'twire verify', which trusts nothing that made the certificate. 'accepted safe'
+says that the plan at hand is safe, whatever plan the certificate was written
+for. Change the plan, and write the certificate again.
 
 Exit status: 0 safe, 1 not safe, 2 refused.";
 
@@ -237,8 +238,10 @@ it lists, or '!' and the name of an interrupt. Open bits are sent as '--fill'
 says, and so is the acknowledge after which a read of a range may end: 1 ends
 it. '--answers' has the targets' bit for each slot from the first on, 0 for an
 acknowledge, and '--rest' that of all later slots; they count where targets
-drive the slot, and nowhere else. '--wave FILE' draws the run, for GTKWave or
-PulseView: SCL, SDA, and what each starter pulls.
+drive the slot, and nowhere else. Without the two the bus has no targets, and no
+byte is acknowledged: give '--rest 0' for one that acknowledges each. '--wave
+FILE' draws the run, for GTKWave or PulseView: SCL, SDA, and what each starter
+pulls.
 
 Starters that cannot start together are refused on standard error with a code:
 

@@ -243,8 +243,9 @@ const VCD: Argument = Argument::Word {
 };
 
 // With `--certify` there is no certificate, and the starters stand in its place.
-const BENCH_CERT: Argument = Argument::Word {
+const BENCH_CERT: Argument = Argument::WordUnless {
     id: "CERT",
+    flag: "certify",
     help: "The file with the certificate; left out with --certify",
 };
 

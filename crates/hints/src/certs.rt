@@ -10,8 +10,8 @@ use dump_tokens::reading::read_again;
 use std::alloc::{AllocError, Global};
 use std::io::{Read, Seek};
 
-const ONE_PLAN: &str =
-    "a certificate speaks of one plan alone: where the plan was changed, have it written again by 'twire certify PLAN -o CERT'";
+const OTHER_PAIRS: &str =
+    "the certificate does not prove the pairs of this plan: where the plan was changed, have it written again by 'twire certify PLAN -o CERT'";
 
 /// What is wrong with a certificate, as the report of `twire verify` says it.
 #[derive(Clone, Copy)]
@@ -43,14 +43,14 @@ pub fn on_certificate<F: Read + Seek + Drop>(
     wrong: Wrong,
 ) -> Result<String, AllocError> {
     match wrong {
-        Wrong::Plan => say_one_plan(alloc),
+        Wrong::Plan => say_other_pairs(alloc),
         Wrong::Form(line) | Wrong::Depth(line) => say_line(alloc, file, wrong, line),
     }
 }
 
-fn say_one_plan(alloc: Global) -> Result<String, AllocError> {
+fn say_other_pairs(alloc: Global) -> Result<String, AllocError> {
     let mut lines = Lines::new(alloc);
-    lines.say(ONE_PLAN);
+    lines.say(OTHER_PAIRS);
     lines.finish()
 }
 

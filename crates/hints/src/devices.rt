@@ -1,6 +1,7 @@
 // After a file that cannot be read or written, and after other refusals that have no place in a text.
 
 use crate::lines::Lines;
+use crate::paths::quoted;
 use std::alloc::{AllocError, Global};
 use std::fmt::Display;
 use std::io::Error;
@@ -48,16 +49,48 @@ pub fn on_writing(
 ) -> Result<String, AllocError> {
     let end = if error.is_some() { ":" } else { "" };
     match output {
-        Some(path) => said(
-            alloc,
-            format_args!("the output {path:?} was not written{end}"),
-            error,
-        ),
+        Some(path) => {
+            let path = quoted(alloc, path)?;
+            said(
+                alloc,
+                format_args!("the output {path} was not written{end}"),
+                error,
+            )
+        }
         None => {
             let words = format_args!("standard output did not take the whole report{end}");
             said(alloc, words, error)
         }
     }
+}
+
+/// After a run that has no waves for the file of this path.
+pub fn on_no_waves(alloc: Global, path: &str) -> Result<String, AllocError> {
+    let path = quoted(alloc, path)?;
+    let words = format_args!("there is nothing to draw, so {path} was not written");
+    said(alloc, words, None)
+}
+
+/// After the certificate of an unsafe plan, in the file of this path or on standard output.
+pub fn on_fault(alloc: Global, output: Option<&str>) -> Result<String, AllocError> {
+    let mut lines = Lines::new(alloc);
+    lines.part("the plan is not safe: what was written");
+    if let Some(path) = output {
+        let path = quoted(alloc, path)?;
+        lines.part(format_args!(", {path},"));
+    }
+    lines.say(" is a fault, and no proof");
+    lines.say("'twire check PLAN --explain' shows the unsafe pairs");
+    lines.finish()
+}
+
+/// After a rehearsal in which no target acknowledged anything.
+pub fn on_no_answers(alloc: Global) -> Result<String, AllocError> {
+    said(
+        alloc,
+        "nothing was acknowledged, as on a bus without targets: '--rest 0' acknowledges each byte, and '--answers' has a bit for each slot",
+        None,
+    )
 }
 
 /// After a number of workers that is refused.
@@ -89,9 +122,10 @@ fn on_file(
         let words = format_args!("{argument}, the {what} from standard input, {words}");
         return said(alloc, words, error);
     }
+    let path = quoted(alloc, path)?;
     said(
         alloc,
-        format_args!("{argument}, the {what} {path:?}, {words}"),
+        format_args!("{argument}, the {what} {path}, {words}"),
         error,
     )
 }

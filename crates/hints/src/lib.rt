@@ -7,7 +7,8 @@
 //! what a safe plan leaves out, and `devices` which file failed. Where the file cannot be read once more, or has changed,
 //! only the words are left (`wording`). What is said of dumps stands in `captures`.
 //!
-//! `lines` puts the word `hint:` before each line, and breaks sentences for 80 columns. `marking` shows a place in its line.
+//! `lines` puts the word `hint:` before each line, and breaks sentences for 80 columns. `marking` shows a place in its line,
+//! and `paths` writes names of files as a shell takes them.
 //! `kinds` tells by its first bytes what a file is that stands in the place of another, and `likeness` which names are nearest
 //! to one that is not there.
 #![tactic(auto)]
@@ -22,6 +23,7 @@ mod languages;
 mod likeness;
 mod lines;
 mod marking;
+mod paths;
 mod pieces;
 mod plans;
 mod proof_lines;
@@ -35,8 +37,10 @@ pub use captures::{
 };
 pub use certs::{Wrong, on_certificate, wrong_of};
 pub use devices::{
-    Named, on_closed_input, on_memory, on_opening, on_reading, on_workers, on_writing,
+    Named, on_closed_input, on_fault, on_memory, on_no_answers, on_no_waves, on_opening,
+    on_reading, on_workers, on_writing,
 };
+pub use paths::{file_word, visible};
 pub use plans::{on_brief, on_no_brief, on_plan};
 pub use safety::on_safe;
 pub use starters::on_starters;

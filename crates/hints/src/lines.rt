@@ -11,6 +11,9 @@ const ITEM_HEAD: &str = "hint:  ";
 
 const DETAIL_HEAD: &str = "hint:   ";
 
+/// A blank within a word, at which no sentence is broken.
+pub const BLANK: char = '\0';
+
 /// How many columns a detail has.
 pub const DETAIL: usize = COLUMNS - DETAIL_HEAD.len();
 
@@ -94,6 +97,8 @@ impl Lines {
     ///
     /// Where an allocation failed for something that was to be said.
     pub fn finish(self) -> Result<String, AllocError> {
-        self.text.finish()
+        let alloc = self.alloc;
+        let text = self.text.finish()?;
+        text.replace(alloc, BLANK, " ")
     }
 }

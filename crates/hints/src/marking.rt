@@ -20,7 +20,8 @@ const CUT: &str = "..";
 /// What is too long for a terminal is cut, and what does not print is written as `\x` and two digits.
 pub fn push_marked(lines: &mut Lines, before: &[u8], place: &[u8], after: &[u8]) {
     let after = after.trim_ascii_end();
-    let left = DETAIL.saturating_sub(columns(place).min(PLACE));
+    // (a place without bytes is marked by one column)
+    let left = DETAIL.saturating_sub(columns(place).clamp(1, PLACE));
     let room = left.saturating_sub(columns(after).min(AFTER));
     let column = push_last(lines, before, room);
     let width = push_first(lines, place, PLACE);

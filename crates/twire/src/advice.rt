@@ -1,14 +1,15 @@
 // Further lines for people on standard error, after a refusal or a report.
 
 use crate::inputs::Inputs;
+use crate::outputs::KEPT;
 use crate::voices::{Voice, say};
 use dump_tokens::Time;
 use explain::View;
 use growing_text::Text;
 use hints::{
-    Named, Names, on_brief, on_certificate, on_choice, on_closed_input, on_dump, on_memory,
-    on_no_brief, on_opening, on_plan, on_reading, on_recording, on_safe, on_signals, on_silence,
-    on_starters, on_unexplained, on_workers, on_writing, wrong_of,
+    Named, Names, file_word, on_brief, on_certificate, on_choice, on_closed_input, on_dump,
+    on_fault, on_memory, on_no_answers, on_no_brief, on_opening, on_plan, on_reading, on_recording,
+    on_safe, on_signals, on_silence, on_starters, on_unexplained, on_workers, on_writing, wrong_of,
 };
 use report::{Probe, RunError, Status};
 use std::alloc::{AllocError, Global};
@@ -21,7 +22,7 @@ pub struct About<'a> {
     pub starters: &'a str,
     /// How the lines of a dump were to be found, without the command.
     pub names: Names<'a>,
-    /// The words of that command, as it can be given once more. Some may be empty.
+    /// That command, a file, an option and a file, as they can be given once more. Some may be empty.
     pub words: [&'a str; 4],
     /// What was made of a dump, where one was read.
     pub told: Option<Recorded>,
@@ -114,9 +115,11 @@ pub fn advise<R: Eprint + AllocGlobal, F: Read + Seek + Drop>(
     outcome: &Outcome<'_>,
 ) {
     let about = outcome.about;
-    let command = command_of(rt.alloc(), &about.words);
+    let command = made(rt.alloc(), command_of(rt.alloc(), &about.words));
+    let vcd = made(rt.alloc(), file_word(rt.alloc(), about.names.vcd));
     let names = Names {
         command: command.as_str(),
+        vcd: vcd.as_str(),
         ..about.names
     };
     match outcome.ended {
@@ -131,19 +134,31 @@ pub fn advise<R: Eprint + AllocGlobal, F: Read + Seek + Drop>(
     }
 }
 
-// A command with its files, to be given once more with other options. Without memory there is none.
-fn command_of(alloc: Global, words: &[&str]) -> String {
-    let mut command = Text::new(alloc);
-    for word in words {
-        if !word.is_empty() {
-            if !command.is_empty() {
-                command.push(" ");
-            }
-            command.push(word);
-        }
+// A command, a file, an option and a file, to be given once more with other options.
+fn command_of(alloc: Global, words: &[&str; 4]) -> Result<String, AllocError> {
+    let [command, first, option, second] = *words;
+    let mut text = Text::new(alloc);
+    text.push(command);
+    push_file(alloc, &mut text, first);
+    if !option.is_empty() {
+        text.push(" ");
+        text.push(option);
     }
-    match command.finish() {
-        Ok(command) => command,
+    push_file(alloc, &mut text, second);
+    text.finish()
+}
+
+fn push_file(alloc: Global, text: &mut Text, file: &str) {
+    if !file.is_empty() {
+        text.push(" ");
+        text.push_made(file_word(alloc, file));
+    }
+}
+
+// A text for hints. Without memory there is none.
+fn made(alloc: Global, text: Result<String, AllocError>) -> String {
+    match text {
+        Ok(text) => text,
         Err(_) => String::new(alloc),
     }
 }
@@ -204,6 +219,8 @@ fn on_report<F: Read + Seek + Drop>(
     }
     match (status, wrong_of(report)) {
         (Status::Good, _) if says_safe(report) => on_safe(alloc, plan),
+        (Status::Good, _) if is_unanswered(report) => on_no_answers(alloc),
+        (Status::Bad, _) if report.starts_with("cert 1\nfault ") => on_fault(alloc, outcome.output),
         (Status::Refused, Some(wrong)) => on_certificate(alloc, other, wrong),
         _ => Ok(String::new(alloc)),
     }
@@ -211,6 +228,15 @@ fn on_report<F: Read + Seek + Drop>(
 
 fn says_safe(report: &str) -> bool {
     report.starts_with("safe: ") || report == "accepted safe\n"
+}
+
+// Whether targets were to answer in a rehearsal, and none acknowledged, where the whole wire was kept to look at.
+fn is_unanswered(report: &str) -> bool {
+    let line = report.lines().next().unwrap_or("");
+    match line.strip_prefix("wire ") {
+        Some(wire) => line.len() < KEPT && wire.contains('h') && !wire.contains('l'),
+        None => false,
+    }
 }
 
 fn on_capture<F: Read + Seek + Drop>(

@@ -70,10 +70,11 @@ fn whole(line: &[u8]) -> [&[u8]; 5] {
     [line, b"", b"", b"", b""]
 }
 
-// The times of a transaction that nobody explains. The last line of a report on a capture has a comma.
+// The times of a transaction that nobody explains, perhaps with their units. The last line of a report on a capture has a
+// comma, and lines for people begin with blanks.
 fn unexplained(line: &[u8]) -> Option<&[u8]> {
     let times = line.strip_suffix(b" unexplained\n")?;
-    if times.contains(&b' ') {
+    if times.contains(&b',') || times.starts_with(b" ") {
         return None;
     }
     Some(times)

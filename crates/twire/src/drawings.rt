@@ -1,39 +1,27 @@
 // Runs whose waves are drawn into a file.
 
 use crate::checking::{Look, look_over};
-use crate::inputs::{FilesRead, READS, identity_of};
+use crate::inputs::{FilesRead, READS};
 use crate::outputs::{Form, Sheet};
 use crate::rehearsals::{Play, rehearse};
 use crate::runs::Extras;
 use crate::voices::say;
+use hints::on_no_waves;
 use report::{Input, Output, RunError, Status, Watched, read_within, write_report};
 use run_parts::write_lines;
 use std::rt::Files;
 use std::sync::Wait;
 use std::thread::Threads;
 use std::time::Clock;
-use std::{fs, io, str};
+use std::{io, str};
 use waves::{wave_of_bench, wave_of_check};
 
 /// The file that waves are drawn into, and the files that the run reads, none of which it may be.
 #[derive(Clone, Copy)]
 pub struct Canvas<'a> {
     pub file: &'a str,
-    pub plan: &'a str,
-    pub cert: Option<&'a str>,
     pub extras: Extras,
-}
-
-impl Canvas<'_> {
-    fn files<R: Files>(&self, rt: &R) -> FilesRead {
-        FilesRead {
-            first: identity_of(fs::metadata(rt, self.plan)),
-            second: match self.cert {
-                Some(path) => identity_of(fs::metadata(rt, path)),
-                None => None,
-            },
-        }
-    }
+    pub read: FilesRead,
 }
 
 /// Checks a plan, and draws the fault of an unsafe pair.
@@ -104,7 +92,7 @@ fn draw_run<R: Files + Print + Eprint + Clock + AllocGlobal, O: Output>(
     draw(rt, wave, status, canvas, unwritten)
 }
 
-// Draws the waves, where there are any, and answers the status of the run.
+// Draws the waves, where there are any, and answers the status of the run. Where there are none, the file is left as it is.
 fn draw<R: Files + Print + Eprint + Clock + AllocGlobal>(
     rt: &R,
     wave: Result<Option<String>, RunError>,
@@ -116,21 +104,13 @@ fn draw<R: Files + Print + Eprint + Clock + AllocGlobal>(
         Ok(Some(wave)) => write_wave(rt, wave.as_str(), status, canvas, unwritten),
         Ok(None) => {
             if canvas.extras.hints {
-                say_undrawn(rt, canvas);
+                let hint = on_no_waves(rt.alloc(), canvas.file);
+                say(rt, hint, canvas.extras.voice().uncolored());
             }
             Ok(status)
         }
         Err(error) => Err(error),
     }
-}
-
-// The file is left as it is.
-fn say_undrawn<R: Eprint + AllocGlobal>(rt: &R, canvas: Canvas<'_>) {
-    let hint = format!(in rt.alloc();
-        "hint: there is nothing to draw, so '{}' was not written\n",
-        canvas.file
-    );
-    say(rt, hint, canvas.extras.voice().uncolored());
 }
 
 // Writes the waves into their file, whole or not at all.
@@ -141,11 +121,11 @@ fn write_wave<R: Files + Print + Eprint + Clock + AllocGlobal>(
     canvas: Canvas<'_>,
     unwritten: &mut Option<io::Error>,
 ) -> Result<Status, RunError> {
-    let sheet = Sheet::new(rt, Form::File(canvas.file), canvas.extras.watcher);
-    let mut sheet = Watched::new(sheet);
+    let form = Form::of(Some(canvas.file));
+    let mut sheet = Watched::new(Sheet::new(rt, form, canvas.read, canvas.extras.watcher));
     let written = write_lines(&mut sheet, wave.as_bytes(), status);
     let mut sheet = sheet.into_inner();
-    let ended = sheet.settle(canvas.files(rt), written);
+    let ended = sheet.settle(written);
     *unwritten = sheet.into_error();
     ended
 }

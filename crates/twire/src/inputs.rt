@@ -8,7 +8,7 @@ use hints::Named;
 use report::{Input as _, Opened, RunError, Watched};
 use std::fs::{self, Metadata, OpenFile};
 use std::io;
-use std::os::unix::fs::MetadataExt;
+use std::os::unix::fs::{FileTypeExt, MetadataExt};
 use std::rt::Files;
 use std::time::Clock;
 
@@ -20,6 +20,9 @@ pub const READS: u32 = u32::MAX;
 /// What a path of the command line names: a file, or standard input.
 pub type Source<'a, R, F, S> = Opened<Watched<Told<'a, R, F>>, Watched<Told<'a, R, S>>>;
 
+/// A source, and which file it is.
+pub type Known<'a, R, F, S> = (Source<'a, R, F, S>, Option<FileId>);
+
 /// Opens two files for reading, in this order. A path as `/dev/fd/3`, or standard input that is closed, may come to name the
 /// first file once that is open, so what the second path names is looked for before.
 pub fn open_both<'a, R: Files + Input + Eprint + Clock + AllocGlobal>(
@@ -29,8 +32,8 @@ pub fn open_both<'a, R: Files + Input + Eprint + Clock + AllocGlobal>(
     extras: Extras,
 ) -> Option<
     (
-        Source<'a, R, R::File, R::Reader>,
-        Source<'a, R, R::File, R::Reader>,
+        Known<'a, R, R::File, R::Reader>,
+        Known<'a, R, R::File, R::Reader>,
     ),
 > {
     if let Some(error) = missing(rt, second.path) {
@@ -47,7 +50,7 @@ pub fn open<'a, R: Files + Input + Eprint + Clock + AllocGlobal>(
     rt: &'a R,
     file: Named<'_>,
     extras: Extras,
-) -> Option<Source<'a, R, R::File, R::Reader>> {
+) -> Option<Known<'a, R, R::File, R::Reader>> {
     match opened(rt, file, extras.watcher) {
         Ok(source) => Some(source),
         Err(error) => {
@@ -80,17 +83,22 @@ fn opened<'a, R: Files + Input>(
     rt: &'a R,
     named: Named<'_>,
     watcher: Watcher,
-) -> io::Result<Source<'a, R, R::File, R::Reader>> {
+) -> io::Result<Known<'a, R, R::File, R::Reader>> {
     if !is_standard_input(named.path) {
         let file = fs::open(rt, named.path)?;
+        let id = identity_of(file.metadata());
         let count = Count::new(watcher, named.what, size_of(&file, watcher));
-        return Ok(Opened::File(Watched::new(Told::new(rt, file, count))));
+        return Ok((Opened::File(Watched::new(Told::new(rt, file, count))), id));
     }
     match missing(rt, named.path) {
         Some(error) => Err(error),
         None => {
+            let id = identity_of(fs::metadata(rt, STANDARD_INPUT));
             let count = Count::new(watcher, named.what, None);
-            Ok(Opened::Standard(Watched::new(Told::new(rt, rt.reader(), count))))
+            Ok((
+                Opened::Standard(Watched::new(Told::new(rt, rt.reader(), count))),
+                id,
+            ))
         }
     }
 }
@@ -125,7 +133,7 @@ fn missing(rt: &impl Files, path: &str) -> Option<io::Error> {
 /// A file, as the system numbers it: its device, and its number there.
 pub type FileId = (u64, u64);
 
-/// What the system knows of the files that a run has read, as far as it does.
+/// Which files a run reads, as far as the system says.
 #[derive(Clone, Copy)]
 pub struct FilesRead {
     pub first: Option<FileId>,
@@ -146,21 +154,19 @@ fn is_same(one: Option<FileId>, other: Option<FileId>) -> bool {
     }
 }
 
-/// Which file this is, where that is known.
+/// Which file this is, where that is known, and where it keeps what is written: a terminal, a pipe and the null device do not.
 pub fn identity_of(found: io::Result<Metadata>) -> Option<FileId> {
-    match found {
-        Ok(metadata) => Some((metadata.dev(), metadata.ino())),
-        Err(_) => None,
-    }
+    let metadata = found.ok()?;
+    let keeps = metadata.is_file() || metadata.file_type().is_block_device();
+    keeps.then_some((metadata.dev(), metadata.ino()))
 }
 
-/// What a run has read: the file that it read last, the words of the system where that failed, and which files these were.
-/// A file can be read once more; standard input may be a pipe, and is not.
+/// What a run has read: the file that it read last, and the words of the system where that failed. A file can be read once
+/// more; standard input may be a pipe, and is not.
 #[derive(Drop)]
 pub struct Inputs<'a, F> {
     pub last: Named<'a>,
     pub error: Option<io::Error>,
-    pub known: FilesRead,
     /// The file of a plan or of a brief.
     pub plan: Option<F>,
     /// The file of a certificate or of a capture.
@@ -169,16 +175,11 @@ pub struct Inputs<'a, F> {
 
 /// What a run over one text has read.
 pub fn one_read<'a, R: Files + Clock + Eprint, S: io::Read + Drop>(
-    rt: &R,
     named: Named<'a>,
     mut source: Source<'_, R, R::File, S>,
 ) -> Inputs<'a, R::File> {
     let error = reading_error(&mut source);
     let file = file_of(source);
-    let known = FilesRead {
-        first: id_of(rt, &file),
-        second: None,
-    };
     let (plan, other) = if named.what == "capture" {
         (None, file)
     } else {
@@ -187,7 +188,6 @@ pub fn one_read<'a, R: Files + Clock + Eprint, S: io::Read + Drop>(
     Inputs {
         last: named,
         error,
-        known,
         plan,
         other,
     }
@@ -195,7 +195,6 @@ pub fn one_read<'a, R: Files + Clock + Eprint, S: io::Read + Drop>(
 
 /// What a run over two texts has read.
 pub fn both_read<'a, R: Files + Clock + Eprint, S: io::Read + Drop>(
-    rt: &R,
     first: Named<'a>,
     mut one: Source<'_, R, R::File, S>,
     second: Named<'a>,
@@ -206,17 +205,11 @@ pub fn both_read<'a, R: Files + Clock + Eprint, S: io::Read + Drop>(
     } else {
         (first, reading_error(&mut one))
     };
-    let plan = file_of(one);
-    let other = file_of(two);
     Inputs {
         last,
         error,
-        known: FilesRead {
-            first: id_of(rt, &plan),
-            second: id_of(rt, &other),
-        },
-        plan,
-        other,
+        plan: file_of(one),
+        other: file_of(two),
     }
 }
 
@@ -225,14 +218,6 @@ fn file_of<R, F: Drop, S: Drop>(source: Source<'_, R, F, S>) -> Option<F> {
         Opened::File(file) => Some(file.into_inner().into_inner()),
         Opened::Standard(_) => None,
     }
-}
-
-// Which file was read. There is none for standard input that is closed.
-fn id_of<R: Files>(rt: &R, file: &Option<R::File>) -> Option<FileId> {
-    identity_of(match file {
-        Some(file) => file.metadata(),
-        None => fs::metadata(rt, STANDARD_INPUT),
-    })
 }
 
 // The words of the system for why this cannot be read, if it failed and fails again.

@@ -16,6 +16,7 @@ mod rehearsals;
 mod rewriting;
 mod runs;
 mod tasks;
+mod versions;
 mod viewing;
 mod voices;
 

@@ -3,7 +3,7 @@
 ghost use Rattle.std.specs.Io.{WritesAtMost};
 
 use crate::colors::colored_report;
-use crate::inputs::{FilesRead, identity_of};
+use crate::inputs::{FileId, FilesRead, identity_of};
 use crate::progress::{Count, Watcher};
 use growing_text::Text;
 use objects::report_objects;
@@ -11,18 +11,24 @@ use report::{RunError, Status};
 use std::alloc::{AllocError, Global};
 use std::fs::{self, OpenFile, OpenOptions, Permissions};
 use std::io::{self, ErrorKind, Write};
+use std::path::PathBuf;
 use std::rt::Files;
 use std::time::Clock;
 use std::{mem, str};
 
-// How much of a report is kept to look at.
-const KEPT: usize = 64;
+/// How much of a report is kept to look at.
+pub const KEPT: usize = 64;
 
 // And how much of its end, in which the last lines stand.
 const ENDING: usize = 96;
 
 // How many names are tried for the file that is written first.
 const NAMES: u32 = 1_000;
+
+// How many links are followed to the file that is written, as many as Linux follows.
+const LINKS: u32 = 40;
+
+const STANDARD_OUTPUT: &str = "/dev/stdout";
 
 /// Where a report goes: to standard output, there perhaps with its words in colours or as objects, or into a path's file.
 #[derive(Clone, Copy)]
@@ -34,6 +40,15 @@ pub enum Form<'a> {
 }
 
 impl<'a> Form<'a> {
+    /// How a text is written that has no words for people: into this file, or to standard output where none is given. A name
+    /// of standard output is that stream, so that a file behind it is written from where the stream is.
+    pub fn of(output: Option<&'a str>) -> Form<'a> {
+        match output {
+            None | Some("/dev/stdout" | "/dev/fd/1" | "/proc/self/fd/1") => Form::Plain,
+            Some(path) => Form::File(path),
+        }
+    }
+
     /// The file that is written, where one is.
     pub fn path(self) -> Option<&'a str> {
         match self {
@@ -48,6 +63,8 @@ impl<'a> Form<'a> {
 pub struct Sheet<'a, R: Files> {
     rt: &'a R,
     form: Form<'a>,
+    // none of which is written
+    read: FilesRead,
     target: Target<R::File>,
     beginning: String,
     ending: Vec<u8>,
@@ -61,10 +78,11 @@ pub struct Sheet<'a, R: Files> {
     count: Option<Count>,
 }
 
-// The file that is written. It is not looked for before the first byte.
+// What is written. It is not looked for before the first byte.
 #[derive(Drop)]
 enum Target<F> {
     None,
+    Standard,
     // a device or a pipe, which takes the report as it comes
     Direct(F),
     Part(Part<F>),
@@ -80,20 +98,22 @@ struct Part<F> {
 
 impl<'a, R: Files + Print + Eprint + Clock + AllocGlobal> Sheet<'a, R> {
     /// Nothing has been written yet.
-    pub fn new(rt: &'a R, form: Form<'a>, watcher: Watcher) -> Sheet<'a, R> {
-        Sheet::telling(rt, form, watcher, None)
+    pub fn new(rt: &'a R, form: Form<'a>, read: FilesRead, watcher: Watcher) -> Sheet<'a, R> {
+        Sheet::telling(rt, form, read, watcher, None)
     }
 
     /// The same, and of a long text of this name it is told how much was written, unless it is seen itself.
     pub fn telling(
         rt: &'a R,
         form: Form<'a>,
+        read: FilesRead,
         watcher: Watcher,
         what: Option<&'static str>,
     ) -> Sheet<'a, R> {
         Sheet {
             rt,
             form,
+            read,
             target: Target::None,
             beginning: String::new(rt.alloc()),
             ending: Vec::new(rt.alloc()),
@@ -107,14 +127,10 @@ impl<'a, R: Files + Print + Eprint + Clock + AllocGlobal> Sheet<'a, R> {
 
     /// Writes the objects, or gives the file its name, once the run has ended with its report, and answers how the run ends
     /// by that. After a run that has not, nothing is left of it. A file that was read is not replaced.
-    pub fn settle(
-        &mut self,
-        read: FilesRead,
-        ended: Result<Status, RunError>,
-    ) -> Result<Status, RunError> {
+    pub fn settle(&mut self, ended: Result<Status, RunError>) -> Result<Status, RunError> {
         let settled = match (self.form, ended) {
             (Form::Objects, Ok(_)) => self.write_objects(),
-            (Form::File(_), _) => self.settle_file(read, ended.is_ok()),
+            (Form::File(_), _) => self.settle_file(ended.is_ok()),
             _ => Ok(()),
         };
         match settled {
@@ -133,9 +149,9 @@ impl<'a, R: Files + Print + Eprint + Clock + AllocGlobal> Sheet<'a, R> {
         io::writer(self.rt).write_all(text.as_bytes())
     }
 
-    fn settle_file(&mut self, read: FilesRead, is_whole: bool) -> io::Result<()> {
+    fn settle_file(&mut self, is_whole: bool) -> io::Result<()> {
         match mem::replace(&mut self.target, Target::None) {
-            Target::Part(part) => settle_part(self.rt, &part, read, is_whole),
+            Target::Part(part) => settle_part(self.rt, &part, self.read, is_whole),
             _ => Ok(()),
         }
     }
@@ -205,11 +221,23 @@ impl<'a, R: Files + Print + Eprint + Clock + AllocGlobal> Sheet<'a, R> {
     fn put(&mut self, buf: &[u8]) -> io::Result<usize>
         ensures bound { WritesAtMost result buf.now }
     {
+        if let Target::None = self.target {
+            self.target = begin(self.rt, self.form, self.read)?;
+        }
+        match &mut self.target {
+            Target::Direct(file) => file.write(buf),
+            Target::Part(part) => part.file.write(buf),
+            Target::None | Target::Standard => self.put_in_stream(buf),
+        }
+    }
+
+    fn put_in_stream(&mut self, buf: &[u8]) -> io::Result<usize>
+        ensures bound { WritesAtMost result buf.now }
+    {
         match self.form {
-            Form::Plain => io::writer(self.rt).write(buf),
             Form::Colored => write_colored(self.rt, self.is_at_line, buf),
             Form::Objects => self.gather(buf),
-            Form::File(path) => self.put_in_file(path, buf),
+            _ => io::writer(self.rt).write(buf),
         }
     }
 
@@ -218,19 +246,6 @@ impl<'a, R: Files + Print + Eprint + Clock + AllocGlobal> Sheet<'a, R> {
     {
         self.gathered.extend_from_slice(buf)?;
         Ok(buf.len())
-    }
-
-    fn put_in_file(&mut self, path: &str, buf: &[u8]) -> io::Result<usize>
-        ensures bound { WritesAtMost result buf.now }
-    {
-        if let Target::None = self.target {
-            self.target = begin(self.rt, path)?;
-        }
-        match &mut self.target {
-            Target::None => Ok(0),
-            Target::Direct(file) => file.write(buf),
-            Target::Part(part) => part.file.write(buf),
-        }
     }
 }
 
@@ -299,10 +314,36 @@ fn write_colored<R: Print + AllocGlobal>(
     Ok(report.len())
 }
 
+// Looks for what takes the report, which is none of the files that are read.
+fn begin<R: Files + AllocGlobal>(
+    rt: &R,
+    form: Form<'_>,
+    read: FilesRead,
+) -> io::Result<Target<R::File>> {
+    match form {
+        Form::File(path) => begin_file(rt, path, read),
+        _ => {
+            refuse_read(read, identity_of(fs::metadata(rt, STANDARD_OUTPUT)))?;
+            Ok(Target::Standard)
+        }
+    }
+}
+
+fn refuse_read(read: FilesRead, file: Option<FileId>) -> io::Result<()> {
+    if read.has(file) {
+        return Err(io::Error::new(ErrorKind::InvalidInput, "it is a file that was read"));
+    }
+    Ok(())
+}
+
 // Opens what takes the report of this path: a device or a pipe itself, and else a new file in the folder of the path.
-fn begin<R: Files + AllocGlobal>(rt: &R, path: &str) -> io::Result<Target<R::File>> {
+fn begin_file<R: Files + AllocGlobal>(
+    rt: &R,
+    path: &str,
+    read: FilesRead,
+) -> io::Result<Target<R::File>> {
     match OpenOptions::new().write(true).open(rt, path) {
-        Ok(old) => begin_over(rt, old, path),
+        Ok(old) => begin_over(rt, old, path, read),
         Err(error) if error.kind() == ErrorKind::NotFound => begin_beside(rt, path, None),
         Err(error) => Err(error),
     }
@@ -312,13 +353,16 @@ fn begin_over<R: Files + AllocGlobal>(
     rt: &R,
     old: R::File,
     path: &str,
+    read: FilesRead,
 ) -> io::Result<Target<R::File>> {
     let metadata = old.metadata()?;
-    if !metadata.is_file() {
-        return Ok(Target::Direct(old));
+    let (is_file, mode) = (metadata.is_file(), metadata.permissions());
+    refuse_read(read, identity_of(Ok(metadata)))?;
+    if is_file {
+        begin_beside(rt, path, Some(mode))
+    } else {
+        Ok(Target::Direct(old))
     }
-    let path = fs::canonicalize(rt, path)?;
-    begin_beside(rt, path.as_str(), Some(metadata.permissions()))
 }
 
 fn begin_beside<R: Files + AllocGlobal>(
@@ -326,7 +370,7 @@ fn begin_beside<R: Files + AllocGlobal>(
     path: &str,
     mode: Option<Permissions>,
 ) -> io::Result<Target<R::File>> {
-    let path = String::from_str(rt.alloc(), path)?;
+    let path = followed(rt, path)?;
     let (file, name) = create_beside(rt, path.as_str())?;
     if let Some(mode) = mode {
         if let Err(error) = file.set_permissions(mode) {
@@ -335,6 +379,28 @@ fn begin_beside<R: Files + AllocGlobal>(
         }
     }
     Ok(Target::Part(Part { file, name, path }))
+}
+
+// Where links from this path lead, also to a file that is not there. Each is read by itself, since the path of a folder need
+// not be text.
+fn followed<R: Files + AllocGlobal>(rt: &R, path: &str) -> io::Result<String> {
+    let mut path = PathBuf::from_str(rt.alloc(), path)?;
+    for _ in 0..LINKS {
+        match fs::read_link(rt, path.as_str()) {
+            Ok(next) => {
+                path.pop();
+                path.push(next.as_str())?;
+            }
+            Err(error) if is_no_link(error.kind()) => return Ok(path.into_string()),
+            Err(error) => return Err(error),
+        }
+    }
+    Err(io::Error::from(ErrorKind::FilesystemLoop))
+}
+
+// What the system says of a path that is no link, or where nothing is.
+fn is_no_link(kind: ErrorKind) -> bool {
+    matches!(kind, ErrorKind::InvalidInput | ErrorKind::NotFound)
 }
 
 // Gives the new file its name, if the report in it is whole, or takes it away.
@@ -358,9 +424,7 @@ fn settle_part<R: Files, F: OpenFile>(
 // Brings the new file to the disk and gives it its name.
 fn put<R: Files, F: OpenFile>(rt: &R, part: &Part<F>, read: FilesRead) -> io::Result<()> {
     let path = part.path.as_str();
-    if read.has(identity_of(fs::metadata(rt, path))) {
-        return Err(io::Error::new(ErrorKind::InvalidInput, "it is a file that was read"));
-    }
+    refuse_read(read, identity_of(fs::metadata(rt, path)))?;
     part.file.sync_all()?;
     fs::rename(rt, part.name.as_str(), path)
 }

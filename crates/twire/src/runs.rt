@@ -1,20 +1,22 @@
 // What the program does, and the status that it ends with.
 
 use crate::advice::{About, Outcome, advise};
-use crate::inputs::{Inputs, both_read, is_standard_input, one_read, open, open_both};
+use crate::inputs::{FilesRead, Inputs, both_read, is_standard_input, one_read, open, open_both};
 use crate::outputs::{Form, Sheet};
 use crate::progress::Watcher;
 use crate::tasks::{Over, OverBoth, Task, task_of};
+use crate::versions::version_of;
 use crate::viewing::Halt;
 use crate::voices::{Voice, refused, refused_timescale, say};
 use command_words::{Asked, Manner, Request, When, read_words};
-use hints::Named;
+use hints::{Named, visible};
 use report::{RunError, Status, Watched};
+use std::env::{self, VarError};
+use std::io;
 use std::rt::{Env, Files};
 use std::sync::Wait;
 use std::thread::Threads;
 use std::time::Clock;
-use std::{env, io};
 
 /// What people get beside the exact report: hints, colours in the report and in hints, and how far a long run is; or that
 /// reports, refusals and hints are objects, for programs.
@@ -87,7 +89,8 @@ fn run_words<R: Files + Env + Input + Print + Eprint + AllocGlobal + Threads + W
             Ok(do_request(rt, request, extras))
         }
         Ok(Asked::Show(text)) => show(rt, text.as_str()),
-        Ok(Asked::Refuse(text)) => Ok(refuse(rt, text.as_str())),
+        Ok(Asked::Version(text)) => show(rt, version_of(rt, text.as_str())?.as_str()),
+        Ok(Asked::Refuse(text)) => Ok(refuse(rt, visible(rt.alloc(), text.as_str())?.as_str())),
         Err(_) => Err(RunError::NoMemory),
     }
 }
@@ -134,10 +137,11 @@ fn files_of(request: Request<'_>) -> Option<(&str, &str)> {
     }
 }
 
-// Whether the environment says nothing against colours, as NO_COLOR does where it has a text.
+// Whether the environment says nothing against colours, as NO_COLOR does where it has anything in it.
 fn takes_colors<R: Env + AllocGlobal>(rt: &R) -> bool {
     match env::var(rt, "NO_COLOR") {
         Ok(text) => text.is_empty(),
+        Err(VarError::NotUnicode) => false,
         Err(_) => true,
     }
 }
@@ -169,19 +173,32 @@ fn run_over<R: Files + Input + Print + Eprint + AllocGlobal + Threads + Wait + C
     form: Form<'_>,
     extras: Extras,
 ) -> u8 {
-    let Some(mut reader) = open(rt, text, extras) else {
+    let Some((mut reader, first)) = open(rt, text, extras) else {
         return 2;
     };
-    let mut out = Watched::new(Sheet::telling(rt, form, extras.watcher, over.writes_long()));
+    let read = FilesRead {
+        first,
+        second: None,
+    };
+    let sheet = Sheet::telling(rt, form, read, extras.watcher, over.writes_long());
+    let mut out = Watched::new(sheet);
     let mut unwritten = None;
-    let ended = over.run(rt, text.path, &mut reader, &mut out, extras, &mut unwritten);
+    let ended = over.run(
+        rt,
+        text.path,
+        &mut reader,
+        &mut out,
+        extras,
+        read,
+        &mut unwritten,
+    );
     let end = End {
         ended,
         output: form.path(),
         wave: over.wave(),
         about: over.about(text.path),
     };
-    let read = one_read(rt, text, reader);
+    let read = one_read(text, reader);
     finish(rt, read, out.into_inner(), unwritten, end, extras)
 }
 
@@ -194,19 +211,21 @@ fn run_over_both<R: Files + Input + Print + Eprint + AllocGlobal + Threads + Wai
     form: Form<'_>,
     extras: Extras,
 ) -> u8 {
-    let Some((mut reader, mut second)) = open_both(rt, plan, other, extras) else {
+    let Some(((mut reader, first), (mut another, second))) = open_both(rt, plan, other, extras)
+    else {
         return 2;
     };
-    let mut out = Watched::new(Sheet::new(rt, form, extras.watcher));
+    let read = FilesRead { first, second };
+    let mut out = Watched::new(Sheet::new(rt, form, read, extras.watcher));
     let mut unwritten = None;
-    let paths = (plan.path, other.path);
     let ended = match over.run(
         rt,
-        paths,
+        plan.path,
         &mut reader,
-        &mut second,
+        &mut another,
         &mut out,
         extras,
+        read,
         &mut unwritten,
     ) {
         Ok(status) => Ok(status),
@@ -219,7 +238,7 @@ fn run_over_both<R: Files + Input + Print + Eprint + AllocGlobal + Threads + Wai
         wave: over.wave(),
         about: over.about(plan.path, other.path),
     };
-    let read = both_read(rt, plan, reader, other, second);
+    let read = both_read(plan, reader, other, another);
     finish(rt, read, out.into_inner(), unwritten, end, extras)
 }
 
@@ -247,7 +266,7 @@ fn finish<R: Files + Print + Eprint + Clock + AllocGlobal>(
         None => end.output,
     };
     out.blame(unwritten);
-    let ended = out.settle(read.known, end.ended);
+    let ended = out.settle(end.ended);
     let status = status_of(rt, ended, extras);
     if extras.hints {
         let (report, error) = out.into_parts();

@@ -4,6 +4,7 @@ use crate::advice::{About, Recorded, names_of};
 use crate::checking::{Look, check};
 use crate::drawings::Canvas;
 use crate::explaining::explain_verify;
+use crate::inputs::FilesRead;
 use crate::outputs::Form;
 use crate::pages::{write_page_alone, write_page_with};
 use crate::recordings::{asked_of, lesson_of, whole_of};
@@ -94,7 +95,7 @@ pub fn task_of<'a>(request: Request<'a>, form: Form<'a>) -> Task<'a> {
             capture,
             lines,
             output,
-        } => page_of(the_plan(plan), capture, lines, form_of(output)),
+        } => page_of(the_plan(plan), capture, lines, Form::of(output)),
         Request::Bench {
             plan,
             cert,
@@ -124,19 +125,19 @@ pub fn task_of<'a>(request: Request<'a>, form: Form<'a>) -> Task<'a> {
             output,
         } => {
             let learn = Rewriting::Learn(lesson_of(lines, merge));
-            rewrite(learn, the_capture(vcd), form_of(output))
+            rewrite(learn, the_capture(vcd), Form::of(output))
         }
         Request::Certify { plan, output } => {
-            rewrite(Rewriting::Certify, the_plan(plan), form_of(output))
+            rewrite(Rewriting::Certify, the_plan(plan), Form::of(output))
         }
         Request::Expand { brief, output } => {
-            rewrite(Rewriting::Expand, the_brief(brief), form_of(output))
+            rewrite(Rewriting::Expand, the_brief(brief), Form::of(output))
         }
         Request::Print { plan, output } => {
-            rewrite(Rewriting::Print, the_plan(plan), form_of(output))
+            rewrite(Rewriting::Print, the_plan(plan), Form::of(output))
         }
         Request::Brief { plan, output } => {
-            rewrite(Rewriting::Brief, the_plan(plan), form_of(output))
+            rewrite(Rewriting::Brief, the_plan(plan), Form::of(output))
         }
     }
 }
@@ -198,18 +199,10 @@ fn named<'a>(argument: &'static str, what: &'static str, path: &'a str) -> Named
     }
 }
 
-// How a text is written that has no words for people.
-fn form_of(output: Option<&str>) -> Form<'_> {
-    match output {
-        Some(path) => Form::File(path),
-        None => Form::Plain,
-    }
-}
-
 // ---- the runs
 
 impl<'a> Over<'a> {
-    /// Runs over the text of this path. Why the file for waves could not be written is told beside how the run ended.
+    /// Runs over the text of this path, one of the files that are read. Why the file for waves could not be written is told beside how the run ended.
     pub fn run<
         R: Files + Print + Eprint + AllocGlobal + Threads + Wait + Clock + Sync,
         I: Input,
@@ -221,9 +214,10 @@ impl<'a> Over<'a> {
         text: &mut I,
         out: &mut O,
         extras: Extras,
+        read: FilesRead,
         unwritten: &mut Option<io::Error>,
     ) -> Result<Status, RunError> {
-        let canvas = canvas_of(self.wave(), path, None, extras);
+        let canvas = canvas_of(self.wave(), extras, read);
         match self {
             Over::Check(look) => check(rt, text, out, look, extras.watcher, canvas, unwritten),
             Over::Page => write_page_alone(rt, path, text, out),
@@ -268,8 +262,8 @@ impl<'a> Over<'a> {
 }
 
 impl<'a> OverBoth<'a> {
-    /// Runs over a plan and the second text, which have these paths. Why the file for waves could not be written is told
-    /// beside how the run ended.
+    /// Runs over the plan of this path and the second text, the files that are read. Why the file for waves could not be
+    /// written is told beside how the run ended.
     pub fn run<
         R: Files + Print + Eprint + AllocGlobal + Threads + Wait + Clock + Sync,
         I: Input,
@@ -278,11 +272,12 @@ impl<'a> OverBoth<'a> {
     >(
         self,
         rt: &R,
-        paths: (&'a str, &'a str),
+        path: &'a str,
         plan: &mut I,
         other: &mut J,
         out: &mut O,
         extras: Extras,
+        read: FilesRead,
         unwritten: &mut Option<io::Error>,
     ) -> Result<Status, Halt> {
         let alloc = rt.alloc();
@@ -290,9 +285,9 @@ impl<'a> OverBoth<'a> {
             OverBoth::Verify { explain: true } => explain_verify(alloc, plan, other, out),
             OverBoth::Verify { explain: false } => run_verify(alloc, plan, other, out),
             OverBoth::Capture(asked) => return view_capture(rt, alloc, plan, other, out, asked),
-            OverBoth::Page(asked) => write_page_with(rt, paths.0, plan, other, out, asked),
+            OverBoth::Page(asked) => write_page_with(rt, path, plan, other, out, asked),
             OverBoth::Bench(play) => {
-                let canvas = canvas_of(play.wave, paths.0, Some(paths.1), extras);
+                let canvas = canvas_of(play.wave, extras, read);
                 bench(rt, plan, other, out, play, canvas, unwritten)
             }
         };
@@ -316,7 +311,7 @@ impl<'a> OverBoth<'a> {
             OverBoth::Capture(asked) => {
                 let names = names_of(asked.scl, asked.sda, asked.scope, asked.min_pulse, other);
                 let told = Recorded::Capture(asked.view);
-                About::recording(names, ["twire capture", plan, other, ""], told)
+                About::recording(names, ["twire capture", plan, "", other], told)
             }
             OverBoth::Page(asked) => {
                 let names = names_of(asked.scl, asked.sda, asked.scope, None, other);
@@ -329,19 +324,9 @@ impl<'a> OverBoth<'a> {
     }
 }
 
-fn canvas_of<'a>(
-    wave: Option<&'a str>,
-    plan: &'a str,
-    cert: Option<&'a str>,
-    extras: Extras,
-) -> Option<Canvas<'a>> {
+fn canvas_of(wave: Option<&str>, extras: Extras, read: FilesRead) -> Option<Canvas<'_>> {
     match wave {
-        Some(file) => Some(Canvas {
-            file,
-            plan,
-            cert,
-            extras,
-        }),
+        Some(file) => Some(Canvas { file, extras, read }),
         None => None,
     }
 }
