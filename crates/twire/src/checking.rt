@@ -1,9 +1,14 @@
-// The runs of a check.
+// The run of a check: what it found is written as a report, for people too, and drawn.
 
-use crate::drawings::{Canvas, check_drawn};
-use crate::explaining::explain_check;
+ghost use Rattle.plan_core.specs.PlanContents.{plan_contents};
+ghost use Rattle.verdicts.specs.Faults.{AreFaults, fault_list};
+
+use crate::drawings::{Canvas, draw_fault};
 use crate::progress::{Comparing, Watcher};
-use report::{Input, Output, RunError, Status, run_check_with};
+use explain::explain_check;
+use report::{Checked, Input, Output, RunError, Status, check_plan, check_report};
+use run_parts::write_lines;
+use std::alloc::Global;
 use std::io;
 use std::rt::Files;
 use std::thread::Threads;
@@ -29,25 +34,37 @@ pub fn check<R: Files + Print + Eprint + Clock + AllocGlobal + Threads + Sync, I
     canvas: Option<Canvas<'_>>,
     unwritten: &mut Option<io::Error>,
 ) -> Result<Status, RunError> {
+    let gate = Comparing::new(rt, watcher);
+    let checked = check_plan(rt, rt.alloc(), plan, look.workers, &gate)?;
+    let status = write_checked(rt.alloc(), &checked, out, look.explain)?;
     match canvas {
-        Some(canvas) => check_drawn(rt, plan, out, look, canvas, unwritten),
-        None => look_over(rt, plan, out, look, watcher),
+        Some(canvas) => draw_fault(rt, &checked, look.pair, status, canvas, unwritten),
+        None => Ok(status),
     }
 }
 
-/// The same without its waves.
-pub fn look_over<R: Eprint + Clock + AllocGlobal + Threads + Sync, I: Input, O: Output>(
-    rt: &R,
-    plan: &mut I,
+// Writes the report of what was found, with so many unsafe pairs explained where that is wanted.
+fn write_checked<O: Output>(
+    alloc: Global,
+    checked: &Checked,
     out: &mut O,
-    look: Look<'_>,
-    watcher: Watcher,
-) -> Result<Status, RunError> {
-    match look.explain {
-        Some(most) => explain_check(rt, rt.alloc(), plan, out, look.workers, most),
+    explain: Option<u32>,
+) -> Result<Status, RunError>
+    requires { AreFaults (plan_contents checked.now.plan) (fault_list checked.now.faults) }
+{
+    let status = if checked.faults.is_safe() {
+        Status::Good
+    } else {
+        Status::Bad
+    };
+    match explain {
+        Some(most) => {
+            explain_check(alloc, &checked.plan, &checked.faults, most, out)?;
+            Ok(status)
+        }
         None => {
-            let gate = Comparing::new(rt, watcher);
-            run_check_with(rt, rt.alloc(), plan, out, look.workers, &gate)
+            let report = check_report(alloc, checked)?;
+            write_lines(out, report.as_bytes(), status)
         }
     }
 }

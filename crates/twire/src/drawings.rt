@@ -1,13 +1,12 @@
 // Runs whose waves are drawn into a file.
 
-use crate::checking::{Look, look_over};
 use crate::inputs::{FilesRead, READS};
 use crate::outputs::{Form, Sheet};
 use crate::rehearsals::{Play, rehearse};
 use crate::runs::Extras;
 use crate::voices::say;
 use hints::on_no_waves;
-use report::{Input, Output, RunError, Status, Watched, read_within, write_report};
+use report::{Checked, Input, Output, RunError, Status, Watched, read_within, write_report};
 use run_parts::write_lines;
 use std::rt::Files;
 use std::sync::Wait;
@@ -24,28 +23,17 @@ pub struct Canvas<'a> {
     pub read: FilesRead,
 }
 
-/// Checks a plan, and draws the fault of an unsafe pair.
-pub fn check_drawn<
-    R: Files + Print + Eprint + Clock + AllocGlobal + Threads + Sync,
-    I: Input,
-    O: Output,
->(
+/// Draws the fault of an unsafe pair of a plan that was checked, and answers the status of that run.
+pub fn draw_fault<R: Files + Print + Eprint + Clock + AllocGlobal>(
     rt: &R,
-    plan: &mut I,
-    out: &mut O,
-    look: Look<'_>,
+    checked: &Checked,
+    pair: Option<u32>,
+    status: Status,
     canvas: Canvas<'_>,
     unwritten: &mut Option<io::Error>,
 ) -> Result<Status, RunError> {
-    let text = read_within(rt.alloc(), plan, READS)?;
-    let mut again = Watched::new(text.as_slice());
-    match look_over(rt, &mut again, out, look, canvas.extras.watcher) {
-        Ok(status) => {
-            let wave = wave_of_check(rt.alloc(), text.as_slice(), look.pair);
-            draw(rt, wave, status, canvas, unwritten)
-        }
-        Err(error) => Err(error),
-    }
+    let wave = wave_of_check(rt.alloc(), &checked.plan, &checked.faults, pair)?;
+    draw(rt, Ok(wave), status, canvas, unwritten)
 }
 
 /// Rehearses a plan, and draws the run.

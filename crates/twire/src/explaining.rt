@@ -12,8 +12,7 @@ use explain::{
 use plan_core::Plan;
 use plan_text::read_plan;
 use report::{
-    Input, NoGate, Output, Probe, RunError, Status, Watched, check_plan, find_plan, read_within,
-    run_capture_of,
+    Input, Output, Probe, RunError, Status, Watched, find_plan, read_within, run_capture_of,
 };
 use std::alloc::Global;
 use std::sync::Wait;
@@ -54,29 +53,6 @@ fn tell<O: Output>(
     };
     match told {
         Ok(()) => Ok(status),
-        Err(error) => Err(error),
-    }
-}
-
-// ---- a check
-
-/// Checks the plan that the reader gives, as `run_check` does, and explains so many unsafe pairs.
-///
-/// # Errors
-///
-/// Those of `run_check`, in the same order.
-pub fn explain_check<R: Threads + Sync, I: Input, O: Output>(
-    rt: &R,
-    alloc: Global,
-    plan: &mut I,
-    out: &mut O,
-    workers: u32,
-    most: u32,
-) -> Result<Status, RunError> {
-    let checked = check_plan(rt, alloc, plan, workers, &NoGate)?;
-    match explain::explain_check(alloc, &checked.plan, &checked.faults, most, out) {
-        Ok(()) if checked.faults.is_safe() => Ok(Status::Good),
-        Ok(()) => Ok(Status::Bad),
         Err(error) => Err(error),
     }
 }

@@ -6,29 +6,20 @@ use plan_core::Plan;
 use plan_text::read_plan;
 use run_parts::RunError;
 use std::alloc::{AllocError, Global};
-use verdicts::faults;
+use verdicts::Faults;
 
-/// The waves of an unsafe pair of the plan with this text, up to the slot of its first fault: of the pair with this
+/// The waves of an unsafe pair of the plan, which has these faults, up to the slot of its first one: of the pair with this
 /// number, or of the first one. There are none where that pair is safe, or is none of the plan.
 ///
 /// # Errors
 ///
-/// `Plan` with the first refusal of the text. `NoMemory` where an allocation fails.
+/// Where an allocation fails.
 pub fn wave_of_check(
     alloc: Global,
-    text: &[u8],
-    pair: Option<u32>,
-) -> Result<Option<String>, RunError> {
-    let plan = read_plan(alloc, text)?;
-    Ok(wave_of_pair(alloc, &plan, pair)?)
-}
-
-fn wave_of_pair(
-    alloc: Global,
     plan: &Plan,
+    faults: &Faults,
     pair: Option<u32>,
 ) -> Result<Option<String>, AllocError> {
-    let faults = faults(alloc, plan)?;
     for k in 0..faults.len() {
         let (i, fault) = faults.get(k);
         if i < plan.pair_count() && pair.unwrap_or(i) == i {
