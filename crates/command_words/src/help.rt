@@ -151,8 +151,8 @@ names are those of other signals, or that the levels are 'x' all the time:
 'twire signals VCD' lists them, and shows which look like a bus. A name that has
 blanks in the capture has them here too, as --scl 'I2C SCL'.
 
-With '--min-pulse' a level that a line has for less than T is as if it had not
-been: a pulse on SDA while SCL is HIGH is then no START and no STOP.
+With '--min-pulse' a level that a line has for less than T is ignored: a pulse
+on SDA while SCL is HIGH is then no START and no STOP.
 
 With '--from' and '--to' the others are left out, and not counted. '--at-least'
 adds a line 'too few: C of N'. With '--summary' each participant has a line

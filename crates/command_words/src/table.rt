@@ -263,7 +263,7 @@ const CERTIFIED: Argument = Argument::Flag {
 const OUTPUT: Argument = Argument::File {
     id: "output",
     short: 'o',
-    help: "Write FILE, whole or not at all, not standard output",
+    help: "Write to FILE atomically",
 };
 
 const WORKERS: Argument = Argument::Number {
