@@ -1,4 +1,4 @@
-//! The cases: a command with its files, and what is to be answered. docs/TESTING.md says how they are written.
+//! The cases: a command with its files, and what is to be answered. tests/cases/README.md says how they are written.
 
 use crate::blocks::cases_of;
 use crate::commands::Command;
