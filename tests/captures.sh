@@ -144,7 +144,7 @@ $silent" "$exchanged" plan one_start --scl sda --sda scl --hints always
 expect "no hints on a report with a transaction" 0 $'5-160 a/m\n1 transactions, 0 unexplained' "" plan acknowledged --hints always
 expect "no hints on one that goes on" 0 $'5- unfinished\n0 transactions, 0 unexplained' "" plan cut --hints always
 # A dump that begins in the acknowledge of a header, and one that begins before a START but LOW.
-within=$(hint "the capture begins in a transaction, which is passed over: one is told" "from its START on")
+within=$(hint "the capture begins in a transaction, which is left out: its START is not" "there")
 dump begun '#0 0! 0" #5 1! #9 0! #12 1! #15 1"' '#20 0" #25 1"'
 expect "hints on a dump that begins in a transaction" 1 $'20-25 unexplained\n1 transactions, 1 unexplained' "$within" \
     plan begun --hints always

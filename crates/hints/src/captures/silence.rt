@@ -47,9 +47,7 @@ pub(crate) fn push_passed<F: Read + Seek>(
 ) {
     let mut beginning = Beginning::new();
     if look(alloc, file, names, &mut beginning).is_some() && beginning.is_within {
-        lines.say(
-            "the capture begins in a transaction, which is passed over: one is told from its START on",
-        );
+        lines.say("the capture begins in a transaction, which is left out: its START is not there");
     }
 }
 
