@@ -12,6 +12,7 @@ use crate::unreadable::Unreadable;
 #[derive(Default)]
 struct Block<'a> {
     name: &'a str,
+    is_thorough: bool,
     command: &'a str,
     first: Option<&'a str>,
     second: Option<&'a str>,
@@ -21,6 +22,9 @@ struct Block<'a> {
     status: Option<u8>,
     rows: &'a str,
 }
+
+// What stands before the name where each allocation of the cases is refused, and each byte of a report.
+const THOROUGH: &str = "(each) ";
 
 /// The cases of a block, which is given from its name on.
 pub fn cases_of(text: &str) -> Result<Vec<Case>, Unreadable> {
@@ -37,7 +41,11 @@ impl<'a> Block<'a> {
         let mut parts = text.split("\n--- ");
         let head = parts.next().unwrap_or("").split_once("\ncommand: ");
         let (name, command) = head.ok_or(Unreadable("no line 'command: ' follows the name"))?;
-        let mut block = Block { name, command, ..Block::default() };
+        let (name, is_thorough) = match name.strip_prefix(THOROUGH) {
+            Some(name) => (name, true),
+            None => (name, false),
+        };
+        let mut block = Block { name, is_thorough, command, ..Block::default() };
         for part in parts {
             block.put_part(part)?;
         }
@@ -79,6 +87,7 @@ impl<'a> Block<'a> {
                 refusal: self.refusal.to_owned(),
             },
             hints: self.hints("@")?,
+            is_thorough: self.is_thorough,
         })
     }
 
@@ -92,6 +101,7 @@ impl<'a> Block<'a> {
             asked: self.asked(word)?,
             wanted: answer_of(answer)?,
             hints: self.hints(word)?,
+            is_thorough: self.is_thorough,
         })
     }
 

@@ -24,6 +24,8 @@ pub struct Case {
     pub wanted: Answer,
     /// What is also to stand on standard error where hints are asked for, if that is compared.
     pub hints: Option<String>,
+    /// Whether each of its allocations is refused in turn, and its report cut after each number of bytes. Of another case some.
+    pub is_thorough: bool,
 }
 
 impl Case {

@@ -52,7 +52,13 @@ fn compare(desk: &mut Desk, number: u64, asked: &Asked) -> io::Result<(String, O
     if fault.is_none() && plain == found {
         return Ok((kind, None));
     }
-    let case = Case { name: shown(number, asked), asked: asked.clone(), wanted: plain.clone(), hints: None };
+    let case = Case {
+        name: shown(number, asked),
+        asked: asked.clone(),
+        wanted: plain.clone(),
+        hints: None,
+        is_thorough: false,
+    };
     Ok((kind, Disagreement::of(&case, "twire and the plain programs", plain, &found, fault)))
 }
 

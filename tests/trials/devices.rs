@@ -86,7 +86,8 @@ fn report() -> Answer {
 }
 
 fn judged(name: &str, wanted: Answer, said: &Said, is_right: bool) -> Option<Disagreement> {
-    let case = Case { name: name.to_owned(), asked: plan_asked(), wanted: wanted.clone(), hints: None };
+    let case =
+        Case { name: name.to_owned(), asked: plan_asked(), wanted: wanted.clone(), hints: None, is_thorough: false };
     let fault = (!is_right).then_some("the library says something else of its devices");
     Disagreement::of(&case, "devices", wanted, &said.answer, fault)
 }

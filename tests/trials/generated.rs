@@ -128,7 +128,8 @@ fn compare(desk: &mut Desk, name: &str, asked: &Asked) -> io::Result<(String, Op
         Command::Seats { .. } if plain.out.contains(" -> wire ") => "seats played".to_owned(),
         _ => kind_of(asked, &plain),
     };
-    let case = Case { name: name.to_owned(), asked: asked.clone(), wanted: plain.clone(), hints: None };
+    let case =
+        Case { name: name.to_owned(), asked: asked.clone(), wanted: plain.clone(), hints: None, is_thorough: false };
     Ok((kind, Disagreement::of(&case, "twire and the plain programs", plain, &found, None)))
 }
 

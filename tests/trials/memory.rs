@@ -28,7 +28,7 @@ pub fn try_scarce(crew: &mut Crew, score: &mut Score, cases: &[Case]) -> io::Res
     Ok(())
 }
 
-// What is done for a case, and the number of the allocation that is refused first.
+// What is done for a case, and the number of the allocation that is refused first, where not each one is.
 struct Task<'a> {
     case: &'a Case,
     deed: Deed,
@@ -70,22 +70,22 @@ fn try_task(desk: &mut Desk, task: &Task<'_>) -> io::Result<Tried> {
     let ample = desk.run(task.deed, &task.case.asked, &Setup::WHOLE)?;
     let mut tried = Tried::default();
     tried.runs.push(judge_ample(task, &ample));
-    for refused in [Refused::One, Refused::From] {
-        refuse_in_turn(desk, task, &ample, refused, &mut tried)?;
-    }
+    let is_thorough = task.case.is_thorough;
+    refuse_in_turn(desk, task, &ample, Refused::One, is_thorough, &mut tried)?;
+    refuse_in_turn(desk, task, &ample, Refused::From, false, &mut tried)?;
     let is_tried = tried.refused > 0 || asks_for_none(task);
     tried.runs.push(told(task, is_tried, "no allocation was refused"));
     Ok(tried)
 }
 
 // Of so many allocations one is refused, and later fewer and fewer. Each case begins with another one, so that of cases that
-// allocate at the same places, as most of a command do, each of these is refused in some.
+// allocate at the same places, as most of a command do, each of these is refused in some. Of a thorough case each is, alone.
 const DISTANCE: u64 = 6;
 
 const GROWTH: u64 = 16;
 
-fn next_refused(number: u64) -> u64 {
-    number + DISTANCE + number / GROWTH
+fn next_refused(number: u64, is_thorough: bool) -> u64 {
+    number + if is_thorough { 1 } else { DISTANCE + number / GROWTH }
 }
 
 // More allocations than any case makes.
@@ -97,9 +97,11 @@ fn refuse_in_turn(
     task: &Task<'_>,
     ample: &Said,
     refused: fn(u64) -> Refused,
+    is_thorough: bool,
     tried: &mut Tried,
 ) -> io::Result<()> {
-    let mut number = task.first.min(ample.told.allocations).max(1);
+    let first = if is_thorough { 1 } else { task.first };
+    let mut number = first.min(ample.told.allocations).max(1);
     while number < MOST {
         let setup = Setup { refused: refused(number), ..Setup::WHOLE };
         let said = desk.run(task.deed, &task.case.asked, &setup)?;
@@ -109,7 +111,7 @@ fn refuse_in_turn(
         }
         tried.refused += 1;
         tried.out_of_memory += usize::from(is_memory(&said.answer.refusal));
-        number = next_refused(number);
+        number = next_refused(number, is_thorough);
     }
     tried.runs.push(told(task, false, "the allocations have no end"));
     Ok(())

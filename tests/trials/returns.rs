@@ -30,7 +30,7 @@ fn try_return(desk: &mut Desk, seed: u64, number: u64) -> io::Result<Option<Disa
     let expand = Asked { command: Command::Expand, first: brief.out.into_bytes(), second: Vec::new() };
     let found = desk.answer(&expand)?;
     let fault = asked.first.is_empty().then_some("no plan was made up");
-    let case = Case { name: format!("plan {number}"), asked, wanted: wanted.clone(), hints: None };
+    let case = Case { name: format!("plan {number}"), asked, wanted: wanted.clone(), hints: None, is_thorough: false };
     Ok(Disagreement::of(&case, "back from its brief", wanted, &found, fault))
 }
 

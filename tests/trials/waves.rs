@@ -38,7 +38,13 @@ fn read_back(desk: &mut Desk, asked: &Asked) -> io::Result<Option<Option<Disagre
     let found = desk.answer(&capture)?;
     let plain = plain::capture(&asked.first, &wave, "scl", "sda");
     let fault = (!is_of(&found, won)).then_some("it is not one transaction of those who won");
-    let case = Case { name: format!("{:?}", asked.command), asked: capture, wanted: plain.clone(), hints: None };
+    let case = Case {
+        name: format!("{:?}", asked.command),
+        asked: capture,
+        wanted: plain.clone(),
+        hints: None,
+        is_thorough: false,
+    };
     Ok(Some(Disagreement::of(&case, "waves that are read back", plain, &found, fault)))
 }
 

@@ -63,7 +63,7 @@ impl Way {
             Way::Whole => vec![run(Setup::WHOLE, Due::Wanted)],
             Way::InPieces => [1, 2, 7].map(in_pieces).to_vec(),
             Way::FailingReads => failing_reads(case),
-            Way::FailingWrites => failing_writes(case.wanted.out.len()),
+            Way::FailingWrites => failing_writes(case),
             Way::Interrupted => [1, 3, 100].map(interrupted).to_vec(),
             Way::Workers => by_workers(&case.asked.command),
             Way::Calls => by_calls(&case.asked.command),
@@ -119,12 +119,17 @@ fn failing_reads(case: &Case) -> Vec<Run> {
     list
 }
 
-// Every number of bytes below that of the report, or at most so many of them where it is long.
+// Every number of bytes below that of the report, or at most so many of them where it is longer: of a thorough case, where it
+// is a long plan or certificate.
 const MOST_ROOMS: usize = 16;
 
-fn failing_writes(report: usize) -> Vec<Run> {
+const MOST_THOROUGH_ROOMS: usize = 512;
+
+fn failing_writes(case: &Case) -> Vec<Run> {
+    let report = case.wanted.out.len();
+    let most = if case.is_thorough { MOST_THOROUGH_ROOMS } else { MOST_ROOMS };
     let mut list = Vec::new();
-    for room in (0..report).step_by(report / MOST_ROOMS + 1) {
+    for room in (0..report).step_by(report / most + 1) {
         for fails in [false, true] {
             list.push(run(Setup { room: Some(room), fails, ..Setup::WHOLE }, Due::Cut));
         }

@@ -1,7 +1,12 @@
-// Recorded wires: what neighbouring samples and events make.
+// Recorded wires: what neighbouring samples and events make, what is left without short pulses, and who explains many
+// transactions.
 
-use capture_check::{Event, Listener, Transaction, Until, Watch, What};
+use capture_check::{Event, Listener, Mark, Transaction, Until, Watch, What, explain_all};
+use plan_text::read_plan;
+use pulses::Filter;
 use std::alloc::{AllocError, Global};
+use std::test::Fail;
+use std::thread::Threads;
 use vcd_read::{Level, Sample};
 
 // The levels of SCL and SDA in two samples, `1`, `0` and `x`, and the event between them.
@@ -146,4 +151,129 @@ fn events_end_and_begin_transactions_as_the_table_says(rt: HostRuntime) {
     for (events, ended, going_on) in &HEARD {
         assert!(rt; heard(rt.alloc(), events) == (Ok(*ended), *going_on));
     }
+}
+
+// ---- short pulses
+
+// A sample: its time, and the levels of SCL and SDA.
+type Row = (u64, &'static [u8; 2]);
+
+// Samples, and what is left of them without the levels that last less than 3.
+const PULSES: [(&[Row], &[Row]); 6] = [
+    // each level lasts, SCL LOW just so long
+    (
+        &[(0, b"11"), (5, b"01"), (8, b"10"), (20, b"11")],
+        &[(0, b"11"), (5, b"01"), (8, b"10"), (20, b"11")],
+    ),
+    // one level does not
+    (
+        &[(0, b"11"), (5, b"10"), (7, b"11"), (20, b"01")],
+        &[(0, b"11"), (20, b"01")],
+    ),
+    // nor do two that follow one another, nor one that is not known
+    (
+        &[
+            (0, b"11"),
+            (5, b"10"),
+            (6, b"11"),
+            (7, b"1x"),
+            (9, b"11"),
+            (20, b"10"),
+        ],
+        &[(0, b"11"), (20, b"10")],
+    ),
+    // each line by itself: SCL changes while SDA has a short level
+    (
+        &[(0, b"11"), (5, b"10"), (6, b"00"), (7, b"01"), (20, b"11")],
+        &[(0, b"11"), (6, b"01"), (20, b"11")],
+    ),
+    // another level goes on from where it began
+    (
+        &[(0, b"11"), (5, b"1x"), (6, b"10"), (20, b"11")],
+        &[(0, b"11"), (6, b"10"), (20, b"11")],
+    ),
+    // the first level may have begun before, and the last goes on
+    (&[(0, b"11"), (1, b"10")], &[(0, b"11"), (1, b"10")]),
+];
+
+fn samples_of(alloc: Global, rows: &[Row]) -> Result<Vec<Sample>, AllocError> {
+    let mut samples = Vec::new(alloc);
+    for (time, levels) in rows {
+        samples.push(sample(*time, levels))?;
+    }
+    Ok(samples)
+}
+
+fn quiet(alloc: Global, samples: &[Sample], least: u64) -> Result<Vec<Sample>, AllocError> {
+    let mut left = Vec::new(alloc);
+    Filter::new(least).feed_to_end(samples, &mut left)?;
+    Ok(left)
+}
+
+// Whether these are left, and all of them are left of these.
+fn leaves(alloc: Global, rows: &[Row], wanted: &[Row]) -> Result<bool, AllocError> {
+    let wanted = samples_of(alloc, wanted)?;
+    let left = quiet(alloc, samples_of(alloc, rows)?.as_slice(), 3)?;
+    let again = quiet(alloc, left.as_slice(), 3)?;
+    Ok(left.as_slice() == wanted.as_slice() && again.as_slice() == wanted.as_slice())
+}
+
+#[test]
+fn short_levels_are_left_out_and_no_others(rt: HostRuntime) {
+    for (rows, wanted) in &PULSES {
+        assert!(rt; leaves(rt.alloc(), rows, wanted) == Ok(true));
+    }
+}
+
+// ---- many transactions
+
+const TWO: &str = "plan 1
+message m write 1001000 stop else stop ;
+message n write 1001000 0000000x stop else stop else stop ;
+controller a m ;
+controller b n ;
+";
+
+const MANY: usize = 3_000;
+
+// Transactions that a STOP ended after a write header to 1001000, which this bit answered.
+fn headers(alloc: Global, answer: bool, count: usize) -> Result<Vec<Transaction>, AllocError> {
+    let mut transactions = Vec::new(alloc);
+    for _ in 0..count {
+        let mut marks = Vec::new(alloc);
+        for level in &[true, false, false, true, false, false, false, false, answer] {
+            marks.push(Mark::Level(*level))?;
+        }
+        transactions.push(Transaction {
+            from: 10,
+            until: Until::Stopped(115),
+            marks,
+        })?;
+    }
+    Ok(transactions)
+}
+
+// Whether each of many such transactions has these explainers.
+fn are_explained(
+    rt: &(impl Threads + Sync),
+    alloc: Global,
+    answer: bool,
+    wanted: &[u32],
+) -> Result<bool, Fail> {
+    let plan = read_plan(alloc, TWO.as_bytes())?;
+    let transactions = headers(alloc, answer, MANY)?;
+    let lists = explain_all(rt, alloc, &plan, transactions.as_slice())?;
+    for list in &lists {
+        if list.as_slice() != wanted {
+            return Ok(false);
+        }
+    }
+    Ok(lists.len() == MANY)
+}
+
+#[test]
+fn three_thousand_copies_of_a_transaction_have_its_explainers(rt: HostRuntime) -> Result<(), Fail> {
+    assert!(rt; are_explained(&rt, rt.alloc(), false, &[0])?);
+    assert!(rt; are_explained(&rt, rt.alloc(), true, &[0, 1])?);
+    Ok(())
 }

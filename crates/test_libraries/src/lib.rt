@@ -33,6 +33,8 @@ mod queue;
 #[cfg(test)]
 mod rehearsals;
 #[cfg(test)]
+mod seats;
+#[cfg(test)]
 mod streams;
 #[cfg(test)]
 mod workers;

@@ -166,7 +166,8 @@ const PIECES: [usize; 2] = [1, 65_536];
 
 // In how many calls a reader gives this text, the one that gives none among them.
 fn calls_of(text: &str, piece: usize) -> u32 {
-    text.len().div_ceil(piece.max(1)) as u32 + 1
+    let pieces = text.len().div_ceil(piece.max(1));
+    u32::try_from(pieces).unwrap_or(u32::MAX).saturating_add(1)
 }
 
 // Whether a run whose readers fail in these calls answers Read, and has written nothing.
