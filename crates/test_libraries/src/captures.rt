@@ -244,6 +244,7 @@ fn headers(alloc: Global, answer: bool, count: usize) -> Result<Vec<Transaction>
         for level in &[true, false, false, true, false, false, false, false, answer] {
             marks.push(Mark::Level(*level))?;
         }
+        marks.push(Mark::Stop)?;
         transactions.push(Transaction {
             from: 10,
             until: Until::Stopped(115),
