@@ -24,7 +24,7 @@ ghost use Rattle.cert_check.specs.Holds.{accepted_plan};
 ghost use Rattle.cert_check.specs.Judged.{IsMemo, IsRight, Tallies};
 
 use crate::accepted::Accepted;
-use crate::answers::{AcceptError, Answer};
+use crate::answers::{AcceptError, Answer, Answered};
 use crate::faults::check_fault;
 use crate::memos::Memo;
 use crate::remembered::judge_next;
@@ -100,22 +100,28 @@ pub fn accept(alloc: Global, plan: &[u8], cert: &[u8]) -> Result<Answer, AcceptE
     judge(alloc, plan, cert)
 }
 
-/// The same for a plan that was read: it comes back accepted where `accept` answers `Safe`, and else the answer comes
-/// back. It takes memory for one proof, and for the lines that are remembered.
+/// The same for a plan that was read: it comes back accepted where `accept` answers `Safe`, and else with the answer. It takes memory for one proof, and for the lines that are remembered.
 pub fn accept_certificate(
     alloc: Global,
     plan: Plan,
     cert: &[u8],
-) -> Result<Result<Accepted, Answer>, AllocError>
+) -> Result<Result<Accepted, Answered>, AllocError>
     ensures plan { IfOk result (λ r. IfOk r (λ it. accepted_plan it ≡ plan)) }
     ensures safe { IfOk result (λ r. OnOk r (IsAnswer (plan_contents plan) cert.now Answer.Safe)) }
-    ensures not_safe { IfOk result (λ r. IfErr r (λ answer.
-        (answer ≢ Answer.Safe) × IsAnswer (plan_contents plan) cert.now answer)) }
+    ensures back { IfOk result (λ r. IfErr r (λ it. it.plan ≡ plan)) }
+    ensures not_safe { IfOk result (λ r. IfErr r (λ it.
+        (it.answer ≢ Answer.Safe) × IsAnswer (plan_contents plan) cert.now it.answer)) }
 {
     match check_certificate(alloc, &plan, cert)? {
         Answer::Safe => Ok(Ok(Accepted { plan })),
-        Answer::Unsafe => Ok(Err(Answer::Unsafe)),
-        Answer::Wrong(fault) => Ok(Err(Answer::Wrong(fault))),
+        Answer::Unsafe => Ok(Err(Answered {
+            plan,
+            answer: Answer::Unsafe,
+        })),
+        Answer::Wrong(fault) => Ok(Err(Answered {
+            plan,
+            answer: Answer::Wrong(fault),
+        })),
     }
 }
 

@@ -5,6 +5,7 @@ ghost use Rattle.cert_check.specs.Refused.{refused_with};
 ghost use Rattle.cert_check.specs.declared.answers.AcceptError.TheVariants.{NoMemory};
 
 use certificate::CertFault;
+use plan_core::Plan;
 use plan_text::PlanError;
 use std::alloc::AllocError;
 use thiserror::Error;
@@ -18,6 +19,13 @@ pub enum Answer {
     Unsafe,
     /// The certificate shows neither.
     Wrong(CertFault),
+}
+
+/// A plan, and the answer for it and a certificate.
+#[derive(Drop)]
+pub struct Answered {
+    pub plan: Plan,
+    pub answer: Answer,
 }
 
 /// Why there is no answer.

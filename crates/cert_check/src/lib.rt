@@ -25,7 +25,7 @@ mod tallies;
 
 pub use acceptance::{accept, accept_certificate, check_certificate};
 pub use accepted::Accepted;
-pub use answers::{AcceptError, Answer};
+pub use answers::{AcceptError, Answer, Answered};
 pub use certified::accept_plan;
 pub use checkers::{Checker, FeedError};
 pub use faults::check_fault;
