@@ -10,8 +10,11 @@ use Rattle.plan_core.specs.declared.plans.Plan.{Plan}
 use Rattle.plan_text.specs.Grammar.{Spells}
 use Rattle.cert_check.specs.Accepts.{IsAnswer}
 use Rattle.cert_check.proofs.AnswerLemmas.{answers_texts}
-use Rattle.cert_check.specs.declared.answers.Answer.{Answer}
+use Rattle.cert_check.specs.Holds.{accepted_plan}
+use Rattle.cert_check.specs.declared.accepted.Accepted.{Accepted}
 use Rattle.cert_check.specs.declared.answers.Answer.TheVariants.{Safe}
+use Rattle.cert_check.specs.declared.answers.Answered.{Answered}
+use Rattle.bus_bench.specs.declared.finishing.Played.{Played}
 use Rattle.plays.specs.Games.{Game}
 use Rattle.bus_bench.specs.Hands.{contents_in}
 use Rattle.bus_bench.specs.Opening.{IsOpened, IsOpenRefusal}
@@ -20,7 +23,6 @@ use Rattle.bus_bench.specs.Seats.{BenchName, game_of}
 use Rattle.plays.specs.Starters.{starters_refusal}
 use Rattle.plays.specs.declared.starters.OpenError.{OpenError}
 use Rattle.plays.specs.declared.starters.OpenError.TheVariants.{NoStarter, Unknown, SameController, Never, NoMemory}
-use Rattle.answer_lines.specs.Answers.{verify_line, answer_status}
 use Rattle.run_parts.specs.PlanTexts.{RefusesPlan, SpellsPlan}
 use Rattle.run_parts.specs.Devices.{Reader}
 use Rattle.run_parts.specs.Runs.{ReadsBoth, HaltsAtBoth, after_both}
@@ -28,10 +30,12 @@ use Rattle.run_parts.specs.RunErrors.{open_error}
 use Rattle.run_parts.specs.declared.errors.RunError.{RunError}
 use Rattle.run_parts.specs.declared.errors.RunError.TheVariants as memory
 use Rattle.run_parts.specs.declared.runs.Status.{Status}
-use Rattle.run_parts.specs.declared.runs.Status.TheVariants.{Good}
 use Rattle.bench_run.specs.Filled.{IsRehearsed}
-use Rattle.bench_run.specs.Lines.{rehearsal_lines}
-use Rattle.bench_run.specs.Rehearsals.{IsPlayedOut, Rehearsed, RefusesStarters, IsNotOpened, HaltsAtBench, at_texts, at_starters}
+use Rattle.bench_run.specs.Outcomes.{IsRunOf, IsRehearsalOf, IsRefusalOf, IsOutcomeOf, outcome_lines, outcome_status}
+use Rattle.bench_run.specs.declared.values.Rehearsal.{Rehearsal}
+use Rattle.bench_run.specs.declared.values.Outcome.{Outcome}
+use Rattle.bench_run.specs.declared.values.Outcome.TheVariants as outcome
+use Rattle.bench_run.specs.Rehearsals.{Rehearsed, RefusesStarters, IsNotOpened, HaltsAtBench, at_texts, at_starters}
 use Rattle.bench_run.proofs.WonLemmas.{won_below}
 use Rattle.bench_run.specs.Starters.{labels_in, AreNumbersOf, bits_in}
 
@@ -44,22 +48,18 @@ game_is plan starters answers bench host ss o =
     ∙ ap (λ (xs : List ℕ). made (Some plan) xs bench.answers) o.same_starters
     ∙ ap (λ (bs : List Bool). made (Some plan) starters bs) o.same_answers
 
--- the bench was opened for what the texts name, and played to its end
-pub plays_out : (plan : Plan) (text answer_text : List ℕ) (fill : Bool) (numbers slice : List ℕ) (bits bit_slice : List Bool) (bench host : BenchName) (ss : List seats.Player) (wire : List Item) (won report : List ℕ) →
-    AreNumbersOf (plan_contents plan) (labels_in text) numbers → slice ≡ numbers → bits ≡ bits_in answer_text → bit_slice ≡ bits →
-    IsOpened plan slice bit_slice bench host ss → starters_refusal (plan_contents plan) slice ≡ None →
-    IsRehearsed (game_of bench) fill wire won → report ≡ rehearsal_lines (plan_contents plan) wire won →
-    IsPlayedOut (plan_contents plan) text answer_text fill report
-plays_out plan text answer_text fill numbers slice bits bit_slice bench host ss wire won report named same bits_are same_bits opened fit rehearsed lines = record {
-  numbers = slice;
-  named = subst (AreNumbersOf (plan_contents plan) (labels_in text)) (sym same) named;
-  fit = fit;
-  wire = wire;
-  won = won;
+-- the bench was opened for what the text names, and played to its end
+pub plays_out : (plan given : Plan) (text numbers slice : List ℕ) (bits : List Bool) (fill : Bool) (bench host : BenchName) (ss : List seats.Player) (played : Played) → given ≡ plan →
+    AreNumbersOf (plan_contents given) (labels_in text) numbers → slice ≡ numbers →
+    IsOpened plan slice bits bench host ss → starters_refusal (plan_contents plan) slice ≡ None →
+    IsRehearsed (game_of bench) fill played.wire.items played.won.items →
+    IsRunOf (plan_contents plan) text bits fill numbers played
+plays_out plan given text numbers slice bits fill bench host ss played same named starts opened fit rehearsed = record {
+  named = subst (λ (p : Plan). AreNumbersOf (plan_contents p) (labels_in text) numbers) same named;
+  fit = subst (λ (xs : List ℕ). starters_refusal (plan_contents plan) xs ≡ None) starts fit;
   rehearsed =
-      let game = game_is plan slice bit_slice bench host ss opened ∙ ap (λ (bs : List Bool). made (Some plan) slice bs) (same_bits ∙ bits_are) in
-      subst (λ (g : Game). IsRehearsed g fill wire won) game rehearsed;
-  lines = lines;
+      subst (λ (g : Game). IsRehearsed g fill played.wire.items played.won.items)
+      (game_is plan slice bits bench host ss opened ∙ ap (λ (xs : List ℕ). made (Some plan) xs bits) starts) rehearsed;
 }
 
 due_is : (o : Option OpenError) (e : OpenError) → IsOpenRefusal o e → e ≢ NoMemory → o ≡ Some e
@@ -79,26 +79,51 @@ refuses_starters plan text numbers slice e named same h = by_case e (subst (λ (
     by_case Never k = (numbers, named, due_is (starters_refusal plan numbers) Never k (λ e. cc))
 
 -- the certificate proves the plan, and the bench was played
-pub rehearses : (plan accepted : Plan) (starters answers cert report : List ℕ) (fill : Bool) (status : Status) → accepted ≡ plan → IsAnswer (plan_contents plan) cert Safe →
-    IsPlayedOut (plan_contents accepted) starters answers fill report → status ≡ Good →
-    (text : List ℕ) → Spells text (plan_contents plan) → Rehearsed starters answers fill (text, cert) report status
-rehearses plan accepted starters answers cert report fill status same safe played ended text spelled = inr (record {
-  plan = plan_contents plan;
-  spelled = spelled;
-  certified = answers_texts (plan_contents plan) cert Safe safe text spelled;
-  played = subst (λ (p : Plan). IsPlayedOut (plan_contents p) starters answers fill report) same played;
-  ended = ended;
-})
+pub rehearses : (plan : Plan) (accepted : Accepted) (starters cert : List ℕ) (answers : List Bool) (fill : Bool) (it : Rehearsal) → it.accepted ≡ accepted → it.fill ≡ fill →
+    accepted_plan accepted ≡ plan → IsAnswer (plan_contents plan) cert Safe →
+    IsRunOf (plan_contents (accepted_plan accepted)) starters answers fill it.starters.items it.played →
+    (text : List ℕ) → Spells text (plan_contents plan) → IsRehearsalOf starters answers fill (text, cert) it
+rehearses plan accepted starters cert answers fill it is_it filled same safe run text spelled =
+    let plan_is : accepted_plan it.accepted ≡ plan = ap accepted_plan is_it ∙ same in
+    record {
+      spelled = subst (λ (p : Plan). Spells text (plan_contents p)) (sym plan_is) spelled;
+      certified = answers_texts (plan_contents plan) cert Safe safe text spelled;
+      filled = filled;
+      run = subst (λ (a : Accepted). IsRunOf (plan_contents (accepted_plan a)) starters answers fill it.starters.items it.played) (sym is_it) run;
+    }
 
 -- the certificate has another answer
-pub not_accepted : (plan : Plan) (starters answers cert report : List ℕ) (fill : Bool) (answer : Answer) (status : Status) → (answer ≢ Safe) × IsAnswer (plan_contents plan) cert answer →
-    report ≡ verify_line answer → status ≡ answer_status answer →
-    (text : List ℕ) → Spells text (plan_contents plan) → Rehearsed starters answers fill (text, cert) report status
-not_accepted plan starters answers cert report fill answer status right line ended text spelled = inl (record {
-  answer = answer;
+pub not_accepted : (plan : Plan) (cert : List ℕ) (it : Answered) → it.plan ≡ plan → (it.answer ≢ Safe) × IsAnswer (plan_contents plan) cert it.answer →
+    (text : List ℕ) → Spells text (plan_contents plan) → IsRefusalOf (text, cert) it
+not_accepted plan cert it same right text spelled = record {
+  spelled = subst (λ (p : Plan). Spells text (plan_contents p)) (sym same) spelled;
   other = right.0;
-  right = answers_texts (plan_contents plan) cert answer right.1 text spelled;
-  line = line;
+  right = answers_texts (plan_contents plan) cert it.answer right.1 text spelled;
+}
+
+-- what is due of what came of it
+pub due_of : (starters answers report : List ℕ) (fill : Bool) (texts : List ℕ × List ℕ) (status : Status) (it : Outcome) →
+    IsOutcomeOf starters (bits_in answers) fill texts it → report ≡ outcome_lines it → status ≡ outcome_status it → Rehearsed starters answers fill texts report status
+due_of starters answers report fill texts status (outcome.Played it) h lines ended = inr (record {
+  plan = plan_contents (accepted_plan it.accepted);
+  spelled = h.spelled;
+  certified = h.certified;
+  played = record {
+    numbers = it.starters.items;
+    named = h.run.named;
+    fit = h.run.fit;
+    wire = it.played.wire.items;
+    won = it.played.won.items;
+    rehearsed = h.run.rehearsed;
+    lines = lines;
+  };
+  ended = ended;
+})
+due_of starters answers report fill texts status (outcome.NotAccepted it) h lines ended = inl (record {
+  answer = it.answer;
+  other = h.other;
+  right = h.right;
+  line = lines;
   ended = ended;
 })
 

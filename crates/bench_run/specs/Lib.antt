@@ -3,3 +3,4 @@ pub mod Players
 pub mod Lines
 pub mod Starters
 pub mod Rehearsals
+pub mod Outcomes

@@ -6,13 +6,18 @@
 pub mod filling;
 pub mod gates;
 pub mod laws;
-mod lines;
+pub mod lines;
 mod patience;
 mod players;
+pub mod rehearsing;
 pub mod rounds;
 pub mod runs;
 mod starters;
+pub mod values;
 
 pub use filling::filled;
 pub use gates::{Gate, NoGate};
+pub use lines::{outcome_report, status_of_outcome};
+pub use rehearsing::rehearse;
 pub use runs::run_bench;
+pub use values::{Outcome, Rehearsal};

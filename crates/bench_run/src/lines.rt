@@ -1,19 +1,42 @@
-// The lines of a bench that was played.
+// The lines of what a rehearsal comes to.
 
-ghost use Rattle.std.specs.Prelude.{◌≡◌, ℕ, ◌<◌, Contains, IfOk, string_bytes};
-ghost use Rattle.plan_core.specs.Participants.{participant_count};
+ghost use Rattle.std.specs.Prelude.{◌≡◌, IfOk, string_bytes};
 ghost use Rattle.plan_core.specs.PlanContents.{plan_contents};
 ghost use Rattle.bench_run.specs.Lines.{rehearsal_lines};
+ghost use Rattle.bench_run.specs.Outcomes.{AreParticipants, HasWinners, outcome_lines, outcome_status};
 
+use crate::values::Outcome;
 use bus_bench::Played;
 use certificate::push_wire;
 use plan_core::Plan;
+use report::{Status, answer_line, status_of_answer};
 use run_parts::push_labels;
 use std::alloc::{AllocError, Global};
 
-/// The wire, and those who were live at its end.
-pub(crate) fn bench_lines(alloc: Global, plan: &Plan, played: &Played) -> Result<String, AllocError>
-    requires { (p : ℕ) → Contains played.now.won.items p → p < participant_count (plan_contents plan.now) }
+/// The wire and those who were live at its end; or the line of `run_verify`, where the plan was not accepted.
+pub fn outcome_report(alloc: Global, outcome: &Outcome) -> Result<String, AllocError>
+    requires { HasWinners outcome.now }
+    ensures { IfOk result (λ lines. string_bytes lines ≡ outcome_lines outcome.now) }
+{
+    match outcome {
+        Outcome::Played(it) => played_lines(alloc, it.accepted.plan(), &it.played),
+        Outcome::NotAccepted(it) => answer_line(alloc, it.answer),
+    }
+}
+
+/// `Good` where the plan was accepted, and else the status of `run_verify`.
+pub fn status_of_outcome(outcome: &Outcome) -> Status
+    ensures { result ≡ outcome_status outcome.now }
+{
+    match outcome {
+        Outcome::Played(_) => Status::Good,
+        Outcome::NotAccepted(it) => status_of_answer(it.answer),
+    }
+}
+
+// The wire, and those who were live at its end.
+fn played_lines(alloc: Global, plan: &Plan, played: &Played) -> Result<String, AllocError>
+    requires { AreParticipants (plan_contents plan.now) played.now.won.items }
     ensures { IfOk result (λ lines. string_bytes lines ≡
         rehearsal_lines (plan_contents plan.now) played.now.wire.items played.now.won.items) }
 {

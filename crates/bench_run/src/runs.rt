@@ -1,19 +1,15 @@
-// The run that rehearses a plan.
+// The run that rehearses a plan: what it comes to, and the report on it.
 
 ghost use Rattle.std.specs.Prelude.{◌≡◌, ◌⊎◌, ℕ, List, IfOk, IfErr, string_bytes};
 ghost use Rattle.plan_core.specs.PlanContents.{plan_contents};
 ghost use Rattle.plan_text.specs.Grammar.{Spells};
-ghost use Rattle.cert_check.specs.Holds.{accepted_plan};
 ghost use Rattle.run_parts.specs.Runs.{ReadsBoth, Reports, Stops};
-ghost use Rattle.bench_run.specs.Rehearsals.{Rehearsed, IsPlayedOut, RefusesStarters, IsNotOpened, HaltsAtBench};
+ghost use Rattle.bench_run.specs.Rehearsals.{Rehearsed, IsNotOpened, HaltsAtBench};
 
 use crate::gates::Gate;
-use crate::lines::bench_lines;
-use crate::rounds::play_all;
-use crate::starters::{bits_of, numbers_of};
-use answer_lines::{answer_line, status_of_answer};
-use bus_bench::open_bench;
-use cert_check::{Accepted, accept_certificate};
+use crate::lines::{outcome_report, status_of_outcome};
+use crate::rehearsing::rehearse;
+use crate::starters::bits_of;
 use plan_core::Plan;
 use plan_text::read_plan;
 use run_parts::devices::reading::READS;
@@ -56,7 +52,7 @@ pub fn run_bench<R: Threads + Wait + Clock + Sync, I: Input, J: Input, O: Output
     let text = read_within(alloc, plan, READS)?;
     let plan = read_plan(alloc, text.as_slice())?;
     let cert = read_within(alloc, cert, READS)?;
-    let (report, status) = rehearse(
+    let (report, status) = rehearsed(
         rt,
         alloc,
         plan,
@@ -70,7 +66,7 @@ pub fn run_bench<R: Threads + Wait + Clock + Sync, I: Input, J: Input, O: Output
 }
 
 // The report on a plan that was read, and on the bytes of a certificate.
-fn rehearse<R: Threads + Wait + Clock + Sync, G: Gate + Sync>(
+fn rehearsed<R: Threads + Wait + Clock + Sync, G: Gate + Sync>(
     rt: &R,
     alloc: Global,
     plan: Plan,
@@ -85,38 +81,8 @@ fn rehearse<R: Threads + Wait + Clock + Sync, G: Gate + Sync>(
     ensures refused { IfErr result (λ error. (text : List ℕ) → Spells text (plan_contents plan) →
         (error ≡ RunError.NoMemory) ⊎ IsNotOpened starters.now (text, cert.now) error) }
 {
-    match accept_certificate(alloc, plan, cert)? {
-        Ok(accepted) => {
-            let report = bench_report(rt, alloc, &accepted, starters, fill, answers, gate)?;
-            Ok((report, Status::Good))
-        }
-        Err(answer) => Ok((answer_line(alloc, answer)?, status_of_answer(answer))),
-    }
-}
-
-// The report on a bench of an accepted plan.
-fn bench_report<R: Threads + Wait + Clock + Sync, G: Gate + Sync>(
-    rt: &R,
-    alloc: Global,
-    accepted: &Accepted,
-    starters: &str,
-    fill: bool,
-    answers: &str,
-    gate: &G,
-) -> Result<String, RunError>
-    ensures report { IfOk result (λ r. IsPlayedOut (plan_contents (accepted_plan accepted.now))
-        starters.now answers.now fill (string_bytes r)) }
-    ensures refused { IfErr result (RefusesStarters (plan_contents (accepted_plan accepted.now)) starters.now) }
-{
-    let plan = accepted.plan();
-    let starters = numbers_of(alloc, plan, starters)?;
-    let answers = bits_of(alloc, answers)?;
-    let (bench, host, seats) = open_bench(
-        alloc,
-        accepted,
-        starters.as_slice(),
-        answers.as_slice(),
-    )?;
-    let played = play_all(rt, alloc, bench, host, seats, fill, gate)?;
-    Ok(bench_lines(alloc, plan, &played)?)
+    let bits = bits_of(alloc, answers)?;
+    let outcome = rehearse(rt, alloc, plan, cert, starters, fill, bits.as_slice(), gate)?;
+    let report = outcome_report(alloc, &outcome)?;
+    Ok((report, status_of_outcome(&outcome)))
 }

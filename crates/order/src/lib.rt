@@ -1,12 +1,15 @@
-//! Who wins arbitration, as a report: a line for each pair of a plan, and one for each participant.
+//! Who wins arbitration: a value for each pair of a plan, and its lines.
 //!
-//! What a line says of a pair is the answer of `arbitration`, whose contract says what it means. `known` keeps it for each two
-//! senders, `lines` has the words, `totals` counts for each participant.
+//! What is said of a pair is the answer of `arbitration`, whose contract says what it means. `known` keeps it for each two
+//! senders, `orders` has the value, `totals` counts for each participant, and `lines` has the words.
 #![tactic(auto)]
 
 mod known;
 mod lines;
-mod runs;
+mod orders;
 mod totals;
 
-pub use runs::run_order;
+pub use arbitration::{Outcomes, Slots};
+pub use lines::order_report;
+pub use orders::{Order, order_of};
+pub use totals::Total;

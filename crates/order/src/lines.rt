@@ -1,40 +1,31 @@
 // The lines of the report.
 
-use crate::known::Known;
-use crate::totals::{Total, Totals};
-use arbitration::{Outcomes, Slots, laid_out};
+use crate::orders::Order;
+use crate::totals::Total;
+use arbitration::{Outcomes, Slots};
 use plan_core::Plan;
 use std::alloc::{AllocError, Global};
-use verdicts::Faults;
 
-/// A line for each pair, in the order of the pairs, and then one for each participant that is in a pair.
-pub(crate) fn order_report(
-    alloc: Global,
-    plan: &Plan,
-    faults: &Faults,
-) -> Result<String, AllocError> {
+/// A line for each pair of the plan, in the order of the pairs, and then one for each participant that can win or lose.
+///
+/// # Errors
+///
+/// Where an allocation fails.
+pub fn order_report(alloc: Global, plan: &Plan, order: &Order) -> Result<String, AllocError> {
     let labels = labels_of(alloc, plan)?;
-    let laid = laid_out(alloc, plan)?;
-    let mut known = Known::new(alloc, plan)?;
-    let mut totals = Totals::new(alloc, plan.participants())?;
     let mut report = String::new(alloc);
-    let mut met = 0usize;
-    for i in 0..plan.pair_count() {
-        let (x, y) = plan.pair(i);
-        let names = Names {
-            pair: i,
-            first: label_at(&labels, x),
-            second: label_at(&labels, y),
-        };
-        if is_next(faults, met, i) {
-            met = met.saturating_add(1);
-            push_unsafe(&mut report, names)?;
-        } else if let Some(outcomes) = known.of(plan, &laid, x, y) {
-            totals.count(x, y, &outcomes);
-            push_outcomes(&mut report, names, &outcomes)?;
+    for pair in 0..plan.pair_count() {
+        if let Some(outcomes) = order.ways.get(pair as usize) {
+            let (x, y) = plan.pair(pair);
+            let names = Names {
+                pair,
+                first: label_at(&labels, x),
+                second: label_at(&labels, y),
+            };
+            push_pair(&mut report, names, outcomes)?;
         }
     }
-    push_totals(&mut report, &labels, totals.all())?;
+    push_totals(&mut report, &labels, &order.totals)?;
     Ok(report)
 }
 
@@ -48,11 +39,6 @@ fn labels_of(alloc: Global, plan: &Plan) -> Result<Vec<String>, AllocError> {
 
 fn label_at(labels: &[String], p: u32) -> &str {
     labels.get(p as usize).map_or("", |label| label.as_str())
-}
-
-// Whether this pair is the next one of those that are not safe.
-fn is_next(faults: &Faults, met: usize, pair: u32) -> bool {
-    met < faults.len() && faults.get(met).0 == pair
 }
 
 // A pair with the labels of its two participants.
@@ -72,9 +58,16 @@ fn push_names(report: &mut String, names: Names<'_>) -> Result<(), AllocError> {
     write!(report, "pair {pair} {first} {second}:")
 }
 
-fn push_unsafe(report: &mut String, names: Names<'_>) -> Result<(), AllocError> {
+fn push_pair(
+    report: &mut String,
+    names: Names<'_>,
+    outcomes: &Option<Outcomes>,
+) -> Result<(), AllocError> {
     push_names(report, names)?;
-    report.push_str(" unsafe\n")
+    match outcomes {
+        Some(outcomes) => push_outcomes(report, names, outcomes),
+        None => report.push_str(" unsafe\n"),
+    }
 }
 
 // In which slots both end, the first wins, the second wins, where they can.
@@ -83,7 +76,6 @@ fn push_outcomes(
     names: Names<'_>,
     outcomes: &Outcomes,
 ) -> Result<(), AllocError> {
-    push_names(report, names)?;
     let before = push_way(report, " ", "both", outcomes.both)?;
     let before = push_way(report, before, names.first, outcomes.first)?;
     push_way(report, before, names.second, outcomes.second)?;
@@ -124,7 +116,7 @@ fn push_totals(report: &mut String, labels: &[String], totals: &[Total]) -> Resu
             may_win,
             loses,
         } = *total;
-        if wins > 0 || may_win > 0 || loses > 0 {
+        if !total.is_empty() {
             writeln!(
                 report,
                 "total {label}: wins {wins}, may win {may_win}, loses {loses}"

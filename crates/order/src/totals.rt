@@ -5,10 +5,17 @@ use std::alloc::{AllocError, Global};
 
 /// In how many pairs a participant is the only one that can win, in how many either can, and in how many only the other.
 #[derive(Clone, Copy)]
-pub(crate) struct Total {
-    pub(crate) wins: u32,
-    pub(crate) may_win: u32,
-    pub(crate) loses: u32,
+pub struct Total {
+    pub wins: u32,
+    pub may_win: u32,
+    pub loses: u32,
+}
+
+impl Total {
+    /// Whether the participant is in no pair in which somebody can win alone.
+    pub fn is_empty(&self) -> bool {
+        self.wins == 0 && self.may_win == 0 && self.loses == 0
+    }
 }
 
 /// The totals of all participants, by their numbers.
@@ -31,7 +38,10 @@ impl Totals {
     }
 
     /// One more pair. Where the two can only end together, nobody wins and nobody loses.
-    pub(crate) fn count(&mut self, x: u32, y: u32, outcomes: &Outcomes) {
+    pub(crate) fn count(&mut self, x: u32, y: u32, outcomes: Option<Outcomes>) {
+        let Some(outcomes) = outcomes else {
+            return;
+        };
         match (outcomes.first.is_some(), outcomes.second.is_some()) {
             (true, true) => {
                 self.may_win(x);
@@ -59,7 +69,7 @@ impl Totals {
     }
 
     /// The totals, in the order of the participants' numbers.
-    pub(crate) fn all(&self) -> &[Total] {
-        self.totals.as_slice()
+    pub(crate) fn into_all(self) -> Vec<Total> {
+        self.totals
     }
 }

@@ -16,7 +16,7 @@ use Rattle.plan_text.specs.Grammar.{Spells}
 use Rattle.verdicts.specs.Certificates.{certificate_for}
 use Rattle.verdicts.specs.Verdicts.{AreVerdicts}
 use Rattle.report.specs.Certificates.{Certified, Verified}
-use Rattle.answer_lines.specs.Answers.{answer_status, verify_line}
+use Rattle.report.specs.Answers.{answer_status, verify_line}
 use Rattle.report.specs.Checks.{Judges}
 use Rattle.run_parts.specs.PlanTexts.{SpellsPlan}
 use Rattle.run_parts.specs.declared.runs.Status.{Status}

@@ -11,7 +11,7 @@ use Rattle.verdicts.specs.Certificates.{certificate_for}
 use Rattle.verdicts.specs.Verdicts.{AreVerdicts}
 use Rattle.report.specs.Checks.{Judges}
 use Rattle.run_parts.specs.declared.runs.Status.{Status}
-use Rattle.answer_lines.specs.Answers.{answer_status, verify_line}
+use Rattle.report.specs.Answers.{answer_status, verify_line}
 
 -- the text spells a plan, within the limits as every plan is; the report is the text of the certificate for its verdicts, and
 -- the status judges of the plan

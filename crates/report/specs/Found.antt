@@ -2,9 +2,9 @@
 use Rattle.std.specs.Prelude.{ℕ, List}
 use Rattle.plan_core.specs.PlanContents.{plan_contents}
 use Rattle.plan_text.specs.Grammar.{Spells}
-use Rattle.report.specs.declared.found.Answered.{Answered}
 use Rattle.report.specs.declared.found.Checked as value
 use Rattle.cert_check.specs.Accepts.{AnswersBytes}
+use Rattle.cert_check.specs.declared.answers.Answered.{Answered}
 use Rattle.run_parts.specs.Runs.{Readings}
 use Rattle.verdicts.specs.Faults.{AreFaults, fault_list}
 

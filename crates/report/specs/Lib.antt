@@ -4,6 +4,7 @@ pub mod Lines
 pub mod FaultLines
 pub mod Checks
 pub mod FaultyStreams
+pub mod Answers
 pub mod Certificates
 pub mod Answering
 pub mod Spellings

@@ -3,17 +3,17 @@
 ghost use Rattle.std.specs.Prelude.{◌≡◌, IfOk, IfErr, string_bytes};
 ghost use Rattle.report.specs.Certificates.{Certified, Verified};
 ghost use Rattle.report.specs.Found.{Finds, AnswerOf};
-ghost use Rattle.answer_lines.specs.Answers.{verify_line, answer_status};
+ghost use Rattle.report.specs.Answers.{verify_line, answer_status};
 ghost use Rattle.run_parts.specs.Devices.{by_parts};
 ghost use Rattle.run_parts.specs.PlanTexts.{RefusesPlan, SpellsPlan};
 ghost use Rattle.run_parts.specs.Runs.{ReadsText, HaltsAtText, ReadsBoth, HaltsAtBoth, Reports, Stops};
 
 use crate::answering::read_answer;
+use crate::answers::{answer_line, status_of_answer};
 use crate::blocks::{BLOCK, write_in_blocks};
 use crate::checks::status_of;
 use crate::finding::find_plan;
-use crate::found::Answered;
-use answer_lines::{answer_line, status_of_answer};
+use cert_check::Answered;
 use plan_text::read_plan;
 use run_parts::devices::reading::READS;
 use run_parts::{Input, Output, RunError, Status, read_within, write_lines};

@@ -1,9 +1,8 @@
-// What runs find.
+// What a check finds.
 
 ghost use Rattle.plan_core.specs.PlanContents.{plan_contents};
 ghost use Rattle.verdicts.specs.Faults.{AreFaults, fault_list};
 
-use cert_check::Answer;
 use plan_core::Plan;
 use verdicts::Faults;
 
@@ -13,11 +12,4 @@ pub struct Checked {
     pub plan: Plan,
     pub faults: Faults,
     ghost right: { ∥ AreFaults (plan_contents plan) (fault_list faults) ∥₁ },
-}
-
-/// A plan, and the answer for it and a certificate.
-#[derive(Drop)]
-pub struct Answered {
-    pub plan: Plan,
-    pub answer: Answer,
 }

@@ -1,8 +1,7 @@
-//! The answer to a certificate, as a line and as a status.
-#![tactic(auto)]
+// The answer to a certificate, as a line and as a status.
 
 ghost use Rattle.std.specs.Prelude.{◌≡◌, IfOk, string_bytes};
-ghost use Rattle.answer_lines.specs.Answers.{verify_line, answer_status};
+ghost use Rattle.report.specs.Answers.{verify_line, answer_status};
 
 use cert_check::Answer;
 use certificate::CertFault;

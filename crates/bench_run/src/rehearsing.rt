@@ -1,0 +1,79 @@
+// What comes of a plan and the bytes of a certificate.
+
+ghost use Rattle.std.specs.Prelude.{◌≡◌, ◌⊎◌, ℕ, List, IfOk, IfErr};
+ghost use Rattle.plan_core.specs.PlanContents.{plan_contents};
+ghost use Rattle.plan_text.specs.Grammar.{Spells};
+ghost use Rattle.cert_check.specs.Holds.{accepted_plan};
+ghost use Rattle.bench_run.specs.Outcomes.{AreParticipants, HasWinners, IsOutcomeOf, IsRunOf};
+ghost use Rattle.bench_run.specs.Rehearsals.{RefusesStarters, IsNotOpened};
+
+use crate::gates::Gate;
+use crate::rounds::play_all;
+use crate::starters::numbers_of;
+use crate::values::{Outcome, Rehearsal};
+use bus_bench::{Played, open_bench};
+use cert_check::{Accepted, accept_certificate};
+use plan_core::Plan;
+use run_parts::RunError;
+use std::alloc::Global;
+use std::sync::Wait;
+use std::thread::Threads;
+use std::time::Clock;
+
+/// Plays the starters of the plan on a bench, each in a thread of its own, where the certificate proves that the plan is
+/// safe. `starters` has their labels, which commas part; `fill` is what they send for a bit that is open; `answers` has the
+/// bits of the targets by slot, and past its end they are 1. Each player calls the gate.
+///
+/// # Errors
+///
+/// `Bench` with the refusal of the starters of an accepted plan. `NoMemory` where an allocation fails.
+pub fn rehearse<R: Threads + Wait + Clock + Sync, G: Gate + Sync>(
+    rt: &R,
+    alloc: Global,
+    plan: Plan,
+    cert: &[u8],
+    starters: &str,
+    fill: bool,
+    answers: &[bool],
+    gate: &G,
+) -> Result<Outcome, RunError>
+    ensures found { IfOk result (λ it. (text : List ℕ) → Spells text (plan_contents plan) →
+        IsOutcomeOf starters.now answers.now fill (text, cert.now) it) }
+    ensures winners { IfOk result HasWinners }
+    ensures refused { IfErr result (λ error. (text : List ℕ) → Spells text (plan_contents plan) →
+        (error ≡ RunError.NoMemory) ⊎ IsNotOpened starters.now (text, cert.now) error) }
+{
+    match accept_certificate(alloc, plan, cert)? {
+        Ok(accepted) => {
+            let (numbers, played) = play(rt, alloc, &accepted, starters, fill, answers, gate)?;
+            Ok(Outcome::Played(Rehearsal {
+                accepted,
+                starters: numbers,
+                fill,
+                played,
+            }))
+        }
+        Err(answered) => Ok(Outcome::NotAccepted(answered)),
+    }
+}
+
+// The starters of an accepted plan, and how they played.
+fn play<R: Threads + Wait + Clock + Sync, G: Gate + Sync>(
+    rt: &R,
+    alloc: Global,
+    accepted: &Accepted,
+    starters: &str,
+    fill: bool,
+    answers: &[bool],
+    gate: &G,
+) -> Result<(Vec<u32>, Played), RunError>
+    ensures run { IfOk result (λ r. IsRunOf (plan_contents (accepted_plan accepted.now))
+        starters.now answers.now fill r.0.items r.1) }
+    ensures winners { IfOk result (λ r. AreParticipants (plan_contents (accepted_plan accepted.now)) r.1.won.items) }
+    ensures refused { IfErr result (RefusesStarters (plan_contents (accepted_plan accepted.now)) starters.now) }
+{
+    let numbers = numbers_of(alloc, accepted.plan(), starters)?;
+    let (bench, host, seats) = open_bench(alloc, accepted, numbers.as_slice(), answers)?;
+    let played = play_all(rt, alloc, bench, host, seats, fill, gate)?;
+    Ok((numbers, played))
+}
