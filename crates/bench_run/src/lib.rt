@@ -17,7 +17,7 @@ pub mod values;
 
 pub use filling::filled;
 pub use gates::{Gate, NoGate};
-pub use lines::{outcome_report, status_of_outcome};
+pub use lines::{outcome_report, push_wire_line, push_won_line, status_of_outcome};
 pub use rehearsing::rehearse;
 pub use runs::run_bench;
 pub use values::{Outcome, Rehearsal};

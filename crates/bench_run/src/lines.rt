@@ -1,8 +1,8 @@
 // The lines of what a rehearsal comes to.
 
-ghost use Rattle.std.specs.Prelude.{◌≡◌, IfOk, string_bytes};
+ghost use Rattle.std.specs.Prelude.{◌≡◌, ◌++◌, IfOk, OnOk, string_bytes};
 ghost use Rattle.plan_core.specs.PlanContents.{plan_contents};
-ghost use Rattle.bench_run.specs.Lines.{rehearsal_lines};
+ghost use Rattle.bench_run.specs.Lines.{rehearsal_lines, wire_line, won_line};
 ghost use Rattle.bench_run.specs.Outcomes.{AreParticipants, HasWinners, outcome_lines, outcome_status};
 
 use crate::values::Outcome;
@@ -40,10 +40,35 @@ fn played_lines(alloc: Global, plan: &Plan, played: &Played) -> Result<String, A
     ensures { IfOk result (λ lines. string_bytes lines ≡
         rehearsal_lines (plan_contents plan.now) played.now.wire.items played.now.won.items) }
 {
-    let mut lines = String::from_str(alloc, "wire ")?;
-    push_wire(&mut lines, &played.wire)?;
-    lines.push_str("\nwon")?;
-    push_labels(alloc, &mut lines, plan, &played.won)?;
-    lines.push_str("\n")?;
+    let mut lines = String::new(alloc);
+    push_wire_line(&mut lines, played)?;
+    push_won_line(alloc, &mut lines, plan, played)?;
     Ok(lines)
+}
+
+/// Adds the line of the wire of a run: `wire WIRE`.
+pub fn push_wire_line(lines: &mut String, played: &Played) -> Result<(), AllocError>
+    ensures { OnOk result (string_bytes lines.new ≡ string_bytes lines.old ++ wire_line played.now.wire.items) }
+{
+    lines.push_str("wire ")?;
+    push_wire(lines, &played.wire)?;
+    lines.push_str("\n")?;
+    Ok(())
+}
+
+/// Adds the line of those who were live at its end: `won LABEL LABEL ..`.
+pub fn push_won_line(
+    alloc: Global,
+    lines: &mut String,
+    plan: &Plan,
+    played: &Played,
+) -> Result<(), AllocError>
+    requires { AreParticipants (plan_contents plan.now) played.now.won.items }
+    ensures { OnOk result (string_bytes lines.new ≡
+        string_bytes lines.old ++ won_line (plan_contents plan.now) played.now.won.items) }
+{
+    lines.push_str("won")?;
+    push_labels(alloc, lines, plan, &played.won)?;
+    lines.push_str("\n")?;
+    Ok(())
 }

@@ -1,7 +1,6 @@
 // Lines below a line of a report: each begins with four spaces, and one that would be too long is broken between words.
 
 use growing_text::{COLUMNS, Lines, Text};
-use std::alloc::AllocError;
 
 // What stands before the space of the first word of a line, and the same with the columns of a title, of which there are at
 // most 24.
@@ -53,17 +52,9 @@ pub(crate) fn say_all(lines: &mut Lines, words: Text) {
 
 /// A title, and in the columns after so many these words on one line: where there is no room for them, `..` stands for those
 /// after the first few.
-pub(crate) fn row(
-    lines: &mut Lines,
-    title: &str,
-    columns: usize,
-    words: Result<String, AllocError>,
-) {
+pub(crate) fn row(lines: &mut Lines, title: &str, columns: usize, words: &str) {
     begin_titled(lines, title, columns);
-    match words {
-        Ok(words) => push_row(lines, words.as_str(), room_after(columns)),
-        Err(_) => lines.cut(),
-    }
+    push_row(lines, words, room_after(columns));
     lines.end();
 }
 

@@ -1,69 +1,24 @@
-// Below the wire of a rehearsal.
+// Lines below the wire of a rehearsal.
 
 use crate::below::{begin_titled, pad, room_after};
 use crate::cells::{Cell, cells_of};
-use crate::sending::pass;
-use crate::wires::items_of;
+use crate::tracks::Track;
 use growing_text::{Lines, Text};
-use message_tree::{Bit, Item};
-use places::{Offered, Place};
-use plan_core::Plan;
+use message_tree::Item;
 use std::alloc::{AllocError, Global};
 
 // How many columns the labels of rows have at most; a longer one has a line of its own.
 const LABELS: usize = 22;
 
 /// What is said below the line `wire WIRE` in the report of a rehearsal: the slots in which bytes begin, the bytes, the
-/// wire, and for each starter what it puts in each slot, with `.` where it listens, up to the slot in which it loses. `fill`
-/// is what is sent for an open bit.
-pub fn below_wire(
-    alloc: Global,
-    plan: &Plan,
-    starters: &str,
-    fill: bool,
-    wire: &str,
-) -> Result<String, AllocError> {
-    let wire = items_of(alloc, wire)?;
-    let mut rows = rows_of(alloc, plan, starters)?;
-    below_rows(alloc, wire.as_slice(), fill, rows.as_mut_slice())
-}
-
-// A starter, on its way along the wire.
-#[derive(Clone, Copy)]
-struct Row<'a> {
-    label: &'a str,
-    place: Place<'a>,
-    // the slot in which it has lost
-    lost: Option<usize>,
-}
-
-fn rows_of<'a>(
-    alloc: Global,
-    plan: &'a Plan,
-    starters: &'a str,
-) -> Result<Vec<Row<'a>>, AllocError> {
-    let mut rows = Vec::new(alloc);
-    for label in starters.split(',') {
-        if let Some(p) = plan.find(label) {
-            rows.push(Row {
-                label,
-                place: Place::start(plan.sends(p)),
-                lost: None,
-            })?;
-        }
-    }
-    Ok(rows)
-}
-
-// The blocks of the wire, one below the other.
-fn below_rows(
+/// wire, and for each starter what it puts in each slot, with `.` where it listens, up to the slot in which it loses.
+pub(crate) fn below_wire(
     alloc: Global,
     wire: &[Item],
-    fill: bool,
-    rows: &mut [Row<'_>],
+    tracks: &[Track],
 ) -> Result<String, AllocError> {
     let cells = cells_of(alloc, wire)?;
-    let columns = columns_for(rows);
+    let columns = columns_for(tracks);
     let mut lines = Lines::new(alloc);
     let mut rest = cells.as_slice();
     for _ in 0..cells.len() {
@@ -75,21 +30,18 @@ fn below_rows(
         tell_slots(alloc, &mut lines, columns, block);
         tell_bytes(alloc, &mut lines, columns, wire, block);
         tell_wire(alloc, &mut lines, columns, wire, block);
-        for row in rows.iter_mut() {
-            if row.lost.is_none() {
-                row.tell(alloc, &mut lines, columns, wire, fill, block);
-                row.tell_end(&mut lines, after.is_empty());
-            }
+        for track in tracks {
+            tell_track(alloc, &mut lines, columns, track, block, after.is_empty());
         }
         rest = after;
     }
     lines.finish()
 }
 
-fn columns_for(rows: &[Row<'_>]) -> usize {
+fn columns_for(tracks: &[Track]) -> usize {
     let mut longest = 0usize;
-    for row in rows {
-        longest = longest.max(row.label.len());
+    for track in tracks {
+        longest = longest.max(track.label.len());
     }
     longest.saturating_add(2).clamp(6, LABELS)
 }
@@ -150,68 +102,51 @@ fn tell_wire(alloc: Global, lines: &mut Lines, columns: usize, wire: &[Item], bl
     lines.end();
 }
 
-impl Row<'_> {
-    // Begins the line of what the starter puts in the slots of the block, up to the one in which it loses.
-    fn tell(
-        &mut self,
-        alloc: Global,
-        lines: &mut Lines,
-        columns: usize,
-        wire: &[Item],
-        fill: bool,
-        block: &[Cell],
-    ) {
-        let mut line = Text::new(alloc);
-        let mut column = 0usize;
-        for cell in block {
-            if self.lost.is_none() {
-                pad(&mut line, column);
-                self.push_to(&mut line, cell.from, cell.items(wire), fill);
-            }
-            column = column.saturating_add(cell.width()).saturating_add(1);
+// The line of what a starter puts in the slots of the block, up to the one in which it loses. There is none where it has lost
+// before.
+fn tell_track(
+    alloc: Global,
+    lines: &mut Lines,
+    columns: usize,
+    track: &Track,
+    block: &[Cell],
+    is_last: bool,
+) {
+    let mut line = Text::new(alloc);
+    let mut column = 0usize;
+    for cell in block {
+        let puts = puts_in(track, cell);
+        if !puts.is_empty() {
+            pad(&mut line, column);
+            line.push(puts);
         }
-        begin_titled(lines, self.label, columns);
-        lines.words_made(line.finish());
+        column = column.saturating_add(cell.width()).saturating_add(1);
     }
-
-    // What it puts while the wire shows these items from a slot on.
-    fn push_to(&mut self, line: &mut Text, from: usize, items: &[Item], fill: bool) {
-        let mut slot = from;
-        for item in items {
-            let put = put_for(self.place.offered(), fill);
-            match put {
-                Some(put) => line.push_char(put.symbol()),
-                None => line.push("."),
-            }
-            if !pass(&mut self.place, *item) || put.unwrap_or(*item) != *item {
-                self.lost = Some(slot);
-                return;
-            }
-            slot = slot.saturating_add(1);
-        }
+    if line.is_empty() {
+        return;
     }
-
-    // Ends the line.
-    fn tell_end(&self, lines: &mut Lines, is_last: bool) {
-        if let Some(slot) = self.lost {
-            lines.words(" lost in slot");
-            lines.number(slot as u64, "");
-        } else if is_last {
-            lines.words(" won");
-        }
-        lines.end();
-    }
+    begin_titled(lines, track.label.as_str(), columns);
+    lines.words_made(line.finish());
+    tell_fate(lines, track, block, is_last);
+    lines.end();
 }
 
-// What is put where this is offered, and None where the starter listens.
-fn put_for(offered: Offered, fill: bool) -> Option<Item> {
-    match offered {
-        Offered::Bit(Bit::Zero) => Some(Item::Sent(false)),
-        Offered::Bit(Bit::One) => Some(Item::Sent(true)),
-        Offered::Bit(Bit::Either) => Some(Item::Sent(fill)),
-        Offered::Again => Some(Item::Again),
-        Offered::Stop => Some(Item::Stop),
-        Offered::Claim => Some(Item::Claim),
-        Offered::Listen | Offered::Nothing => None,
+// What is put in the slots of the cell.
+fn puts_in<'a>(track: &'a Track, cell: &Cell) -> &'a str {
+    track
+        .puts
+        .get(cell.from..cell.end().min(track.puts.len()))
+        .unwrap_or("")
+}
+
+// That the starter loses in this block, or wins at its end.
+fn tell_fate(lines: &mut Lines, track: &Track, block: &[Cell], is_last: bool) {
+    match (track.lost, block.last()) {
+        (Some(slot), Some(last)) if slot < last.end() => {
+            lines.words(" lost in slot");
+            lines.number(slot as u64, "");
+        }
+        (None, _) if is_last => lines.words(" won"),
+        _ => {}
     }
 }

@@ -1,6 +1,5 @@
 // Where a line of a certificate does not prove its pair.
 
-use crate::meeting::Pair;
 use crate::sending::{pass, pass_own};
 use message_tree::{Bit, Item};
 use places::{Offered, Place};
@@ -15,27 +14,46 @@ const BYTES: u32 = 255;
 
 /// A word that does not prove what it stands for, by its number, and why.
 #[derive(Clone, Copy)]
-pub(crate) struct Break {
-    pub(crate) word: u32,
-    pub(crate) slot: u32,
-    pub(crate) reason: Reason,
+pub struct Break {
+    pub word: u32,
+    pub slot: u32,
+    pub reason: Reason,
 }
 
 /// Why a word does not prove what it stands for.
-pub(crate) type Reason = &'static str;
+#[derive(Clone, Copy)]
+pub enum Reason {
+    /// No bit of this number is known in both and different.
+    NoSplit,
+    /// The two do not both write a byte.
+    NotBothWrite,
+    /// The two do not both read.
+    NotBothRead,
+    /// The two do not both send a repeated START.
+    NotBothRestart,
+    /// The two do not both send a STOP.
+    NotBothStop,
+    /// Both may read the same number of bytes.
+    ReadsMayMeet,
+    /// The two never read the same number of bytes.
+    ReadsNeverMeet,
+    /// No proof has such a word there.
+    UnknownWord,
+}
 
 /// The first such word of the proof of a pair. None where each of its words proves something, and further ones are wanting.
 pub(crate) fn break_of(
     alloc: Global,
     plan: &Plan,
-    pair: Pair,
+    pair: (u32, u32),
     line: &[u8],
 ) -> Result<Option<Break>, AllocError> {
     let mut left = Left::new(alloc);
-    if pair.first < plan.participants() && pair.second < plan.participants() {
+    let (first, second) = pair;
+    if first < plan.participants() && second < plan.participants() {
         left.push(Both {
-            first: Place::start(plan.sends(pair.first)),
-            second: Place::start(plan.sends(pair.second)),
+            first: Place::start(plan.sends(first)),
+            second: Place::start(plan.sends(second)),
             slot: 0,
             are_reads: false,
         });
@@ -98,31 +116,19 @@ fn unproved<'a>(left: &mut Left<'a>, both: &mut Both<'a>, word: &[u8]) -> Option
         let mut ended = *both;
         let is_ended = ended.pass_reads();
         match word {
-            b"R" if is_ended => return Some("both may read the same number of bytes"),
+            b"R" if is_ended => return Some(Reason::ReadsMayMeet),
             b"R" => return None,
-            _ if !is_ended => return Some("the two never read the same number of bytes"),
+            _ if !is_ended => return Some(Reason::ReadsNeverMeet),
             _ => *both = ended,
         }
     }
     let (is_proved, reason) = match word {
-        b"B" => (
-            push_answers(left, *both, false),
-            "the two do not both write a byte there",
-        ),
-        b"D" => (
-            push_answers(left, *both, true),
-            "the two do not both read there",
-        ),
-        b"S" => (
-            push_frames(left, *both),
-            "the two do not both send a repeated START there",
-        ),
-        b"." => (both.both_stop(), "the two do not both send a STOP there"),
-        [b'P', digit] => (
-            both.differ(digit.wrapping_sub(b'0')),
-            "no bit of this number is known in both and different there",
-        ),
-        _ => (false, "a proof has no such word there"),
+        b"B" => (push_answers(left, *both, false), Reason::NotBothWrite),
+        b"D" => (push_answers(left, *both, true), Reason::NotBothRead),
+        b"S" => (push_frames(left, *both), Reason::NotBothRestart),
+        b"." => (both.both_stop(), Reason::NotBothStop),
+        [b'P', digit] => (both.differ(digit.wrapping_sub(b'0')), Reason::NoSplit),
+        _ => (false, Reason::UnknownWord),
     };
     if is_proved { None } else { Some(reason) }
 }

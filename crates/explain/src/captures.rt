@@ -2,7 +2,7 @@
 
 use crate::below::begin;
 use crate::hearing::Heard;
-use crate::meeting::label_of;
+use crate::labels::label_of;
 use crate::sending::pass;
 use crate::words::Words;
 use capture_check::{Mark, Until};

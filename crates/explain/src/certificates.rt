@@ -1,107 +1,84 @@
-// Below the answer to a certificate.
-
-ghost use Rattle.std.specs.Prelude.{◌<◌, length};
-ghost use Rattle.plan_core.specs.PlanContents.{plan_contents};
-ghost use Rattle.plan_core.specs.Pairs.{pairs_of};
+// Lines below the answer to a certificate.
 
 use crate::below::{begin, say, say_all};
-use crate::breaks::{Break, break_of};
-use crate::meeting::{Pair, label_of};
-use cert_check::Answer;
-use certificate::CertFault;
+use crate::breaks::Reason;
+use crate::labels::label_of;
+use crate::wrongs::{End, Wrong};
 use growing_text::{Lines, Text};
 use plan_core::Plan;
 use std::alloc::{AllocError, Global};
 
+const AFTER_A_CHANGE: &str = "a plan that was changed wants a new certificate: twire certify PLAN";
+
 /// What is said below the line of an answer that the certificate is wrong: which pair it is and where its proof breaks off, or
-/// how many proofs and pairs there are; and what to do. Nothing is said below another answer.
-pub(crate) fn below_answer(
-    alloc: Global,
-    plan: &Plan,
-    cert: &[u8],
-    answer: Answer,
-) -> Result<String, AllocError> {
+/// how many proofs and pairs there are; and what to do.
+pub(crate) fn below_wrong(alloc: Global, plan: &Plan, wrong: Wrong) -> Result<String, AllocError> {
     let mut lines = Lines::new(alloc);
-    if let Answer::Wrong(fault) = answer {
-        match fault {
-            CertFault::Pair(number) if number < plan.pair_count() => {
-                tell_proof(alloc, &mut lines, plan, cert, number);
+    match wrong {
+        Wrong::Pair {
+            pair,
+            participants,
+            found,
+        } => {
+            tell_pair(alloc, &mut lines, plan, pair, participants);
+            if let Some(found) = found {
+                tell_end(&mut lines, found);
             }
-            CertFault::Count => tell_counts(&mut lines, plan, cert),
-            _ => {}
         }
-        say(&mut lines, AFTER_A_CHANGE);
+        Wrong::Count { pairs, proofs } => tell_counts(&mut lines, pairs, proofs),
+        Wrong::Text => {}
     }
+    say(&mut lines, AFTER_A_CHANGE);
     lines.finish()
 }
 
-fn tell_proof(alloc: Global, lines: &mut Lines, plan: &Plan, cert: &[u8], number: u32)
-    requires { number < length (pairs_of (plan_contents plan.now)) }
-{
-    let (first, second) = plan.pair(number);
-    let pair = Pair {
-        number,
-        first,
-        second,
-    };
-    tell_pair(alloc, lines, plan, pair);
-    if let Some(proof) = proof_line(cert, number) {
-        tell_break(lines, break_of(alloc, plan, pair, proof));
-    }
-}
-
-const AFTER_A_CHANGE: &str = "a plan that was changed wants a new certificate: twire certify PLAN";
-
-fn tell_pair(alloc: Global, lines: &mut Lines, plan: &Plan, pair: Pair) {
+fn tell_pair(alloc: Global, lines: &mut Lines, plan: &Plan, pair: u32, participants: (u32, u32)) {
     let mut words = Text::new(alloc);
     words.push("pair ");
-    words.push_number(u64::from(pair.number));
+    words.push_number(u64::from(pair));
     words.push(" is ");
-    words.push_made(label_of(alloc, plan, pair.first));
+    words.push_made(label_of(alloc, plan, participants.0));
     words.push(" and ");
-    words.push_made(label_of(alloc, plan, pair.second));
+    words.push_made(label_of(alloc, plan, participants.1));
     words.push(": what the certificate says of them is not so");
     say_all(lines, words);
 }
 
-fn tell_break(lines: &mut Lines, found: Result<Option<Break>, AllocError>) {
+fn tell_end(lines: &mut Lines, found: End) {
     begin(lines);
     lines.words("it breaks off at");
     match found {
-        Ok(Some(found)) => {
+        End::Break(found) => {
             lines.word("word");
             lines.number(u64::from(found.word), ",");
             lines.words("in slot");
             lines.number(u64::from(found.slot), ":");
-            lines.words(found.reason);
+            lines.words(words_of(found.reason));
         }
-        Ok(None) => lines.words("its end"),
-        Err(_) => lines.cut(),
+        End::Missing => lines.words("its end"),
     }
     lines.end();
 }
 
-// The line of a pair's proof, where the text has proofs.
-fn proof_line(cert: &[u8], pair: u32) -> Option<&[u8]> {
-    let rest = cert.strip_prefix(b"cert 1\npairs ")?;
-    rest.split(is_line_feed)
-        .nth((pair as usize).saturating_add(1))
-}
-
-fn is_line_feed(byte: &u8) -> bool {
-    *byte == b'\n'
-}
-
-fn tell_counts(lines: &mut Lines, plan: &Plan, cert: &[u8]) {
-    let mut count = 0u64;
-    for byte in cert {
-        count = count.saturating_add(u64::from(is_line_feed(byte)));
+fn words_of(reason: Reason) -> &'static str {
+    match reason {
+        Reason::NoSplit => "no bit of this number is known in both and different there",
+        Reason::NotBothWrite => "the two do not both write a byte there",
+        Reason::NotBothRead => "the two do not both read there",
+        Reason::NotBothRestart => "the two do not both send a repeated START there",
+        Reason::NotBothStop => "the two do not both send a STOP there",
+        Reason::ReadsMayMeet => "both may read the same number of bytes",
+        Reason::ReadsNeverMeet => "the two never read the same number of bytes",
+        Reason::UnknownWord => "a proof has no such word there",
     }
+}
+
+fn tell_counts(lines: &mut Lines, pairs: u32, proofs: u64) {
     begin(lines);
     lines.words("the plan has");
-    lines.number(u64::from(plan.pair_count()), "");
+    lines.number(u64::from(pairs), "");
     lines.words("pairs, and the certificate has");
-    lines.number(count.saturating_sub(2), "");
+    lines.number(proofs, "");
     lines.words("lines of proofs");
     lines.end();
 }

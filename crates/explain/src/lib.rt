@@ -1,9 +1,11 @@
-//! What people read below the lines of a report: bytes in the place of slots, and why a line says what it says. Each of these
-//! lines begins with four spaces and has at most 80 columns, however long the names are. The reports themselves are made
-//! elsewhere, and are what they are without these lines.
+//! What people read of a run: bytes in the place of slots, and why a line says what it says.
 //!
-//! `reports` passes a report on with these lines between its own. `views` makes of the report on a capture what was asked for:
-//! some of its transactions, with times in parts of a second, or counted for each participant.
+//! Each thing that is explained is a value first: `meetings` has where an unsafe pair meets, `mends` what mends a plan, `safety`
+//! how the pairs of a safe one are kept apart, `wrongs` and `breaks` what is wrong with a certificate, `tracks` what starters put
+//! along a wire. `reports` writes a report with lines for people between its own, made of these values by `faults`, `plans`,
+//! `certificates` and `benches`; each of these lines begins with four spaces and has at most 80 columns, however long the names
+//! are. The exact lines are those of the crates below. `captures`, `hearing` and `views` are for captures: some of the
+//! transactions of a report, with times in parts of a second, or counted for each participant.
 //!
 //! Bytes are written as the Linux kernel's documents of the bus write them: `S 48 Wr A 01 A Sr 48 Rd A d4 NA P`. `S` is
 //! START, `Sr` a repeated START, `P` a STOP, `A` an acknowledge and `NA` none; an address has seven bits, `Wr` and `Rd` are
@@ -18,17 +20,29 @@ mod cells;
 mod certificates;
 mod faults;
 mod hearing;
-mod meeting;
+mod labels;
+mod meetings;
+mod mends;
+mod paints;
 mod plans;
 mod pulsing;
 mod reports;
+mod safety;
 mod sending;
+mod tracks;
 mod views;
-mod wires;
 mod words;
+mod wrongs;
 
+pub use breaks::{Break, Reason};
 pub use hearing::{Heard, Notes};
+pub use meetings::{Meeting, Rule, Side, meeting_of};
+pub use mends::{Mends, mends_of};
+pub use paints::Paint;
 pub use reports::{
-    Overheard, Rehearsed, explain_answer, explain_check, explain_rehearsal, explain_transactions,
+    Overheard, explain_answer, explain_check, explain_rehearsal, explain_transactions,
 };
+pub use safety::{Decided, Safety, safety_of};
+pub use tracks::{Along, Track, along};
 pub use views::{View, has_unit, shown, steps};
+pub use wrongs::{End, Wrong, wrong_of};

@@ -4,12 +4,10 @@ use crate::words::Words;
 use message_tree::{Bit, Item};
 use places::{Offered, Place};
 use plan_core::Plan;
-
-/// How many ranges of slots are named.
-pub(crate) const RANGES: usize = 6;
+use std::alloc::{AllocError, Global};
 
 /// What a participant does along a wire, and next.
-#[derive(Clone, Copy)]
+#[derive(Drop)]
 pub(crate) struct Followed {
     /// The slots of the wire in which it may send either bit.
     pub(crate) open: Ranges,
@@ -18,9 +16,15 @@ pub(crate) struct Followed {
 
 /// Follows a participant, which the plan has, as far as it goes along with the wire. It adds its bytes, up to the end of the
 /// one in which the wire ends.
-pub(crate) fn follow_wire(plan: &Plan, p: u32, wire: &[Item], words: &mut Words) -> Followed {
+pub(crate) fn follow_wire(
+    alloc: Global,
+    plan: &Plan,
+    p: u32,
+    wire: &[Item],
+    words: &mut Words,
+) -> Followed {
     let mut followed = Followed {
-        open: Ranges::new(),
+        open: Ranges::new(alloc),
         next: Offered::Nothing,
     };
     if p < plan.participants() {
@@ -87,43 +91,41 @@ fn push_rest(words: &mut Words, place: Place<'_>) {
     }
 }
 
-/// The first ranges of slots, as first and last ones, and how many there are, up to one more than have room.
-#[derive(Clone, Copy)]
+/// Ranges of slots, as first and last ones. That an allocation failed for one of them is told by `finish`.
+#[derive(Drop)]
 pub(crate) struct Ranges {
-    ranges: [(usize, usize); RANGES],
-    count: usize,
+    ranges: Vec<(usize, usize)>,
+    is_whole: bool,
 }
 
 impl Ranges {
-    fn new() -> Ranges {
+    fn new(alloc: Global) -> Ranges {
         Ranges {
-            ranges: [(0, 0); RANGES],
-            count: 0,
+            ranges: Vec::new(alloc),
+            is_whole: true,
         }
     }
 
     // Adds a slot after all others.
     fn add(&mut self, slot: usize) {
-        if let Some((_, last)) = self.ranges.get_mut(self.count.saturating_sub(1)) {
-            if self.count != 0 && last.saturating_add(1) == slot {
+        if let Some((_, last)) = self.ranges.last_mut() {
+            if last.saturating_add(1) == slot {
                 *last = slot;
                 return;
             }
         }
-        if let Some(range) = self.ranges.get_mut(self.count) {
-            *range = (slot, slot);
+        if self.ranges.push((slot, slot)).is_err() {
+            self.is_whole = false;
         }
-        self.count = self.count.saturating_add(1).min(RANGES + 1);
     }
 
-    /// Those that have room.
-    pub(crate) fn first(&self) -> &[(usize, usize)] {
-        self.ranges.get(..self.count).unwrap_or(&self.ranges)
-    }
-
-    /// Whether there are more.
-    pub(crate) fn has_more(&self) -> bool {
-        self.count > RANGES
+    /// All of them.
+    pub(crate) fn finish(self) -> Result<Vec<(usize, usize)>, AllocError> {
+        if self.is_whole {
+            Ok(self.ranges)
+        } else {
+            Err(AllocError)
+        }
     }
 }
 

@@ -1,22 +1,111 @@
-// Lines of `bench`.
+// Objects of a rehearsal.
 
-use crate::below::words_of_rows;
-use crate::fields::{Objects, Value};
+use crate::labels::labels_of;
+use crate::objects::Lines;
+use bench_run::Rehearsal;
+use certificate::push_wire;
+use explain::{Track, along};
+use report::{Output, RunError};
+use serde::Serialize;
+use std::alloc::{AllocError, Global};
 
-/// Adds the object of what stands after `wire` in `wire WIRE`.
-pub(crate) fn push_wire(objects: &mut Objects, wire: &str, notes: &[&str]) {
-    match words_of_rows(objects.alloc, notes, "byte") {
-        Ok(bytes) => objects.add_explained(
-            "wire",
-            &[("wire", Value::Text(wire))],
-            &[("bytes", Value::Text(bytes.as_str()))],
-            notes,
-        ),
-        Err(_) => objects.cut(),
+// The wire of a run.
+#[derive(Serialize)]
+struct Wire<'a> {
+    kind: &'static str,
+    wire: &'a str,
+    #[serde(skip_serializing_if = "Option::is_none")]
+    explain: Option<Along<'a>>,
+}
+
+// Its bytes, and what its starters put.
+#[derive(Serialize)]
+struct Along<'a> {
+    bytes: &'a str,
+    starters: &'a [Starter<'a>],
+}
+
+#[derive(Drop, Serialize)]
+struct Starter<'a> {
+    participant: &'a str,
+    puts: &'a str,
+    #[serde(skip_serializing_if = "Option::is_none")]
+    lost: Option<usize>,
+}
+
+// Those who were live at its end.
+#[derive(Serialize)]
+struct Won<'a> {
+    kind: &'static str,
+    participants: &'a [&'a str],
+}
+
+/// Writes the objects of a rehearsal, explained where that is wanted.
+///
+/// # Errors
+///
+/// `Write` where the writer failed or took no bytes, and `NoMemory`, after which nothing was written.
+pub fn write_rehearsal<O: Output>(
+    alloc: Global,
+    rehearsal: &Rehearsal,
+    is_explained: bool,
+    out: &mut O,
+) -> Result<(), RunError> {
+    let mut lines = Lines::new(alloc);
+    if is_explained {
+        add_explained(&mut lines, rehearsal)?;
+    } else {
+        add_wire(&mut lines, rehearsal, None)?;
+    }
+    add_won(&mut lines, rehearsal)?;
+    lines.write_rest(out)
+}
+
+fn add_explained(lines: &mut Lines, rehearsal: &Rehearsal) -> Result<(), AllocError> {
+    let along = along(lines.alloc, rehearsal)?;
+    let mut starters = Vec::with_capacity(lines.alloc, along.tracks.len())?;
+    for track in &along.tracks {
+        starters.push(starter_of(track))?;
+    }
+    let explain = Along {
+        bytes: along.bytes.as_str(),
+        starters: starters.as_slice(),
+    };
+    add_wire(lines, rehearsal, Some(explain))
+}
+
+fn starter_of(track: &Track) -> Starter<'_> {
+    Starter {
+        participant: track.label.as_str(),
+        puts: track.puts.as_str(),
+        lost: track.lost,
     }
 }
 
-/// Adds the object of what stands after `won` in `won LABEL LABEL ..`.
-pub(crate) fn push_won(objects: &mut Objects, labels: &str) {
-    objects.add("won", &[("participants", Value::Words(labels))]);
+fn add_wire(
+    lines: &mut Lines,
+    rehearsal: &Rehearsal,
+    explain: Option<Along<'_>>,
+) -> Result<(), AllocError> {
+    let mut wire = String::new(lines.alloc);
+    push_wire(&mut wire, &rehearsal.played.wire)?;
+    lines.add(&Wire {
+        kind: "wire",
+        wire: wire.as_str(),
+        explain,
+    });
+    Ok(())
+}
+
+fn add_won(lines: &mut Lines, rehearsal: &Rehearsal) -> Result<(), AllocError> {
+    let labels = labels_of(lines.alloc, rehearsal.accepted.plan())?;
+    let mut participants = Vec::with_capacity(lines.alloc, rehearsal.played.won.len())?;
+    for p in &rehearsal.played.won {
+        participants.push(labels.of(*p))?;
+    }
+    lines.add(&Won {
+        kind: "won",
+        participants: participants.as_slice(),
+    });
+    Ok(())
 }

@@ -1,128 +1,277 @@
-// Lines of `check` and `verify`.
+// Objects of a check.
 
-use crate::below::{rows_of, slot_in};
-use crate::fields::{Field, Objects, Value, some_number};
-use crate::words::number;
+ghost use Rattle.plan_core.specs.PlanContents.{plan_contents};
+ghost use Rattle.verdicts.specs.Faults.{AreFaults, fault_list};
 
-// What `pair I X Y: KIND against KIND after WIRE` says.
-#[derive(Clone, Copy)]
+use crate::labels::{Labels, labels_of};
+use crate::objects::Lines;
+use certificate::{Fault, push_wire};
+use explain::{Meeting, Mends, Rule, Safety, meeting_of, mends_of, safety_of};
+use plan_core::Plan;
+use report::{Checked, Output, RunError};
+use serde::Serialize;
+use std::alloc::{AllocError, Global};
+
+// An unsafe pair.
+#[derive(Serialize)]
 struct Pair<'a> {
-    pair: u64,
+    kind: &'static str,
+    pair: u32,
     participants: [&'a str; 2],
-    meet: [&'a str; 2],
+    meet: [&'static str; 2],
     after: &'a str,
+    #[serde(skip_serializing_if = "Option::is_none")]
+    explain: Option<Met<'a>>,
 }
 
-// Takes apart what stands after the first word.
-fn pair_of(rest: &str) -> Option<Pair<'_>> {
-    let (head, tail) = rest.split_once(": ")?;
-    let (pair, participants) = pair_named(head)?;
-    let (first, tail) = tail.split_once(" against ")?;
-    let (second, after) = tail.split_once(" after ")?;
-    Some(Pair {
-        pair,
-        participants,
-        meet: [first, second],
-        after,
-    })
+// Where its two meet.
+#[derive(Serialize)]
+struct Met<'a> {
+    slot: usize,
+    rule: &'static str,
+    bus: &'a str,
+    bytes: [&'a str; 2],
+    open: [&'a [(usize, usize)]; 2],
 }
 
-/// The number and the participants of `I X Y`.
-pub(crate) fn pair_named(head: &str) -> Option<(u64, [&str; 2])> {
-    let (pair, labels) = head.split_once(' ')?;
-    let (first, second) = labels.split_once(' ')?;
-    Some((number(pair)?, [first, second]))
+// The verdict on a plan.
+#[derive(Serialize)]
+struct Verdict<'a> {
+    kind: &'static str,
+    safe: bool,
+    pairs: u32,
+    unsafe_pairs: usize,
+    #[serde(skip_serializing_if = "Option::is_none")]
+    explain: Option<Why<'a>>,
 }
 
-/// Adds the object of an unsafe pair, of what stands after the first word. Lines for people give the bytes on the bus and
-/// those of the two, what each does next, and in which slot.
-pub(crate) fn push_pair(objects: &mut Objects, rest: &str, notes: &[&str]) -> Option<()> {
-    let pair = pair_of(rest)?;
-    let slot = ("slot", some_number(slot_in(notes)));
-    Some(match rows_of(pair.participants, notes) {
-        None => push_fault(objects, pair, &[slot], notes),
-        Some(rows) => push_fault(
-            objects,
-            pair,
-            &[
-                slot,
-                ("bus", Value::Text(rows.bus)),
-                ("bytes", Value::Texts(&rows.bytes)),
-                ("next", Value::Texts(&rows.next)),
-            ],
-            notes,
-        ),
-    })
+#[derive(Serialize)]
+#[serde(untagged)]
+enum Why<'a> {
+    Unsafe(Mended<'a>),
+    Safe(Kept<'a>),
 }
 
-fn push_fault(objects: &mut Objects, pair: Pair<'_>, explained: &[Field<'_>], notes: &[&str]) {
-    objects.add_explained(
-        "pair",
-        &[
-            ("pair", Value::Number(pair.pair)),
-            ("participants", Value::Texts(&pair.participants)),
-            ("meet", Value::Texts(&pair.meet)),
-            ("after", Value::Text(pair.after)),
-        ],
-        explained,
-        notes,
-    );
+// What mends an unsafe plan.
+#[derive(Serialize)]
+struct Mended<'a> {
+    explained: usize,
+    never: &'a [[&'a str; 2]],
+    unchecked: u64,
+    interrupts: &'a [u32],
+    kept_apart: u64,
 }
 
-/// Adds the object of `safe: N pairs` or `unsafe: F of N pairs`. Lines for people give the `never` items that mend the plan.
-pub(crate) fn push_plan(objects: &mut Objects, line: &str, notes: &[&str]) -> Option<()> {
-    let counts = line.strip_suffix(" pairs")?;
-    if let Some(pairs) = counts.strip_prefix("safe: ") {
-        let pairs = number(pairs)?;
-        return Some(push_counts(objects, true, pairs, 0, notes));
+// How the pairs of a safe plan are kept apart.
+#[derive(Serialize)]
+struct Kept<'a> {
+    decided: Decided,
+    unsent: &'a [&'a str],
+    kept_apart: u64,
+}
+
+#[derive(Serialize)]
+struct Decided {
+    header: u64,
+    later: u64,
+    read: u64,
+    alike: u64,
+}
+
+/// Writes an object for each unsafe pair of a plan that was checked, of which so many are explained, and one for the plan.
+///
+/// # Errors
+///
+/// `Write` where the writer failed or took no bytes, and `NoMemory`. A part of the objects may have been written.
+pub fn write_check<O: Output>(
+    alloc: Global,
+    checked: &Checked,
+    most: Option<u32>,
+    out: &mut O,
+) -> Result<(), RunError>
+    requires { AreFaults (plan_contents checked.now.plan) (fault_list checked.now.faults) }
+{
+    let Checked { plan, faults } = checked;
+    let labels = labels_of(alloc, plan)?;
+    let explained = (most.unwrap_or(0) as usize).min(faults.len());
+    let mut lines = Lines::new(alloc);
+    for k in 0..faults.len() {
+        let (pair, fault) = faults.get(k);
+        if pair < plan.pair_count() {
+            add_pair(&mut lines, plan, &labels, pair, fault, k < explained);
+        }
+        lines.write_block(out)?;
     }
-    let (unsafe_pairs, pairs) = counts.strip_prefix("unsafe: ")?.split_once(" of ")?;
-    let pairs = number(pairs)?;
-    let unsafe_pairs = number(unsafe_pairs)?;
-    Some(push_counts(objects, false, pairs, unsafe_pairs, notes))
+    add_plan(&mut lines, checked, most.map(|_most| explained));
+    lines.write_rest(out)
 }
 
-fn push_counts(
-    objects: &mut Objects,
-    is_safe: bool,
-    pairs: u64,
-    unsafe_pairs: u64,
-    notes: &[&str],
+fn add_pair(
+    lines: &mut Lines,
+    plan: &Plan,
+    labels: &Labels,
+    pair: u32,
+    fault: &Fault,
+    is_explained: bool,
 ) {
-    objects.add_explained(
-        "plan",
-        &[
-            ("safe", Value::Flag(is_safe)),
-            ("pairs", Value::Number(pairs)),
-            ("unsafe_pairs", Value::Number(unsafe_pairs)),
-        ],
-        &[("never", Value::Nevers(notes))],
-        notes,
-    );
+    let added = if is_explained {
+        add_met(lines, plan, labels, pair, fault)
+    } else {
+        add_pair_of(lines, plan, labels, pair, fault, None)
+    };
+    if added.is_err() {
+        lines.cut();
+    }
 }
 
-/// Adds the object of `accepted safe`, `accepted unsafe`, `wrong C1 line L`, `wrong C2` or `wrong C5 pair I`.
-pub(crate) fn push_certificate(objects: &mut Objects, line: &str, notes: &[&str]) -> Option<()> {
-    if let Some(word) = line.strip_prefix("accepted ") {
-        let is_safe = Value::Flag(word == "safe");
-        let fields = [("accepted", Value::Flag(true)), ("safe", is_safe)];
-        return Some(objects.add_explained("certificate", &fields, &[], notes));
+fn add_met(
+    lines: &mut Lines,
+    plan: &Plan,
+    labels: &Labels,
+    pair: u32,
+    fault: &Fault,
+) -> Result<(), AllocError> {
+    if plan.pair_count() <= pair {
+        return Ok(());
     }
-    let words = line.strip_prefix("wrong ")?;
-    let (code, place) = words.split_once(' ').unwrap_or((words, ""));
-    let fields = [
-        ("accepted", Value::Flag(false)),
-        ("code", Value::Text(code)),
-        ("line", number_after("line ", place)),
-        ("pair", number_after("pair ", place)),
-    ];
-    Some(objects.add_explained("certificate", &fields, &[], notes))
+    let meeting = meeting_of(lines.alloc, plan, plan.pair(pair), fault.wire.as_slice())?;
+    add_pair_of(lines, plan, labels, pair, fault, Some(met_of(&meeting)))
 }
 
-// The number after this word.
-fn number_after<'a>(word: &str, words: &str) -> Value<'a> {
-    match words.strip_prefix(word) {
-        Some(rest) => some_number(number(rest)),
-        None => Value::Absent,
+fn met_of(meeting: &Meeting) -> Met<'_> {
+    let Meeting {
+        slot,
+        bus,
+        first,
+        second,
+    } = meeting;
+    Met {
+        slot: *slot,
+        rule: match meeting.rule() {
+            Rule::Standard => "UM10204 3.1.8",
+            Rule::Interrupts => "interrupts",
+        },
+        bus: bus.as_str(),
+        bytes: [first.bytes.as_str(), second.bytes.as_str()],
+        open: [first.open.as_slice(), second.open.as_slice()],
     }
+}
+
+fn add_pair_of(
+    lines: &mut Lines,
+    plan: &Plan,
+    labels: &Labels,
+    pair: u32,
+    fault: &Fault,
+    explain: Option<Met<'_>>,
+) -> Result<(), AllocError> {
+    if plan.pair_count() <= pair {
+        return Ok(());
+    }
+    let (x, y) = plan.pair(pair);
+    let mut after = String::new(lines.alloc);
+    push_wire(&mut after, &fault.wire)?;
+    lines.add(&Pair {
+        kind: "pair",
+        pair,
+        participants: [labels.of(x), labels.of(y)],
+        meet: [fault.first.word(), fault.second.word()],
+        after: after.as_str(),
+        explain,
+    });
+    Ok(())
+}
+
+// The verdict, where so many pairs were explained.
+fn add_plan(lines: &mut Lines, checked: &Checked, explained: Option<usize>)
+    requires { AreFaults (plan_contents checked.now.plan) (fault_list checked.now.faults) }
+{
+    let added = match explained {
+        None => Ok(add_verdict(lines, checked, None)),
+        Some(_) if checked.faults.is_safe() => add_safe(lines, checked),
+        Some(explained) => add_unsafe(lines, checked, explained),
+    };
+    if added.is_err() {
+        lines.cut();
+    }
+}
+
+fn add_verdict(lines: &mut Lines, checked: &Checked, explain: Option<Why<'_>>) {
+    lines.add(&Verdict {
+        kind: "plan",
+        safe: checked.faults.is_safe(),
+        pairs: checked.plan.pair_count(),
+        unsafe_pairs: checked.faults.len(),
+        explain,
+    });
+}
+
+fn add_safe(lines: &mut Lines, checked: &Checked) -> Result<(), AllocError> {
+    let plan = &checked.plan;
+    let safety = safety_of(lines.alloc, plan)?;
+    let unsent = names_of(lines.alloc, plan, &safety.unsent)?;
+    let why = kept_of(&safety, unsent.as_slice());
+    add_verdict(lines, checked, Some(Why::Safe(why)));
+    Ok(())
+}
+
+fn names_of<'a>(
+    alloc: Global,
+    plan: &'a Plan,
+    messages: &[u32],
+) -> Result<Vec<&'a str>, AllocError> {
+    let mut names = Vec::with_capacity(alloc, messages.len())?;
+    for k in messages {
+        if *k < plan.messages() {
+            names.push(plan.message_name(*k).as_str())?;
+        }
+    }
+    Ok(names)
+}
+
+fn kept_of<'a>(safety: &Safety, unsent: &'a [&'a str]) -> Kept<'a> {
+    let decided = safety.decided;
+    Kept {
+        decided: Decided {
+            header: decided.header,
+            later: decided.later,
+            read: decided.read,
+            alike: decided.alike,
+        },
+        unsent,
+        kept_apart: safety.kept_apart,
+    }
+}
+
+fn add_unsafe(lines: &mut Lines, checked: &Checked, explained: usize) -> Result<(), AllocError>
+    requires { AreFaults (plan_contents checked.now.plan) (fault_list checked.now.faults) }
+{
+    let mends = mends_of(lines.alloc, &checked.plan, &checked.faults)?;
+    let never = nevers_of(lines.alloc, &checked.plan, &mends)?;
+    let why = Mended {
+        explained,
+        never: never.as_slice(),
+        unchecked: mends.unchecked,
+        interrupts: mends.interrupted.as_slice(),
+        kept_apart: mends.kept_apart,
+    };
+    add_verdict(lines, checked, Some(Why::Unsafe(why)));
+    Ok(())
+}
+
+fn nevers_of<'a>(
+    alloc: Global,
+    plan: &'a Plan,
+    mends: &Mends,
+) -> Result<Vec<[&'a str; 2]>, AllocError> {
+    let mut nevers = Vec::with_capacity(alloc, mends.nevers.len())?;
+    for (c, d) in &mends.nevers {
+        if *c < plan.controllers() && *d < plan.controllers() {
+            nevers.push([
+                plan.controller_name(*c).as_str(),
+                plan.controller_name(*d).as_str(),
+            ])?;
+        }
+    }
+    Ok(nevers)
 }

@@ -1,6 +1,6 @@
 // Objects and their fields. How a text is quoted is left to `serde_json`.
 
-use crate::below::{push_nearest, push_nevers};
+use crate::below::push_nearest;
 use growing_text::Text;
 use std::alloc::{AllocError, Global};
 
@@ -13,26 +13,13 @@ pub(crate) enum Value<'a> {
     /// The line does not tell it, so the field is left out.
     Absent,
     Number(u64),
-    Flag(bool),
     Text(&'a str),
-    /// The earliest and the latest slot.
-    Slots(u64, u64),
     Texts(&'a [&'a str]),
     /// The words between single blanks.
     Words(&'a str),
-    /// The pairs of names that stand after the word `never` in these lines.
-    Nevers(&'a [&'a str]),
     /// Where participants leave a transaction, as it is said of each on a line.
     Nearest(&'a str),
     Empty,
-}
-
-/// A number, where there is one.
-pub(crate) fn some_number<'a>(number: Option<u64>) -> Value<'a> {
-    match number {
-        Some(number) => Value::Number(number),
-        None => Value::Absent,
-    }
 }
 
 /// Objects, as they are written.
@@ -108,12 +95,6 @@ impl Objects {
         self.text.push_number(number);
     }
 
-    /// Adds a list of texts to a list.
-    pub(crate) fn texts_part(&mut self, list: &[&str]) {
-        self.separate();
-        self.texts(list);
-    }
-
     /// Begins an object or a list.
     pub(crate) fn begin(&mut self, bracket: &str) {
         self.text.push(bracket);
@@ -150,23 +131,12 @@ impl Objects {
         match value {
             Value::Absent => {}
             Value::Number(number) => self.text.push_number(number),
-            Value::Flag(is_so) => self.text.push(if is_so { "true" } else { "false" }),
             Value::Text(words) => self.quoted(words),
-            Value::Slots(from, to) => self.slots(from, to),
             Value::Texts(list) => self.texts(list),
             Value::Words(words) => self.words(words),
-            Value::Nevers(notes) => push_nevers(self, notes),
             Value::Nearest(said) => push_nearest(self, said),
             Value::Empty => self.text.push("[]"),
         }
-    }
-
-    fn slots(&mut self, from: u64, to: u64) {
-        self.text.push("[");
-        self.text.push_number(from);
-        self.text.push(",");
-        self.text.push_number(to);
-        self.text.push("]");
     }
 
     fn texts(&mut self, list: &[&str]) {

@@ -1,22 +1,29 @@
-//! Reports, refusals and hints as JSON, one object a line, for programs. Who has made a report hands over its lines, those
-//! for people below them too; what an object says is what its line says.
+//! What runs find as JSON, one object a line, for programs; and refusals and hints.
 //!
-//! `fields` writes an object of its kind and its fields. `lines` finds the form of a line, `checks`, `orders`, `captures`,
-//! `signals` and `benches` take lines apart and name what their objects hold, `below` takes the lines for people apart, and
-//! `pages` makes the objects of a whole report. `refusals` has what goes to standard error.
+//! `objects` writes them. `checks`, `certificates`, `benches` and `orders` have the objects of what commands over plans find,
+//! and `refusals` what goes to standard error: each is a plain struct, made of a value. Of captures and of signals the lines
+//! of a report are taken apart: `pages` makes the objects of a whole report, `lines` finds the form of a line, `captures` and
+//! `signals` take it apart, `below` the lines for people, and `fields` writes the object.
 #![tactic(auto)]
 
 mod below;
 mod benches;
 mod captures;
+mod certificates;
 mod checks;
 mod fields;
+mod labels;
 mod lines;
+mod objects;
 mod orders;
 mod pages;
 mod refusals;
 mod signals;
 mod words;
 
+pub use benches::write_rehearsal;
+pub use certificates::write_answer;
+pub use checks::write_check;
+pub use orders::write_order;
 pub use pages::report_objects;
-pub use refusals::{hint_objects, refusal_object};
+pub use refusals::{hint_objects, refusal_object, timescale_object};

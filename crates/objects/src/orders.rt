@@ -1,75 +1,111 @@
-// Lines of `order`.
+// Objects of who wins.
 
-use crate::checks::pair_named;
-use crate::fields::{Objects, Value};
-use crate::words::number;
+use crate::labels::{Labels, labels_of};
+use crate::objects::Lines;
+use order::{Order, Outcomes, Slots, Total};
+use plan_core::Plan;
+use run_parts::{Output, RunError};
+use serde::Serialize;
+use std::alloc::Global;
 
-/// Adds the object of what stands after `pair` in `pair I X Y: WAYS`: who wins, and in which slots.
-pub(crate) fn push_order(objects: &mut Objects, rest: &str) -> Option<()> {
-    let (head, ways) = rest.split_once(':')?;
-    let (pair, participants) = pair_named(head)?;
-    Some(push_ways(objects, pair, &participants, ways.trim_start()))
+// In which slots both of a pair end, the first wins and the second wins, where they can: the earliest and the latest of each.
+#[derive(Serialize)]
+struct Ways<'a> {
+    kind: &'static str,
+    pair: u32,
+    participants: [&'a str; 2],
+    #[serde(rename = "unsafe", skip_serializing_if = "Option::is_none")]
+    is_unsafe: Option<bool>,
+    #[serde(skip_serializing_if = "Option::is_none")]
+    both: Option<(u32, u32)>,
+    #[serde(skip_serializing_if = "Option::is_none")]
+    first: Option<(u32, u32)>,
+    #[serde(skip_serializing_if = "Option::is_none")]
+    second: Option<(u32, u32)>,
 }
 
-fn push_ways(objects: &mut Objects, pair: u64, participants: &[&str; 2], ways: &str) {
-    let [one, other] = participants;
-    objects.add(
-        "order",
-        &[
-            ("pair", Value::Number(pair)),
-            ("participants", Value::Texts(participants)),
-            ("unsafe", unsafe_of(ways)),
-            ("both", slots_of(ways, "both")),
-            ("first", slots_of(ways, one)),
-            ("second", slots_of(ways, other)),
-        ],
-    );
+// How often a participant wins.
+#[derive(Serialize)]
+struct Wins<'a> {
+    kind: &'static str,
+    participant: &'a str,
+    wins: u32,
+    may_win: u32,
+    loses: u32,
 }
 
-fn unsafe_of<'a>(ways: &str) -> Value<'a> {
-    if ways == "unsafe" {
-        Value::Flag(true)
-    } else {
-        Value::Absent
-    }
-}
-
-// The earliest and the latest slot of the way with this name.
-fn slots_of<'a>(ways: &str, name: &str) -> Value<'a> {
-    for way in ways.split(", ") {
-        if let Some((found, slots)) = way.split_once(' ') {
-            if found == name {
-                return slots_in(slots);
-            }
+/// Writes an object for each pair of the plan, and one for each participant that can win or lose.
+///
+/// # Errors
+///
+/// `Write` where the writer failed or took no bytes, and `NoMemory`. A part of the objects may have been written.
+pub fn write_order<O: Output>(
+    alloc: Global,
+    plan: &Plan,
+    order: &Order,
+    out: &mut O,
+) -> Result<(), RunError> {
+    let labels = labels_of(alloc, plan)?;
+    let mut lines = Lines::new(alloc);
+    for pair in 0..plan.pair_count() {
+        if let Some(outcomes) = order.ways.get(pair as usize) {
+            lines.add(&ways_of(plan, &labels, pair, outcomes));
         }
+        lines.write_block(out)?;
     }
-    Value::Absent
+    for p in 0..plan.participants() {
+        add_total(&mut lines, labels.of(p), order.totals.get(p as usize));
+    }
+    lines.write_rest(out)
 }
 
-fn slots_in<'a>(slots: &str) -> Value<'a> {
-    let (from, to) = slots.split_once("..").unwrap_or((slots, slots));
-    match (number(from), number(to)) {
-        (Some(from), Some(to)) => Value::Slots(from, to),
-        _ => Value::Absent,
+fn ways_of<'a>(
+    plan: &Plan,
+    labels: &'a Labels,
+    pair: u32,
+    outcomes: &Option<Outcomes>,
+) -> Ways<'a> {
+    let (x, y) = if pair < plan.pair_count() {
+        plan.pair(pair)
+    } else {
+        (u32::MAX, u32::MAX)
+    };
+    let Outcomes {
+        both,
+        first,
+        second,
+    } = outcomes.unwrap_or(NOBODY);
+    Ways {
+        kind: "order",
+        pair,
+        participants: [labels.of(x), labels.of(y)],
+        is_unsafe: if outcomes.is_none() { Some(true) } else { None },
+        both: slots_of(both),
+        first: slots_of(first),
+        second: slots_of(second),
     }
 }
 
-/// Adds the object of what stands after `total` in `total X: wins W, may win M, loses L`.
-pub(crate) fn push_total(objects: &mut Objects, rest: &str) -> Option<()> {
-    let (participant, counts) = rest.split_once(": wins ")?;
-    let (wins, counts) = counts.split_once(", may win ")?;
-    let (may_win, loses) = counts.split_once(", loses ")?;
-    let wins = number(wins)?;
-    let may_win = number(may_win)?;
-    let loses = number(loses)?;
-    objects.add(
-        "total",
-        &[
-            ("participant", Value::Text(participant)),
-            ("wins", Value::Number(wins)),
-            ("may_win", Value::Number(may_win)),
-            ("loses", Value::Number(loses)),
-        ],
-    );
-    Some(())
+const NOBODY: Outcomes = Outcomes {
+    both: None,
+    first: None,
+    second: None,
+};
+
+fn slots_of(slots: Option<Slots>) -> Option<(u32, u32)> {
+    let Slots { earliest, latest } = slots?;
+    Some((earliest, latest))
+}
+
+fn add_total(lines: &mut Lines, participant: &str, total: Option<&Total>) {
+    match total {
+        Some(total) if !total.is_empty() => lines.add(&Wins {
+            kind: "total",
+            participant,
+            wins: total.wins,
+            may_win: total.may_win,
+            loses: total.loses,
+        }),
+        _ => {}
+    }
 }

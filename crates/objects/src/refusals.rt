@@ -1,35 +1,136 @@
-// What goes to standard error.
+// Objects of what goes to standard error.
 
-use crate::fields::{Field, Objects, Value, some_number};
-use crate::words::number;
+use crate::objects::Lines;
+use hints::Hints;
+use plan_text::{NoBrief, PlanError};
+use plays::OpenError;
+use run_parts::RunError;
+use serde::Serialize;
 use std::alloc::{AllocError, Global};
+use vcd_read::{Signal, VcdError};
 
-/// The object of a refusal, of the words that stand after `refused` in its line: the code, and its place where it has one,
-/// as `P3 line 2` or `V1 scl`.
-pub fn refusal_object(alloc: Global, words: &str) -> Result<String, AllocError> {
-    let (code, place) = code_and_place(words);
-    let mut objects = Objects::new(alloc);
-    objects.add("refusal", &[("code", Value::Text(code)), place]);
-    objects.finish()
+#[derive(Clone, Copy, Serialize)]
+struct Refusal {
+    kind: &'static str,
+    code: &'static str,
+    #[serde(skip_serializing_if = "Option::is_none")]
+    line: Option<u64>,
+    #[serde(skip_serializing_if = "Option::is_none")]
+    signal: Option<&'static str>,
 }
 
-fn code_and_place(words: &str) -> (&str, Field<'_>) {
-    if let Some((code, line)) = words.split_once(" line ") {
-        return (code, ("line", some_number(number(line))));
-    }
-    match words.split_once(' ') {
-        Some(("V1", signal)) => ("V1", ("signal", Value::Text(signal))),
-        _ => (words, ("line", Value::Absent)),
+#[derive(Serialize)]
+struct Hinted<'a> {
+    kind: &'static str,
+    text: &'a str,
+}
+
+/// The object of a refusal: its code, and its place where it has one.
+///
+/// # Errors
+///
+/// Where an allocation fails.
+pub fn refusal_object(alloc: Global, error: RunError) -> Result<String, AllocError> {
+    object_of(alloc, refusal_of(error))
+}
+
+/// The object of the refusal of a time with a unit, of which a dump does not say what it counts.
+///
+/// # Errors
+///
+/// Where an allocation fails.
+pub fn timescale_object(alloc: Global) -> Result<String, AllocError> {
+    object_of(alloc, coded("timescale"))
+}
+
+fn object_of(alloc: Global, refusal: Refusal) -> Result<String, AllocError> {
+    let mut lines = Lines::new(alloc);
+    lines.add(&refusal);
+    lines.finish()
+}
+
+fn refusal_of(error: RunError) -> Refusal {
+    match error {
+        RunError::Plan(error) => of_text(error),
+        RunError::Brief(error) => coded(match error {
+            NoBrief::Name => "brief name",
+            NoBrief::Unwritten => "brief text",
+            NoBrief::NoMemory => "out of memory",
+        }),
+        RunError::Vcd(error) => of_dump(error),
+        RunError::Bench(error) => coded(match error {
+            OpenError::NoStarter => "B1",
+            OpenError::Unknown => "B2",
+            OpenError::SameController => "B3",
+            OpenError::Never => "B8",
+            OpenError::NoMemory => "B4",
+        }),
+        RunError::Workers => coded("workers"),
+        RunError::Read => coded("read"),
+        RunError::Write => coded("write"),
+        RunError::NoMemory => coded("memory"),
     }
 }
 
-/// The objects of hints, each of which is a line that begins with `hint:`.
-pub fn hint_objects(alloc: Global, hints: &str) -> Result<String, AllocError> {
-    let mut objects = Objects::new(alloc);
-    for line in hints.lines() {
-        let words = line.strip_prefix("hint:").unwrap_or(line);
-        let words = words.strip_prefix(' ').unwrap_or(words);
-        objects.add("hint", &[("text", Value::Text(words))]);
+fn of_text(error: PlanError) -> Refusal {
+    match error {
+        PlanError::NotAscii(line) => placed("P1", line),
+        PlanError::Version(line) => placed("P2", line),
+        PlanError::Unexpected(line) => placed("P3", line),
+        PlanError::BadCount(line) => placed("P4", line),
+        PlanError::TooLong(line) => placed("P5", line),
+        PlanError::TooMany(line) => placed("P6", line),
+        PlanError::Twice(line) => placed("P7", line),
+        PlanError::Unknown(line) => placed("P8", line),
+        PlanError::NoMemory => coded("P9"),
     }
-    objects.finish()
+}
+
+fn of_dump(error: VcdError) -> Refusal {
+    match error {
+        VcdError::NoSignal(signal) => Refusal {
+            signal: Some(match signal {
+                Signal::Scl => "scl",
+                Signal::Sda => "sda",
+            }),
+            ..coded("V1")
+        },
+        VcdError::BadToken(line) => placed("V2", line),
+        VcdError::TimeBack(line) => placed("V3", line),
+        VcdError::Unended(line) => placed("V4", line),
+        VcdError::NoMemory => coded("V5"),
+    }
+}
+
+fn coded(code: &'static str) -> Refusal {
+    Refusal {
+        kind: "refusal",
+        code,
+        line: None,
+        signal: None,
+    }
+}
+
+fn placed(code: &'static str, line: u64) -> Refusal {
+    Refusal {
+        line: Some(line),
+        ..coded(code)
+    }
+}
+
+/// The objects of hints.
+///
+/// # Errors
+///
+/// Where an allocation fails.
+pub fn hint_objects(alloc: Global, hints: &Hints) -> Result<String, AllocError> {
+    let mut lines = Lines::new(alloc);
+    for hint in hints.all() {
+        let text = hint.text(alloc)?;
+        lines.add(&Hinted {
+            kind: "hint",
+            text: text.as_str(),
+        });
+    }
+    lines.finish()
 }

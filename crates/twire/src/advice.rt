@@ -1,19 +1,21 @@
 // Further lines for people on standard error, after a refusal or a report.
 
+use crate::endings::Told;
 use crate::inputs::Inputs;
-use crate::outputs::KEPT;
-use crate::voices::{Voice, say};
+use crate::runs::Extras;
+use crate::voices::{Voice, refused_timescale, say};
 use dump_tokens::Time;
 use explain::View;
 use growing_text::Text;
 use hints::{
-    Named, Names, file_word, on_brief, on_certificate, on_choice, on_closed_input, on_dump,
-    on_fault, on_memory, on_no_answers, on_no_brief, on_opening, on_plan, on_reading, on_recording,
-    on_safe, on_signals, on_silence, on_starters, on_unexplained, on_workers, on_writing, wrong_of,
+    Hints, Named, Names, file_word, on_brief, on_certificate, on_choice, on_closed_input, on_dump,
+    on_fault, on_memory, on_no_brief, on_no_timescale, on_opening, on_plan, on_reading,
+    on_recording, on_signals, on_silence, on_starters, on_unexplained, on_workers, on_writing,
 };
 use report::{Probe, RunError, Status};
 use std::alloc::{AllocError, Global};
 use std::io::{self, Read, Seek};
+use std::time::Clock;
 
 /// What hints say of a run beside its files.
 #[derive(Clone, Copy)]
@@ -81,11 +83,13 @@ pub fn names_of<'a>(
     }
 }
 
-/// How a run ended. `output` is the file that was to be written in place of standard output, and `error` why it was not.
-/// `report` is the beginning of what was written with its last lines. Hints are written by this voice.
+/// How a run ended, and what is to be said of what it has found. `output` is the file that was to be written in place of
+/// standard output, and `error` why it was not. `report` is the beginning of what was written with its last lines. Hints are
+/// written by this voice.
 #[derive(Drop)]
 pub struct Outcome<'a> {
     pub ended: Result<Status, RunError>,
+    pub told: Told,
     pub output: Option<&'a str>,
     pub error: Option<io::Error>,
     pub report: String,
@@ -112,7 +116,7 @@ pub fn advise_on_closed_input<R: Eprint + AllocGlobal>(rt: &R, file: Named<'_>, 
 pub fn advise<R: Eprint + AllocGlobal, F: Read + Seek + Drop>(
     rt: &R,
     read: Inputs<'_, F>,
-    outcome: &Outcome<'_>,
+    outcome: Outcome<'_>,
 ) {
     let about = outcome.about;
     let command = made(rt.alloc(), command_of(rt.alloc(), &about.words));
@@ -122,16 +126,24 @@ pub fn advise<R: Eprint + AllocGlobal, F: Read + Seek + Drop>(
         vcd: vcd.as_str(),
         ..about.names
     };
+    let voice = outcome.voice;
     match outcome.ended {
-        Ok(status) => {
-            let hints = on_report(rt.alloc(), read, names, status, outcome);
-            say(rt, hints, outcome.voice);
-        }
+        Ok(status) => say(rt, on_report(rt.alloc(), read, names, status, outcome), voice),
         Err(error) => {
-            let hints = on_refusal(rt.alloc(), read, names, error, outcome);
-            say(rt, hints, voice_of(error, outcome.voice));
+            let hints = on_refusal(rt.alloc(), read, names, error, &outcome);
+            say(rt, hints, voice_of(error, voice));
         }
     }
+}
+
+/// The refusal of a time with a unit, of which a dump does not say what it counts, and its status.
+pub fn no_timescale<R: Clock + Eprint + AllocGlobal>(rt: &R, extras: Extras) -> u8 {
+    extras.watcher.clear(rt);
+    refused_timescale(rt, extras.voice());
+    if extras.hints {
+        say(rt, on_no_timescale(rt.alloc()), extras.voice().uncolored());
+    }
+    2
 }
 
 // A command, a file, an option and a file, to be given once more with other options.
@@ -179,7 +191,7 @@ fn on_refusal<F: Read + Seek + Drop>(
     names: Names<'_>,
     ended: RunError,
     outcome: &Outcome<'_>,
-) -> Result<String, AllocError> {
+) -> Result<Hints, AllocError> {
     let Inputs {
         last,
         error,
@@ -205,37 +217,40 @@ fn on_report<F: Read + Seek + Drop>(
     read: Inputs<'_, F>,
     names: Names<'_>,
     status: Status,
-    outcome: &Outcome<'_>,
-) -> Result<String, AllocError> {
-    let Inputs { plan, other, .. } = read;
-    let report = outcome.report.as_str();
-    match outcome.about.told {
-        Some(Recorded::Capture(view)) => {
-            return on_capture(alloc, other, names, status, told_by(report, view));
+    outcome: Outcome<'_>,
+) -> Result<Hints, AllocError> {
+    let Outcome {
+        told,
+        output,
+        report,
+        about,
+        ..
+    } = outcome;
+    match told {
+        Told::Nothing => Ok(Hints::new(alloc)),
+        Told::Hints(hints) => Ok(hints),
+        Told::Certificate(fault) => on_certificate(alloc, read.other, fault),
+        Told::Fault => on_fault(alloc, output),
+        Told::Recording => {
+            on_recorded(alloc, read.other, names, status, about.told, report.as_str())
         }
-        Some(Recorded::Signals) => return on_signals(alloc, other, names),
-        Some(Recorded::Other) => return on_recording(alloc, other, names),
-        None => {}
-    }
-    match (status, wrong_of(report)) {
-        (Status::Good, _) if says_safe(report) => on_safe(alloc, plan),
-        (Status::Good, _) if is_unanswered(report) => on_no_answers(alloc),
-        (Status::Bad, _) if report.starts_with("cert 1\nfault ") => on_fault(alloc, outcome.output),
-        (Status::Refused, Some(wrong)) => on_certificate(alloc, other, wrong),
-        _ => Ok(String::new(alloc)),
     }
 }
 
-fn says_safe(report: &str) -> bool {
-    report.starts_with("safe: ") || report == "accepted safe\n"
-}
-
-// Whether targets were to answer in a rehearsal, and none acknowledged, where the whole wire was kept to look at.
-fn is_unanswered(report: &str) -> bool {
-    let line = report.lines().next().unwrap_or("");
-    match line.strip_prefix("wire ") {
-        Some(wire) => line.len() < KEPT && wire.contains('h') && !wire.contains('l'),
-        None => false,
+fn on_recorded<F: Read + Seek + Drop>(
+    alloc: Global,
+    vcd: Option<F>,
+    names: Names<'_>,
+    status: Status,
+    recorded: Option<Recorded>,
+    report: &str,
+) -> Result<Hints, AllocError> {
+    match recorded {
+        Some(Recorded::Capture(view)) => {
+            on_capture(alloc, vcd, names, status, seen_by(report, view))
+        }
+        Some(Recorded::Signals) => on_signals(alloc, vcd, names),
+        Some(Recorded::Other) | None => on_recording(alloc, vcd, names),
     }
 }
 
@@ -244,19 +259,19 @@ fn on_capture<F: Read + Seek + Drop>(
     vcd: Option<F>,
     names: Names<'_>,
     status: Status,
-    told: Told,
-) -> Result<String, AllocError> {
-    match told {
-        Told::Nothing => on_silence(alloc, vcd, names),
-        Told::NoneEnded => on_unexplained(alloc, vcd, names),
-        Told::NoneExplained if status == Status::Bad => on_unexplained(alloc, vcd, names),
+    seen: Seen,
+) -> Result<Hints, AllocError> {
+    match seen {
+        Seen::Nothing => on_silence(alloc, vcd, names),
+        Seen::NoneEnded => on_unexplained(alloc, vcd, names),
+        Seen::NoneExplained if status == Status::Bad => on_unexplained(alloc, vcd, names),
         _ => on_choice(alloc, vcd, names),
     }
 }
 
 // What a report on a capture tells, as far as its beginning and its last lines show it.
 #[derive(Clone, Copy)]
-enum Told {
+enum Seen {
     // no transaction: nothing but lines for people, or a summary of nothing, stands before the last line
     Nothing,
     // transactions of which none ended: each was cut or is unfinished
@@ -273,36 +288,36 @@ const NONE: &str = "0 transactions, 0 unexplained";
 const SILENT_SUMMARY: &str = "\ncut 0\nunfinished 0\n0 transactions, 0 unexplained\n";
 
 // What was left out by its time says nothing of the lines.
-fn told_by(report: &str, view: View) -> Told {
+fn seen_by(report: &str, view: View) -> Seen {
     if view.from.is_some() || view.to.is_some() {
-        return Told::Something;
+        return Seen::Something;
     }
     if report.contains(SILENT_SUMMARY) {
-        return Told::Nothing;
+        return Seen::Nothing;
     }
-    told_line_by_line(report)
+    seen_line_by_line(report)
 }
 
-fn told_line_by_line(report: &str) -> Told {
+fn seen_line_by_line(report: &str) -> Seen {
     let mut is_first = true;
-    let mut told = Told::Something;
+    let mut seen = Seen::Something;
     if report.contains(" unexplained\n") {
-        told = Told::NoneExplained;
+        seen = Seen::NoneExplained;
     }
     for line in report.lines() {
         if line == NONE {
             return if is_first {
-                Told::Nothing
+                Seen::Nothing
             } else {
-                Told::NoneEnded
+                Seen::NoneEnded
             };
         }
         if !line.starts_with("    ") {
             is_first = false;
             if line.contains('/') || line.contains('!') {
-                told = Told::Something;
+                seen = Seen::Something;
             }
         }
     }
-    told
+    seen
 }

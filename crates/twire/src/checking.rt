@@ -1,15 +1,27 @@
-// The run of a check: what it found is written as a report, for people too, and drawn.
+// Runs that say whether a plan is safe, whether a certificate is right, and who wins: each finds a value, and writes it in the
+// form that is wanted.
 
 ghost use Rattle.plan_core.specs.PlanContents.{plan_contents};
 ghost use Rattle.verdicts.specs.Faults.{AreFaults, fault_list};
 
 use crate::drawings::{Canvas, draw_fault};
-use crate::progress::{Comparing, Watcher};
-use explain::explain_check;
-use report::{Checked, Input, Output, RunError, Status, check_plan, check_report};
+use crate::endings::{Ended, Halt, Told};
+use crate::outputs::Style;
+use crate::progress::Comparing;
+use crate::runs::Extras;
+use cert_check::{Answer, check_certificate};
+use explain::{explain_answer, explain_check};
+use hints::on_safe;
+use objects::{write_answer, write_check, write_order};
+use order::{Order, order_of, order_report};
+use plan_core::Plan;
+use report::{
+    Answered, Checked, Input, NoGate, Output, RunError, Status, answer_line, check_plan, check_report,
+    find_plan, read_within, status_of_answer, verify_plan,
+};
+use run_parts::devices::reading::READS;
 use run_parts::write_lines;
 use std::alloc::Global;
-use std::io;
 use std::rt::Files;
 use std::thread::Threads;
 use std::time::Clock;
@@ -24,47 +36,155 @@ pub struct Look<'a> {
     pub pair: Option<u32>,
 }
 
+// ---- check
+
 /// Checks the plan that the reader gives. The canvas is for the waves, where they are wanted.
 pub fn check<R: Files + Print + Eprint + Clock + AllocGlobal + Threads + Sync, I: Input, O: Output>(
     rt: &R,
     plan: &mut I,
     out: &mut O,
     look: Look<'_>,
-    watcher: Watcher,
+    extras: Extras,
     canvas: Option<Canvas<'_>>,
-    unwritten: &mut Option<io::Error>,
-) -> Result<Status, RunError> {
-    let gate = Comparing::new(rt, watcher);
+) -> Result<Ended, Halt> {
+    let gate = Comparing::new(rt, extras.watcher);
     let checked = check_plan(rt, rt.alloc(), plan, look.workers, &gate)?;
-    let status = write_checked(rt.alloc(), &checked, out, look.explain)?;
-    match canvas {
-        Some(canvas) => draw_fault(rt, &checked, look.pair, status, canvas, unwritten),
-        None => Ok(status),
+    let status = write_checked(rt.alloc(), &checked, out, look.explain, extras.style())?;
+    if let Some(canvas) = canvas {
+        draw_fault(rt, &checked, look.pair, status, canvas)?;
+    }
+    Ok(Ended {
+        status,
+        told: told_of(rt.alloc(), &checked, extras),
+    })
+}
+
+fn told_of(alloc: Global, checked: &Checked, extras: Extras) -> Told {
+    if extras.hints && checked.faults.is_safe() {
+        Told::hints(on_safe(alloc, &checked.plan))
+    } else {
+        Told::Nothing
     }
 }
 
-// Writes the report of what was found, with so many unsafe pairs explained where that is wanted.
+// Writes what was found, with so many unsafe pairs explained where that is wanted.
 fn write_checked<O: Output>(
     alloc: Global,
     checked: &Checked,
     out: &mut O,
     explain: Option<u32>,
+    style: Style,
 ) -> Result<Status, RunError>
     requires { AreFaults (plan_contents checked.now.plan) (fault_list checked.now.faults) }
 {
-    let status = if checked.faults.is_safe() {
+    let status = status_of(checked);
+    match style {
+        Style::Objects => write_check(alloc, checked, explain, out)?,
+        Style::Plain if explain.is_none() => {
+            let report = check_report(alloc, checked)?;
+            return write_lines(out, report.as_bytes(), status);
+        }
+        _ => explain_check(alloc, checked, explain, style.paint(), out)?,
+    }
+    Ok(status)
+}
+
+/// The status of a run over a plan that was checked.
+pub fn status_of(checked: &Checked) -> Status {
+    if checked.faults.is_safe() {
         Status::Good
     } else {
         Status::Bad
-    };
-    match explain {
-        Some(most) => {
-            explain_check(alloc, &checked.plan, &checked.faults, most, out)?;
-            Ok(status)
-        }
-        None => {
-            let report = check_report(alloc, checked)?;
-            write_lines(out, report.as_bytes(), status)
-        }
     }
+}
+
+// ---- verify
+
+/// Says what the certificate that the second reader gives says of the plan that the first reader gives. Where that is to be
+/// explained the certificate is kept, and else it is judged as it comes.
+pub fn verify<I: Input, J: Input, O: Output>(
+    alloc: Global,
+    plan: &mut I,
+    cert: &mut J,
+    out: &mut O,
+    explain: bool,
+    extras: Extras,
+) -> Result<Ended, Halt> {
+    if explain {
+        let plan = find_plan(alloc, plan)?;
+        return verify_kept(alloc, &plan, cert, out, extras);
+    }
+    let Answered { plan, answer } = verify_plan(alloc, plan, cert)?;
+    tell_answer(alloc, &plan, None, answer, out, extras)
+}
+
+fn verify_kept<J: Input, O: Output>(
+    alloc: Global,
+    plan: &Plan,
+    cert: &mut J,
+    out: &mut O,
+    extras: Extras,
+) -> Result<Ended, Halt> {
+    let cert = read_within(alloc, cert, READS)?;
+    let answer = check_certificate(alloc, plan, cert.as_slice())?;
+    tell_answer(alloc, plan, Some(cert.as_slice()), answer, out, extras)
+}
+
+/// Writes the answer to a certificate of the plan, explained where this is the text of the certificate.
+pub fn tell_answer<O: Output>(
+    alloc: Global,
+    plan: &Plan,
+    cert: Option<&[u8]>,
+    answer: Answer,
+    out: &mut O,
+    extras: Extras,
+) -> Result<Ended, Halt> {
+    let status = status_of_answer(answer);
+    match extras.style() {
+        Style::Objects => write_answer(alloc, plan, cert, answer, out)?,
+        Style::Plain if cert.is_none() => {
+            let line = answer_line(alloc, answer)?;
+            write_lines(out, line.as_bytes(), status)?;
+        }
+        style => explain_answer(alloc, plan, cert, answer, style.paint(), out)?,
+    }
+    Ok(Ended {
+        status,
+        told: match answer {
+            Answer::Safe if extras.hints => Told::hints(on_safe(alloc, plan)),
+            Answer::Wrong(fault) => Told::Certificate(fault),
+            _ => Told::Nothing,
+        },
+    })
+}
+
+// ---- order
+
+/// Says who wins arbitration in each pair of the plan that the reader gives.
+pub fn order<R: AllocGlobal + Threads + Sync, I: Input, O: Output>(
+    rt: &R,
+    plan: &mut I,
+    out: &mut O,
+    style: Style,
+) -> Result<Ended, Halt> {
+    let alloc = rt.alloc();
+    let checked = check_plan(rt, alloc, plan, 1, &NoGate)?;
+    let order = order_of(alloc, &checked.plan, &checked.faults)?;
+    write_ordered(alloc, &checked, &order, out, style)?;
+    Ok(Ended::quietly(status_of(&checked)))
+}
+
+fn write_ordered<O: Output>(
+    alloc: Global,
+    checked: &Checked,
+    order: &Order,
+    out: &mut O,
+    style: Style,
+) -> Result<(), RunError> {
+    if let Style::Objects = style {
+        return write_order(alloc, &checked.plan, order, out);
+    }
+    let report = order_report(alloc, &checked.plan, order)?;
+    write_lines(out, report.as_bytes(), Status::Good)?;
+    Ok(())
 }

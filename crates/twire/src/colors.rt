@@ -1,11 +1,8 @@
-// Colours for people: the words `safe`, `unsafe` and `unexplained` of a report, and the marks of hints. All else is as it is.
+// Colours in a report on a capture: the word `unexplained`. All else is as it is.
 
-use growing_text::Text;
 use std::alloc::{AllocError, Global};
 
 const RED: &[u8] = b"\x1b[31m";
-
-const GREEN: &[u8] = b"\x1b[32m";
 
 const PLAIN: &[u8] = b"\x1b[0m";
 
@@ -44,15 +41,7 @@ fn push_parts(text: &mut Vec<u8>, parts: [&[u8]; 5]) -> Result<(), AllocError> {
 
 // The parts of a line, with a word of it in a colour where it has one.
 fn parts_of(line: &[u8]) -> [&[u8]; 5] {
-    if line.starts_with(b"safe:") {
-        colored(line, 0, GREEN, 4)
-    } else if line.starts_with(b"unsafe:") {
-        colored(line, 0, RED, 6)
-    } else if line == b"accepted safe\n".as_slice() {
-        colored(line, 9, GREEN, 4)
-    } else if line == b"accepted unsafe\n".as_slice() {
-        colored(line, 9, RED, 6)
-    } else if let Some(times) = unexplained(line) {
+    if let Some(times) = unexplained(line) {
         colored(line, times.len().saturating_add(1), RED, 11)
     } else {
         whole(line)
@@ -78,37 +67,4 @@ fn unexplained(line: &[u8]) -> Option<&[u8]> {
         return None;
     }
     Some(times)
-}
-
-/// The hints with their marks in a colour.
-pub fn colored_hints(alloc: Global, hints: &str) -> Result<String, AllocError> {
-    let mut text = Text::new(alloc);
-    for line in hints.split_inclusive('\n') {
-        match marks_of(line) {
-            Some((before, marks)) => {
-                text.push(before);
-                text.push("\x1b[31m");
-                text.push(marks);
-                text.push("\x1b[0m\n");
-            }
-            None => text.push(line),
-        }
-    }
-    text.finish()
-}
-
-// What stands before the marks of a line that has nothing else, and the marks.
-fn marks_of(line: &str) -> Option<(&str, &str)> {
-    let line = line.strip_suffix('\n')?;
-    let before = line.trim_end_matches('^');
-    match (before.strip_prefix("hint:"), line.strip_prefix(before)) {
-        (Some(blanks), Some(marks)) if is_blank(blanks) && !marks.is_empty() => {
-            Some((before, marks))
-        }
-        _ => None,
-    }
-}
-
-fn is_blank(text: &str) -> bool {
-    text.trim_start_matches(' ').is_empty()
 }

@@ -1,18 +1,16 @@
-// Runs whose waves are drawn into a file.
+// Waves that are drawn into a file.
 
-use crate::inputs::{FilesRead, READS};
+use crate::endings::Halt;
+use crate::inputs::FilesRead;
 use crate::outputs::{Form, Sheet};
-use crate::rehearsals::{Play, rehearse};
 use crate::runs::Extras;
 use crate::voices::say;
+use bench_run::Outcome;
 use hints::on_no_waves;
-use report::{Checked, Input, Output, RunError, Status, Watched, read_within, write_report};
+use report::{Checked, Status, Watched};
 use run_parts::write_lines;
 use std::rt::Files;
-use std::sync::Wait;
-use std::thread::Threads;
 use std::time::Clock;
-use std::{io, str};
 use waves::{wave_of_bench, wave_of_check};
 
 /// The file that waves are drawn into, and the files that the run reads, none of which it may be.
@@ -23,81 +21,40 @@ pub struct Canvas<'a> {
     pub read: FilesRead,
 }
 
-/// Draws the fault of an unsafe pair of a plan that was checked, and answers the status of that run.
+/// Draws the fault of an unsafe pair of a plan that was checked.
 pub fn draw_fault<R: Files + Print + Eprint + Clock + AllocGlobal>(
     rt: &R,
     checked: &Checked,
     pair: Option<u32>,
     status: Status,
     canvas: Canvas<'_>,
-    unwritten: &mut Option<io::Error>,
-) -> Result<Status, RunError> {
-    let wave = wave_of_check(rt.alloc(), &checked.plan, &checked.faults, pair)?;
-    draw(rt, Ok(wave), status, canvas, unwritten)
-}
-
-/// Rehearses a plan, and draws the run.
-pub fn bench_drawn<
-    R: Files + Print + Eprint + Clock + AllocGlobal + Threads + Wait + Sync,
-    I: Input,
-    J: Input,
-    O: Output,
->(
-    rt: &R,
-    plan: &mut I,
-    cert: &mut J,
-    out: &mut O,
-    play: Play<'_>,
-    canvas: Canvas<'_>,
-    unwritten: &mut Option<io::Error>,
-) -> Result<Status, RunError> {
-    let text = read_within(rt.alloc(), plan, READS)?;
-    let mut again = Watched::new(text.as_slice());
-    let mut written = Watched::new(Vec::new(rt.alloc()));
-    match rehearse(rt, &mut again, cert, &mut written, play) {
-        Ok(status) => {
-            let report = written.into_inner();
-            let (text, report) = (text.as_slice(), report.as_slice());
-            draw_run(rt, text, report, out, play, status, canvas, unwritten)
-        }
-        Err(error) => Err(error),
+) -> Result<(), Halt> {
+    match wave_of_check(rt.alloc(), checked, pair)? {
+        Some(wave) => write_wave(rt, wave.as_str(), status, canvas),
+        None => Ok(say_nothing_to_draw(rt, canvas)),
     }
 }
 
-fn draw_run<R: Files + Print + Eprint + Clock + AllocGlobal, O: Output>(
+/// Draws a rehearsal.
+pub fn draw_outcome<R: Files + Print + Eprint + Clock + AllocGlobal>(
     rt: &R,
-    text: &[u8],
-    report: &[u8],
-    out: &mut O,
-    play: Play<'_>,
-    status: Status,
+    outcome: &Outcome,
     canvas: Canvas<'_>,
-    unwritten: &mut Option<io::Error>,
-) -> Result<Status, RunError> {
-    write_report(out, report)?;
-    let lines = str::from_utf8(report).unwrap_or("");
-    let wave = wave_of_bench(rt.alloc(), text, play.starters, play.fill, lines);
-    draw(rt, wave, status, canvas, unwritten)
+) -> Result<(), Halt> {
+    match outcome {
+        Outcome::Played(rehearsal) => {
+            let wave = wave_of_bench(rt.alloc(), rehearsal)?;
+            write_wave(rt, wave.as_str(), Status::Good, canvas)
+        }
+        Outcome::NotAccepted(_) => Ok(say_nothing_to_draw(rt, canvas)),
+    }
 }
 
-// Draws the waves, where there are any, and answers the status of the run. Where there are none, the file is left as it is.
-fn draw<R: Files + Print + Eprint + Clock + AllocGlobal>(
-    rt: &R,
-    wave: Result<Option<String>, RunError>,
-    status: Status,
-    canvas: Canvas<'_>,
-    unwritten: &mut Option<io::Error>,
-) -> Result<Status, RunError> {
-    match wave {
-        Ok(Some(wave)) => write_wave(rt, wave.as_str(), status, canvas, unwritten),
-        Ok(None) => {
-            if canvas.extras.hints {
-                let hint = on_no_waves(rt.alloc(), canvas.file);
-                say(rt, hint, canvas.extras.voice().uncolored());
-            }
-            Ok(status)
-        }
-        Err(error) => Err(error),
+// The file is left as it is.
+fn say_nothing_to_draw<R: Eprint + AllocGlobal>(rt: &R, canvas: Canvas<'_>) {
+    if canvas.extras.hints {
+        let hints = on_no_waves(rt.alloc(), canvas.file);
+        say(rt, hints, canvas.extras.voice().uncolored());
     }
 }
 
@@ -107,13 +64,13 @@ fn write_wave<R: Files + Print + Eprint + Clock + AllocGlobal>(
     wave: &str,
     status: Status,
     canvas: Canvas<'_>,
-    unwritten: &mut Option<io::Error>,
-) -> Result<Status, RunError> {
+) -> Result<(), Halt> {
     let form = Form::of(Some(canvas.file));
     let mut sheet = Watched::new(Sheet::new(rt, form, canvas.read, canvas.extras.watcher));
     let written = write_lines(&mut sheet, wave.as_bytes(), status);
     let mut sheet = sheet.into_inner();
-    let ended = sheet.settle(written);
-    *unwritten = sheet.into_error();
-    ended
+    match sheet.settle(written) {
+        Ok(_) => Ok(()),
+        Err(error) => Err(Halt::Undrawn(error, sheet.into_error())),
+    }
 }

@@ -14,9 +14,6 @@ use std::time::Clock;
 
 const STANDARD_INPUT: &str = "/dev/stdin";
 
-/// How many calls to one reader there are at most, without an end of its input.
-pub const READS: u32 = u32::MAX;
-
 /// What a path of the command line names: a file, or standard input.
 pub type Source<'a, R, F, S> = Opened<Watched<Told<'a, R, F>>, Watched<Told<'a, R, S>>>;
 

@@ -5,6 +5,7 @@ mod advice;
 mod checking;
 mod colors;
 mod drawings;
+mod endings;
 mod explaining;
 mod inputs;
 mod outputs;

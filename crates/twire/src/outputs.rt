@@ -5,6 +5,7 @@ ghost use Rattle.std.specs.Io.{WritesAtMost};
 use crate::colors::colored_report;
 use crate::inputs::{FileId, FilesRead, identity_of};
 use crate::progress::{Count, Watcher};
+use explain::Paint;
 use growing_text::Text;
 use objects::report_objects;
 use report::{RunError, Status};
@@ -17,7 +18,7 @@ use std::time::Clock;
 use std::{mem, str};
 
 /// How much of a report is kept to look at.
-pub const KEPT: usize = 64;
+const KEPT: usize = 64;
 
 // And how much of its end, in which the last lines stand.
 const ENDING: usize = 96;
@@ -30,7 +31,35 @@ const LINKS: u32 = 40;
 
 const STANDARD_OUTPUT: &str = "/dev/stdout";
 
-/// Where a report goes: to standard output, there perhaps with its words in colours or as objects, or into a path's file.
+/// How what a run finds is written: as lines, perhaps with words of them in colours, or as objects, for programs.
+#[derive(Clone, Copy)]
+pub enum Style {
+    Plain,
+    Colored,
+    Objects,
+}
+
+impl Style {
+    /// The colours of its lines.
+    pub fn paint(self) -> Paint {
+        match self {
+            Style::Colored => Paint::Colored,
+            Style::Plain | Style::Objects => Paint::Plain,
+        }
+    }
+
+    /// How a report on a capture or on signals is written, which is made as lines.
+    pub fn form(self) -> Form<'static> {
+        match self {
+            Style::Plain => Form::Plain,
+            Style::Colored => Form::Colored,
+            Style::Objects => Form::Objects,
+        }
+    }
+}
+
+/// Where a report goes: to standard output as it is, or, of a capture or of signals, with its words in colours or as objects; or
+/// into a path's file.
 #[derive(Clone, Copy)]
 pub enum Form<'a> {
     Plain,
@@ -162,13 +191,6 @@ impl<'a, R: Files + Print + Eprint + Clock + AllocGlobal> Sheet<'a, R> {
             (Form::File(_) | Form::Objects, Some(error), Err(RunError::Write))
                 if error.kind() == ErrorKind::OutOfMemory => { Err(RunError::NoMemory) }
             _ => ended,
-        }
-    }
-
-    /// Another file of the run could not be written, for this reason.
-    pub fn blame(&mut self, error: Option<io::Error>) {
-        if error.is_some() {
-            self.error = error;
         }
     }
 

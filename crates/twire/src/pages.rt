@@ -1,10 +1,15 @@
-// The run that writes a page. Each text of it has a function that owns it, and the next one borrows it.
+// The run that writes a page. Each value and each text of it has a function that owns it, and the next one borrows it.
 
-use crate::inputs::READS;
-use crate::rewriting::{Rewriting, rewritten};
-use crate::viewing::{Asked, Halt, view_capture};
-use page::{Texts, page_of};
-use report::{Input, Output, RunError, Status, Watched, read_within, run_check};
+use crate::checking::status_of;
+use crate::endings::{Ended, Halt, Told};
+use crate::viewing::{Asked, view_capture};
+use order::{Order, order_of, order_report};
+use page::{Page, Texts, page_of};
+use plan_text::print_plan;
+use report::{
+    Checked, Input, NoGate, Output, RunError, Status, Watched, check_plan, check_report, read_within,
+};
+use run_parts::devices::reading::READS;
 use run_parts::write_lines;
 use std::alloc::Global;
 use std::str;
@@ -16,9 +21,10 @@ pub fn write_page_alone<R: AllocGlobal + Threads + Sync, I: Input, O: Output>(
     title: &str,
     plan: &mut I,
     out: &mut O,
-) -> Result<Status, RunError> {
-    let text = read_within(rt.alloc(), plan, READS)?;
-    write_page(rt, title, text.as_slice(), None, Status::Good, out)
+) -> Result<Ended, Halt> {
+    let checked = check_plan(rt, rt.alloc(), plan, 1, &NoGate)?;
+    write_page(rt.alloc(), title, &checked, None, out)?;
+    Ok(Ended::quietly(status_of(&checked)))
 }
 
 /// Writes the page of a plan and of a capture.
@@ -29,7 +35,7 @@ pub fn write_page_with<R: AllocGlobal + Threads + Sync, I: Input, J: Input, O: O
     vcd: &mut J,
     out: &mut O,
     asked: Asked<'_>,
-) -> Result<Status, RunError> {
+) -> Result<Ended, Halt> {
     let text = read_within(rt.alloc(), plan, READS)?;
     with_capture(rt, title, text.as_slice(), vcd, out, asked)
 }
@@ -41,92 +47,89 @@ fn with_capture<R: AllocGlobal + Threads + Sync, J: Input, O: Output>(
     vcd: &mut J,
     out: &mut O,
     asked: Asked<'_>,
-) -> Result<Status, RunError> {
-    let mut read = Watched::new(text);
+) -> Result<Ended, Halt> {
     let mut written = Watched::new(Vec::new(rt.alloc()));
-    match view_capture(rt, rt.alloc(), &mut read, vcd, &mut written, asked) {
-        Ok(status) => {
-            let capture = written.into_inner();
-            write_page(
-                rt,
-                title,
-                text,
-                Some(text_of(capture.as_slice())),
-                status,
-                out,
-            )
-        }
-        Err(Halt::Run(error)) => Err(error),
-        // (no time is asked for)
-        Err(Halt::NoTimescale) => Err(RunError::Read),
-    }
+    let seen = view_capture(rt, rt.alloc(), &mut Watched::new(text), vcd, &mut written, asked)?;
+    let capture = written.into_inner();
+    let status = with_plan(rt, title, text, text_of(capture.as_slice()), out)?;
+    Ok(Ended {
+        status: worse(status, seen),
+        told: Told::Recording,
+    })
 }
 
-// Each of the texts that a page shows has a function that owns it. The status is that of the capture.
-fn write_page<R: AllocGlobal + Threads + Sync, O: Output>(
+fn with_plan<R: AllocGlobal + Threads + Sync, O: Output>(
     rt: &R,
     title: &str,
     text: &[u8],
-    capture: Option<&str>,
-    status: Status,
+    capture: &str,
     out: &mut O,
 ) -> Result<Status, RunError> {
-    let plan = rewritten(rt.alloc(), Rewriting::Print, text)?;
+    let checked = check_plan(rt, rt.alloc(), &mut Watched::new(text), 1, &NoGate)?;
+    write_page(rt.alloc(), title, &checked, Some(capture), out)?;
+    Ok(status_of(&checked))
+}
+
+fn write_page<O: Output>(
+    alloc: Global,
+    title: &str,
+    checked: &Checked,
+    capture: Option<&str>,
+    out: &mut O,
+) -> Result<(), RunError> {
+    let order = order_of(alloc, &checked.plan, &checked.faults)?;
+    let plan = print_plan(alloc, &checked.plan)?;
     let texts = Texts {
-        title,
         plan: text_of(plan.as_slice()),
         check: "",
         order: "",
         capture,
     };
-    with_check(rt, text, texts, status, out)
+    with_check(alloc, title, checked, &order, texts, out)
 }
 
-fn with_check<R: AllocGlobal + Threads + Sync, O: Output>(
-    rt: &R,
-    text: &[u8],
+fn with_check<O: Output>(
+    alloc: Global,
+    title: &str,
+    checked: &Checked,
+    order: &Order,
     texts: Texts<'_>,
-    status: Status,
     out: &mut O,
-) -> Result<Status, RunError> {
-    let mut read = Watched::new(text);
-    let mut written = Watched::new(Vec::new(rt.alloc()));
-    match run_check(rt, rt.alloc(), &mut read, &mut written, 1) {
-        Ok(checked) => {
-            let check = written.into_inner();
-            let texts = Texts {
-                check: text_of(check.as_slice()),
-                ..texts
-            };
-            with_order(rt.alloc(), text, texts, worse(checked, status), out)
-        }
-        Err(error) => Err(error),
-    }
+) -> Result<(), RunError> {
+    let check = check_report(alloc, checked)?;
+    let texts = Texts {
+        check: check.as_str(),
+        ..texts
+    };
+    with_order(alloc, title, checked, order, texts, out)
 }
 
 fn with_order<O: Output>(
     alloc: Global,
-    text: &[u8],
+    title: &str,
+    checked: &Checked,
+    order: &Order,
     texts: Texts<'_>,
-    status: Status,
     out: &mut O,
-) -> Result<Status, RunError> {
-    let order = rewritten(alloc, Rewriting::Order, text)?;
+) -> Result<(), RunError> {
+    let report = order_report(alloc, &checked.plan, order)?;
     let texts = Texts {
-        order: text_of(order.as_slice()),
+        order: report.as_str(),
         ..texts
     };
-    write_texts(alloc, &texts, status, out)
+    let page = Page {
+        title,
+        checked,
+        order,
+        texts,
+    };
+    write_texts(alloc, &page, out)
 }
 
-fn write_texts<O: Output>(
-    alloc: Global,
-    texts: &Texts<'_>,
-    status: Status,
-    out: &mut O,
-) -> Result<Status, RunError> {
-    let page = page_of(alloc, texts)?;
-    write_lines(out, page.as_bytes(), status)
+fn write_texts<O: Output>(alloc: Global, page: &Page<'_>, out: &mut O) -> Result<(), RunError> {
+    let text = page_of(alloc, page)?;
+    write_lines(out, text.as_bytes(), Status::Good)?;
+    Ok(())
 }
 
 fn worse(one: Status, other: Status) -> Status {

@@ -1,22 +1,30 @@
-// The runs of a bench.
+// The run of a bench: it finds what comes of a plan and its certificate, and writes that in the form that is wanted.
 
-use crate::drawings::{Canvas, bench_drawn};
-use crate::explaining::{Starting, explain_bench};
-use crate::inputs::READS;
-use crate::rewriting::{Rewriting, rewritten};
-use bench_run::{NoGate, run_bench};
-use growing_text::Text;
-use report::{Input, Output, RunError, Status, Watched, read_within};
+ghost use Rattle.plan_core.specs.PlanContents.{plan_contents};
+ghost use Rattle.cert_check.specs.Holds.{accepted_plan};
+ghost use Rattle.bench_run.specs.Outcomes.{AreParticipants, HasWinners};
+
+use crate::checking::tell_answer;
+use crate::drawings::{Canvas, draw_outcome};
+use crate::endings::{Ended, Halt, Told};
+use crate::outputs::Style;
+use crate::runs::Extras;
+use bench_run::{NoGate, Outcome, Rehearsal, outcome_report, rehearse};
+use bus_bench::opening::MOST_SLOTS;
+use explain::explain_rehearsal;
+use hints::on_no_answers;
+use message_tree::Item;
+use objects::write_rehearsal;
+use plan_core::Plan;
+use report::{Input, Output, RunError, Status, find_plan, read_within};
+use run_parts::devices::reading::READS;
+use run_parts::write_lines;
 use std::alloc::{AllocError, Global};
-use std::io;
 use std::rt::Files;
 use std::sync::Wait;
 use std::thread::Threads;
 use std::time::Clock;
-
-// No run has more slots: on a path of a message there are at most 256 bytes of nine slots, a repeated START before each header
-// but the first, and a STOP.
-const SLOTS: usize = 2_560;
+use verdicts::{certificate_text, faults};
 
 /// Who starts, what they send for open bits, and what the targets answer: bits by slot, and what follows them.
 #[derive(Clone, Copy)]
@@ -40,28 +48,21 @@ pub fn bench_alone<
     plan: &mut I,
     out: &mut O,
     play: Play<'_>,
+    extras: Extras,
     canvas: Option<Canvas<'_>>,
-    unwritten: &mut Option<io::Error>,
-) -> Result<Status, RunError> {
-    let text = read_within(rt.alloc(), plan, READS)?;
-    bench_text(rt, text.as_slice(), out, play, canvas, unwritten)
+) -> Result<Ended, Halt> {
+    let plan = find_plan(rt.alloc(), plan)?;
+    let cert = certificate_of(rt.alloc(), &plan)?;
+    bench_plan(rt, plan, cert.as_slice(), out, play, extras, canvas)
 }
 
-fn bench_text<R: Files + Print + Eprint + AllocGlobal + Threads + Wait + Clock + Sync, O: Output>(
-    rt: &R,
-    text: &[u8],
-    out: &mut O,
-    play: Play<'_>,
-    canvas: Option<Canvas<'_>>,
-    unwritten: &mut Option<io::Error>,
-) -> Result<Status, RunError> {
-    let cert = rewritten(rt.alloc(), Rewriting::Certify, text)?;
-    let mut plan = Watched::new(text);
-    let mut cert = Watched::new(cert.as_slice());
-    bench(rt, &mut plan, &mut cert, out, play, canvas, unwritten)
+// The certificate of a plan.
+fn certificate_of(alloc: Global, plan: &Plan) -> Result<Vec<u8>, AllocError> {
+    let faults = faults(alloc, plan)?;
+    certificate_text(alloc, plan, &faults)
 }
 
-/// Rehearses the plan of the first reader, with the certificate of the second, and draws the run where that is wanted.
+/// Rehearses the plan of the first reader, with the certificate of the second.
 pub fn bench<
     R: Files + Print + Eprint + AllocGlobal + Threads + Wait + Clock + Sync,
     I: Input,
@@ -73,65 +74,130 @@ pub fn bench<
     cert: &mut J,
     out: &mut O,
     play: Play<'_>,
+    extras: Extras,
     canvas: Option<Canvas<'_>>,
-    unwritten: &mut Option<io::Error>,
-) -> Result<Status, RunError> {
-    match canvas {
-        Some(canvas) => bench_drawn(rt, plan, cert, out, play, canvas, unwritten),
-        None => rehearse(rt, plan, cert, out, play),
-    }
+) -> Result<Ended, Halt> {
+    let plan = find_plan(rt.alloc(), plan)?;
+    bench_with(rt, plan, cert, out, play, extras, canvas)
 }
 
-/// The same without its waves.
-pub fn rehearse<R: AllocGlobal + Threads + Wait + Clock + Sync, I: Input, J: Input, O: Output>(
+fn bench_with<
+    R: Files + Print + Eprint + AllocGlobal + Threads + Wait + Clock + Sync,
+    J: Input,
+    O: Output,
+>(
     rt: &R,
-    plan: &mut I,
+    plan: Plan,
     cert: &mut J,
     out: &mut O,
     play: Play<'_>,
-) -> Result<Status, RunError> {
-    let answers = whole_answers(rt.alloc(), play.answers, play.rest)?;
-    let starting = Starting {
-        starters: play.starters,
-        fill: play.fill,
-        answers: answers.as_str(),
-    };
-    rehearse_starting(rt, rt.alloc(), plan, cert, out, starting, play.explain)
+    extras: Extras,
+    canvas: Option<Canvas<'_>>,
+) -> Result<Ended, Halt> {
+    match read_within(rt.alloc(), cert, READS) {
+        Ok(cert) => bench_plan(rt, plan, cert.as_slice(), out, play, extras, canvas),
+        Err(error) => Err(Halt::Run(error)),
+    }
 }
 
-fn rehearse_starting<R: Threads + Wait + Clock + Sync, I: Input, J: Input, O: Output>(
+fn bench_plan<R: Files + Print + Eprint + AllocGlobal + Threads + Wait + Clock + Sync, O: Output>(
     rt: &R,
-    alloc: Global,
-    plan: &mut I,
-    cert: &mut J,
+    plan: Plan,
+    cert: &[u8],
     out: &mut O,
-    starting: Starting<'_>,
-    explain: bool,
-) -> Result<Status, RunError> {
-    if explain {
-        return explain_bench(rt, alloc, plan, cert, out, starting);
-    }
-    run_bench(
+    play: Play<'_>,
+    extras: Extras,
+    canvas: Option<Canvas<'_>>,
+) -> Result<Ended, Halt> {
+    let answers = bits_of(rt.alloc(), play.answers, play.rest)?;
+    let outcome = rehearse(
         rt,
-        alloc,
+        rt.alloc(),
         plan,
         cert,
-        out,
-        starting.starters,
-        starting.fill,
-        starting.answers,
+        play.starters,
+        play.fill,
+        answers.as_slice(),
         &NoGate,
-    )
+    )?;
+    let ended = write_outcome(rt.alloc(), &outcome, cert, out, play.explain, extras)?;
+    if let Some(canvas) = canvas {
+        draw_outcome(rt, &outcome, canvas)?;
+    }
+    Ok(ended)
 }
 
 // The bits of all slots. Past the end of the answers a bench takes 1.
-fn whole_answers(alloc: Global, answers: &str, rest: bool) -> Result<String, AllocError> {
-    let mut whole = Text::new(alloc);
-    whole.push(answers);
+fn bits_of(alloc: Global, answers: &str, rest: bool) -> Result<Vec<bool>, AllocError> {
+    let mut bits = Vec::new(alloc);
+    for byte in answers.as_bytes() {
+        bits.push(*byte == b'1')?;
+    }
     if !rest {
-        for _ in answers.len()..SLOTS {
-            whole.push("0");
+        for _ in answers.len()..MOST_SLOTS {
+            bits.push(false)?;
         }
     }
-    whole.finish()
+    Ok(bits)
+}
+
+// Writes what came of it.
+fn write_outcome<O: Output>(
+    alloc: Global,
+    outcome: &Outcome,
+    cert: &[u8],
+    out: &mut O,
+    explain: bool,
+    extras: Extras,
+) -> Result<Ended, Halt>
+    requires { HasWinners outcome.now }
+{
+    match outcome {
+        Outcome::Played(rehearsal) => {
+            write_played(alloc, outcome, rehearsal, out, explain, extras.style())?;
+            Ok(Ended {
+                status: Status::Good,
+                told: told_of(alloc, rehearsal, extras),
+            })
+        }
+        Outcome::NotAccepted(it) => {
+            let cert = if explain { Some(cert) } else { None };
+            tell_answer(alloc, &it.plan, cert, it.answer, out, extras)
+        }
+    }
+}
+
+fn write_played<O: Output>(
+    alloc: Global,
+    outcome: &Outcome,
+    rehearsal: &Rehearsal,
+    out: &mut O,
+    explain: bool,
+    style: Style,
+) -> Result<(), RunError>
+    requires outcome { HasWinners outcome.now }
+    requires rehearsal { AreParticipants (plan_contents (accepted_plan rehearsal.now.accepted)) rehearsal.now.played.won.items }
+{
+    if let Style::Objects = style {
+        return write_rehearsal(alloc, rehearsal, explain, out);
+    }
+    if explain {
+        return explain_rehearsal(alloc, rehearsal, out);
+    }
+    let report = outcome_report(alloc, outcome)?;
+    write_lines(out, report.as_bytes(), Status::Good)?;
+    Ok(())
+}
+
+fn told_of(alloc: Global, rehearsal: &Rehearsal, extras: Extras) -> Told {
+    if extras.hints && is_unanswered(rehearsal.played.wire.as_slice()) {
+        Told::hints(on_no_answers(alloc))
+    } else {
+        Told::Nothing
+    }
+}
+
+// Whether targets were to answer, and none acknowledged.
+fn is_unanswered(wire: &[Item]) -> bool {
+    wire.contains(&Item::Heard(true)) && !wire.contains(&Item::Heard(false))
 }

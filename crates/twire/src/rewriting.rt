@@ -1,9 +1,7 @@
 // Runs over one text that write another one.
 
-use order::run_order;
-use report::{
-    Input, Output, RunError, Status, Watched, run_brief, run_certify, run_expand, run_print,
-};
+use crate::endings::{Ended, Halt, Told};
+use report::{Input, Output, Status, run_brief, run_certify, run_expand, run_print};
 use signals::{Lesson, run_learn, run_signals};
 use std::alloc::Global;
 
@@ -11,7 +9,6 @@ use std::alloc::Global;
 #[derive(Clone, Copy)]
 pub enum Rewriting<'a> {
     Certify,
-    Order,
     Print,
     Brief,
     Expand,
@@ -20,7 +17,7 @@ pub enum Rewriting<'a> {
 }
 
 impl Rewriting<'_> {
-    /// The run of `report`, `order` or `signals`.
+    /// The run of `report` or `signals`.
     ///
     /// # Errors
     ///
@@ -30,35 +27,26 @@ impl Rewriting<'_> {
         alloc: Global,
         text: &mut I,
         out: &mut O,
-    ) -> Result<Status, RunError> {
-        match self {
+    ) -> Result<Ended, Halt> {
+        let status = match self {
             Rewriting::Certify => run_certify(alloc, text, out),
-            Rewriting::Order => run_order(alloc, text, out),
             Rewriting::Print => run_print(alloc, text, out),
             Rewriting::Brief => run_brief(alloc, text, out),
             Rewriting::Expand => run_expand(alloc, text, out),
             Rewriting::Signals => run_signals(alloc, text, out),
             Rewriting::Learn(lesson) => run_learn(alloc, text, out, lesson),
-        }
+        }?;
+        Ok(Ended {
+            status,
+            told: self.told(status),
+        })
     }
-}
 
-/// What the run makes of a text, in memory.
-///
-/// # Errors
-///
-/// Those of the run, in the same order; `NoMemory` stands in place of `Write`.
-pub fn rewritten(
-    alloc: Global,
-    rewriting: Rewriting<'_>,
-    text: &[u8],
-) -> Result<Vec<u8>, RunError> {
-    let mut read = Watched::new(text);
-    let mut written = Watched::new(Vec::new(alloc));
-    match rewriting.run(alloc, &mut read, &mut written) {
-        Ok(_) => Ok(written.into_inner()),
-        // memory takes everything, as long as there is some
-        Err(RunError::Write) => Err(RunError::NoMemory),
-        Err(error) => Err(error),
+    fn told(self, status: Status) -> Told {
+        match (self, status) {
+            (Rewriting::Certify, Status::Bad) => Told::Fault,
+            (Rewriting::Signals | Rewriting::Learn(_), _) => Told::Recording,
+            _ => Told::Nothing,
+        }
     }
 }

@@ -1,13 +1,13 @@
 // What the program does, and the status that it ends with.
 
-use crate::advice::{About, Outcome, advise};
+use crate::advice::{About, Outcome, advise, no_timescale};
+use crate::endings::{Ended, Halt, Told};
 use crate::inputs::{FilesRead, Inputs, both_read, is_standard_input, one_read, open, open_both};
-use crate::outputs::{Form, Sheet};
+use crate::outputs::{Form, Sheet, Style};
 use crate::progress::Watcher;
 use crate::tasks::{Over, OverBoth, Task, task_of};
 use crate::versions::version_of;
-use crate::viewing::Halt;
-use crate::voices::{Voice, refused, refused_timescale, say};
+use crate::voices::{Voice, refused};
 use command_words::{Asked, Manner, Request, When, read_words};
 use hints::{Named, visible};
 use report::{RunError, Status, Watched};
@@ -30,14 +30,14 @@ pub struct Extras {
 }
 
 impl Extras {
-    /// How a report is written that has words for people.
-    pub fn form(self) -> Form<'static> {
+    /// How what a run finds is written.
+    pub fn style(self) -> Style {
         if self.is_json {
-            Form::Objects
+            Style::Objects
         } else if self.colors_out {
-            Form::Colored
+            Style::Colored
         } else {
-            Form::Plain
+            Style::Plain
         }
     }
 
@@ -159,7 +159,7 @@ fn do_request<R: Files + Input + Print + Eprint + AllocGlobal + Threads + Wait +
     request: Request<'_>,
     extras: Extras,
 ) -> u8 {
-    match task_of(request, extras.form()) {
+    match task_of(request, extras.style()) {
         Task::One(text, over, form) => run_over(rt, text, over, form, extras),
         Task::Two(plan, other, over, form) => run_over_both(rt, plan, other, over, form, extras),
     }
@@ -182,24 +182,21 @@ fn run_over<R: Files + Input + Print + Eprint + AllocGlobal + Threads + Wait + C
     };
     let sheet = Sheet::telling(rt, form, read, extras.watcher, over.writes_long());
     let mut out = Watched::new(sheet);
-    let mut unwritten = None;
-    let ended = over.run(
-        rt,
-        text.path,
-        &mut reader,
-        &mut out,
-        extras,
-        read,
-        &mut unwritten,
-    );
-    let end = End {
-        ended,
+    let ended = over.run(rt, text.path, &mut reader, &mut out, extras, read);
+    let files = Targets {
         output: form.path(),
         wave: over.wave(),
-        about: over.about(text.path),
     };
     let read = one_read(text, reader);
-    finish(rt, read, out.into_inner(), unwritten, end, extras)
+    finish(
+        rt,
+        read,
+        out.into_inner(),
+        ended,
+        files,
+        over.about(text.path),
+        extras,
+    )
 }
 
 // The same over a plan and a second text.
@@ -217,8 +214,7 @@ fn run_over_both<R: Files + Input + Print + Eprint + AllocGlobal + Threads + Wai
     };
     let read = FilesRead { first, second };
     let mut out = Watched::new(Sheet::new(rt, form, read, extras.watcher));
-    let mut unwritten = None;
-    let ended = match over.run(
+    let ended = over.run(
         rt,
         plan.path,
         &mut reader,
@@ -226,29 +222,28 @@ fn run_over_both<R: Files + Input + Print + Eprint + AllocGlobal + Threads + Wai
         &mut out,
         extras,
         read,
-        &mut unwritten,
-    ) {
-        Ok(status) => Ok(status),
-        Err(Halt::Run(error)) => Err(error),
-        Err(Halt::NoTimescale) => return no_timescale(rt, extras),
-    };
-    let end = End {
-        ended,
+    );
+    let files = Targets {
         output: form.path(),
         wave: over.wave(),
-        about: over.about(plan.path, other.path),
     };
     let read = both_read(plan, reader, other, another);
-    finish(rt, read, out.into_inner(), unwritten, end, extras)
+    finish(
+        rt,
+        read,
+        out.into_inner(),
+        ended,
+        files,
+        over.about(plan.path, other.path),
+        extras,
+    )
 }
 
-// How a run ended, the files that it was to write, for its report and for waves, and what hints say of it.
+// The files that a run was to write: of its report, where that is not standard output, and of its waves.
 #[derive(Clone, Copy)]
-struct End<'a> {
-    ended: Result<Status, RunError>,
+struct Targets<'a> {
     output: Option<&'a str>,
     wave: Option<&'a str>,
-    about: About<'a>,
 }
 
 // Writes the file of a run that is to write one, and answers the status of the run, with the line of a refusal, and hints
@@ -257,46 +252,33 @@ fn finish<R: Files + Print + Eprint + Clock + AllocGlobal>(
     rt: &R,
     read: Inputs<'_, R::File>,
     mut out: Sheet<'_, R>,
-    unwritten: Option<io::Error>,
-    end: End<'_>,
+    ended: Result<Ended, Halt>,
+    files: Targets<'_>,
+    about: About<'_>,
     extras: Extras,
 ) -> u8 {
-    let output = match unwritten {
-        Some(_) => end.wave,
-        None => end.output,
+    let (ended, told, output, reason) = match ended {
+        Ok(Ended { status, told }) => (Ok(status), told, files.output, None),
+        Err(Halt::Run(error)) => (Err(error), Told::Nothing, files.output, None),
+        Err(Halt::Undrawn(error, reason)) => (Err(error), Told::Nothing, files.wave, reason),
+        Err(Halt::NoTimescale) => return no_timescale(rt, extras),
     };
-    out.blame(unwritten);
-    let ended = out.settle(end.ended);
+    let ended = out.settle(ended);
     let status = status_of(rt, ended, extras);
     if extras.hints {
         let (report, error) = out.into_parts();
         let outcome = Outcome {
             ended,
+            told,
             output,
-            error,
+            error: reason.or(error),
             report,
-            about: end.about,
+            about,
             voice: extras.voice(),
         };
-        advise(rt, read, &outcome);
+        advise(rt, read, outcome);
     }
     status
-}
-
-// What is said where times have no unit.
-const NO_TIMESCALE: &str = "\
-hint: the capture does not say what its times count: it has no $timescale
-hint: give times as plain numbers, as they stand in the file
-";
-
-fn no_timescale<R: Clock + Eprint + AllocGlobal>(rt: &R, extras: Extras) -> u8 {
-    extras.watcher.clear(rt);
-    refused_timescale(rt, extras.voice());
-    if extras.hints {
-        let hints = String::from_str(rt.alloc(), NO_TIMESCALE);
-        say(rt, hints, extras.voice().uncolored());
-    }
-    2
 }
 
 // The status of a run that has ended, with the line of a refusal. The line that told how far it was goes away.

@@ -1,27 +1,26 @@
 // What a request comes to: a run over one text or over two, and where its report goes.
 
 use crate::advice::{About, Recorded, names_of};
-use crate::checking::{Look, check};
+use crate::checking::{Look, check, order, verify};
 use crate::drawings::Canvas;
-use crate::explaining::explain_verify;
+use crate::endings::{Ended, Halt};
 use crate::inputs::FilesRead;
-use crate::outputs::Form;
+use crate::outputs::{Form, Style};
 use crate::pages::{write_page_alone, write_page_with};
 use crate::recordings::{asked_of, lesson_of, whole_of};
 use crate::rehearsals::{Play, bench, bench_alone};
 use crate::rewriting::Rewriting;
 use crate::runs::Extras;
-use crate::viewing::{Asked, Halt, view_capture};
+use crate::viewing::{Asked, capture};
 use command_words::{Lines, Request};
 use hints::Named;
-use report::{Input, Output, Probe, RunError, Status, run_verify};
-use std::io;
+use report::{Input, Output, Probe};
 use std::rt::Files;
 use std::sync::Wait;
 use std::thread::Threads;
 use std::time::Clock;
 
-/// What is run, and how its report is written.
+/// What is run, and where its report goes.
 #[derive(Clone, Copy)]
 pub enum Task<'a> {
     One(Named<'a>, Over<'a>, Form<'a>),
@@ -32,6 +31,7 @@ pub enum Task<'a> {
 #[derive(Clone, Copy)]
 pub enum Over<'a> {
     Check(Look<'a>),
+    Order,
     Page,
     Rewrite(Rewriting<'a>),
     Bench(Play<'a>),
@@ -48,8 +48,8 @@ pub enum OverBoth<'a> {
 
 // ---- from the request
 
-/// What is run for a request. A report that has words for people is written in this form.
-pub fn task_of<'a>(request: Request<'a>, form: Form<'a>) -> Task<'a> {
+/// What is run for a request. Reports on captures and on signals are made as lines, which are then written in this style.
+pub fn task_of<'a>(request: Request<'a>, style: Style) -> Task<'a> {
     match request {
         Request::Check {
             plan,
@@ -64,7 +64,7 @@ pub fn task_of<'a>(request: Request<'a>, form: Form<'a>) -> Task<'a> {
                 wave,
                 pair,
             };
-            Task::One(the_plan(plan), Over::Check(look), form)
+            Task::One(the_plan(plan), Over::Check(look), Form::Plain)
         }
         Request::Verify {
             plan,
@@ -72,7 +72,7 @@ pub fn task_of<'a>(request: Request<'a>, form: Form<'a>) -> Task<'a> {
             explain,
         } => {
             let verify = OverBoth::Verify { explain };
-            Task::Two(the_plan(plan), the_certificate(cert), verify, form)
+            Task::Two(the_plan(plan), the_certificate(cert), verify, Form::Plain)
         }
         Request::Capture {
             plan,
@@ -87,7 +87,7 @@ pub fn task_of<'a>(request: Request<'a>, form: Form<'a>) -> Task<'a> {
                 the_plan(plan),
                 the_capture(vcd),
                 OverBoth::Capture(asked),
-                form,
+                style.form(),
             )
         }
         Request::Page {
@@ -114,10 +114,10 @@ pub fn task_of<'a>(request: Request<'a>, form: Form<'a>) -> Task<'a> {
                 explain,
                 wave,
             };
-            bench_of(the_plan(plan), cert, play, form)
+            bench_of(the_plan(plan), cert, play)
         }
-        Request::Order { plan } => rewrite(Rewriting::Order, the_plan(plan), form),
-        Request::Signals { vcd } => rewrite(Rewriting::Signals, the_capture(vcd), form),
+        Request::Order { plan } => Task::One(the_plan(plan), Over::Order, Form::Plain),
+        Request::Signals { vcd } => rewrite(Rewriting::Signals, the_capture(vcd), style.form()),
         Request::Learn {
             vcd,
             lines,
@@ -159,15 +159,15 @@ fn page_of<'a>(
     }
 }
 
-fn bench_of<'a>(
-    plan: Named<'a>,
-    cert: Option<&'a str>,
-    play: Play<'a>,
-    form: Form<'a>,
-) -> Task<'a> {
+fn bench_of<'a>(plan: Named<'a>, cert: Option<&'a str>, play: Play<'a>) -> Task<'a> {
     match cert {
-        Some(cert) => Task::Two(plan, the_certificate(cert), OverBoth::Bench(play), form),
-        None => Task::One(plan, Over::Bench(play), form),
+        Some(cert) => Task::Two(
+            plan,
+            the_certificate(cert),
+            OverBoth::Bench(play),
+            Form::Plain,
+        ),
+        None => Task::One(plan, Over::Bench(play), Form::Plain),
     }
 }
 
@@ -202,7 +202,7 @@ fn named<'a>(argument: &'static str, what: &'static str, path: &'a str) -> Named
 // ---- the runs
 
 impl<'a> Over<'a> {
-    /// Runs over the text of this path, one of the files that are read. Why the file for waves could not be written is told beside how the run ended.
+    /// Runs over the text of this path, one of the files that are read.
     pub fn run<
         R: Files + Print + Eprint + AllocGlobal + Threads + Wait + Clock + Sync,
         I: Input,
@@ -215,14 +215,14 @@ impl<'a> Over<'a> {
         out: &mut O,
         extras: Extras,
         read: FilesRead,
-        unwritten: &mut Option<io::Error>,
-    ) -> Result<Status, RunError> {
+    ) -> Result<Ended, Halt> {
         let canvas = canvas_of(self.wave(), extras, read);
         match self {
-            Over::Check(look) => check(rt, text, out, look, extras.watcher, canvas, unwritten),
+            Over::Check(look) => check(rt, text, out, look, extras, canvas),
+            Over::Order => order(rt, text, out, extras.style()),
             Over::Page => write_page_alone(rt, path, text, out),
             Over::Rewrite(rewriting) => rewriting.run(rt.alloc(), text, out),
-            Over::Bench(play) => bench_alone(rt, text, out, play, canvas, unwritten),
+            Over::Bench(play) => bench_alone(rt, text, out, play, extras, canvas),
         }
     }
 
@@ -262,8 +262,7 @@ impl<'a> Over<'a> {
 }
 
 impl<'a> OverBoth<'a> {
-    /// Runs over the plan of this path and the second text, the files that are read. Why the file for waves could not be
-    /// written is told beside how the run ended.
+    /// Runs over the plan of this path and the second text, the files that are read.
     pub fn run<
         R: Files + Print + Eprint + AllocGlobal + Threads + Wait + Clock + Sync,
         I: Input,
@@ -278,22 +277,16 @@ impl<'a> OverBoth<'a> {
         out: &mut O,
         extras: Extras,
         read: FilesRead,
-        unwritten: &mut Option<io::Error>,
-    ) -> Result<Status, Halt> {
+    ) -> Result<Ended, Halt> {
         let alloc = rt.alloc();
-        let ended = match self {
-            OverBoth::Verify { explain: true } => explain_verify(alloc, plan, other, out),
-            OverBoth::Verify { explain: false } => run_verify(alloc, plan, other, out),
-            OverBoth::Capture(asked) => return view_capture(rt, alloc, plan, other, out, asked),
+        match self {
+            OverBoth::Verify { explain } => verify(alloc, plan, other, out, explain, extras),
+            OverBoth::Capture(asked) => capture(rt, alloc, plan, other, out, asked),
             OverBoth::Page(asked) => write_page_with(rt, path, plan, other, out, asked),
             OverBoth::Bench(play) => {
                 let canvas = canvas_of(play.wave, extras, read);
-                bench(rt, plan, other, out, play, canvas, unwritten)
+                bench(rt, plan, other, out, play, extras, canvas)
             }
-        };
-        match ended {
-            Ok(status) => Ok(status),
-            Err(error) => Err(Halt::Run(error)),
         }
     }
 

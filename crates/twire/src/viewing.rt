@@ -1,16 +1,17 @@
 // The run that shows a capture as it is asked for.
 
+use crate::endings::{Ended, Halt, Told};
 use crate::explaining::explain_capture;
-use crate::inputs::READS;
 use crate::quieting::Quiet;
 use dump_tokens::{Scale, Time};
 use explain::{View, has_unit, shown};
 use plan_core::Plan;
 use plan_text::read_plan;
 use report::{Input, Output, Probe, RunError, Status, Watched, read_within, run_capture_of};
+use run_parts::devices::reading::READS;
 use run_parts::write_lines;
 use signals::{needs_picking, pick};
-use std::alloc::{AllocError, Global};
+use std::alloc::Global;
 use std::str;
 use std::thread::Threads;
 
@@ -47,24 +48,19 @@ impl Asked<'_> {
     }
 }
 
-/// Why a run ends without its report.
-#[derive(Clone, Copy)]
-pub enum Halt {
-    Run(RunError),
-    /// A time was given with a unit, and the dump does not say what its numbers count.
-    NoTimescale,
-}
-
-impl From<RunError> for Halt {
-    fn from(error: RunError) -> Halt {
-        Halt::Run(error)
-    }
-}
-
-impl From<AllocError> for Halt {
-    fn from(_error: AllocError) -> Halt {
-        Halt::Run(RunError::NoMemory)
-    }
+/// The run of a capture.
+pub fn capture<I: Input, J: Input, O: Output>(
+    rt: &(impl Threads + Sync),
+    alloc: Global,
+    plan: &mut I,
+    vcd: &mut J,
+    out: &mut O,
+    asked: Asked<'_>,
+) -> Result<Ended, Halt> {
+    Ok(Ended {
+        status: view_capture(rt, alloc, plan, vcd, out, asked)?,
+        told: Told::Recording,
+    })
 }
 
 /// Explains the capture that the second reader gives by the plan that the first reader gives, and writes of the report what

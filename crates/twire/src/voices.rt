@@ -1,7 +1,7 @@
 // What goes to standard error: refusals, and hints for people.
 
-use crate::colors::colored_hints;
-use objects::{hint_objects, refusal_object};
+use hints::Hints;
+use objects::{hint_objects, refusal_object, timescale_object};
 use report::RunError;
 use std::alloc::{AllocError, Global};
 
@@ -28,18 +28,13 @@ impl Voice {
 /// Writes the line of a refusal, and answers its status.
 pub fn refused<R: Eprint + AllocGlobal>(rt: &R, error: RunError, voice: Voice) -> u8 {
     match voice {
-        Voice::Objects => say_refusal(rt, object_of(rt.alloc(), error)),
+        Voice::Objects => say_refusal(rt, refusal_object(rt.alloc(), error)),
         // Where standard error takes nothing the status is all that is left.
         _ => {
             let _ = eprintln!(rt; "refused {error}");
         }
     }
     2
-}
-
-fn object_of(alloc: Global, error: RunError) -> Result<String, AllocError> {
-    let words = format!(in alloc; "{error}")?;
-    refusal_object(alloc, words.as_str())
 }
 
 // Where there is no memory for the object of a refusal, that is refused.
@@ -53,7 +48,7 @@ fn say_refusal<R: Eprint>(rt: &R, object: Result<String, AllocError>) {
 /// Writes the line of the refusal of a time with a unit, of which a dump does not say what it counts.
 pub fn refused_timescale<R: Eprint + AllocGlobal>(rt: &R, voice: Voice) {
     match voice {
-        Voice::Objects => say_refusal(rt, refusal_object(rt.alloc(), "timescale")),
+        Voice::Objects => say_refusal(rt, timescale_object(rt.alloc())),
         _ => {
             let _ = eprintln!(rt; "refused timescale");
         }
@@ -61,16 +56,16 @@ pub fn refused_timescale<R: Eprint + AllocGlobal>(rt: &R, voice: Voice) {
 }
 
 /// Writes hints. Where there is no memory for them, or standard error takes nothing, there are none.
-pub fn say<R: Eprint + AllocGlobal>(rt: &R, hints: Result<String, AllocError>, voice: Voice) {
+pub fn say<R: Eprint + AllocGlobal>(rt: &R, hints: Result<Hints, AllocError>, voice: Voice) {
     let Ok(hints) = hints else {
         return;
     };
-    let hints = match voice {
-        Voice::Plain => Ok(hints),
-        Voice::Colored => colored_hints(rt.alloc(), hints.as_str()),
-        Voice::Objects => hint_objects(rt.alloc(), hints.as_str()),
+    let text = match voice {
+        Voice::Plain => hints.text(rt.alloc(), false),
+        Voice::Colored => hints.text(rt.alloc(), true),
+        Voice::Objects => hint_objects(rt.alloc(), &hints),
     };
-    if let Ok(hints) = hints {
-        let _ = eprint!(rt; "{hints}");
+    if let Ok(text) = text {
+        let _ = eprint!(rt; "{text}");
     }
 }

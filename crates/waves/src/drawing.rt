@@ -36,7 +36,7 @@ const FALL: u64 = 9;
 /// or else what the wire has. A wire that ends neither in a STOP nor in a claim is one that leads to a fault: one slot more
 /// is drawn, in which what they do meets, SCL stays HIGH, and one more signal is HIGH. After a claim, a slot that nobody pulls
 /// and a STOP are drawn, so that the waves have an end; what really follows an interrupt's header is not twire's to say.
-pub fn wave_of(
+pub(crate) fn wave_of(
     alloc: Global,
     plan: &Plan,
     participants: &[u32],

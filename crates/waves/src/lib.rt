@@ -10,5 +10,4 @@ mod dump;
 mod rows;
 mod runs;
 
-pub use drawing::wave_of;
 pub use runs::{wave_of_bench, wave_of_check};

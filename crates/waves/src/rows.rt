@@ -1,7 +1,9 @@
 // What a participant does in each slot.
 
-use message_tree::{Bit, Item};
-use places::{Offered, Place};
+use bench_run::filled;
+use message_tree::Item;
+use places::Place;
+use plays::Put;
 
 /// A participant on its way along the wire.
 #[derive(Clone, Copy)]
@@ -44,20 +46,19 @@ impl<'a> Row<'a> {
         if !self.is_live {
             return Act::Free;
         }
-        match self.place.offered() {
-            Offered::Bit(bit) if sends_one(bit, fill, item) => Act::Free,
-            Offered::Bit(_) => Act::Pull,
-            Offered::Listen | Offered::Nothing => Act::Free,
-            Offered::Again => Act::Again,
-            Offered::Stop => Act::Stop,
-            Offered::Claim => Act::Claim,
+        match filled(self.place.offered(), bit_of(fill, item)) {
+            Some(Put::Drive(false)) => Act::Pull,
+            Some(Put::Drive(true) | Put::Listen) | None => Act::Free,
+            Some(Put::Again) => Act::Again,
+            Some(Put::Stop) => Act::Stop,
+            Some(Put::Claim) => Act::Claim,
         }
     }
 
     /// The wire has shown this item. Whoever put another one has lost.
     pub(crate) fn see(&mut self, fill: Option<bool>, item: Item) {
-        let put = match self.place.offered() {
-            Offered::Bit(bit) => Item::Sent(sends_one(bit, fill, Some(item))),
+        let put = match filled(self.place.offered(), bit_of(fill, Some(item))) {
+            Some(Put::Drive(bit)) => Item::Sent(bit),
             _ => item,
         };
         self.is_live = self.is_live && put == item && self.place.offered().allows(item);
@@ -67,10 +68,7 @@ impl<'a> Row<'a> {
     }
 }
 
-fn sends_one(bit: Bit, fill: Option<bool>, item: Option<Item>) -> bool {
-    match bit {
-        Bit::Zero => false,
-        Bit::One => true,
-        Bit::Either => fill.unwrap_or(item == Some(Item::Sent(true))),
-    }
+// What is sent for an open bit.
+fn bit_of(fill: Option<bool>, item: Option<Item>) -> bool {
+    fill.unwrap_or(item == Some(Item::Sent(true)))
 }

@@ -1,6 +1,6 @@
 // How often each participant explains a transaction.
 
-use crate::meeting::label_of;
+use crate::labels::label_of;
 use crate::views::lines::What;
 use growing_text::Text;
 use plan_core::Plan;

@@ -1,0 +1,92 @@
+// Where the two of an unsafe pair meet.
+
+use crate::labels::label_of;
+use crate::sending::{Followed, follow_wire};
+use crate::words::Words;
+use message_tree::Item;
+use places::Offered;
+use plan_core::Plan;
+use std::alloc::{AllocError, Global};
+
+/// Which rule says that the two may not meet as they do.
+#[derive(Clone, Copy, PartialEq, Eq)]
+pub enum Rule {
+    /// UM10204, 3.1.8.
+    Standard,
+    /// The profile of interrupts.
+    Interrupts,
+}
+
+/// One of the two along the wire: its label, its bytes up to the end of the one in which the wire ends, the slots in which it
+/// may send either bit, as first and last ones, and what it does next.
+#[derive(Drop)]
+pub struct Side {
+    pub label: String,
+    pub bytes: String,
+    pub open: Vec<(usize, usize)>,
+    pub next: Offered,
+}
+
+/// Where the two of an unsafe pair meet: in this slot, after these bytes on the bus.
+#[derive(Drop)]
+pub struct Meeting {
+    pub slot: usize,
+    pub bus: String,
+    pub first: Side,
+    pub second: Side,
+}
+
+impl Meeting {
+    /// Which rule says that they may not.
+    pub fn rule(&self) -> Rule {
+        if self.first.next == Offered::Claim || self.second.next == Offered::Claim {
+            Rule::Interrupts
+        } else {
+            Rule::Standard
+        }
+    }
+}
+
+/// Where these two participants of the plan meet after this wire.
+///
+/// # Errors
+///
+/// Where an allocation fails.
+pub fn meeting_of(
+    alloc: Global,
+    plan: &Plan,
+    participants: (u32, u32),
+    wire: &[Item],
+) -> Result<Meeting, AllocError> {
+    let bus = bytes_of(alloc, wire)?;
+    let first = side_of(alloc, plan, participants.0, wire)?;
+    let second = side_of(alloc, plan, participants.1, wire)?;
+    Ok(Meeting {
+        slot: wire.len(),
+        bus,
+        first,
+        second,
+    })
+}
+
+/// The bytes of a wire, from its START on.
+pub(crate) fn bytes_of(alloc: Global, wire: &[Item]) -> Result<String, AllocError> {
+    let mut words = Words::new(alloc);
+    for item in wire {
+        words.item(*item);
+    }
+    words.finish()
+}
+
+fn side_of(alloc: Global, plan: &Plan, p: u32, wire: &[Item]) -> Result<Side, AllocError> {
+    let label = label_of(alloc, plan, p)?;
+    let mut words = Words::new(alloc);
+    let Followed { open, next } = follow_wire(alloc, plan, p, wire, &mut words);
+    let bytes = words.finish()?;
+    Ok(Side {
+        label,
+        bytes,
+        open: open.finish()?,
+        next,
+    })
+}

@@ -1,0 +1,101 @@
+// What is wrong with a certificate of a plan.
+
+ghost use Rattle.std.specs.Prelude.{◌<◌, length};
+ghost use Rattle.plan_core.specs.PlanContents.{plan_contents};
+ghost use Rattle.plan_core.specs.Pairs.{pairs_of};
+
+use crate::breaks::{Break, break_of};
+use cert_check::Answer;
+use certificate::CertFault;
+use plan_core::Plan;
+use std::alloc::{AllocError, Global};
+
+/// What is wrong with a certificate, beside what its answer says.
+#[derive(Clone, Copy)]
+pub enum Wrong {
+    /// What it says of this pair, of these participants, is not so.
+    Pair {
+        pair: u32,
+        participants: (u32, u32),
+        /// Where the line of its proof breaks off, where the certificate has proofs.
+        found: Option<End>,
+    },
+    /// The plan has so many pairs, and the certificate so many lines of proofs.
+    Count {
+        pairs: u32,
+        proofs: u64,
+    },
+    /// Its text is wrong by itself.
+    Text,
+}
+
+/// Where a proof breaks off.
+#[derive(Clone, Copy)]
+pub enum End {
+    /// At a word that does not prove what it stands for.
+    Break(Break),
+    /// At its end: each of its words proves something, and further ones are missing.
+    Missing,
+}
+
+/// What is wrong with the certificate of this text, of which this is the answer for the plan; `None` where nothing is.
+///
+/// # Errors
+///
+/// Where an allocation fails.
+pub fn wrong_of(
+    alloc: Global,
+    plan: &Plan,
+    cert: &[u8],
+    answer: Answer,
+) -> Result<Option<Wrong>, AllocError> {
+    let Answer::Wrong(fault) = answer else {
+        return Ok(None);
+    };
+    Ok(Some(match fault {
+        CertFault::Pair(pair) if pair < plan.pair_count() => wrong_pair(alloc, plan, cert, pair)?,
+        CertFault::Count => Wrong::Count {
+            pairs: plan.pair_count(),
+            proofs: proofs_in(cert),
+        },
+        _ => Wrong::Text,
+    }))
+}
+
+fn wrong_pair(alloc: Global, plan: &Plan, cert: &[u8], pair: u32) -> Result<Wrong, AllocError>
+    requires { pair < length (pairs_of (plan_contents plan.now)) }
+{
+    let participants = plan.pair(pair);
+    let found = match proof_line(cert, pair) {
+        Some(proof) => Some(match break_of(alloc, plan, participants, proof)? {
+            Some(found) => End::Break(found),
+            None => End::Missing,
+        }),
+        None => None,
+    };
+    Ok(Wrong::Pair {
+        pair,
+        participants,
+        found,
+    })
+}
+
+// The line of a pair's proof, where the text has proofs.
+fn proof_line(cert: &[u8], pair: u32) -> Option<&[u8]> {
+    let rest = cert.strip_prefix(b"cert 1\npairs ")?;
+    rest.split(is_line_feed)
+        .nth((pair as usize).saturating_add(1))
+}
+
+fn is_line_feed(byte: &u8) -> bool {
+    *byte == b'\n'
+}
+
+// How many lines stand below the two of the head.
+fn proofs_in(cert: &[u8]) -> u64 {
+    let mut count = 0u64;
+    for byte in cert {
+        count = count.saturating_add(u64::from(is_line_feed(byte)));
+    }
+    count.saturating_sub(2)
+}

@@ -1,0 +1,29 @@
+// The labels of a plan, each made once.
+
+use plan_core::Plan;
+use std::alloc::{AllocError, Global};
+
+/// The labels of all participants.
+#[derive(Drop)]
+pub(crate) struct Labels {
+    labels: Vec<String>,
+}
+
+impl Labels {
+    /// The label of a participant, and nothing for a number that is none.
+    pub(crate) fn of(&self, p: u32) -> &str {
+        match self.labels.get(p as usize) {
+            Some(label) => label.as_str(),
+            None => "",
+        }
+    }
+}
+
+/// The labels of the plan's participants.
+pub(crate) fn labels_of(alloc: Global, plan: &Plan) -> Result<Labels, AllocError> {
+    let mut labels = Vec::with_capacity(alloc, plan.participants() as usize)?;
+    for p in 0..plan.participants() {
+        labels.push(plan.label(alloc, p)?)?;
+    }
+    Ok(Labels { labels })
+}

@@ -1,0 +1,62 @@
+// Objects of values. How they are written is left to `serde_json`.
+
+use growing_text::Text;
+use run_parts::{Output, RunError, write_report};
+use serde::Serialize;
+use std::alloc::{AllocError, Global};
+use std::mem;
+
+// How many bytes are gathered before they are written.
+const BLOCK: usize = 65_536;
+
+/// Objects, one a line, as they are written.
+#[derive(Drop)]
+pub(crate) struct Lines {
+    pub(crate) alloc: Global,
+    text: Text,
+}
+
+impl Lines {
+    /// No object yet.
+    pub(crate) fn new(alloc: Global) -> Lines {
+        Lines {
+            alloc,
+            text: Text::new(alloc),
+        }
+    }
+
+    /// One more object.
+    pub(crate) fn add<T: Serialize>(&mut self, object: &T) {
+        // these values have no text that JSON refuses, so an error is out of memory
+        match serde_json::to_string(self.alloc, object) {
+            Ok(line) => self.text.push(line.as_str()),
+            Err(_) => self.text.cut(),
+        }
+        self.text.push("\n");
+    }
+
+    /// An allocation failed for what would come next.
+    pub(crate) fn cut(&mut self) {
+        self.text.cut();
+    }
+
+    /// Writes what was gathered, where that is much.
+    pub(crate) fn write_block<O: Output>(&mut self, out: &mut O) -> Result<(), RunError> {
+        if BLOCK <= self.text.len() || !self.text.is_whole() {
+            let text = mem::replace(&mut self.text, Text::new(self.alloc)).finish()?;
+            write_report(out, text.as_bytes())?;
+        }
+        Ok(())
+    }
+
+    /// Writes what is left.
+    pub(crate) fn write_rest<O: Output>(self, out: &mut O) -> Result<(), RunError> {
+        let text = self.text.finish()?;
+        write_report(out, text.as_bytes())
+    }
+
+    /// All objects.
+    pub(crate) fn finish(self) -> Result<String, AllocError> {
+        self.text.finish()
+    }
+}

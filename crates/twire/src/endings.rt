@@ -1,0 +1,69 @@
+// How runs end.
+
+use certificate::CertFault;
+use hints::Hints;
+use report::{RunError, Status};
+use std::alloc::AllocError;
+use std::io;
+
+/// A run that has ended with its report: its status, and what is to be said to people.
+#[derive(Drop)]
+pub struct Ended {
+    pub status: Status,
+    pub told: Told,
+}
+
+impl Ended {
+    /// With nothing to be said.
+    pub fn quietly(status: Status) -> Ended {
+        Ended {
+            status,
+            told: Told::Nothing,
+        }
+    }
+}
+
+/// What is to be said to people of what a run has found.
+#[derive(Drop)]
+pub enum Told {
+    Nothing,
+    Hints(Hints),
+    /// What is wrong with the certificate, of which the place is shown.
+    Certificate(CertFault),
+    /// That what was written is the certificate of a fault.
+    Fault,
+    /// What can be said of a dump, by its report.
+    Recording,
+}
+
+impl Told {
+    /// These hints, where there was memory for them.
+    pub fn hints(hints: Result<Hints, AllocError>) -> Told {
+        match hints {
+            Ok(hints) => Told::Hints(hints),
+            Err(_) => Told::Nothing,
+        }
+    }
+}
+
+/// Why a run ends without its report, or without its waves.
+#[derive(Drop)]
+pub enum Halt {
+    Run(RunError),
+    /// A time was given with a unit, and the dump does not say what its numbers count.
+    NoTimescale,
+    /// The report was written, and the file for waves was not, for this reason of the system.
+    Undrawn(RunError, Option<io::Error>),
+}
+
+impl From<RunError> for Halt {
+    fn from(error: RunError) -> Halt {
+        Halt::Run(error)
+    }
+}
+
+impl From<AllocError> for Halt {
+    fn from(_error: AllocError) -> Halt {
+        Halt::Run(RunError::NoMemory)
+    }
+}
