@@ -6,6 +6,8 @@ use crate::lines::Lines;
 use crate::marking::push_marked;
 use crate::pieces::Piece;
 use crate::proof_lines::{Flaw, flaw_in};
+use crate::values::Hints;
+use certificate::CertFault;
 use dump_tokens::reading::read_again;
 use std::alloc::{AllocError, Global};
 use std::io::{Read, Seek};
@@ -13,42 +15,19 @@ use std::io::{Read, Seek};
 const OTHER_PAIRS: &str =
     "the certificate does not prove the pairs of this plan: where the plan was changed, have it written again by 'twire certify PLAN -o CERT'";
 
-/// What is wrong with a certificate, as the report of `twire verify` says it.
-#[derive(Clone, Copy)]
-pub enum Wrong {
-    /// This line breaks the form, C1.
-    Form(u64),
-    /// This line has a proof that is too deep, C3.
-    Depth(u64),
-    /// The proofs are not those of the plan: C2 or C5.
-    Plan,
-}
-
-/// What the first line of a report says of a certificate that is wrong, if it does. Lines for people may stand below it.
-pub fn wrong_of(report: &str) -> Option<Wrong> {
-    let words = report.lines().next()?.strip_prefix("wrong ")?.trim_end();
-    if let Some(line) = words.strip_prefix("C1 line ") {
-        Some(Wrong::Form(line.parse().ok()?))
-    } else if let Some(line) = words.strip_prefix("C3 line ") {
-        Some(Wrong::Depth(line.parse().ok()?))
-    } else {
-        Some(Wrong::Plan)
-    }
-}
-
-/// What to say of a certificate that is wrong. The file is that of the certificate, where it can be read once more.
+/// What to say of a certificate that has this fault. The file is that of the certificate, where it can be read once more.
 pub fn on_certificate<F: Read + Seek + Drop>(
     alloc: Global,
     file: Option<F>,
-    wrong: Wrong,
-) -> Result<String, AllocError> {
-    match wrong {
-        Wrong::Plan => say_other_pairs(alloc),
-        Wrong::Form(line) | Wrong::Depth(line) => say_line(alloc, file, wrong, line),
+    fault: CertFault,
+) -> Result<Hints, AllocError> {
+    match fault {
+        CertFault::Format(line) | CertFault::TooDeep(line) => say_line(alloc, file, fault, line),
+        CertFault::Count | CertFault::Pair(_) => say_other_pairs(alloc),
     }
 }
 
-fn say_other_pairs(alloc: Global) -> Result<String, AllocError> {
+fn say_other_pairs(alloc: Global) -> Result<Hints, AllocError> {
     let mut lines = Lines::new(alloc);
     lines.say(OTHER_PAIRS);
     lines.finish()
@@ -58,14 +37,14 @@ fn say_other_pairs(alloc: Global) -> Result<String, AllocError> {
 fn say_line<F: Read + Seek + Drop>(
     alloc: Global,
     mut file: Option<F>,
-    wrong: Wrong,
+    fault: CertFault,
     line: u64,
-) -> Result<String, AllocError> {
+) -> Result<Hints, AllocError> {
     // what a file is may be told by a line below the one that is wrong
     let kind = kind_of_file(alloc, &mut file);
     match find(alloc, file, line) {
-        Some(found) => say_found(alloc, &found, kind, wrong, line),
-        None => say_words(alloc, wrong, line),
+        Some(found) => say_found(alloc, &found, kind, fault, line),
+        None => say_words(alloc, fault, line),
     }
 }
 
@@ -80,15 +59,15 @@ fn find<F: Read + Seek + Drop>(alloc: Global, file: Option<F>, line: u64) -> Opt
 }
 
 // The line alone, in words.
-fn say_words(alloc: Global, wrong: Wrong, line: u64) -> Result<String, AllocError> {
+fn say_words(alloc: Global, fault: CertFault, line: u64) -> Result<Hints, AllocError> {
     let mut lines = Lines::new(alloc);
-    push_words(&mut lines, wrong, line);
+    push_words(&mut lines, fault, line);
     lines.finish()
 }
 
-fn push_words(lines: &mut Lines, wrong: Wrong, line: u64) {
-    let words = match wrong {
-        Wrong::Depth(_) => "has a proof that is more than 512 nodes deep",
+fn push_words(lines: &mut Lines, fault: CertFault, line: u64) {
+    let words = match fault {
+        CertFault::TooDeep(_) => "has a proof that is more than 512 nodes deep",
         _ => "is no line of a certificate in this place",
     };
     lines.say(format_args!("line {line} of the certificate {words}"));
@@ -98,16 +77,16 @@ fn say_found(
     alloc: Global,
     found: &LineFinder,
     kind: Option<Kind>,
-    wrong: Wrong,
+    fault: CertFault,
     line: u64,
-) -> Result<String, AllocError> {
+) -> Result<Hints, AllocError> {
     let mut lines = Lines::new(alloc);
     if is_binary(kind) {
         push_kind(&mut lines, kind, Kind::Certificate);
     } else if found.has_carriage_return() {
         push_carriage_returns(&mut lines);
     } else if found.is_long {
-        push_words(&mut lines, wrong, line);
+        push_words(&mut lines, fault, line);
     } else {
         let content = found.line.as_slice();
         let flaw = flaw_in(alloc, content, line, found.head.as_slice(), found.is_ended)?;

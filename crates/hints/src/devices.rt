@@ -2,6 +2,7 @@
 
 use crate::lines::Lines;
 use crate::paths::quoted;
+use crate::values::Hints;
 use std::alloc::{AllocError, Global};
 use std::fmt::Display;
 use std::io::Error;
@@ -15,12 +16,12 @@ pub struct Named<'a> {
 }
 
 /// After a file that cannot be opened, with the error of the system.
-pub fn on_opening(alloc: Global, file: Named<'_>, error: &Error) -> Result<String, AllocError> {
+pub fn on_opening(alloc: Global, file: Named<'_>, error: &Error) -> Result<Hints, AllocError> {
     on_file(alloc, file, "cannot be opened:", Some(error))
 }
 
 /// After standard input, where it is closed.
-pub fn on_closed_input(alloc: Global, file: Named<'_>) -> Result<String, AllocError> {
+pub fn on_closed_input(alloc: Global, file: Named<'_>) -> Result<Hints, AllocError> {
     let Named { argument, what, .. } = file;
     let words = format_args!(
         "{argument}, the {what}, is to come from standard input, which is closed"
@@ -33,7 +34,7 @@ pub fn on_reading(
     alloc: Global,
     file: Named<'_>,
     error: Option<&Error>,
-) -> Result<String, AllocError> {
+) -> Result<Hints, AllocError> {
     let words = match error {
         Some(_) => "cannot be read to its end:",
         None => "gave an error in reading, or has no end",
@@ -46,7 +47,7 @@ pub fn on_writing(
     alloc: Global,
     output: Option<&str>,
     error: Option<&Error>,
-) -> Result<String, AllocError> {
+) -> Result<Hints, AllocError> {
     let end = if error.is_some() { ":" } else { "" };
     match output {
         Some(path) => {
@@ -65,14 +66,14 @@ pub fn on_writing(
 }
 
 /// After a run that has no waves for the file of this path.
-pub fn on_no_waves(alloc: Global, path: &str) -> Result<String, AllocError> {
+pub fn on_no_waves(alloc: Global, path: &str) -> Result<Hints, AllocError> {
     let path = quoted(alloc, path)?;
     let words = format_args!("there is nothing to draw, so {path} was not written");
     said(alloc, words, None)
 }
 
 /// After the certificate of an unsafe plan, in the file of this path or on standard output.
-pub fn on_fault(alloc: Global, output: Option<&str>) -> Result<String, AllocError> {
+pub fn on_fault(alloc: Global, output: Option<&str>) -> Result<Hints, AllocError> {
     let mut lines = Lines::new(alloc);
     lines.part("the plan is not safe: what was written");
     if let Some(path) = output {
@@ -85,7 +86,7 @@ pub fn on_fault(alloc: Global, output: Option<&str>) -> Result<String, AllocErro
 }
 
 /// After a rehearsal in which no target acknowledged anything.
-pub fn on_no_answers(alloc: Global) -> Result<String, AllocError> {
+pub fn on_no_answers(alloc: Global) -> Result<Hints, AllocError> {
     said(
         alloc,
         "nothing was acknowledged, as on a bus without targets: '--rest 0' acknowledges each byte, and '--answers' has a bit for each slot",
@@ -93,13 +94,21 @@ pub fn on_no_answers(alloc: Global) -> Result<String, AllocError> {
     )
 }
 
+/// After a time with a unit, of which the capture does not say what it counts.
+pub fn on_no_timescale(alloc: Global) -> Result<Hints, AllocError> {
+    let mut lines = Lines::new(alloc);
+    lines.say("the capture does not say what its times count: it has no $timescale");
+    lines.say("give times as plain numbers, as they stand in the file");
+    lines.finish()
+}
+
 /// After a number of workers that is refused.
-pub fn on_workers(alloc: Global) -> Result<String, AllocError> {
+pub fn on_workers(alloc: Global) -> Result<Hints, AllocError> {
     said(alloc, "'--workers' takes 1 to 8", None)
 }
 
 /// After out of memory.
-pub fn on_memory(alloc: Global) -> Result<String, AllocError> {
+pub fn on_memory(alloc: Global) -> Result<Hints, AllocError> {
     said(
         alloc,
         "the system gave no more memory: is there a limit ('ulimit -v')?",
@@ -112,7 +121,7 @@ fn on_file(
     file: Named<'_>,
     words: &str,
     error: Option<&Error>,
-) -> Result<String, AllocError> {
+) -> Result<Hints, AllocError> {
     let Named {
         argument,
         what,
@@ -135,7 +144,7 @@ fn said<W: Display + Drop>(
     alloc: Global,
     words: W,
     error: Option<&Error>,
-) -> Result<String, AllocError> {
+) -> Result<Hints, AllocError> {
     let mut lines = Lines::new(alloc);
     lines.say(words);
     if let Some(error) = error {

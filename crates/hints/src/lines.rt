@@ -1,39 +1,30 @@
-// Lines for people.
+// Hints as they are put together, from parts.
 
-use growing_text::{COLUMNS, Text};
+use crate::values::{Hint, Hints};
 use std::alloc::{AllocError, Global};
 use std::fmt::Display;
 
-// What each line begins with.
-const HEAD: &str = "hint:";
-
-const ITEM_HEAD: &str = "hint:  ";
-
-const DETAIL_HEAD: &str = "hint:   ";
-
-/// A blank within a word, at which no sentence is broken.
+/// A blank within a word, at which no sentence is broken. It stands in parts alone: a hint has a blank in its place.
 pub const BLANK: char = '\0';
 
-/// How many columns a detail has.
-pub const DETAIL: usize = COLUMNS - DETAIL_HEAD.len();
-
-/// Lines of text, each of which begins with `hint:` and fits 80 columns, unless one word is longer. That an allocation
-/// failed for one of them is told once, by `finish`.
+/// Hints, one after another. That an allocation failed for one of them is told once, by `finish`.
 #[derive(Drop)]
 pub struct Lines {
     alloc: Global,
-    text: Text,
-    // the parts of the line that has not ended
+    hints: Hints,
+    // the parts of the hint that has not ended
     parts: String,
+    has_failed: bool,
 }
 
 impl Lines {
-    /// No line yet.
+    /// No hint yet.
     pub fn new(alloc: Global) -> Lines {
         Lines {
             alloc,
-            text: Text::new(alloc),
+            hints: Hints::new(alloc),
             parts: String::new(alloc),
+            has_failed: false,
         }
     }
 
@@ -45,8 +36,10 @@ impl Lines {
 
     /// One more sentence, which belongs to the one before.
     pub fn item(&mut self, words: &str) {
-        self.part(words);
-        self.break_up(ITEM_HEAD);
+        match words_of(self.alloc, words) {
+            Ok(words) => self.add(Hint::Item(words)),
+            Err(_) => self.fail(),
+        }
     }
 
     /// One more line, which belongs to the one before. It is not broken.
@@ -55,50 +48,66 @@ impl Lines {
         self.end_detail();
     }
 
+    /// Marks below the detail before: after so many columns, so many.
+    pub fn marks(&mut self, column: usize, width: usize) {
+        self.add(Hint::Marks { column, width });
+    }
+
     /// A part of a sentence or of a detail, which is said where that ends.
     pub fn part<W: Display + Drop>(&mut self, words: W) {
         if write!(self.parts, "{words}").is_err() {
-            self.text.cut();
+            self.fail();
         }
     }
 
     /// Ends a sentence, which is said on as many lines as it takes.
     pub fn end(&mut self) {
-        self.break_up(HEAD);
-    }
-
-    // Says the parts on lines that begin so. These are no field: they have a `&'static str`, with which a method whose type
-    // parameter names lifetimes, as `part`, gets no proof.
-    fn break_up(&mut self, head: &'static str) {
-        let mut lines = growing_text::Lines::new(self.alloc);
-        lines.begin(head, head);
-        lines.words(self.parts.as_str());
-        lines.end();
-        self.parts.clear();
-        self.text.push_made(lines.finish());
+        match words_of(self.alloc, self.parts.as_str()) {
+            Ok(words) => self.add(Hint::Sentence(words)),
+            Err(_) => self.fail(),
+        }
     }
 
     /// Ends a detail.
     pub fn end_detail(&mut self) {
-        self.text.push(DETAIL_HEAD);
-        self.text.push(self.parts.as_str());
-        self.text.push("\n");
+        match self.parts.replace(self.alloc, BLANK, " ") {
+            Ok(line) => self.add(Hint::Detail(line)),
+            Err(_) => self.fail(),
+        }
+    }
+
+    // One more hint. Those parts that there were are said.
+    fn add(&mut self, hint: Hint) {
         self.parts.clear();
+        if self.hints.push(hint).is_err() {
+            self.fail();
+        }
     }
 
     /// Notes that there was no memory for something that was to be said.
     pub fn fail(&mut self) {
-        self.text.cut();
+        self.has_failed = true;
     }
 
-    /// All lines.
+    /// All hints.
     ///
     /// # Errors
     ///
     /// Where an allocation failed for something that was to be said.
-    pub fn finish(self) -> Result<String, AllocError> {
-        let alloc = self.alloc;
-        let text = self.text.finish()?;
-        text.replace(alloc, BLANK, " ")
+    pub fn finish(self) -> Result<Hints, AllocError> {
+        if self.has_failed {
+            Err(AllocError)
+        } else {
+            Ok(self.hints)
+        }
     }
+}
+
+// The words of a sentence, which blanks part.
+fn words_of(alloc: Global, sentence: &str) -> Result<Vec<String>, AllocError> {
+    let mut words = Vec::new(alloc);
+    for word in sentence.split(' ') {
+        words.push(word.replace(alloc, BLANK, " ")?)?;
+    }
+    Ok(words)
 }

@@ -1,6 +1,7 @@
 // A place of a file, shown in its line.
 
-use crate::lines::{DETAIL, Lines};
+use crate::lines::Lines;
+use crate::values::DETAIL;
 
 // How many columns the place itself has, and what follows it at least, where there is so much of them.
 const PLACE: usize = 30;
@@ -28,8 +29,7 @@ pub fn push_marked(lines: &mut Lines, before: &[u8], place: &[u8], after: &[u8])
     let left = DETAIL.saturating_sub(column.saturating_add(width));
     push_first(lines, after, left);
     lines.end_detail();
-    let width = width.max(1);
-    lines.detail(format_args!("{:column$}{:^<width$}", "", ""));
+    lines.marks(column, width.max(1));
 }
 
 /// The bytes as a part of a line, cut where they are many.

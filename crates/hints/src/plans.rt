@@ -6,8 +6,8 @@ use crate::languages::Language;
 use crate::lines::Lines;
 use crate::marking::{first_line, last_line, push_marked};
 use crate::pieces::{Piece, last_line_number, line_start, pieces};
-use crate::safety::push_safe;
 use crate::starters::push_starters;
+use crate::values::Hints;
 use crate::wording::of_text;
 use crate::words::push_word;
 use brief_text::brief_word;
@@ -26,7 +26,7 @@ pub fn on_plan<F: Read + Seek + Drop>(
     alloc: Global,
     file: Option<F>,
     refusal: PlanError,
-) -> Result<String, AllocError> {
+) -> Result<Hints, AllocError> {
     on_text(alloc, Language::Plan, file, refusal)
 }
 
@@ -35,7 +35,7 @@ pub fn on_brief<F: Read + Seek + Drop>(
     alloc: Global,
     file: Option<F>,
     refusal: PlanError,
-) -> Result<String, AllocError> {
+) -> Result<Hints, AllocError> {
     on_text(alloc, Language::Brief, file, refusal)
 }
 
@@ -43,15 +43,14 @@ pub fn on_brief<F: Read + Seek + Drop>(
 pub fn on_no_brief<F: Read + Seek + Drop>(
     alloc: Global,
     file: Option<F>,
-) -> Result<String, AllocError> {
+) -> Result<Hints, AllocError> {
     say_of_plan(alloc, file, Topic::NoBrief)
 }
 
-/// What is to be said of a plan: after one that has no brief, after one that is safe, and after starters that are refused.
+/// What is to be said of a plan: after one that has no brief, and after starters that are refused.
 #[derive(Clone, Copy)]
 pub(crate) enum Topic<'a> {
     NoBrief,
-    Safe,
     Starters(&'a str, OpenError),
 }
 
@@ -60,16 +59,15 @@ pub(crate) fn say_of_plan<F: Read + Seek + Drop>(
     alloc: Global,
     file: Option<F>,
     topic: Topic<'_>,
-) -> Result<String, AllocError> {
+) -> Result<Hints, AllocError> {
     let plan = plan_of(alloc, file);
     say(alloc, plan.as_ref(), topic)
 }
 
-fn say(alloc: Global, plan: Option<&Plan>, topic: Topic<'_>) -> Result<String, AllocError> {
+fn say(alloc: Global, plan: Option<&Plan>, topic: Topic<'_>) -> Result<Hints, AllocError> {
     let mut lines = Lines::new(alloc);
     match topic {
         Topic::NoBrief => push_brief_word(&mut lines, plan),
-        Topic::Safe => push_safe(&mut lines, plan),
         Topic::Starters(starters, refusal) => {
             push_starters(alloc, &mut lines, plan, starters, refusal)
         }
@@ -119,7 +117,7 @@ fn on_text<F: Read + Seek + Drop>(
     language: Language,
     file: Option<F>,
     refusal: PlanError,
-) -> Result<String, AllocError> {
+) -> Result<Hints, AllocError> {
     match (line_of(refusal), of_text(language, refusal)) {
         (Some(line), Some(words)) => {
             let refused = Refused {
@@ -130,7 +128,7 @@ fn on_text<F: Read + Seek + Drop>(
             };
             say_refused(alloc, refused, file)
         }
-        _ => Ok(String::new(alloc)),
+        _ => Ok(Hints::new(alloc)),
     }
 }
 
@@ -138,7 +136,7 @@ fn say_refused<F: Read + Seek + Drop>(
     alloc: Global,
     refused: Refused,
     mut file: Option<F>,
-) -> Result<String, AllocError> {
+) -> Result<Hints, AllocError> {
     let mut lines = Lines::new(alloc);
     let kind = kind_of_file(alloc, &mut file);
     if !is_binary(kind) {

@@ -1,35 +1,25 @@
-// After a plan that is safe: what was not looked at.
+// After a plan that is safe: what was not checked.
 
 use crate::lines::Lines;
-use crate::plans::{Topic, say_of_plan};
+use crate::values::Hints;
 use plan_core::Plan;
 use std::alloc::{AllocError, Global};
-use std::io::{Read, Seek};
 
 // The most names that are told.
 const MOST: u32 = 10;
 
-/// What to say of a plan that is safe: the messages that nobody sends, the pairs that `never` leaves out, and that there are
-/// no pairs, where there are none. The file is that of the plan, where it can be read once more.
-pub fn on_safe<F: Read + Seek + Drop>(
-    alloc: Global,
-    file: Option<F>,
-) -> Result<String, AllocError> {
-    say_of_plan(alloc, file, Topic::Safe)
-}
-
-/// The same, of the plan, where it was read.
-pub(crate) fn push_safe(lines: &mut Lines, plan: Option<&Plan>) {
-    let Some(plan) = plan else {
-        return;
-    };
-    push_unsent(lines, plan);
-    push_nevers(lines, plan);
+/// What to say of a plan that is safe: the messages that no controller lists, the pairs that `never` leaves out, and that there
+/// are no pairs, where there are none.
+pub fn on_safe(alloc: Global, plan: &Plan) -> Result<Hints, AllocError> {
+    let mut lines = Lines::new(alloc);
+    push_unsent(&mut lines, plan);
+    push_nevers(&mut lines, plan);
     if plan.pair_count() == 0 {
         lines.say(
             "the plan has no two participants that may start together: no pair was looked at",
         );
     }
+    lines.finish()
 }
 
 fn push_unsent(lines: &mut Lines, plan: &Plan) {

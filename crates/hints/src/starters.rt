@@ -4,6 +4,7 @@ use crate::likeness::Nearest;
 use crate::lines::Lines;
 use crate::marking::push_name;
 use crate::plans::{Topic, say_of_plan};
+use crate::values::Hints;
 use plan_core::{Participant, Plan};
 use plays::OpenError;
 use std::alloc::{AllocError, Global};
@@ -16,7 +17,7 @@ pub fn on_starters<F: Read + Seek + Drop>(
     file: Option<F>,
     starters: &str,
     refusal: OpenError,
-) -> Result<String, AllocError> {
+) -> Result<Hints, AllocError> {
     say_of_plan(alloc, file, Topic::Starters(starters, refusal))
 }
 

@@ -4,6 +4,7 @@ use crate::captures::naming::{Names, is_named, word_of};
 use crate::captures::silence::push_passed;
 use crate::lines::Lines;
 use crate::marking::{push_name, push_quoted};
+use crate::values::Hints;
 use run_parts::Watched;
 use signals::{Found, Listing, read_beginning};
 use std::alloc::{AllocError, Global};
@@ -21,7 +22,7 @@ pub fn on_choice<F: Read + Seek + Drop>(
     alloc: Global,
     file: Option<F>,
     names: Names<'_>,
-) -> Result<String, AllocError> {
+) -> Result<Hints, AllocError> {
     let mut lines = Lines::new(alloc);
     if let Some(mut file) = file {
         push_passed(alloc, &mut lines, &mut file, names);

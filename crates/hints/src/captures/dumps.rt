@@ -6,6 +6,7 @@ use crate::captures::wording::{push_dump, push_token};
 use crate::kinds::{Kind, is_binary, kind_of_file, push_kind};
 use crate::lines::Lines;
 use crate::marking::{MARGIN, first_line, last_line, push_marked};
+use crate::values::Hints;
 use dump_tokens::reading::{part, read_again};
 use dump_tokens::tokens::{Cutter, Place, Sink, is_white};
 use std::alloc::{AllocError, Global};
@@ -18,7 +19,7 @@ pub fn on_dump<F: Read + Seek + Drop>(
     mut file: Option<F>,
     names: Names<'_>,
     refusal: VcdError,
-) -> Result<String, AllocError> {
+) -> Result<Hints, AllocError> {
     let mut lines = Lines::new(alloc);
     let kind = kind_of_file(alloc, &mut file);
     if is_binary(kind) {

@@ -3,6 +3,7 @@
 use crate::captures::naming::Names;
 use crate::captures::silence::push_exchanged;
 use crate::lines::Lines;
+use crate::values::Hints;
 use run_parts::Watched;
 use signals::{CANDIDATES, Found, Listing, read_beginning};
 use std::alloc::{AllocError, Global};
@@ -15,7 +16,7 @@ pub fn on_recording<F: Read + Seek + Drop>(
     alloc: Global,
     file: Option<F>,
     names: Names<'_>,
-) -> Result<String, AllocError> {
+) -> Result<Hints, AllocError> {
     let mut lines = Lines::new(alloc);
     if let Some(mut file) = file {
         push_exchanged(alloc, &mut lines, &mut file, names);
@@ -28,7 +29,7 @@ pub fn on_signals<F: Read + Seek + Drop>(
     alloc: Global,
     file: Option<F>,
     names: Names<'_>,
-) -> Result<String, AllocError> {
+) -> Result<Hints, AllocError> {
     let usual = Names {
         scl: Probe::Named("scl"),
         sda: Probe::Named("sda"),

@@ -4,6 +4,7 @@ use crate::captures::choosing::push_twins;
 use crate::captures::looking::{Beginning, Clock, Levels, Seen, Wholes, look};
 use crate::captures::naming::{BREAKS_OFF, Names, breaks_off, scale_of};
 use crate::lines::Lines;
+use crate::values::Hints;
 use std::alloc::{AllocError, Global};
 use std::io::{Read, Seek};
 
@@ -12,7 +13,7 @@ pub fn on_silence<F: Read + Seek + Drop>(
     alloc: Global,
     file: Option<F>,
     names: Names<'_>,
-) -> Result<String, AllocError> {
+) -> Result<Hints, AllocError> {
     let mut lines = Lines::new(alloc);
     match file {
         Some(mut file) => push_looked(alloc, &mut lines, names, &mut file),
@@ -26,7 +27,7 @@ pub fn on_unexplained<F: Read + Seek + Drop>(
     alloc: Global,
     file: Option<F>,
     names: Names<'_>,
-) -> Result<String, AllocError> {
+) -> Result<Hints, AllocError> {
     let mut lines = Lines::new(alloc);
     push_one_for_both(&mut lines, names);
     if let Some(mut file) = file {

@@ -1,0 +1,156 @@
+// What is said to people, as values, and how these are written as lines.
+
+use growing_text::{COLUMNS, Lines, Text};
+use std::alloc::{AllocError, Global};
+
+// What each line begins with.
+const HEAD: &str = "hint:";
+
+const ITEM_HEAD: &str = "hint:  ";
+
+const DETAIL_HEAD: &str = "hint:   ";
+
+// What stands before all but sentences where no head does.
+const MARGIN: &str = "  ";
+
+/// How many columns a detail has.
+pub const DETAIL: usize = COLUMNS - DETAIL_HEAD.len();
+
+const RED: &str = "\x1b[31m";
+
+const PLAIN: &str = "\x1b[0m";
+
+/// What is said to people.
+#[derive(Drop)]
+pub struct Hints {
+    hints: Vec<Hint>,
+}
+
+/// One of the things that are said.
+#[derive(Drop)]
+pub enum Hint {
+    /// The words of a sentence, which is broken between two of them where a line would be longer than 80 columns. A word may
+    /// have blanks in it, as a file in quotation marks.
+    Sentence(Vec<String>),
+    /// The same of a sentence that belongs to the one before.
+    Item(Vec<String>),
+    /// A line that is shown as it is.
+    Detail(String),
+    /// The marks below a place of the line before: after so many columns, so many.
+    Marks { column: usize, width: usize },
+}
+
+impl Hints {
+    /// Nothing to say.
+    pub fn new(alloc: Global) -> Hints {
+        Hints {
+            hints: Vec::new(alloc),
+        }
+    }
+
+    /// One more hint.
+    pub(crate) fn push(&mut self, hint: Hint) -> Result<(), AllocError> {
+        match self.hints.push(hint) {
+            Ok(()) => Ok(()),
+            Err(_) => Err(AllocError),
+        }
+    }
+
+    /// All hints, in the order in which they are said.
+    pub fn all(&self) -> &[Hint] {
+        self.hints.as_slice()
+    }
+
+    /// The lines of all hints, each of which begins with `hint:` and fits 80 columns, unless one word or detail is longer. The
+    /// marks may be coloured.
+    ///
+    /// # Errors
+    ///
+    /// Where an allocation failed.
+    pub fn text(&self, alloc: Global, is_colored: bool) -> Result<String, AllocError> {
+        let mut text = Text::new(alloc);
+        for hint in self.hints.iter() {
+            hint.push_lines(alloc, &mut text, is_colored);
+        }
+        text.finish()
+    }
+}
+
+impl Hint {
+    /// The text of this hint, which is not broken. Where it belongs to the one before it begins with two blanks.
+    ///
+    /// # Errors
+    ///
+    /// Where an allocation failed.
+    pub fn text(&self, alloc: Global) -> Result<String, AllocError> {
+        let mut text = Text::new(alloc);
+        match self {
+            Hint::Sentence(words) => push_words(&mut text, words.as_slice()),
+            Hint::Item(words) => {
+                text.push(MARGIN);
+                push_words(&mut text, words.as_slice());
+            }
+            Hint::Detail(line) => {
+                text.push(MARGIN);
+                text.push(line.as_str());
+            }
+            Hint::Marks { column, width } => {
+                text.push(MARGIN);
+                push_marks(&mut text, *column, *width, false);
+            }
+        }
+        text.finish()
+    }
+
+    fn push_lines(&self, alloc: Global, text: &mut Text, is_colored: bool) {
+        match self {
+            Hint::Sentence(words) => text.push_made(broken(alloc, HEAD, words.as_slice())),
+            Hint::Item(words) => text.push_made(broken(alloc, ITEM_HEAD, words.as_slice())),
+            Hint::Detail(line) => {
+                text.push(DETAIL_HEAD);
+                text.push(line.as_str());
+                text.push("\n");
+            }
+            Hint::Marks { column, width } => {
+                text.push(DETAIL_HEAD);
+                push_marks(text, *column, *width, is_colored);
+                text.push("\n");
+            }
+        }
+    }
+}
+
+// The words on lines that begin so.
+fn broken(alloc: Global, head: &'static str, words: &[String]) -> Result<String, AllocError> {
+    let mut lines = Lines::new(alloc);
+    lines.begin(head, head);
+    for word in words {
+        lines.word(word.as_str());
+    }
+    lines.end();
+    lines.finish()
+}
+
+// The words with a blank between two of them.
+fn push_words(text: &mut Text, words: &[String]) {
+    let mut before = "";
+    for word in words {
+        text.push(before);
+        text.push(word.as_str());
+        before = " ";
+    }
+}
+
+fn push_marks(text: &mut Text, column: usize, width: usize, is_colored: bool) {
+    let (before, after) = if is_colored { (RED, PLAIN) } else { ("", "") };
+    push_times(text, " ", column);
+    text.push(before);
+    push_times(text, "^", width);
+    text.push(after);
+}
+
+fn push_times(text: &mut Text, part: &str, times: usize) {
+    for _ in 0..times {
+        text.push(part);
+    }
+}
