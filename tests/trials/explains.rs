@@ -81,7 +81,11 @@ fn of_wrong_pair(plan: &Participants, cert: &str, pair: usize) -> Option<Value> 
     let mut fields = vec![("participants", Value::list([x.label.as_str(), y.label.as_str()]))];
     if let Ok(Certificate::Proofs(lines)) = read_certificate(cert) {
         let found = break_of(lines.get(pair)?, x.sender, y.sender)?;
-        fields.extend([("word", Value::of(found.word)), ("slot", Value::of(found.slot)), ("why", Value::text(found.why))]);
+        fields.extend([
+            ("word", Value::of(found.word)),
+            ("slot", Value::of(found.slot)),
+            ("why", Value::text(found.why)),
+        ]);
     }
     Some(object(fields))
 }

@@ -265,7 +265,8 @@ fn transaction(fields: &mut Fields) -> Result<String, String> {
     let has_all = words.matches(" leaves at slot ").count() == nearest.matches(" leaves at slot ").count();
     agree(&notes, has_all && words.starts_with(&bytes) && words.ends_with(&nearest))?;
     let rest = words[bytes.len()..words.len() - nearest.len()].trim_start();
-    let is_said = ["the STOP comes after ", "the repeated START comes after ", "1", "2", "3", "4", "5", "6", "7", "8", "9"];
+    let is_said =
+        ["the STOP comes after ", "the repeated START comes after ", "1", "2", "3", "4", "5", "6", "7", "8", "9"];
     agree(&notes, rest.is_empty() || is_said.iter().any(|begin| rest.starts_with(begin)) && rest.ends_with('?'))?;
     for note in notes {
         line.push_str(&format!("\n    {note}"));

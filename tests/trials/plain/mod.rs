@@ -30,7 +30,9 @@ mod wires;
 mod words;
 
 pub use certificates::{read_certificate, Certificate, Wrong};
-pub use commands::{bench, brief, capture, certify, check, expand, labels, order, seats, spelling, verify, with_plan, Answer};
+pub use commands::{
+    bench, brief, capture, certify, check, expand, labels, order, seats, spelling, verify, with_plan, Answer,
+};
 pub use order::Ways;
 pub use pairs::break_of;
 pub use participants::{Participant, Participants};
