@@ -83,7 +83,7 @@ for plan in "$examples"/*.plan; do
     done
 done
 
-# Each kind of object has been met, and with the notes of --explain each that has some.
+# Each kind of object has been met, and with --explain each that holds more then.
 sort -u kinds >met
 printf '%s\n' bus certificate "certificate explained" count hint line order pair "pair explained" participant plan "plan explained" \
     refusal signal signals too_few total transaction "transaction explained" transactions wire "wire explained" won >wanted
