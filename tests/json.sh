@@ -1,6 +1,7 @@
 #!/usr/bin/env bash
 # Runs twire with --format json. Other suites, which compare lines, are run over a program that asks twire for objects and
-# writes the lines that they stand for (tests/objects); then some objects are compared as they are written. The last line is
+# writes the lines that they stand for (tests/objects); then some objects are compared as they are written. Lines for people
+# below those of a plan are in no object: what is explained there is compared here, and by the trials. The last line is
 # 'N passed, M failed', and the exit status is 1 where a case fails.
 #
 # It runs the launcher at the top of the repository, or the program that TWIRE names.
@@ -82,7 +83,7 @@ for plan in "$examples"/*.plan; do
     done
 done
 
-# Each kind of object has been met, and with the notes of --explain each that has some.
+# Each kind of object has been met, and with --explain each that holds more then.
 sort -u kinds >met
 printf '%s\n' bus certificate "certificate explained" count hint line order pair "pair explained" participant plan "plan explained" \
     refusal signal signals too_few total transaction "transaction explained" transactions wire "wire explained" won >wanted
@@ -113,16 +114,66 @@ dump=$examples/stop_meets_data.vcd
 
 run "an unsafe plan" 1 '{"kind":"pair","pair":0,"participants":["main/write_output","service/probe_10"],"meet":["data","stop"],"after":"00100000l"}
 {"kind":"plan","safe":false,"pairs":2,"unsafe_pairs":1}' "" check --format json "$stop"
-run "an unsafe plan, explained" 1 '{"kind":"pair","pair":0,"participants":["main/write_output","service/probe_10"],"meet":["data","stop"],"after":"00100000l","explain":{"slot":9,"bus":"S 10 Wr A","bytes":["S 10 Wr A xxxxxxxx","S 10 Wr A P"],"next":["a data bit","a STOP"],"notes":["bus                S 10 Wr A","main/write_output  S 10 Wr A xxxxxxxx  next: a data bit","service/probe_10   S 10 Wr A P         next: a STOP","slot 9, UM10204 3.1.8: a data bit meets a STOP. Both send alike until here."]}}
-{"kind":"plan","safe":false,"pairs":2,"unsafe_pairs":1,"explain":{"never":[["main","service"]],"notes":["to mend it: a bit before that slot, known in both and different; or the same","shape from there on; or never main service ; (leaves 2 pairs unchecked)"]}}' \
+run "an unsafe plan, explained" 1 '{"kind":"pair","pair":0,"participants":["main/write_output","service/probe_10"],"meet":["data","stop"],"after":"00100000l","explain":{"slot":9,"rule":"UM10204 3.1.8","bus":"S 10 Wr A","bytes":["S 10 Wr A xxxxxxxx","S 10 Wr A P"],"open":[[],[]]}}
+{"kind":"plan","safe":false,"pairs":2,"unsafe_pairs":1,"explain":{"explained":1,"never":[["main","service"]],"unchecked":2,"interrupts":[],"kept_apart":0}}' \
     "" --format json check --explain "$stop"
+run "open bits before a fault" 1 '{"kind":"pair","pair":0,"participants":["main/read_register","guard/set_register"],"meet":["restart","stop"],"after":"10010000l00000010l","explain":{"slot":18,"rule":"UM10204 3.1.8","bus":"S 48 Wr A 02 A","bytes":["S 48 Wr A 000000xx A Sr","S 48 Wr A 0000001x A P"],"open":[[[15,16]],[[16,16]]]}}
+{"kind":"plan","safe":false,"pairs":2,"unsafe_pairs":1,"explain":{"explained":1,"never":[["main","guard"]],"unchecked":2,"interrupts":[],"kept_apart":0}}' \
+    "" check --format json --explain "$examples/restart_meets_stop.plan"
+cat >p.plan <<'PLAN'
+plan 2
+message w write 1001000 00000001 stop else stop else stop ;
+message p write 1001000 stop else stop ;
+message q read 0010000 1..2 stop else stop ;
+controller a w ;
+controller b p q ;
+controller c p ;
+interrupt al 0010000 ;
+never b c ;
+PLAN
+run "a pair with an interrupt, and pairs that are kept apart" 1 '{"kind":"pair","pair":0,"participants":["a/w","b/p"],"meet":["data","stop"],"after":"10010000l","explain":{"slot":9,"rule":"UM10204 3.1.8","bus":"S 48 Wr A","bytes":["S 48 Wr A 01","S 48 Wr A P"],"open":[[],[]]}}
+{"kind":"pair","pair":2,"participants":["a/w","c/p"],"meet":["data","stop"],"after":"10010000l","explain":{"slot":9,"rule":"UM10204 3.1.8","bus":"S 48 Wr A","bytes":["S 48 Wr A 01","S 48 Wr A P"],"open":[[],[]]}}
+{"kind":"pair","pair":5,"participants":["b/q","!al"],"meet":["answer","claim"],"after":"00100001","explain":{"slot":8,"rule":"interrupts","bus":"S 10 Rd","bytes":["S 10 Rd","S 10 Rd (waits)"],"open":[[],[]]}}
+{"kind":"plan","safe":false,"pairs":7,"unsafe_pairs":3,"explain":{"explained":3,"never":[["a","b"],["a","c"]],"unchecked":3,"interrupts":[5],"kept_apart":2}}' \
+    "" check --format json --explain p.plan
+run "one of three pairs is explained" 1 '{"kind":"pair","pair":0,"participants":["a/w","b/p"],"meet":["data","stop"],"after":"10010000l","explain":{"slot":9,"rule":"UM10204 3.1.8","bus":"S 48 Wr A","bytes":["S 48 Wr A 01","S 48 Wr A P"],"open":[[],[]]}}
+{"kind":"pair","pair":2,"participants":["a/w","c/p"],"meet":["data","stop"],"after":"10010000l"}
+{"kind":"pair","pair":5,"participants":["b/q","!al"],"meet":["answer","claim"],"after":"00100001"}
+{"kind":"plan","safe":false,"pairs":7,"unsafe_pairs":3,"explain":{"explained":1,"never":[["a","b"],["a","c"]],"unchecked":3,"interrupts":[5],"kept_apart":2}}' \
+    "" check --format json --explain --most 1 p.plan
 run "a safe plan" 0 '{"kind":"plan","safe":true,"pairs":2,"unsafe_pairs":0}' "" check --format=json "$two"
+run "a safe plan, explained" 0 '{"kind":"plan","safe":true,"pairs":2,"unsafe_pairs":0,"explain":{"decided":{"header":0,"later":1,"read":0,"alike":1},"unsent":[],"kept_apart":0}}' \
+    "" check --format json --explain "$two"
+run "a safe plan with ranges, explained" 0 '{"kind":"plan","safe":true,"pairs":2,"unsafe_pairs":0,"explain":{"decided":{"header":0,"later":0,"read":1,"alike":1},"unsent":[],"kept_apart":0}}' \
+    "" check --format json --explain "$examples/bounded_read.plan"
+sed '/^never /s/^/message spare write 1001000 stop else stop ; message other read 1010000 2 stop else stop ; /' \
+    "$examples/never_repairs.plan" >p.plan
+run "a safe plan with never and with messages that nobody sends, explained" 0 '{"kind":"plan","safe":true,"pairs":2,"unsafe_pairs":0,"explain":{"decided":{"header":2,"later":0,"read":0,"alike":0},"unsent":["spare","other"],"kept_apart":1}}' \
+    "" check --format json --explain p.plan
+
 run "a certificate" 0 '{"kind":"certificate","accepted":true,"safe":true}' "" verify --format json "$two" "${two%.plan}.cert"
+run "a certificate, explained" 0 '{"kind":"certificate","accepted":true,"safe":true}' "" \
+    verify --format json --explain "$two" "${two%.plan}.cert"
 printf 'cert 1\npairs 2\n.\n' >wrong.cert
 run "a certificate that is wrong" 2 '{"kind":"certificate","accepted":false,"code":"C2"}' "" verify --format json "$two" wrong.cert
+run "a proof too few, explained" 2 '{"kind":"certificate","accepted":false,"code":"C2","explain":{"pairs":2,"proofs":1}}' "" \
+    verify --format json --explain "$two" wrong.cert
+sed 's/P6/P5/' "${two%.plan}.cert" >wrong.cert
+run "a proof that names another bit" 2 '{"kind":"certificate","accepted":false,"code":"C5","pair":1}' "" \
+    verify --format json "$two" wrong.cert
+run "a proof that names another bit, explained" 2 '{"kind":"certificate","accepted":false,"code":"C5","pair":1,"explain":{"participants":["main/write_limit","guard/write_alarm"],"word":2,"slot":9,"why":"no_split"}}' \
+    "" verify --format json --explain "$two" wrong.cert
+printf 'cert 1\nfault 1 10010000l data stop\n' >wrong.cert
+run "a fault that there is not, explained" 2 '{"kind":"certificate","accepted":false,"code":"C5","pair":1,"explain":{"participants":["main/write_limit","guard/write_alarm"]}}' \
+    "" verify --format json --explain "$two" wrong.cert
+printf 'cert 1\nfault 2 10010000l data stop\n' >wrong.cert
+run "a fault of a pair that there is not, explained" 2 '{"kind":"certificate","accepted":false,"code":"C5","pair":2}' "" \
+    verify --format json --explain "$two" wrong.cert
 printf 'cert 2\n' >wrong.cert
 run "a certificate of another form" 2 '{"kind":"certificate","accepted":false,"code":"C1","line":1}' "" \
     verify --format json "$two" wrong.cert
+run "a certificate of another form, explained" 2 '{"kind":"certificate","accepted":false,"code":"C1","line":1}' "" \
+    verify --format json --explain "$two" wrong.cert
 run "who wins" 0 '{"kind":"order","pair":0,"participants":["main/write_settings","guard/write_alarm"],"both":[9,27],"first":[21,25],"second":[19,25]}
 {"kind":"order","pair":1,"participants":["main/write_limit","guard/write_alarm"],"both":[9,9],"second":[15,15]}
 {"kind":"total","participant":"main/write_settings","wins":0,"may_win":1,"loses":0}
@@ -145,6 +196,12 @@ run "participants, counted" 0 '{"kind":"participant","participant":"main/write_o
 run "a rehearsal" 0 '{"kind":"wire","wire":"10010000l00000001l00100000ls"}
 {"kind":"won","participants":["guard/write_alarm"]}' "" \
     bench --format json --certify "$two" main/write_limit,guard/write_alarm --rest 0
+run "a rehearsal, explained" 0 '{"kind":"wire","wire":"10010000l00000001l00100000ls","explain":{"bytes":"S 48 Wr A 01 A 20 A P","starters":[{"participant":"main/write_limit","puts":"10010000.0000001","lost":15},{"participant":"guard/write_alarm","puts":"10010000.00000001.00100000.s"}]}}
+{"kind":"won","participants":["guard/write_alarm"]}' "" \
+    bench --format json --explain --certify "$two" main/write_limit,guard/write_alarm --rest 0
+run "a rehearsal of an interrupt, explained" 0 '{"kind":"wire","wire":"01000011c","explain":{"bytes":"S 21 Rd (waits)","starters":[{"participant":"!sensor","puts":"1","lost":0},{"participant":"!keypad","puts":"01000011c"}]}}
+{"kind":"won","participants":["!keypad"]}' "" \
+    bench --format json --explain --certify "$examples/interrupts.plan" '!sensor,!keypad'
 
 # The greatest time that a dump can have, which stays as it is.
 last=18446744073709551615
@@ -167,6 +224,13 @@ run "refusals: a word" 2 "" '{"kind":"refusal","code":"workers"}' check --format
 run "refusals: two words" 2 "" '{"kind":"refusal","code":"brief name"}' brief --format json - <<<'plan 1 controller brief ;'
 run "refusals and hints" 2 "" '{"kind":"refusal","code":"workers"}
 {"kind":"hint","text":"'"'"'--workers'"'"' takes 1 to 8"}' check --format json --hints always --workers 9 "$two"
+printf 'plan 1\nmessage m read 1001000 256 stop else stop ;' >p.plan
+run "a hint that has more than 80 columns as a line is one object" 2 "" '{"kind":"refusal","code":"P4","line":2}
+{"kind":"hint","text":"line 2 of the plan:"}
+{"kind":"hint","text":"  message m read 1001000 256 stop else stop ;"}
+{"kind":"hint","text":"                         ^^^"}
+{"kind":"hint","text":"a count is a number from 1 to 255; in '"'plan 2'"' also two of them as '"'2..4'"', the smaller first"}' \
+    check --format json --hints always p.plan
 run "a file in place of a report stays" 0 "plan 1" "" print --format json - <<<'plan 2'
 run "no third form" 2 "" "error: invalid value 'xml' for '--format <HOW>'
   [possible values: text, json]

@@ -1,10 +1,13 @@
 //! Stands in the place of twire: runs the program that TWIRE_OF_OBJECTS names with `--format json`, and writes the lines that
 //! its objects stand for. So a suite that compares lines compares objects too. tests/json.sh builds it and uses it.
+//!
+//! The lines for people below those of a plan are in no object. They are taken from a run without objects, whose other lines
+//! have to be those that the objects stand for.
 
 #[path = "../trials/json.rs"]
 mod json;
-#[path = "../trials/objects.rs"]
-mod objects;
+#[path = "../trials/object_lines.rs"]
+mod object_lines;
 
 use std::env;
 use std::error::Error;
@@ -13,8 +16,11 @@ use std::fs::OpenOptions;
 use std::io::{self, Write};
 use std::process::{Command, ExitCode, Output, Stdio};
 
-// The commands that write reports, and those that write plans, briefs and certificates.
+// The commands that write reports, and no plans, briefs and certificates.
 const REPORTING: [&str; 6] = ["check", "verify", "order", "capture", "signals", "bench"];
+
+// Those of them whose objects have no lines for people.
+const OVER_PLANS: [&str; 3] = ["check", "verify", "bench"];
 
 fn main() -> ExitCode {
     match run() {
@@ -28,22 +34,40 @@ fn main() -> ExitCode {
 
 fn run() -> Result<u8, Box<dyn Error>> {
     let words: Vec<OsString> = env::args_os().skip(1).collect();
-    let program = env::var_os("TWIRE_OF_OBJECTS").ok_or("TWIRE_OF_OBJECTS names no program")?;
-    let mut command = Command::new(program);
     // (with no word at all there is help)
-    if !words.is_empty() {
-        command.arg("--format=json");
-    }
-    let output = command.args(&words).stdin(Stdio::inherit()).output()?;
-    let status = output.status.code().and_then(|code| u8::try_from(code).ok()).ok_or("a signal ended the program")?;
-    let reports = words.iter().find_map(|word| word.to_str().filter(|it| !it.starts_with('-')));
-    let reports = reports.is_some_and(|name| REPORTING.contains(&name));
-    let (out, err) = in_lines(&output, reports)?;
+    let output = ask(&words, !words.is_empty())?;
+    let command = words.iter().find_map(|word| word.to_str().filter(|it| !it.starts_with('-')));
+    let reports = command.is_some_and(|name| REPORTING.contains(&name));
+    let (mut out, err) = in_lines(&output, reports)?;
     log(&output)?;
+    let is_explained = words.iter().any(|word| word == "--explain");
+    if is_explained && command.is_some_and(|name| OVER_PLANS.contains(&name)) {
+        out = with_people(&ask(&words, false)?, &output, &out, &err)?;
+    }
     // (as twire writes them: hints come after the report)
     io::stdout().write_all(&out)?;
     io::stderr().write_all(&err)?;
-    Ok(status)
+    output.status.code().and_then(|code| u8::try_from(code).ok()).ok_or("a signal ended the program".into())
+}
+
+// What the program says of these words, in objects or in lines.
+fn ask(words: &[OsString], objects: bool) -> Result<Output, Box<dyn Error>> {
+    let program = env::var_os("TWIRE_OF_OBJECTS").ok_or("TWIRE_OF_OBJECTS names no program")?;
+    let mut command = Command::new(program);
+    if objects {
+        command.arg("--format=json");
+    }
+    Ok(command.args(words).stdin(Stdio::inherit()).output()?)
+}
+
+// The report of a run without objects, which says the same as one with objects, in these lines, and has those for people.
+fn with_people(told: &Output, output: &Output, out: &[u8], err: &[u8]) -> Result<Vec<u8>, String> {
+    let report = String::from_utf8_lossy(&told.stdout);
+    let exact: String = report.split_inclusive('\n').filter(|line| !line.starts_with("    ")).collect();
+    if told.status != output.status || exact.as_bytes() != out || told.stderr != err {
+        return Err(format!("the objects stand for other lines than\n{exact}"));
+    }
+    Ok(told.stdout.clone())
 }
 
 // Help, and what is wrong with a command line, are no objects.
@@ -61,7 +85,7 @@ fn contains(text: &[u8], part: &str) -> bool {
 
 fn lines(text: &[u8]) -> Result<Vec<u8>, String> {
     let text = std::str::from_utf8(text).map_err(|error| error.to_string())?;
-    Ok(objects::lines_of(text)?.into_bytes())
+    Ok(object_lines::lines_of(text)?.into_bytes())
 }
 
 // Which kinds of objects there were is counted by the suite.

@@ -10,8 +10,8 @@ pub enum Deed {
     Command,
     /// Its command, with hints for people on standard error.
     Hinted,
-    /// Its command, with objects in place of lines, and with hints or without.
-    Objects { hints: bool },
+    /// Its command, with objects in place of lines, and with or without hints and what `--explain` says.
+    Objects { hints: bool, explain: bool },
     /// Its command, a check, by so many workers.
     By(u32),
     /// A call in place of its command.
@@ -107,7 +107,7 @@ pub fn line_of(deed: Deed, asked: &Asked) -> Line {
     match deed {
         Deed::Command => command_line(&asked.command),
         Deed::Hinted => hinted_line(&asked.command),
-        Deed::Objects { hints } => objects_line(&asked.command, hints),
+        Deed::Objects { hints, explain } => objects_line(&asked.command, hints, explain),
         Deed::By(workers) => twire_line("check", vec![format!("--workers={workers}")], 1),
         Deed::Call(call) => call_line(call),
         Deed::Lists => calls_line("lists", 2, words_of(&asked.command)),
@@ -135,9 +135,12 @@ fn hinted_line(command: &Command) -> Line {
     line
 }
 
-fn objects_line(command: &Command, hints: bool) -> Line {
+fn objects_line(command: &Command, hints: bool, explain: bool) -> Line {
     let mut line = if hints { hinted_line(command) } else { command_line(command) };
     line.before.insert(1, "--format=json".to_owned());
+    if explain {
+        line.before.insert(1, "--explain".to_owned());
+    }
     line
 }
 

@@ -38,7 +38,7 @@ struct Task<'a> {
 // Where a thread is refused, the players that have one wait for the others, so more starters would take minutes.
 const MOST_STARTERS: usize = 4;
 
-const OBJECTS: Deed = Deed::Objects { hints: false };
+const OBJECTS: Deed = Deed::Objects { hints: false, explain: false };
 
 // The line of the refusal, or its object.
 fn is_memory(refusal: &str) -> bool {

@@ -1,371 +1,138 @@
-//! The lines that the objects of `--format json` stand for, by the schema in docs/COMMAND_LINE.md: each field in its place, and
-//! none besides. What an object has beside the notes of `--explain` is compared with the notes.
+//! The objects that are due of a command over a plan: made of the values that the plain programs find, by the schema in
+//! docs/COMMAND_LINE.md, each field in its place and none besides. What `explain` holds stands in `explains`.
 
-use crate::json::{read, Value};
+use crate::cases::Asked;
+use crate::commands::Command;
+use crate::explains;
+use crate::json::Value;
+use crate::plain::found::{checked, ordered, played, verified, Fault, Ordered};
+use crate::plain::{symbols, with_plan, Participant, Participants, Ways, Wrong};
+use crate::values::object;
 
-/// The lines of a text with one object a line.
-///
-/// # Errors
-///
-/// What is wrong, and in which line.
-pub fn lines_of(text: &str) -> Result<String, String> {
-    let mut lines = String::new();
-    if !text.is_empty() && !text.ends_with('\n') {
-        return Err("the last line has no end".to_owned());
-    }
-    for line in text.lines() {
-        let told = line_of(line).map_err(|why| format!("{why}, in {line}"))?;
-        lines.push_str(&told);
-    }
-    Ok(lines)
-}
-
-fn line_of(line: &str) -> Result<String, String> {
-    let mut fields = Fields::of(read(line)?)?;
-    let (told, notes) = told(&mut fields)?;
-    fields.end()?;
-    let mut lines = format!("{told}\n");
-    for note in notes {
-        lines.push_str(&format!("    {note}\n"));
-    }
-    Ok(lines)
-}
-
-type Told = (String, Vec<String>);
-
-// The line of an object, and those for people below it.
-fn told(fields: &mut Fields) -> Result<Told, String> {
-    let kind = fields.text("kind")?;
-    match kind.as_str() {
-        "pair" => pair(fields),
-        "plan" => plan(fields),
-        "certificate" => certificate(fields),
-        "transaction" => transaction(fields),
-        "wire" => wire(fields),
-        _ => Ok((alone(&kind, fields)?, Vec::new())),
-    }
-}
-
-// The line of an object below which nothing stands.
-fn alone(kind: &str, fields: &mut Fields) -> Result<String, String> {
-    Ok(match kind {
-        "order" => order(fields)?,
-        "total" => format!(
-            "total {}: wins {}, may win {}, loses {}",
-            fields.text("participant")?,
-            fields.number("wins")?,
-            fields.number("may_win")?,
-            fields.number("loses")?
-        ),
-        "transactions" => {
-            format!("{} transactions, {} unexplained", fields.number("transactions")?, fields.number("unexplained")?)
-        }
-        "too_few" => format!("too few: {} of {}", fields.number("transactions")?, fields.number("at_least")?),
-        "participant" => format!(
-            "{} {} alone, {} with others",
-            fields.text("participant")?,
-            fields.number("alone")?,
-            fields.number("with_others")?
-        ),
-        "count" => format!("{} {}", fields.text("what")?, fields.number("transactions")?),
-        "signal" => format!(
-            "signal {} {} {} {}",
-            fields.text("code")?,
-            fields.number("changes")?,
-            fields.maybe("scope", Value::into_text)?.unwrap_or("-".to_owned()),
-            fields.text("name")?
-        ),
-        "bus" => format!(
-            "bus {} transactions --scl-code {} --sda-code {}",
-            fields.number("transactions")?,
-            quoted(&fields.text("scl_code")?),
-            quoted(&fields.text("sda_code")?)
-        ),
-        "signals" => format!("{} signals, {} buses", fields.number("signals")?, fields.number("buses")?),
-        "won" => format!("won {}", fields.texts("participants")?.join(" ")),
-        "refusal" => refusal(fields)?,
-        "hint" => format!("hint: {}", fields.text("text")?),
-        "line" => fields.text("text")?,
-        _ => return Err(format!("there is no kind {kind}")),
-    })
-}
-
-fn refusal(fields: &mut Fields) -> Result<String, String> {
-    let code = fields.text("code")?;
-    let line = fields.maybe("line", Value::into_number)?.map(|line| format!(" line {line}"));
-    let signal = fields.maybe("signal", Value::into_text)?.map(|signal| format!(" {signal}"));
-    Ok(format!("refused {code}{}{}", line.unwrap_or_default(), signal.unwrap_or_default()))
-}
-
-fn quoted(code: &str) -> String {
-    format!("'{}'", code.replace('\'', "'\\''"))
-}
-
-fn order(fields: &mut Fields) -> Result<String, String> {
-    let pair = fields.number("pair")?;
-    let [x, y] = fields.two("participants")?;
-    let head = format!("pair {pair} {x} {y}:");
-    if let Some(is_unsafe) = fields.maybe("unsafe", Value::into_bool)? {
-        return if is_unsafe { Ok(format!("{head} unsafe")) } else { Err("'unsafe' is false".to_owned()) };
-    }
-    let mut ways = Vec::new();
-    for (key, name) in [("both", "both"), ("first", x.as_str()), ("second", y.as_str())] {
-        if let Some(slots) = fields.maybe(key, Value::into_numbers)? {
-            ways.push(match slots.as_slice() {
-                [from, to] if from == to => format!("{name} {from}"),
-                [from, to] => format!("{name} {from}..{to}"),
-                _ => return Err(format!("'{key}' is not of two slots")),
-            });
-        }
-    }
-    Ok(format!("{head} {}", ways.join(", ")).trim_end().to_owned())
-}
-
-fn pair(fields: &mut Fields) -> Result<Told, String> {
-    let pair = fields.number("pair")?;
-    let [x, y] = fields.two("participants")?;
-    let [one, other] = fields.two("meet")?;
-    let line = format!("pair {pair} {x} {y}: {one} against {other} after {}", fields.text("after")?);
-    let Some(mut explain) = fields.explain()? else {
-        return Ok((line, Vec::new()));
+/// What is due of a command with `--format json`, and with `--explain` or without. None of a command whose objects are
+/// compared by the lines that they stand for, and of one whose report is no objects. Nothing is due of a plan, or of starters,
+/// that are refused.
+pub fn due_of(asked: &Asked, explain: bool) -> Option<Vec<Value>> {
+    let cert = String::from_utf8_lossy(&asked.second);
+    let of_plan = |plan: &Participants| match &asked.command {
+        Command::Check { .. } => of_check(plan, explain),
+        Command::Order => of_order(plan),
+        Command::Verify => vec![of_certificate(plan, &cert, explain)],
+        Command::Bench { starters, fill, answers } => match verified(plan, &cert) {
+            Ok(true) => of_bench(plan, starters, *fill, answers, explain),
+            // (below this line nothing is explained)
+            _ => vec![of_certificate(plan, &cert, false)],
+        },
+        _ => Vec::new(),
     };
-    if !explain.has("slot") {
-        let notes = explain.notes()?;
-        agree(&notes, notes.join(" ").starts_with("(not explained from here on: "))?;
-        return Ok((line, notes));
+    match asked.command {
+        Command::Check { .. } | Command::Order | Command::Verify | Command::Bench { .. } => {
+            Some(with_plan(&asked.first, of_plan).unwrap_or_default())
+        }
+        _ => None,
     }
-    let slot = explain.number("slot")?;
-    let bus = explain.text("bus")?;
-    let [first, second] = explain.two("bytes")?;
-    let [next, then] = explain.two("next")?;
-    let notes = explain.notes()?;
-    let rows = format!("bus {bus} {x} {first} next: {next} {y} {second} next: {then} slot {slot},");
-    agree(&notes, words_of(&notes).starts_with(&rows))?;
-    Ok((line, notes))
 }
 
-fn plan(fields: &mut Fields) -> Result<Told, String> {
-    let is_safe = fields.take("safe")?.into_bool()?;
-    let pairs = fields.number("pairs")?;
-    let unsafe_pairs = fields.number("unsafe_pairs")?;
-    let line = match (is_safe, unsafe_pairs.as_str()) {
-        (true, "0") => format!("safe: {pairs} pairs"),
-        (true, _) => return Err("a safe plan has unsafe pairs".to_owned()),
-        (false, count) => format!("unsafe: {count} of {pairs} pairs"),
+// How many pairs `--explain` explains, where `--most` does not say it.
+const MOST: usize = 10;
+
+fn of_check(plan: &Participants, explain: bool) -> Vec<Value> {
+    let checked = checked(plan);
+    let most = if explain { MOST } else { 0 };
+    let faults = checked.faults.iter().enumerate();
+    let mut objects: Vec<Value> = faults.map(|(k, fault)| of_fault(fault, k < most)).collect();
+    let mut fields = vec![
+        ("safe", Value::Bool(checked.faults.is_empty())),
+        ("pairs", Value::of(checked.pairs)),
+        ("unsafe_pairs", Value::of(checked.faults.len())),
+    ];
+    if explain {
+        fields.push(("explain", explains::of_plan(plan, &checked, most)));
+    }
+    objects.push(of_kind("plan", fields));
+    objects
+}
+
+fn of_fault(fault: &Fault, explain: bool) -> Value {
+    let Fault { pair, x, y, clash } = fault;
+    let mut fields = vec![
+        ("pair", Value::of(*pair)),
+        ("participants", both(x, y)),
+        ("meet", Value::list([clash.first, clash.second].map(|kind| kind.word()))),
+        ("after", Value::text(symbols(&clash.wire))),
+    ];
+    if explain {
+        fields.push(("explain", explains::of_fault(fault)));
+    }
+    of_kind("pair", fields)
+}
+
+fn of_order(plan: &Participants) -> Vec<Value> {
+    let order = ordered(plan);
+    let pairs = order.pairs.iter().enumerate();
+    let mut objects: Vec<Value> = pairs.map(|(pair, ordered)| of_ordered(pair, ordered)).collect();
+    for one in &plan.all {
+        if let Some([wins, may_win, loses]) = order.totals.of(&one.label) {
+            let counts = [("wins", wins), ("may_win", may_win), ("loses", loses)];
+            let mut fields = vec![("participant", Value::text(&one.label))];
+            fields.extend(counts.map(|(key, count)| (key, Value::of(count))));
+            objects.push(of_kind("total", fields));
+        }
+    }
+    objects
+}
+
+fn of_ordered(pair: usize, ordered: &Ordered) -> Value {
+    let mut fields = vec![("pair", Value::of(pair)), ("participants", both(ordered.x, ordered.y))];
+    let Some(Ways { both, first, second }) = &ordered.ways else {
+        fields.push(("unsafe", Value::Bool(true)));
+        return of_kind("order", fields);
     };
-    let Some(mut explain) = fields.explain()? else {
-        return Ok((line, Vec::new()));
+    for (key, slots) in [("both", both), ("first", first), ("second", second)] {
+        if let (Some(earliest), Some(latest)) = (slots.first(), slots.last()) {
+            fields.push((key, Value::Array([earliest, latest].map(|slot| Value::of(*slot)).to_vec())));
+        }
+    }
+    of_kind("order", fields)
+}
+
+fn of_certificate(plan: &Participants, cert: &str, explain: bool) -> Value {
+    let wrong = match verified(plan, cert) {
+        Ok(safe) => return of_kind("certificate", vec![("accepted", Value::Bool(true)), ("safe", Value::Bool(safe))]),
+        Err(wrong) => wrong,
     };
-    let mut nevers = String::new();
-    for item in explain.take("never")?.into_items()? {
-        let [c, d] = two_of(item)?;
-        nevers.push_str(&format!(" never {c} {d} ;"));
-    }
-    let notes = explain.notes()?;
-    let words = words_of(&notes);
-    let said = words.matches(" never ").count() == nevers.matches(" never ").count();
-    agree(&notes, said && words.contains(&nevers))?;
-    Ok((line, notes))
-}
-
-fn certificate(fields: &mut Fields) -> Result<Told, String> {
-    let accepted = fields.take("accepted")?.into_bool()?;
-    let line = if accepted {
-        let is_safe = fields.take("safe")?.into_bool()?;
-        format!("accepted {}", if is_safe { "safe" } else { "unsafe" })
-    } else {
-        let code = fields.text("code")?;
-        let line = fields.maybe("line", Value::into_number)?.map(|line| format!(" line {line}"));
-        let pair = fields.maybe("pair", Value::into_number)?.map(|pair| format!(" pair {pair}"));
-        format!("wrong {code}{}{}", line.unwrap_or_default(), pair.unwrap_or_default())
+    let (code, place) = match wrong {
+        Wrong::Format(line) => ("C1", Some(("line", line))),
+        Wrong::Count(_) => ("C2", None),
+        Wrong::TooDeep(line) => ("C3", Some(("line", line))),
+        Wrong::Pair(pair) => ("C5", Some(("pair", pair))),
     };
-    match fields.explain()? {
-        Some(mut explain) => Ok((line, explain.notes()?)),
-        None => Ok((line, Vec::new())),
+    let mut fields = vec![("accepted", Value::Bool(false)), ("code", Value::text(code))];
+    fields.extend(place.map(|(key, number)| (key, Value::of(number))));
+    if explain {
+        fields.extend(explains::of_wrong(plan, cert, wrong).map(|it| ("explain", it)));
     }
+    of_kind("certificate", fields)
 }
 
-fn transaction(fields: &mut Fields) -> Result<Told, String> {
-    let from = time(fields.take("from")?)?;
-    let to = fields.maybe("to", time)?.unwrap_or_default();
-    let end = fields.text("end")?;
-    let labels = fields.texts("participants")?.join(" ");
-    let words = match end.as_str() {
-        "stop" if labels.is_empty() => "unexplained",
-        "stop" => labels.as_str(),
-        "cut" | "unfinished" if labels.is_empty() => end.as_str(),
-        _ => return Err(format!("there is no end {end}, or somebody explains it")),
+fn of_bench(plan: &Participants, starters: &str, fill: bool, answers: &str, explain: bool) -> Vec<Value> {
+    let Ok(played) = played(plan, starters, fill, answers) else {
+        return Vec::new();
     };
-    let line = format!("{from}-{to} {words}");
-    let Some(mut explain) = fields.explain()? else {
-        return Ok((line, Vec::new()));
-    };
-    let bytes = explain.text("bytes")?;
-    let mut nearest = String::new();
-    for item in explain.take("nearest")?.into_items()? {
-        nearest.push_str(&near(item)?);
+    let mut fields = vec![("wire", Value::text(symbols(&played.wire)))];
+    if explain {
+        fields.push(("explain", explains::of_bench(&played)));
     }
-    let notes = explain.notes()?;
-    let words = words_of(&notes);
-    let has_all = words.matches(" leaves at slot ").count() == nearest.matches(" leaves at slot ").count();
-    agree(&notes, has_all && words.starts_with(&bytes) && words.ends_with(&nearest))?;
-    let rest = words[bytes.len()..words.len() - nearest.len()].trim_start();
-    let is_said = ["the STOP comes after ", "the repeated START comes after ", "1", "2", "3", "4", "5", "6", "7", "8", "9"];
-    agree(&notes, rest.is_empty() || is_said.iter().any(|begin| rest.starts_with(begin)) && rest.ends_with('?'))?;
-    Ok((line, notes))
+    let won = Value::list(played.winners().map(|one| one.label.as_str()));
+    vec![of_kind("wire", fields), of_kind("won", vec![("participants", won)])]
 }
 
-fn near(value: Value) -> Result<String, String> {
-    let mut fields = Fields::of(value)?;
-    let participant = fields.text("participant")?;
-    let slot = fields.number("slot")?;
-    let does = fields.text("does")?;
-    let wire = fields.text("wire")?;
-    fields.end()?;
-    Ok(format!(" {participant} leaves at slot {slot}: {does} there, the wire has {wire}"))
+fn both(x: &Participant, y: &Participant) -> Value {
+    Value::list([x.label.as_str(), y.label.as_str()])
 }
 
-// A number, or a text with a unit.
-fn time(value: Value) -> Result<String, String> {
-    match value {
-        Value::Number(digits) => Ok(digits),
-        Value::Text(text) if text.contains(' ') => Ok(text),
-        other => Err(format!("no time: {other:?}")),
-    }
-}
-
-fn wire(fields: &mut Fields) -> Result<Told, String> {
-    let line = format!("wire {}", fields.text("wire")?);
-    let Some(mut explain) = fields.explain()? else {
-        return Ok((line, Vec::new()));
-    };
-    let bytes = explain.text("bytes")?;
-    let notes = explain.notes()?;
-    let rows: Vec<&str> = notes.iter().filter_map(|note| note.strip_prefix("byte ")).collect();
-    agree(&notes, rows.join(" ").split_whitespace().eq(bytes.split(' ')))?;
-    Ok((line, notes))
-}
-
-fn words_of(notes: &[String]) -> String {
-    notes.join(" ").split_whitespace().collect::<Vec<&str>>().join(" ")
-}
-
-fn agree(notes: &[String], is_so: bool) -> Result<(), String> {
-    if is_so {
-        Ok(())
-    } else {
-        Err(format!("the fields beside the notes say something else than {notes:?}"))
-    }
-}
-
-/// The members of an object that have not been taken. They are taken in their order.
-struct Fields {
-    members: Vec<(String, Value)>,
-}
-
-impl Fields {
-    fn of(value: Value) -> Result<Fields, String> {
-        match value {
-            Value::Object(mut members) => {
-                members.reverse();
-                Ok(Fields { members })
-            }
-            other => Err(format!("no object: {other:?}")),
-        }
-    }
-
-    fn end(&self) -> Result<(), String> {
-        match self.members.last() {
-            None => Ok(()),
-            Some((key, _)) => Err(format!("the field '{key}' does not belong there")),
-        }
-    }
-
-    fn has(&self, key: &str) -> bool {
-        matches!(self.members.last(), Some((next, _)) if next == key)
-    }
-
-    fn take(&mut self, key: &str) -> Result<Value, String> {
-        if !self.has(key) {
-            return Err(format!("the field '{key}' does not come next"));
-        }
-        self.members.pop().map(|(_, value)| value).ok_or_else(String::new)
-    }
-
-    fn maybe<T>(&mut self, key: &str, as_one: impl Fn(Value) -> Result<T, String>) -> Result<Option<T>, String> {
-        if self.has(key) {
-            Ok(Some(as_one(self.take(key)?)?))
-        } else {
-            Ok(None)
-        }
-    }
-
-    fn text(&mut self, key: &str) -> Result<String, String> {
-        self.take(key)?.into_text()
-    }
-
-    fn number(&mut self, key: &str) -> Result<String, String> {
-        self.take(key)?.into_number()
-    }
-
-    fn texts(&mut self, key: &str) -> Result<Vec<String>, String> {
-        self.take(key)?.into_items()?.into_iter().map(Value::into_text).collect()
-    }
-
-    fn two(&mut self, key: &str) -> Result<[String; 2], String> {
-        two_of(self.take(key)?)
-    }
-
-    fn explain(&mut self) -> Result<Option<Fields>, String> {
-        self.maybe("explain", Fields::of)
-    }
-
-    // The last field of what explains a line.
-    fn notes(&mut self) -> Result<Vec<String>, String> {
-        let notes = self.texts("notes")?;
-        self.end()?;
-        if notes.is_empty() {
-            return Err("there are no notes".to_owned());
-        }
-        Ok(notes)
-    }
-}
-
-fn two_of(value: Value) -> Result<[String; 2], String> {
-    let items: Result<Vec<String>, String> = value.into_items()?.into_iter().map(Value::into_text).collect();
-    items?.try_into().map_err(|items| format!("not two: {items:?}"))
-}
-
-impl Value {
-    fn into_text(self) -> Result<String, String> {
-        match self {
-            Value::Text(text) => Ok(text),
-            other => Err(format!("no text: {other:?}")),
-        }
-    }
-
-    fn into_number(self) -> Result<String, String> {
-        match self {
-            Value::Number(digits) => Ok(digits),
-            other => Err(format!("no number: {other:?}")),
-        }
-    }
-
-    fn into_numbers(self) -> Result<Vec<String>, String> {
-        self.into_items()?.into_iter().map(Value::into_number).collect()
-    }
-
-    fn into_bool(self) -> Result<bool, String> {
-        match self {
-            Value::Bool(is_so) => Ok(is_so),
-            other => Err(format!("no bool: {other:?}")),
-        }
-    }
-
-    fn into_items(self) -> Result<Vec<Value>, String> {
-        match self {
-            Value::Array(items) => Ok(items),
-            other => Err(format!("no array: {other:?}")),
-        }
-    }
+fn of_kind(kind: &str, fields: Vec<(&str, Value)>) -> Value {
+    let mut all = vec![("kind", Value::text(kind))];
+    all.extend(fields);
+    object(all)
 }

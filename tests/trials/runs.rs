@@ -4,6 +4,8 @@ use crate::cases::Case;
 use crate::deeds::Deed;
 use crate::desks::{refusal_of, Said};
 use crate::disagreements::Disagreement;
+use crate::json::{self, Value};
+use crate::object_lines;
 use crate::objects;
 use crate::plain::Answer;
 use crate::setups::Setup;
@@ -23,10 +25,8 @@ pub enum Due {
     Wanted,
     /// The same, and on standard error the hints of the case behind the refusal.
     Hints,
-    /// The same as `Wanted`, in objects.
-    Objects,
-    /// The same as `Hints`, in objects.
-    ObjectsAndHints,
+    /// The same as `Wanted`, or as `Hints`, in objects, and with what `--explain` says or without.
+    Objects { hints: bool, explain: bool },
     /// The same, where reads give so many bytes.
     Pieces(usize),
     /// The same, where each call was interrupted so often.
@@ -43,8 +43,9 @@ pub enum Due {
 pub fn judge(case: &Case, way: &str, run: &Run, said: &Said) -> Option<Disagreement> {
     let (wanted, fault) = due_of(case, run, said);
     match run.due {
-        Due::Objects | Due::ObjectsAndHints => {
-            Disagreement::of(case, way, wanted, &in_lines(case, &said.answer), fault)
+        Due::Objects { explain, .. } => {
+            let (wanted, found) = by_objects(case, wanted, &said.answer, explain);
+            Disagreement::of(case, way, wanted, &found, fault)
         }
         _ => Disagreement::of(case, way, wanted, &said.answer, fault),
     }
@@ -55,8 +56,8 @@ fn due_of(case: &Case, run: &Run, said: &Said) -> (Answer, Option<&'static str>)
     let told = &said.told;
     let wanted = case.wanted.clone();
     match run.due {
-        Due::Wanted | Due::Objects => (wanted, fault(told.is_sound(), "a device failed")),
-        Due::Hints | Due::ObjectsAndHints => (hinted(case), fault(told.is_sound(), "a device failed")),
+        Due::Wanted | Due::Objects { hints: false, .. } => (wanted, fault(told.is_sound(), "a device failed")),
+        Due::Hints | Due::Objects { hints: true, .. } => (hinted(case), fault(told.is_sound(), "a device failed")),
         Due::Pieces(piece) => {
             let is_right = told.is_sound() && came_in_pieces(case, piece, said);
             (wanted, fault(is_right, "the reads did not give so many bytes"))
@@ -85,16 +86,44 @@ fn hinted(case: &Case) -> Answer {
     Answer { status, out, refusal: refusal_of(&format!("{line}{hints}")) }
 }
 
-// What the objects of an answer say, as lines. A text that is no report stays as it is.
-fn in_lines(case: &Case, answer: &Answer) -> Answer {
-    let told = |text: &str| objects::lines_of(text).unwrap_or_else(|why| format!("no objects: {why}"));
-    let out = if case.asked.command.reports() { told(&answer.out) } else { answer.out.clone() };
-    let refusal = match answer.refusal.strip_prefix("on standard error: ") {
-        Some(text) => refusal_of(&told(text)),
-        None if answer.refusal.is_empty() => String::new(),
-        None => format!("no object: {}", answer.refusal),
+// The answer that is wanted and the one that was found. The report of a command over a plan is compared by its objects, and that
+// of another one by the lines that they stand for, as is what stands on standard error. A text that is no report stays as it is.
+fn by_objects(case: &Case, wanted: Answer, found: &Answer, explain: bool) -> (Answer, Answer) {
+    let refusal = refusal_in_lines(&found.refusal);
+    let (due, out) = match objects::due_of(&case.asked, explain) {
+        // (the plain programs know no workers)
+        Some(_) if !case.wanted.refusal.is_empty() => (String::new(), found.out.clone()),
+        Some(due) => (shown(&due), shown_again(&found.out)),
+        None if case.asked.command.reports() => (wanted.out.clone(), in_lines(&found.out)),
+        None => (wanted.out.clone(), found.out.clone()),
     };
-    Answer { status: answer.status, out, refusal }
+    (Answer { out: due, ..wanted }, Answer { status: found.status, out, refusal })
+}
+
+fn shown(objects: &[Value]) -> String {
+    objects.iter().map(|object| format!("{object}\n")).collect()
+}
+
+// The objects of a report, as they are shown.
+fn shown_again(text: &str) -> String {
+    if !text.is_empty() && !text.ends_with('\n') {
+        return format!("the last line has no end: {text}");
+    }
+    let objects: Result<Vec<Value>, String> = text.lines().map(json::read).collect();
+    objects.map_or_else(|why| format!("no objects: {why}"), |objects| shown(&objects))
+}
+
+fn in_lines(text: &str) -> String {
+    object_lines::lines_of(text).unwrap_or_else(|why| format!("no objects: {why}"))
+}
+
+// What the objects on standard error say, as lines.
+fn refusal_in_lines(refusal: &str) -> String {
+    match refusal.strip_prefix("on standard error: ") {
+        Some(text) => refusal_of(&in_lines(text)),
+        None if refusal.is_empty() => String::new(),
+        None => format!("no object: {refusal}"),
+    }
 }
 
 // The report is longer than the room.

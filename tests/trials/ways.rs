@@ -28,10 +28,12 @@ pub enum Way {
     Hints,
     /// The command with objects in place of lines, and with hints, where the case says which there are.
     Objects,
+    /// The same with `--explain`, of a command over a plan that takes it.
+    Explained,
 }
 
 impl Way {
-    pub const ALL: [Way; 9] = [
+    pub const ALL: [Way; 10] = [
         Way::Whole,
         Way::InPieces,
         Way::FailingReads,
@@ -41,6 +43,7 @@ impl Way {
         Way::Calls,
         Way::Hints,
         Way::Objects,
+        Way::Explained,
     ];
 
     pub fn name(self) -> &'static str {
@@ -54,6 +57,7 @@ impl Way {
             Way::Calls => "calls",
             Way::Hints => "hints",
             Way::Objects => "objects",
+            Way::Explained => "explained",
         }
     }
 
@@ -69,6 +73,7 @@ impl Way {
             Way::Calls => by_calls(&case.asked.command),
             Way::Hints => with_hints(case),
             Way::Objects => with_objects(case),
+            Way::Explained => explained(&case.asked.command),
         }
     }
 }
@@ -159,13 +164,20 @@ fn with_objects(case: &Case) -> Vec<Run> {
     if let Command::Seats { .. } = case.asked.command {
         return Vec::new();
     }
-    let mut list = vec![objects(false, Due::Objects)];
-    list.extend(case.hints.iter().map(|_| objects(true, Due::ObjectsAndHints)));
+    let mut list = vec![objects(false, false)];
+    list.extend(case.hints.iter().map(|_| objects(true, false)));
     list
 }
 
-fn objects(hints: bool, due: Due) -> Run {
-    Run { deed: Deed::Objects { hints }, setup: Setup::WHOLE, due }
+fn explained(command: &Command) -> Vec<Run> {
+    match command {
+        Command::Check { .. } | Command::Verify | Command::Bench { .. } => vec![objects(false, true)],
+        _ => Vec::new(),
+    }
+}
+
+fn objects(hints: bool, explain: bool) -> Run {
+    Run { deed: Deed::Objects { hints, explain }, setup: Setup::WHOLE, due: Due::Objects { hints, explain } }
 }
 
 fn done(deed: Deed) -> Run {

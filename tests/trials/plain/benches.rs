@@ -13,18 +13,20 @@ impl Answers<'_> {
     }
 }
 
-/// A starter: what it sends, where it stands there, and the slot in which it lost, if it did.
+/// A starter: what it sends, where it stands there, what it has put in each slot so far, and the slot
+/// in which it lost, if it did.
 #[derive(Clone, Debug)]
 pub struct Player<'a> {
     sender: &'a Sender<'a>,
     place: Place,
+    pub puts: Vec<Item>,
     pub lost: Option<usize>,
 }
 
 impl<'a> Player<'a> {
     /// A starter that has put nothing.
     pub fn new(sender: &'a Sender<'a>) -> Player<'a> {
-        Player { sender, place: Place::START, lost: None }
+        Player { sender, place: Place::START, puts: Vec::new(), lost: None }
     }
 
     // What it puts: the targets' bit where it listens, and `fill` where it may choose. Nothing,
@@ -54,7 +56,9 @@ pub fn play_on(players: &mut [Player], fill: bool, answers: Answers) -> Vec<Item
         };
         wire.push(shown);
         for player in players.iter_mut().filter(|player| player.lost.is_none()) {
-            if player.put(fill, answer) != Some(shown) {
+            let put = player.put(fill, answer);
+            player.puts.extend(put);
+            if put != Some(shown) {
                 player.lost = Some(slot);
             }
             player.place = player.sender.after(player.place, shown);

@@ -19,8 +19,8 @@ pub enum Certificate<'a> {
 pub enum Wrong {
     /// C1, at this line.
     Format(usize),
-    /// C2.
-    Count,
+    /// C2, of so many lines of proofs.
+    Count(usize),
     /// C3, at this line.
     TooDeep(usize),
     /// C5, of the pair with this number.
@@ -31,7 +31,7 @@ impl fmt::Display for Wrong {
     fn fmt(&self, f: &mut fmt::Formatter) -> fmt::Result {
         match self {
             Wrong::Format(line) => write!(f, "C1 line {line}"),
-            Wrong::Count => f.write_str("C2"),
+            Wrong::Count(_) => f.write_str("C2"),
             Wrong::TooDeep(line) => write!(f, "C3 line {line}"),
             Wrong::Pair(pair) => write!(f, "C5 pair {pair}"),
         }
@@ -84,7 +84,7 @@ pub fn read_certificate(text: &str) -> Result<Certificate<'_>, Wrong> {
     if proofs.len() == count {
         Ok(Certificate::Proofs(proofs.to_vec()))
     } else {
-        Err(Wrong::Count)
+        Err(Wrong::Count(proofs.len()))
     }
 }
 

@@ -1,17 +1,18 @@
 //! The commands, from the bytes of their files to what they write and their status
 //! (docs/COMMAND_LINE.md).
 
-use super::benches::{play_on, Answers, Player};
+use super::benches::Answers;
 use super::briefs::{expansion, has_brief_word};
 use super::captures::{events_of, explains, samples_of, transactions_of, Transaction, Until};
-use super::certificates::{read_certificate, Certificate, Wrong};
 use super::dumps::changes_of;
-use super::order::{ways, Span, Totals};
-use super::pairs::{clashes_so, first_clash, is_proved, proof_of};
+use super::found::{checked, ordered, played, verified, Checked, Fault, Order, Ordered};
+use super::order::{Span, Totals};
+use super::pairs::{first_clash, proof_of};
 use super::participants::{Participant, Participants};
 use super::plans::items_of;
 use super::seats::Bench;
 use super::wires::symbols;
+use super::words::Refusal;
 use std::fmt::Display;
 
 /// What a command answers: its status, what it writes, and why it is refused, where it is: what
@@ -33,62 +34,64 @@ impl Answer {
     }
 }
 
+/// What is to be said of a plan, or its refusal.
+pub fn with_plan<T>(plan: &[u8], answer: impl FnOnce(&Participants) -> T) -> Result<T, Refusal> {
+    let text = String::from_utf8_lossy(plan);
+    let items = items_of(&text)?;
+    Ok(answer(&Participants::of(&items)))
+}
+
 // What is answered of a plan, or its refusal.
 fn of_plan(plan: &[u8], answer: impl FnOnce(&Participants) -> Answer) -> Answer {
-    match items_of(&String::from_utf8_lossy(plan)) {
-        Ok(items) => answer(&Participants::of(&items)),
-        Err(refusal) => Answer::refused(refusal),
-    }
+    with_plan(plan, answer).unwrap_or_else(Answer::refused)
 }
 
 /// `twire check PLAN`.
 pub fn check(plan: &[u8]) -> Answer {
     of_plan(plan, |plan| {
-        let pairs = plan.pairs();
-        let mut out = String::new();
-        let mut faults = 0;
-        for (i, (x, y)) in pairs.iter().enumerate() {
-            if let Some(clash) = first_clash(x.sender, y.sender) {
-                faults += 1;
-                let (first, second, wire) = (clash.first, clash.second, symbols(&clash.wire));
-                out += &format!("pair {i} {} {}: {first} against {second} after {wire}\n", x.label, y.label);
-            }
-        }
-        let count = pairs.len();
-        match faults {
-            0 => Answer::written(0, format!("safe: {count} pairs\n")),
-            _ => Answer::written(1, format!("{out}unsafe: {faults} of {count} pairs\n")),
+        let Checked { pairs, faults } = checked(plan);
+        let lines: String = faults.iter().map(fault_line).collect();
+        match faults.len() {
+            0 => Answer::written(0, format!("safe: {pairs} pairs\n")),
+            count => Answer::written(1, format!("{lines}unsafe: {count} of {pairs} pairs\n")),
         }
     })
+}
+
+fn fault_line(fault: &Fault) -> String {
+    let Fault { pair, x, y, clash } = fault;
+    let (first, second, wire) = (clash.first, clash.second, symbols(&clash.wire));
+    format!("pair {pair} {} {}: {first} against {second} after {wire}\n", x.label, y.label)
 }
 
 /// `twire order PLAN`.
 pub fn order(plan: &[u8]) -> Answer {
     of_plan(plan, |plan| {
-        let mut out = String::new();
-        let mut totals = Totals::default();
-        let mut status = 0;
-        for (i, (x, y)) in plan.pairs().iter().enumerate() {
-            let (first, second) = (&x.label, &y.label);
-            out += &format!("pair {i} {first} {second}:");
-            if first_clash(x.sender, y.sender).is_some() {
-                status = 1;
-                out += " unsafe\n";
-                continue;
-            }
-            let ways = ways(x.sender, y.sender);
-            let named = [("both", &ways.both), (first.as_str(), &ways.first), (second.as_str(), &ways.second)];
-            let said: Vec<String> = named
-                .iter()
-                .filter(|(_, slots)| !slots.is_empty())
-                .map(|(who, slots)| format!(" {who} {}", Span(slots)))
-                .collect();
-            out += &format!("{}\n", said.join(","));
-            totals.count(first, second, &ways);
-        }
-        let lines = plan.all.iter().map(|one| totals.line(&one.label));
-        Answer::written(status, out + &lines.collect::<String>())
+        let Order { pairs, totals } = ordered(plan);
+        let of_pairs: String = pairs.iter().enumerate().map(|(i, pair)| order_line(i, pair)).collect();
+        let of_all: String = plan.all.iter().map(|one| total_line(&one.label, &totals)).collect();
+        let is_safe = pairs.iter().all(|pair| pair.ways.is_some());
+        Answer::written(u8::from(!is_safe), of_pairs + &of_all)
     })
+}
+
+fn order_line(i: usize, pair: &Ordered) -> String {
+    let (first, second) = (pair.x.label.as_str(), pair.y.label.as_str());
+    let Some(ways) = &pair.ways else {
+        return format!("pair {i} {first} {second}: unsafe\n");
+    };
+    let named = [("both", &ways.both), (first, &ways.first), (second, &ways.second)];
+    let can_happen = named.iter().filter(|(_, slots)| !slots.is_empty());
+    let said: Vec<String> = can_happen.map(|(who, slots)| format!(" {who} {}", Span(slots))).collect();
+    format!("pair {i} {first} {second}:{}\n", said.join(","))
+}
+
+// Nothing, where the participant has no total.
+fn total_line(label: &str, totals: &Totals) -> String {
+    match totals.of(label) {
+        Some([wins, may_win, loses]) => format!("total {label}: wins {wins}, may win {may_win}, loses {loses}\n"),
+        None => String::new(),
+    }
 }
 
 /// `twire certify PLAN`.
@@ -110,30 +113,11 @@ pub fn certify(plan: &[u8]) -> Answer {
 
 /// `twire verify PLAN CERT`.
 pub fn verify(plan: &[u8], cert: &[u8]) -> Answer {
-    of_plan(plan, |plan| match is_safe(plan, &String::from_utf8_lossy(cert)) {
+    of_plan(plan, |plan| match verified(plan, &String::from_utf8_lossy(cert)) {
         Ok(true) => Answer::written(0, "accepted safe\n"),
         Ok(false) => Answer::written(1, "accepted unsafe\n"),
         Err(wrong) => Answer::written(2, format!("wrong {wrong}\n")),
     })
-}
-
-// Whether a certificate shows that the plan is safe, or that it is not.
-fn is_safe(plan: &Participants, cert: &str) -> Result<bool, Wrong> {
-    let pairs = plan.pairs();
-    match read_certificate(cert)? {
-        Certificate::Fault(number, clash) => match pairs.get(number) {
-            Some((x, y)) if clashes_so(x.sender, y.sender, &clash) => Ok(false),
-            _ => Err(Wrong::Pair(number)),
-        },
-        Certificate::Proofs(lines) if lines.len() != pairs.len() => Err(Wrong::Count),
-        Certificate::Proofs(lines) => {
-            let mut pairs = pairs.iter().zip(&lines);
-            match pairs.position(|((x, y), line)| !is_proved(line, x.sender, y.sender)) {
-                Some(pair) => Err(Wrong::Pair(pair)),
-                None => Ok(true),
-            }
-        }
-    }
 }
 
 /// `twire capture PLAN VCD`, with these names of the two lines.
@@ -179,17 +163,12 @@ pub fn bench(plan: &[u8], cert: &[u8], starters: &str, fill: bool, answers: &str
     if verified.status != 0 {
         return verified;
     }
-    of_plan(plan, |plan| {
-        let starters = match plan.starters(starters) {
-            Ok(starters) => starters,
-            Err(refusal) => return Answer::refused(refusal),
-        };
-        let mut players: Vec<Player> = starters.iter().map(|one| Player::new(one.sender)).collect();
-        let wire = symbols(&play_on(&mut players, fill, Answers(answers)));
-        let ended = starters.iter().zip(&players);
-        let winners = ended.filter(|(_, player)| player.lost.is_none());
-        let won = listed(winners.map(|(one, _)| *one));
-        Answer::written(0, format!("wire {wire}\nwon{won}\n"))
+    of_plan(plan, |plan| match played(plan, starters, fill, answers) {
+        Ok(played) => {
+            let (wire, won) = (symbols(&played.wire), listed(played.winners()));
+            Answer::written(0, format!("wire {wire}\nwon{won}\n"))
+        }
+        Err(refusal) => Answer::refused(refusal),
     })
 }
 

@@ -6,10 +6,13 @@
 
 mod benches;
 mod briefs;
+pub mod bytes;
 mod captures;
 mod certificates;
 mod commands;
 mod dumps;
+pub mod explained;
+pub mod found;
 pub mod generated;
 mod order;
 mod pairs;
@@ -26,4 +29,11 @@ mod texts;
 mod wires;
 mod words;
 
-pub use commands::{bench, brief, capture, certify, check, expand, labels, order, seats, spelling, verify, Answer};
+pub use certificates::{read_certificate, Certificate, Wrong};
+pub use commands::{
+    bench, brief, capture, certify, check, expand, labels, order, seats, spelling, verify, with_plan, Answer,
+};
+pub use order::Ways;
+pub use pairs::break_of;
+pub use participants::{Participant, Participants};
+pub use wires::{symbols, Item, Kind};

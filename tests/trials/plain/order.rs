@@ -101,11 +101,8 @@ impl Totals {
         self.counts.entry(label.to_owned()).or_default()[stake as usize] += 1;
     }
 
-    /// The line of a participant, where it has one.
-    pub fn line(&self, label: &str) -> String {
-        match self.counts.get(label) {
-            Some([wins, may_win, loses]) => format!("total {label}: wins {wins}, may win {may_win}, loses {loses}\n"),
-            None => String::new(),
-        }
+    /// How many pairs a participant wins, may win and loses, where it has any of these.
+    pub fn of(&self, label: &str) -> Option<[usize; 3]> {
+        self.counts.get(label).copied()
     }
 }

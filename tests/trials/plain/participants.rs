@@ -8,14 +8,15 @@ use std::fmt;
 #[derive(Clone, Debug)]
 pub struct Participant<'a> {
     pub label: String,
-    controller: Option<usize>,
+    /// The place of its controller, where it is a sending.
+    pub controller: Option<usize>,
     pub sender: &'a Sender<'a>,
 }
 
 /// The participants of a plan, in the order of their numbers.
 #[derive(Clone, Debug)]
 pub struct Participants<'a> {
-    items: &'a Items<'a>,
+    pub items: &'a Items<'a>,
     pub all: Vec<Participant<'a>>,
 }
 

@@ -137,6 +137,11 @@ impl<'a> Sender<'a> {
         }
     }
 
+    /// Whether what comes next is the acknowledge of a byte that is read.
+    pub fn ends_read_byte(&self, place: Place) -> bool {
+        matches!(self.part(place.part), Some(Part::Count { .. })) && place.slot == 8
+    }
+
     /// Whether this may be put at a place.
     pub fn may_put(&self, place: Place, item: Item) -> bool {
         self.offers(place).contains(&item)

@@ -6,7 +6,10 @@ use super::benches::{play_on, Answers, Player};
 use super::captures::{events_of, explains, samples_of, transactions_of, Until};
 use super::commands::{capture, certify, check, expand, seats, verify};
 use super::dumps::{changes_of, DumpRefusal};
+use super::explained::{decided, kept_apart, mends, Decided};
+use super::found::checked;
 use super::generated;
+use super::pairs::proof_of;
 use super::participants::Participants;
 use super::plans::{items_of, Items};
 use super::runs::{first_meeting, lawful_sets, meetings_of, Meeting};
@@ -225,6 +228,77 @@ fn pairs_suffice_for_all_sets() {
         let found = all.iter().filter(has_fault).count();
         assert_eq!((all.len(), found), (sets, faulty), "{text}");
     }
+}
+
+// ---- what mends a plan, and where two part
+
+// The items in words, without the one at this place, if any.
+fn never_items(items: &Items, nevers: &[(usize, usize)], without: Option<usize>) -> String {
+    let kept = nevers.iter().enumerate().filter(|(k, _)| Some(*k) != without);
+    let name = |place: usize| items.controllers[place].name;
+    kept.map(|(_, (c, d))| format!(" never {} {} ;", name(*c), name(*d))).collect()
+}
+
+// How many pairs the plan has, how many are left out, and how many of two controllers have a fault.
+fn counts_of(text: &str) -> (usize, usize, usize) {
+    let items = items(text);
+    let plan = Participants::of(&items);
+    let checked = checked(&plan);
+    let faulty = checked.faults.iter().filter(|fault| fault.y.controller.is_some());
+    (checked.pairs, kept_apart(&items), faulty.count())
+}
+
+#[test]
+fn the_items_mend_generated_plans_and_each_is_wanted() {
+    let mut dice = Dice { state: 20_261_126 };
+    let mut wanted = 0;
+    for _ in 0..16 {
+        let text = generated::plan(&mut dice);
+        let items = items(&text);
+        let plan = Participants::of(&items);
+        let mends = mends(&items, &checked(&plan).faults);
+        let (pairs, apart, _) = counts_of(&text);
+        let mended = text.clone() + &never_items(&items, &mends.nevers, None);
+        assert_eq!(counts_of(&mended), (pairs - mends.unchecked, apart + mends.unchecked, 0), "{mended}");
+        for k in 0..mends.nevers.len() {
+            let less = text.clone() + &never_items(&items, &mends.nevers, Some(k));
+            assert!(counts_of(&less).2 > 0, "{less}");
+            wanted += 1;
+        }
+    }
+    assert!(wanted > 16, "{wanted}");
+}
+
+// A proof has first what follows the acknowledges, so where its first leaf stands the two part.
+#[test]
+fn two_part_where_the_first_leaf_of_their_proof_stands() {
+    let mut dice = Dice { state: 20_261_127 };
+    let mut met = [0; 4];
+    for _ in 0..24 {
+        let text = generated::plan(&mut dice);
+        let items = items(&text);
+        for (x, y) in Participants::of(&items).pairs() {
+            let Some(proof) = proof_of(x.sender, y.sender) else {
+                continue;
+            };
+            let (before, leaf) = first_leaf(&proof);
+            let due = match leaf {
+                "." => Decided::Alike,
+                "R" => Decided::Read,
+                _ if before == 0 => Decided::Header,
+                _ => Decided::Later,
+            };
+            assert_eq!(decided(x.sender, y.sender), due, "{proof}: {text}");
+            met[due as usize] += 1;
+        }
+    }
+    assert!(met.iter().all(|count| *count > 0), "{met:?}");
+}
+
+// How many words stand before the first leaf, and the leaf.
+fn first_leaf(proof: &str) -> (usize, &str) {
+    let mut words = proof.split(' ').enumerate();
+    words.find(|(_, word)| !["B", "D", "S"].contains(word)).unwrap_or((0, ""))
 }
 
 // ---- briefs

@@ -1,0 +1,110 @@
+//! What the field `explain` holds of a command over a plan, by the schema in docs/COMMAND_LINE.md.
+
+use crate::json::Value;
+use crate::plain::bytes::{bytes_along, bytes_on, open_slots};
+use crate::plain::explained::{decided, kept_apart, mends, unsent, Decided};
+use crate::plain::found::{Checked, Fault, Played};
+use crate::plain::{break_of, read_certificate, Certificate, Item, Kind, Participants, Wrong};
+use crate::values::object;
+
+/// Of an unsafe pair.
+pub fn of_fault(fault: &Fault) -> Value {
+    let Fault { x, y, clash, .. } = fault;
+    let is_claim = clash.first == Kind::Claim || clash.second == Kind::Claim;
+    let senders = [x.sender, y.sender];
+    let open = senders.map(|sender| Value::Array(open_slots(sender, &clash.wire).into_iter().map(two).collect()));
+    object(vec![
+        ("slot", Value::of(clash.wire.len())),
+        ("rule", Value::text(if is_claim { "interrupts" } else { "UM10204 3.1.8" })),
+        ("bus", Value::text(bytes_on(&clash.wire))),
+        ("bytes", Value::Array(senders.map(|sender| Value::text(bytes_along(sender, &clash.wire))).to_vec())),
+        ("open", Value::Array(open.to_vec())),
+    ])
+}
+
+fn two((first, last): (usize, usize)) -> Value {
+    Value::Array(vec![Value::of(first), Value::of(last)])
+}
+
+/// Of a plan, of which so many unsafe pairs are explained at most.
+pub fn of_plan(plan: &Participants, checked: &Checked, most: usize) -> Value {
+    if checked.faults.is_empty() {
+        of_safe(plan)
+    } else {
+        of_unsafe(plan, &checked.faults, most)
+    }
+}
+
+fn of_unsafe(plan: &Participants, faults: &[Fault], most: usize) -> Value {
+    let mends = mends(plan.items, faults);
+    let name = |place: usize| plan.items.controllers[place].name;
+    let nevers = mends.nevers.iter().map(|(c, d)| Value::list([name(*c), name(*d)]));
+    object(vec![
+        ("explained", Value::of(faults.len().min(most))),
+        ("never", Value::Array(nevers.collect())),
+        ("unchecked", Value::of(mends.unchecked)),
+        ("interrupts", Value::Array(mends.interrupts.iter().map(|pair| Value::of(*pair)).collect())),
+        ("kept_apart", Value::of(kept_apart(plan.items))),
+    ])
+}
+
+fn of_safe(plan: &Participants) -> Value {
+    let all: Vec<Decided> = plan.pairs().iter().map(|(x, y)| decided(x.sender, y.sender)).collect();
+    let count = |wanted: Decided| Value::of(all.iter().filter(|it| **it == wanted).count());
+    let counts = object(vec![
+        ("header", count(Decided::Header)),
+        ("later", count(Decided::Later)),
+        ("read", count(Decided::Read)),
+        ("alike", count(Decided::Alike)),
+    ]);
+    object(vec![
+        ("decided", counts),
+        ("unsent", Value::list(unsent(plan.items))),
+        ("kept_apart", Value::of(kept_apart(plan.items))),
+    ])
+}
+
+/// Of a certificate that is wrong: nothing, where only its line is to be said.
+pub fn of_wrong(plan: &Participants, cert: &str, wrong: Wrong) -> Option<Value> {
+    match wrong {
+        Wrong::Format(_) | Wrong::TooDeep(_) => None,
+        Wrong::Count(proofs) => {
+            Some(object(vec![("pairs", Value::of(plan.pairs().len())), ("proofs", Value::of(proofs))]))
+        }
+        Wrong::Pair(pair) => of_wrong_pair(plan, cert, pair),
+    }
+}
+
+// A fault can be claimed of a pair that the plan does not have.
+fn of_wrong_pair(plan: &Participants, cert: &str, pair: usize) -> Option<Value> {
+    let (x, y) = *plan.pairs().get(pair)?;
+    let mut fields = vec![("participants", Value::list([x.label.as_str(), y.label.as_str()]))];
+    if let Ok(Certificate::Proofs(lines)) = read_certificate(cert) {
+        let found = break_of(lines.get(pair)?, x.sender, y.sender)?;
+        fields.extend([
+            ("word", Value::of(found.word)),
+            ("slot", Value::of(found.slot)),
+            ("why", Value::text(found.why)),
+        ]);
+    }
+    Some(object(fields))
+}
+
+/// Of a rehearsal.
+pub fn of_bench(played: &Played) -> Value {
+    let starters = played.starters.iter().map(|(one, player)| {
+        let puts: String = player.puts.iter().map(|item| shown(*item)).collect();
+        let mut fields = vec![("participant", Value::text(&one.label)), ("puts", Value::text(puts))];
+        fields.extend(player.lost.map(|slot| ("lost", Value::of(slot))));
+        object(fields)
+    });
+    object(vec![("bytes", Value::text(bytes_on(&played.wire))), ("starters", Value::Array(starters.collect()))])
+}
+
+// What a starter puts, and a point where it listens.
+fn shown(item: Item) -> char {
+    match item {
+        Item::Heard(_) => '.',
+        _ => item.symbol(),
+    }
+}

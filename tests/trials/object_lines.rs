@@ -1,0 +1,444 @@
+//! The lines that the objects of `--format json` stand for, by the schema in docs/COMMAND_LINE.md: each field in its place, and
+//! none besides. Below a transaction stand its notes, with which its other fields are compared. What is explained of a plan, of
+//! a certificate and of a rehearsal has no lines: there its fields have to be in their places.
+
+use crate::json::{read, Value};
+
+/// The lines of a text with one object a line.
+///
+/// # Errors
+///
+/// What is wrong, and in which line.
+pub fn lines_of(text: &str) -> Result<String, String> {
+    let mut lines = String::new();
+    if !text.is_empty() && !text.ends_with('\n') {
+        return Err("the last line has no end".to_owned());
+    }
+    for line in text.lines() {
+        let told = line_of(line).map_err(|why| format!("{why}, in {line}"))?;
+        lines.push_str(&told);
+    }
+    Ok(lines)
+}
+
+fn line_of(line: &str) -> Result<String, String> {
+    let mut fields = Fields::of(read(line)?)?;
+    let told = told(&mut fields)?;
+    fields.end()?;
+    Ok(format!("{told}\n"))
+}
+
+// The line of an object, and those that stand below it.
+fn told(fields: &mut Fields) -> Result<String, String> {
+    let kind = fields.text("kind")?;
+    Ok(match kind.as_str() {
+        "pair" => pair(fields)?,
+        "plan" => plan(fields)?,
+        "certificate" => certificate(fields)?,
+        "transaction" => transaction(fields)?,
+        "wire" => wire(fields)?,
+        "order" => order(fields)?,
+        "total" => format!(
+            "total {}: wins {}, may win {}, loses {}",
+            fields.text("participant")?,
+            fields.number("wins")?,
+            fields.number("may_win")?,
+            fields.number("loses")?
+        ),
+        "transactions" => {
+            format!("{} transactions, {} unexplained", fields.number("transactions")?, fields.number("unexplained")?)
+        }
+        "too_few" => format!("too few: {} of {}", fields.number("transactions")?, fields.number("at_least")?),
+        "participant" => format!(
+            "{} {} alone, {} with others",
+            fields.text("participant")?,
+            fields.number("alone")?,
+            fields.number("with_others")?
+        ),
+        "count" => format!("{} {}", fields.text("what")?, fields.number("transactions")?),
+        "signal" => format!(
+            "signal {} {} {} {}",
+            fields.text("code")?,
+            fields.number("changes")?,
+            fields.maybe("scope", Value::into_text)?.unwrap_or("-".to_owned()),
+            fields.text("name")?
+        ),
+        "bus" => format!(
+            "bus {} transactions --scl-code {} --sda-code {}",
+            fields.number("transactions")?,
+            quoted(&fields.text("scl_code")?),
+            quoted(&fields.text("sda_code")?)
+        ),
+        "signals" => format!("{} signals, {} buses", fields.number("signals")?, fields.number("buses")?),
+        "won" => format!("won {}", fields.texts("participants")?.join(" ")),
+        "refusal" => refusal(fields)?,
+        "hint" => hint(&fields.text("text")?),
+        "line" => fields.text("text")?,
+        _ => return Err(format!("there is no kind {kind}")),
+    })
+}
+
+fn refusal(fields: &mut Fields) -> Result<String, String> {
+    let code = fields.text("code")?;
+    let line = fields.maybe("line", Value::into_number)?.map(|line| format!(" line {line}"));
+    let signal = fields.maybe("signal", Value::into_text)?.map(|signal| format!(" {signal}"));
+    Ok(format!("refused {code}{}{}", line.unwrap_or_default(), signal.unwrap_or_default()))
+}
+
+// How many columns a line of hints has at most, where it is not one word.
+const COLUMNS: usize = 80;
+
+// A sentence is broken between words, and goes on behind the same head. A line that belongs to the sentence before begins with
+// two blanks more.
+fn hint(text: &str) -> String {
+    let (head, words) = match text.strip_prefix("  ") {
+        Some(words) => ("hint:  ", words),
+        None => ("hint:", text),
+    };
+    let mut lines = head.to_owned();
+    let mut column = head.len();
+    for word in words.split(' ') {
+        let width = word.chars().count() + 1;
+        if column > head.len() && column + width > COLUMNS {
+            lines.push('\n');
+            lines.push_str(head);
+            column = head.len();
+        }
+        lines.push(' ');
+        lines.push_str(word);
+        column += width;
+    }
+    lines
+}
+
+fn quoted(code: &str) -> String {
+    format!("'{}'", code.replace('\'', "'\\''"))
+}
+
+fn order(fields: &mut Fields) -> Result<String, String> {
+    let pair = fields.number("pair")?;
+    let [x, y] = fields.two("participants")?;
+    let head = format!("pair {pair} {x} {y}:");
+    if let Some(is_unsafe) = fields.maybe("unsafe", Value::into_bool)? {
+        return if is_unsafe { Ok(format!("{head} unsafe")) } else { Err("'unsafe' is false".to_owned()) };
+    }
+    let mut ways = Vec::new();
+    for (key, name) in [("both", "both"), ("first", x.as_str()), ("second", y.as_str())] {
+        if let Some(slots) = fields.maybe(key, Value::into_numbers)? {
+            ways.push(match slots.as_slice() {
+                [from, to] if from == to => format!("{name} {from}"),
+                [from, to] => format!("{name} {from}..{to}"),
+                _ => return Err(format!("'{key}' is not of two slots")),
+            });
+        }
+    }
+    Ok(format!("{head} {}", ways.join(", ")).trim_end().to_owned())
+}
+
+fn pair(fields: &mut Fields) -> Result<String, String> {
+    let pair = fields.number("pair")?;
+    let [x, y] = fields.two("participants")?;
+    let [one, other] = fields.two("meet")?;
+    let wire = fields.text("after")?;
+    if let Some(mut explain) = fields.explain()? {
+        let slot = explain.number("slot")?;
+        let rule = explain.text("rule")?;
+        let is_so = slot == wire.len().to_string() && ["UM10204 3.1.8", "interrupts"].contains(&rule.as_str());
+        only_if(is_so, "the slot is another one, or there is no such rule")?;
+        explain.text("bus")?;
+        explain.two("bytes")?;
+        open_slots(explain.take("open")?)?;
+        explain.end()?;
+    }
+    Ok(format!("pair {pair} {x} {y}: {one} against {other} after {wire}"))
+}
+
+// Of each of the two the first and the last ones of some slots.
+fn open_slots(value: Value) -> Result<(), String> {
+    let sides = value.into_items()?;
+    only_if(sides.len() == 2, "the open slots are not those of two")?;
+    for side in sides {
+        for range in side.into_items()? {
+            only_if(range.into_numbers()?.len() == 2, "a range has two ends")?;
+        }
+    }
+    Ok(())
+}
+
+fn plan(fields: &mut Fields) -> Result<String, String> {
+    let is_safe = fields.take("safe")?.into_bool()?;
+    let pairs = fields.number("pairs")?;
+    let unsafe_pairs = fields.number("unsafe_pairs")?;
+    only_if(is_safe == (unsafe_pairs == "0"), "a plan is safe if it has no unsafe pairs")?;
+    if let Some(mut explain) = fields.explain()? {
+        explained_plan(&mut explain, is_safe)?;
+        explain.end()?;
+    }
+    Ok(if is_safe { format!("safe: {pairs} pairs") } else { format!("unsafe: {unsafe_pairs} of {pairs} pairs") })
+}
+
+fn explained_plan(explain: &mut Fields, is_safe: bool) -> Result<(), String> {
+    if is_safe {
+        let mut decided = Fields::of(explain.take("decided")?)?;
+        for where_to in ["header", "later", "read", "alike"] {
+            decided.number(where_to)?;
+        }
+        decided.end()?;
+        explain.texts("unsent")?;
+    } else {
+        explain.number("explained")?;
+        for never in explain.take("never")?.into_items()? {
+            two_of(never)?;
+        }
+        explain.number("unchecked")?;
+        explain.take("interrupts")?.into_numbers()?;
+    }
+    explain.number("kept_apart").map(|_| ())
+}
+
+fn certificate(fields: &mut Fields) -> Result<String, String> {
+    if fields.take("accepted")?.into_bool()? {
+        let is_safe = fields.take("safe")?.into_bool()?;
+        return Ok(format!("accepted {}", if is_safe { "safe" } else { "unsafe" }));
+    }
+    let code = fields.text("code")?;
+    let line = fields.maybe("line", Value::into_number)?.map(|line| format!(" line {line}"));
+    let pair = fields.maybe("pair", Value::into_number)?.map(|pair| format!(" pair {pair}"));
+    if let Some(mut explain) = fields.explain()? {
+        explained_certificate(&mut explain, &code)?;
+        explain.end()?;
+    }
+    Ok(format!("wrong {code}{}{}", line.unwrap_or_default(), pair.unwrap_or_default()))
+}
+
+// Why a word does not prove what it stands for.
+const REASONS: [&str; 8] = [
+    "no_split",
+    "not_both_write",
+    "not_both_read",
+    "not_both_restart",
+    "not_both_stop",
+    "reads_may_meet",
+    "reads_never_meet",
+    "unknown_word",
+];
+
+fn explained_certificate(explain: &mut Fields, code: &str) -> Result<(), String> {
+    if code == "C2" {
+        explain.number("pairs")?;
+        explain.number("proofs")?;
+        return Ok(());
+    }
+    only_if(code == "C5", "of this code nothing is explained")?;
+    explain.two("participants")?;
+    let word = explain.maybe("word", Value::into_number)?;
+    if word.is_some() {
+        explain.number("slot")?;
+    }
+    let why = explain.maybe("why", Value::into_text)?;
+    let is_known = why.as_deref().is_none_or(|why| if word.is_some() { REASONS.contains(&why) } else { why == "ends" });
+    only_if(is_known && word.is_some() <= why.is_some(), "there is no such reason")
+}
+
+fn transaction(fields: &mut Fields) -> Result<String, String> {
+    let from = time(fields.take("from")?)?;
+    let to = fields.maybe("to", time)?.unwrap_or_default();
+    let end = fields.text("end")?;
+    let labels = fields.texts("participants")?.join(" ");
+    let words = match end.as_str() {
+        "stop" if labels.is_empty() => "unexplained",
+        "stop" => labels.as_str(),
+        "cut" | "unfinished" if labels.is_empty() => end.as_str(),
+        _ => return Err(format!("there is no end {end}, or somebody explains it")),
+    };
+    let mut line = format!("{from}-{to} {words}");
+    let Some(mut explain) = fields.explain()? else {
+        return Ok(line);
+    };
+    let bytes = explain.text("bytes")?;
+    let mut nearest = String::new();
+    for item in explain.take("nearest")?.into_items()? {
+        nearest.push_str(&near(item)?);
+    }
+    let notes = explain.notes()?;
+    let words = words_of(&notes);
+    let has_all = words.matches(" leaves at slot ").count() == nearest.matches(" leaves at slot ").count();
+    agree(&notes, has_all && words.starts_with(&bytes) && words.ends_with(&nearest))?;
+    let rest = words[bytes.len()..words.len() - nearest.len()].trim_start();
+    let is_said =
+        ["the STOP comes after ", "the repeated START comes after ", "1", "2", "3", "4", "5", "6", "7", "8", "9"];
+    agree(&notes, rest.is_empty() || is_said.iter().any(|begin| rest.starts_with(begin)) && rest.ends_with('?'))?;
+    for note in notes {
+        line.push_str(&format!("\n    {note}"));
+    }
+    Ok(line)
+}
+
+fn near(value: Value) -> Result<String, String> {
+    let mut fields = Fields::of(value)?;
+    let participant = fields.text("participant")?;
+    let slot = fields.number("slot")?;
+    let does = fields.text("does")?;
+    let wire = fields.text("wire")?;
+    fields.end()?;
+    Ok(format!(" {participant} leaves at slot {slot}: {does} there, the wire has {wire}"))
+}
+
+// A number, or a text with a unit.
+fn time(value: Value) -> Result<String, String> {
+    match value {
+        Value::Number(digits) => Ok(digits),
+        Value::Text(text) if text.contains(' ') => Ok(text),
+        other => Err(format!("no time: {other:?}")),
+    }
+}
+
+fn wire(fields: &mut Fields) -> Result<String, String> {
+    let wire = fields.text("wire")?;
+    if let Some(mut explain) = fields.explain()? {
+        explain.text("bytes")?;
+        for starter in explain.take("starters")?.into_items()? {
+            explained_starter(Fields::of(starter)?, &wire)?;
+        }
+        explain.end()?;
+    }
+    Ok(format!("wire {wire}"))
+}
+
+// What it puts in each slot, up to the one in which it loses.
+fn explained_starter(mut starter: Fields, wire: &str) -> Result<(), String> {
+    starter.text("participant")?;
+    let puts = starter.text("puts")?;
+    let lost = starter.maybe("lost", Value::into_number)?;
+    starter.end()?;
+    let played = lost.map_or(Ok(wire.len()), |slot| slot.parse().map(|slot: usize| slot + 1));
+    only_if(played == Ok(puts.len()), "so many slots were not played")
+}
+
+fn words_of(notes: &[String]) -> String {
+    notes.join(" ").split_whitespace().collect::<Vec<&str>>().join(" ")
+}
+
+fn agree(notes: &[String], is_so: bool) -> Result<(), String> {
+    only_if(is_so, &format!("the fields beside the notes say something else than {notes:?}"))
+}
+
+fn only_if(is_so: bool, why: &str) -> Result<(), String> {
+    if is_so {
+        Ok(())
+    } else {
+        Err(why.to_owned())
+    }
+}
+
+/// The members of an object that have not been taken. They are taken in their order.
+struct Fields {
+    members: Vec<(String, Value)>,
+}
+
+impl Fields {
+    fn of(value: Value) -> Result<Fields, String> {
+        match value {
+            Value::Object(mut members) => {
+                members.reverse();
+                Ok(Fields { members })
+            }
+            other => Err(format!("no object: {other:?}")),
+        }
+    }
+
+    fn end(&self) -> Result<(), String> {
+        match self.members.last() {
+            None => Ok(()),
+            Some((key, _)) => Err(format!("the field '{key}' does not belong there")),
+        }
+    }
+
+    fn has(&self, key: &str) -> bool {
+        matches!(self.members.last(), Some((next, _)) if next == key)
+    }
+
+    fn take(&mut self, key: &str) -> Result<Value, String> {
+        if !self.has(key) {
+            return Err(format!("the field '{key}' does not come next"));
+        }
+        self.members.pop().map(|(_, value)| value).ok_or_else(String::new)
+    }
+
+    fn maybe<T>(&mut self, key: &str, as_one: impl Fn(Value) -> Result<T, String>) -> Result<Option<T>, String> {
+        if self.has(key) {
+            Ok(Some(as_one(self.take(key)?)?))
+        } else {
+            Ok(None)
+        }
+    }
+
+    fn text(&mut self, key: &str) -> Result<String, String> {
+        self.take(key)?.into_text()
+    }
+
+    fn number(&mut self, key: &str) -> Result<String, String> {
+        self.take(key)?.into_number()
+    }
+
+    fn texts(&mut self, key: &str) -> Result<Vec<String>, String> {
+        self.take(key)?.into_items()?.into_iter().map(Value::into_text).collect()
+    }
+
+    fn two(&mut self, key: &str) -> Result<[String; 2], String> {
+        two_of(self.take(key)?)
+    }
+
+    fn explain(&mut self) -> Result<Option<Fields>, String> {
+        self.maybe("explain", Fields::of)
+    }
+
+    // The last field of what explains a line.
+    fn notes(&mut self) -> Result<Vec<String>, String> {
+        let notes = self.texts("notes")?;
+        self.end()?;
+        if notes.is_empty() {
+            return Err("there are no notes".to_owned());
+        }
+        Ok(notes)
+    }
+}
+
+fn two_of(value: Value) -> Result<[String; 2], String> {
+    let items: Result<Vec<String>, String> = value.into_items()?.into_iter().map(Value::into_text).collect();
+    items?.try_into().map_err(|items| format!("not two: {items:?}"))
+}
+
+impl Value {
+    fn into_text(self) -> Result<String, String> {
+        match self {
+            Value::Text(text) => Ok(text),
+            other => Err(format!("no text: {other:?}")),
+        }
+    }
+
+    fn into_number(self) -> Result<String, String> {
+        match self {
+            Value::Number(digits) => Ok(digits),
+            other => Err(format!("no number: {other:?}")),
+        }
+    }
+
+    fn into_numbers(self) -> Result<Vec<String>, String> {
+        self.into_items()?.into_iter().map(Value::into_number).collect()
+    }
+
+    fn into_bool(self) -> Result<bool, String> {
+        match self {
+            Value::Bool(is_so) => Ok(is_so),
+            other => Err(format!("no bool: {other:?}")),
+        }
+    }
+
+    fn into_items(self) -> Result<Vec<Value>, String> {
+        match self {
+            Value::Array(items) => Ok(items),
+            other => Err(format!("no array: {other:?}")),
+        }
+    }
+}

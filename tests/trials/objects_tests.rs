@@ -1,0 +1,234 @@
+//! Tests of the objects that are due: they stand for the lines of the cases, and explain what worked examples say.
+
+use crate::cases::{read_cases, Asked, Case, FILES};
+use crate::commands::Command;
+use crate::object_lines::lines_of;
+use crate::objects::due_of;
+use std::path::Path;
+
+fn cases() -> Vec<Case> {
+    let folder = Path::new(file!()).with_file_name("../cases");
+    FILES.iter().flat_map(|file| read_cases(&folder, file).unwrap()).collect()
+}
+
+fn due(asked: &Asked, explain: bool) -> Option<Vec<String>> {
+    let objects = due_of(asked, explain)?;
+    Some(objects.iter().map(|object| object.to_string()).collect())
+}
+
+// With the text that stands below a line on behalf of `--explain` the exact line is the same.
+#[test]
+fn the_objects_stand_for_the_lines_of_the_cases() {
+    let mut count = 0;
+    for case in cases().iter().filter(|case| case.wanted.refusal.is_empty()) {
+        for explain in [false, true] {
+            let Some(objects) = due(&case.asked, explain) else {
+                continue;
+            };
+            let text: String = objects.iter().map(|object| format!("{object}\n")).collect();
+            assert_eq!(lines_of(&text).as_ref(), Ok(&case.wanted.out), "{}: {text}", case.name);
+            count += 1;
+        }
+    }
+    assert!(count > 400, "{count}");
+}
+
+fn asked(command: Command, plan: &str, cert: &str) -> Asked {
+    Asked { command, first: plan.into(), second: cert.into() }
+}
+
+fn check(plan: &str) -> Vec<String> {
+    due(&asked(Command::Check { workers: 1 }, plan, ""), true).unwrap()
+}
+
+fn explain_of(object: &str) -> &str {
+    object.split_once("\"explain\":").map_or("", |(_, explain)| explain.strip_suffix('}').unwrap_or(explain))
+}
+
+#[test]
+fn unsafe_pairs_are_explained() {
+    let plan = "plan 1 message w write 1001000 00000001 00000010 stop else stop else stop else stop ;
+        message r write 1001000 0000000x again read 1001000 2 stop else stop else stop else stop ;
+        controller a w ; controller b r ;";
+    assert_eq!(
+        check(plan),
+        [
+            "{\"kind\":\"pair\",\"pair\":0,\"participants\":[\"a/w\",\"b/r\"],\"meet\":[\"data\",\"restart\"],\
+             \"after\":\"10010000l00000001l\",\"explain\":{\"slot\":18,\"rule\":\"UM10204 3.1.8\",\
+             \"bus\":\"S 48 Wr A 01 A\",\"bytes\":[\"S 48 Wr A 01 A 02\",\"S 48 Wr A 0000000x A Sr\"],\
+             \"open\":[[],[[16,16]]]}}",
+            "{\"kind\":\"plan\",\"safe\":false,\"pairs\":1,\"unsafe_pairs\":1,\"explain\":{\"explained\":1,\
+             \"never\":[[\"a\",\"b\"]],\"unchecked\":1,\"interrupts\":[],\"kept_apart\":0}}"
+        ]
+    );
+    // The last acknowledge of one of two reads is open.
+    let plan = "plan 2 message one read 100100x 1 again write 1001000 stop else stop else stop ;
+        message few read 1x01000 1..3 stop else stop ; controller a one ; controller b few ;";
+    assert_eq!(
+        explain_of(&check(plan)[0]),
+        "{\"slot\":18,\"rule\":\"UM10204 3.1.8\",\"bus\":\"S 48 Rd A 00 NA\",\
+         \"bytes\":[\"S 100100x Rd A 00 NA Sr\",\"S 1x01000 Rd A 00 A/NA P\"],\"open\":[[[6,6]],[[1,1],[17,17]]]}"
+    );
+}
+
+#[test]
+fn interrupts_are_mended_by_no_item() {
+    let plan = "plan 1 message get read 1001000 1 stop else stop ; controller a get ;
+        interrupt al 1001000 ; interrupt second 1001000 ;";
+    let found = check(plan);
+    let rule = "{\"slot\":8,\"rule\":\"interrupts\",\"bus\":\"S 48 Rd\",";
+    let bytes = ["\"S 48 Rd\",\"S 48 Rd (waits)\"", "\"S 48 Rd (waits)\",\"S 48 Rd (waits)\""];
+    assert_eq!(explain_of(&found[0]), format!("{rule}\"bytes\":[{}],\"open\":[[],[]]}}", bytes[0]));
+    assert_eq!(explain_of(&found[2]), format!("{rule}\"bytes\":[{}],\"open\":[[],[]]}}", bytes[1]));
+    let mends = "{\"explained\":3,\"never\":[],\"unchecked\":0,\"interrupts\":[0,1,2],\"kept_apart\":0}";
+    assert_eq!(explain_of(&found[3]), mends);
+}
+
+const SEVERAL: &str = "plan 2 message w write 1001000 00000001 stop else stop else stop ;
+    message v write 1001000 00000010 stop else stop else stop ; message p write 1001000 stop else stop ;
+    message q read 0010000 1 stop else stop ; message spare read 0010000 1 stop else stop ;
+    controller a w v ; controller b p q ; controller c p w ; interrupt al 0010000 ;";
+
+#[test]
+fn several_pairs_of_two_controllers_want_one_item() {
+    let mends = "{\"explained\":6,\"never\":[[\"a\",\"b\"],[\"a\",\"c\"],[\"b\",\"c\"]],\"unchecked\":12,\
+                 \"interrupts\":[15],\"kept_apart\":0}";
+    assert_eq!(explain_of(check(SEVERAL).last().unwrap()), mends);
+    let mends = "{\"explained\":4,\"never\":[[\"a\",\"c\"],[\"b\",\"c\"]],\"unchecked\":8,\"interrupts\":[11],\
+                 \"kept_apart\":4}";
+    assert_eq!(explain_of(check(&format!("{SEVERAL} never b a ;")).last().unwrap()), mends);
+}
+
+// The first ten are explained where nothing else is said.
+#[test]
+fn further_pairs_are_not_explained() {
+    let listed: String = (0..12).map(|k| format!(" controller c{k} {} ;", if k == 0 { "w" } else { "p" })).collect();
+    let plan = format!(
+        "plan 1 message w write 1001000 xxxxxxxx stop else stop else stop ; message p write 1001000 stop else stop ;{listed}"
+    );
+    let found = check(&plan);
+    assert_eq!(found.len(), 12);
+    let explained: Vec<bool> = found.iter().map(|object| object.contains("\"explain\":")).collect();
+    assert_eq!(explained, [&[true; 10][..], &[false, true]].concat());
+    assert!(found[11].contains("\"unsafe_pairs\":11,\"explain\":{\"explained\":10,"), "{}", found[11]);
+}
+
+#[test]
+fn safe_plans_are_explained() {
+    let plan = "plan 1 message short read 1001000 1 stop else stop ; message long read 1001000 2 stop else stop ;
+        message other read 1001001 2 stop else stop ; message spare write 1001000 stop else stop ;
+        controller a short ; controller b long ; controller c other ;";
+    assert_eq!(
+        explain_of(&check(plan)[0]),
+        "{\"decided\":{\"header\":2,\"later\":0,\"read\":1,\"alike\":0},\"unsent\":[\"spare\"],\"kept_apart\":0}"
+    );
+    let plan = "plan 2 message w write 1001000 00000001 stop else stop else stop ;
+        message p write 1001000 stop else stop ; controller a w ; controller b p ; controller c p ;
+        never a b ; never c a ;";
+    assert_eq!(
+        explain_of(&check(plan)[0]),
+        "{\"decided\":{\"header\":0,\"later\":0,\"read\":0,\"alike\":1},\"unsent\":[],\"kept_apart\":2}"
+    );
+}
+
+fn verify(plan: &str, cert: &str) -> String {
+    due(&asked(Command::Verify, plan, cert), true).unwrap().concat()
+}
+
+const TAILS: &str = "stop else stop else stop else stop";
+
+// Two who write a byte, repeat START and read so many bytes.
+fn readers(counts: [u32; 2]) -> String {
+    let write = "write 1001000 0000000x again read 1001000";
+    let [one, other] = counts;
+    format!("plan 1 message one {write} {one} {TAILS} ; message two {write} {other} {TAILS} ; controller a one ; controller b two ;")
+}
+
+#[test]
+fn a_proof_breaks_off_at_its_first_wrong_word() {
+    for (counts, proof, word, slot, why) in [
+        ([1, 2], "D B S D R . . .", 1, 0, "not_both_read"),
+        ([1, 2], "P7", 1, 0, "no_split"),
+        ([1, 2], "B B B . . . .", 3, 18, "not_both_write"),
+        ([1, 2], "B S . .", 2, 9, "not_both_restart"),
+        ([1, 2], "B . .", 2, 9, "not_both_stop"),
+        ([1, 2], "B B S B R . . .", 4, 19, "not_both_write"),
+        ([1, 2], "B B S P7 . .", 4, 19, "no_split"),
+        ([1, 2], "B B S D . . . .", 5, 28, "reads_never_meet"),
+        ([1, 2], "B B S D R S . . .", 6, 28, "not_both_restart"),
+        ([1, 2], "B B S D R . S . .", 7, 18, "not_both_restart"),
+        ([1, 2], "B B S D R . . S .", 8, 9, "not_both_restart"),
+        ([1, 2], "R", 1, 0, "unknown_word"),
+        ([2, 2], "B B S D R . . .", 5, 28, "reads_may_meet"),
+        ([2, 2], "B B S D S . . . .", 5, 46, "not_both_restart"),
+    ] {
+        let cert = format!("cert 1\npairs 1\n{proof}\n");
+        let explain =
+            format!("{{\"participants\":[\"a/one\",\"b/two\"],\"word\":{word},\"slot\":{slot},\"why\":\"{why}\"}}");
+        assert_eq!(explain_of(&verify(&readers(counts), &cert)), explain, "{proof}");
+    }
+}
+
+#[test]
+fn other_wrong_certificates_are_explained() {
+    let plan = readers([2, 2]);
+    let counts = "{\"pairs\":1,\"proofs\":3}";
+    assert_eq!(explain_of(&verify(&plan, "cert 1\npairs 3\n.\n.\n.\n")), counts);
+    assert_eq!(explain_of(&verify(&plan, "cert 1\npairs 1\n.\n.\n.\n")), counts);
+    let both = "{\"participants\":[\"a/one\",\"b/two\"]}";
+    assert_eq!(explain_of(&verify(&plan, "cert 1\nfault 0 1 stop data\n")), both);
+    // of a pair that there is not, of another form, and of none that is wrong
+    for cert in ["cert 1\nfault 1 1 stop data\n", "cert 2\n", "cert 1\npairs 1\nB B S D . . . .\n"] {
+        let found = verify(&plan, cert);
+        assert!(
+            found.starts_with("{\"kind\":\"certificate\",\"accepted\":") && explain_of(&found).is_empty(),
+            "{found}"
+        );
+    }
+}
+
+#[test]
+fn a_rehearsal_is_explained() {
+    let plan = "plan 1 message some write 1001000 0000000x again read 1001000 1 stop else stop else stop else stop ;
+        message warn write 1001000 00000011 stop else stop else stop ; controller main some ; controller guard warn ;";
+    let bench = Command::Bench { starters: "guard/warn,main/some".to_owned(), fill: true, answers: "0".repeat(99) };
+    assert_eq!(
+        due(&asked(bench, plan, "cert 1\npairs 1\nB P6 .\n"), true).unwrap(),
+        [
+            "{\"kind\":\"wire\",\"wire\":\"10010000l00000001lr10010001lllllllll1s\",\"explain\":{\
+             \"bytes\":\"S 48 Wr A 01 A Sr 48 Rd A 00 NA P\",\"starters\":[\
+             {\"participant\":\"guard/warn\",\"puts\":\"10010000.0000001\",\"lost\":15},\
+             {\"participant\":\"main/some\",\"puts\":\"10010000.00000001.r10010001.........1s\"}]}}",
+            "{\"kind\":\"won\",\"participants\":[\"main/some\"]}"
+        ]
+    );
+    let plan = "plan 1 message get read 1001001 1 stop else stop ; controller a get ; interrupt t 1001000 ;";
+    let bench = Command::Bench { starters: "a/get,!t".to_owned(), fill: false, answers: String::new() };
+    assert_eq!(
+        due(&asked(bench, plan, "cert 1\npairs 1\nP6\n"), true).unwrap(),
+        [
+            "{\"kind\":\"wire\",\"wire\":\"10010001c\",\"explain\":{\"bytes\":\"S 48 Rd (waits)\",\"starters\":[\
+             {\"participant\":\"a/get\",\"puts\":\"1001001\",\"lost\":6},\
+             {\"participant\":\"!t\",\"puts\":\"10010001c\"}]}}",
+            "{\"kind\":\"won\",\"participants\":[\"!t\"]}"
+        ]
+    );
+}
+
+#[test]
+fn hints_are_broken_for_80_columns() {
+    let long = "x".repeat(90);
+    for (text, lines) in [
+        (
+            "expected here: ';' or a name (a letter, then letters, digits and '_', 32 at most) or 'x'",
+            "hint: expected here: ';' or a name (a letter, then letters, digits and '_', 32\nhint: at most) or 'x'\n",
+        ),
+        ("  .. S S S", "hint:   .. S S S\n"),
+        ("       ^^", "hint:        ^^\n"),
+        (long.as_str(), &format!("hint: {long}\n")),
+        (&format!("a {long} b"), &format!("hint: a\nhint: {long}\nhint: b\n")),
+    ] {
+        let object = format!("{{\"kind\":\"hint\",\"text\":\"{text}\"}}\n");
+        assert_eq!(lines_of(&object).as_deref(), Ok(lines), "{text}");
+    }
+}

@@ -1,0 +1,111 @@
+//! What the commands over plans and certificates find, as values (docs/COMMAND_LINE.md, "Reports").
+//! Their lines and their objects are made of these.
+
+use super::benches::{play_on, Answers, Player};
+use super::certificates::{read_certificate, Certificate, Wrong};
+use super::order::{ways, Totals, Ways};
+use super::pairs::{clashes_so, first_clash, is_proved, Clash};
+use super::participants::{Participant, Participants, StarterRefusal};
+use super::wires::Item;
+
+/// An unsafe pair, and its first fault.
+#[derive(Clone, Debug)]
+pub struct Fault<'a> {
+    pub pair: usize,
+    pub x: &'a Participant<'a>,
+    pub y: &'a Participant<'a>,
+    pub clash: Clash,
+}
+
+/// What a check finds: the faults, in the order of their pairs.
+#[derive(Clone, Debug)]
+pub struct Checked<'a> {
+    pub pairs: usize,
+    pub faults: Vec<Fault<'a>>,
+}
+
+pub fn checked<'a>(plan: &'a Participants<'a>) -> Checked<'a> {
+    let pairs = plan.pairs();
+    let numbered = pairs.iter().enumerate();
+    let faults = numbered.filter_map(|(pair, &(x, y))| {
+        let clash = first_clash(x.sender, y.sender)?;
+        Some(Fault { pair, x, y, clash })
+    });
+    Checked { faults: faults.collect(), pairs: pairs.len() }
+}
+
+/// Who wins in a pair: nothing where it is unsafe.
+#[derive(Clone, Debug)]
+pub struct Ordered<'a> {
+    pub x: &'a Participant<'a>,
+    pub y: &'a Participant<'a>,
+    pub ways: Option<Ways>,
+}
+
+/// Who wins in each pair, and how many pairs each participant wins.
+#[derive(Debug)]
+pub struct Order<'a> {
+    pub pairs: Vec<Ordered<'a>>,
+    pub totals: Totals,
+}
+
+pub fn ordered<'a>(plan: &'a Participants<'a>) -> Order<'a> {
+    let of_pair = |(x, y): (&'a Participant<'a>, &'a Participant<'a>)| {
+        let is_safe = first_clash(x.sender, y.sender).is_none();
+        Ordered { x, y, ways: is_safe.then(|| ways(x.sender, y.sender)) }
+    };
+    let pairs: Vec<Ordered> = plan.pairs().into_iter().map(of_pair).collect();
+    let mut totals = Totals::default();
+    for Ordered { x, y, ways } in &pairs {
+        if let Some(ways) = ways {
+            totals.count(&x.label, &y.label, ways);
+        }
+    }
+    Order { pairs, totals }
+}
+
+/// Whether a certificate shows that the plan is safe, or that it is not.
+pub fn verified(plan: &Participants, cert: &str) -> Result<bool, Wrong> {
+    let pairs = plan.pairs();
+    match read_certificate(cert)? {
+        Certificate::Fault(number, clash) => match pairs.get(number) {
+            Some((x, y)) if clashes_so(x.sender, y.sender, &clash) => Ok(false),
+            _ => Err(Wrong::Pair(number)),
+        },
+        Certificate::Proofs(lines) if lines.len() != pairs.len() => Err(Wrong::Count(lines.len())),
+        Certificate::Proofs(lines) => {
+            let mut pairs = pairs.iter().zip(&lines);
+            match pairs.position(|((x, y), line)| !is_proved(line, x.sender, y.sender)) {
+                Some(pair) => Err(Wrong::Pair(pair)),
+                None => Ok(true),
+            }
+        }
+    }
+}
+
+/// A bench that was played: the wire, and each starter, in the order in which they were given.
+#[derive(Clone, Debug)]
+pub struct Played<'a> {
+    pub wire: Vec<Item>,
+    pub starters: Vec<(&'a Participant<'a>, Player<'a>)>,
+}
+
+impl<'a> Played<'a> {
+    /// Those who have lost nowhere.
+    pub fn winners(&self) -> impl Iterator<Item = &'a Participant<'a>> + '_ {
+        let ended = self.starters.iter();
+        ended.filter(|(_, player)| player.lost.is_none()).map(|(one, _)| *one)
+    }
+}
+
+pub fn played<'a>(
+    plan: &'a Participants<'a>,
+    starters: &str,
+    fill: bool,
+    answers: &str,
+) -> Result<Played<'a>, StarterRefusal> {
+    let starters = plan.starters(starters)?;
+    let mut players: Vec<Player> = starters.iter().map(|one| Player::new(one.sender)).collect();
+    let wire = play_on(&mut players, fill, Answers(answers));
+    Ok(Played { wire, starters: starters.into_iter().zip(players).collect() })
+}
