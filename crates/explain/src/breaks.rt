@@ -41,7 +41,7 @@ pub enum Reason {
     UnknownWord,
 }
 
-/// The first such word of the proof of a pair. None where each of its words proves something, and further ones are wanting.
+/// The first such word of the proof of a pair. None where each of its words proves something.
 pub(crate) fn break_of(
     alloc: Global,
     plan: &Plan,

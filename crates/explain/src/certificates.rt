@@ -1,9 +1,9 @@
 // Lines below the answer to a certificate.
 
 use crate::below::{begin, say, say_all};
-use crate::breaks::Reason;
+use crate::breaks::{Break, Reason};
 use crate::labels::label_of;
-use crate::wrongs::{End, Wrong};
+use crate::wrongs::Wrong;
 use growing_text::{Lines, Text};
 use plan_core::Plan;
 use std::alloc::{AllocError, Global};
@@ -22,7 +22,7 @@ pub(crate) fn below_wrong(alloc: Global, plan: &Plan, wrong: Wrong) -> Result<St
         } => {
             tell_pair(alloc, &mut lines, plan, pair, participants);
             if let Some(found) = found {
-                tell_end(&mut lines, found);
+                tell_break(&mut lines, found);
             }
         }
         Wrong::Count { pairs, proofs } => tell_counts(&mut lines, pairs, proofs),
@@ -44,19 +44,13 @@ fn tell_pair(alloc: Global, lines: &mut Lines, plan: &Plan, pair: u32, participa
     say_all(lines, words);
 }
 
-fn tell_end(lines: &mut Lines, found: End) {
+fn tell_break(lines: &mut Lines, found: Break) {
     begin(lines);
-    lines.words("it breaks off at");
-    match found {
-        End::Break(found) => {
-            lines.word("word");
-            lines.number(u64::from(found.word), ",");
-            lines.words("in slot");
-            lines.number(u64::from(found.slot), ":");
-            lines.words(words_of(found.reason));
-        }
-        End::Missing => lines.words("its end"),
-    }
+    lines.words("it breaks off at word");
+    lines.number(u64::from(found.word), ",");
+    lines.words("in slot");
+    lines.number(u64::from(found.slot), ":");
+    lines.words(words_of(found.reason));
     lines.end();
 }
 

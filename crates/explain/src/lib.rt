@@ -45,4 +45,4 @@ pub use reports::{
 pub use safety::{Decided, Safety, safety_of};
 pub use tracks::{Along, Track, along};
 pub use views::{View, has_unit, shown, steps};
-pub use wrongs::{End, Wrong, wrong_of};
+pub use wrongs::{Wrong, wrong_of};

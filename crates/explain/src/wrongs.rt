@@ -18,7 +18,7 @@ pub enum Wrong {
         pair: u32,
         participants: (u32, u32),
         /// Where the line of its proof breaks off, where the certificate has proofs.
-        found: Option<End>,
+        found: Option<Break>,
     },
     /// The plan has so many pairs, and the certificate so many lines of proofs.
     Count {
@@ -27,15 +27,6 @@ pub enum Wrong {
     },
     /// Its text is wrong by itself.
     Text,
-}
-
-/// Where a proof breaks off.
-#[derive(Clone, Copy)]
-pub enum End {
-    /// At a word that does not prove what it stands for.
-    Break(Break),
-    /// At its end: each of its words proves something, and further ones are missing.
-    Missing,
 }
 
 /// What is wrong with the certificate of this text, of which this is the answer for the plan; `None` where nothing is.
@@ -67,10 +58,7 @@ fn wrong_pair(alloc: Global, plan: &Plan, cert: &[u8], pair: u32) -> Result<Wron
 {
     let participants = plan.pair(pair);
     let found = match proof_line(cert, pair) {
-        Some(proof) => Some(match break_of(alloc, plan, participants, proof)? {
-            Some(found) => End::Break(found),
-            None => End::Missing,
-        }),
+        Some(proof) => break_of(alloc, plan, participants, proof)?,
         None => None,
     };
     Ok(Wrong::Pair {

@@ -10,7 +10,7 @@ use serde::Serialize;
 use std::alloc::{AllocError, Global};
 
 // The wire of a run.
-#[derive(Serialize)]
+#[derive(Drop, Serialize)]
 struct Wire<'a> {
     kind: &'static str,
     wire: &'a str,
@@ -19,7 +19,7 @@ struct Wire<'a> {
 }
 
 // Its bytes, and what its starters put.
-#[derive(Serialize)]
+#[derive(Drop, Serialize)]
 struct Along<'a> {
     bytes: &'a str,
     starters: &'a [Starter<'a>],
@@ -34,7 +34,7 @@ struct Starter<'a> {
 }
 
 // Those who were live at its end.
-#[derive(Serialize)]
+#[derive(Drop, Serialize)]
 struct Won<'a> {
     kind: &'static str,
     participants: &'a [&'a str],

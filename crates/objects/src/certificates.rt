@@ -4,13 +4,13 @@ use crate::labels::{Labels, labels_of};
 use crate::objects::Lines;
 use cert_check::Answer;
 use certificate::CertFault;
-use explain::{End, Reason, Wrong, wrong_of};
+use explain::{Break, Reason, Wrong, wrong_of};
 use plan_core::Plan;
 use report::{Output, RunError};
 use serde::Serialize;
 use std::alloc::{AllocError, Global};
 
-#[derive(Serialize)]
+#[derive(Drop, Serialize)]
 struct Certificate<'a> {
     kind: &'static str,
     accepted: bool,
@@ -26,7 +26,7 @@ struct Certificate<'a> {
     explain: Option<Why<'a>>,
 }
 
-#[derive(Serialize)]
+#[derive(Drop, Serialize)]
 #[serde(untagged)]
 enum Why<'a> {
     Pair(Misproved<'a>),
@@ -34,7 +34,7 @@ enum Why<'a> {
 }
 
 // A pair of which what the certificate says is not so.
-#[derive(Serialize)]
+#[derive(Drop, Serialize)]
 struct Misproved<'a> {
     participants: [&'a str; 2],
     #[serde(skip_serializing_if = "Option::is_none")]
@@ -126,7 +126,7 @@ fn add_misproved(
     plan: &Plan,
     object: Certificate<'_>,
     participants: (u32, u32),
-    found: Option<End>,
+    found: Option<Break>,
 ) -> Result<(), AllocError> {
     let labels = labels_of(lines.alloc, plan)?;
     let Certificate { code, pair, .. } = object;
@@ -145,18 +145,15 @@ fn add_misproved(
 fn misproved_of<'a>(
     labels: &'a Labels,
     participants: (u32, u32),
-    found: Option<End>,
+    found: Option<Break>,
 ) -> Misproved<'a> {
     let participants = [labels.of(participants.0), labels.of(participants.1)];
     let (word, slot, why) = match found {
-        Some(End::Break(found)) => {
-            (
-                Some(found.word),
-                Some(found.slot),
-                Some(word_of(found.reason)),
-            )
-        }
-        Some(End::Missing) => (None, None, Some("ends")),
+        Some(found) => (
+            Some(found.word),
+            Some(found.slot),
+            Some(word_of(found.reason)),
+        ),
         None => (None, None, None),
     };
     Misproved {

@@ -13,7 +13,7 @@ use serde::Serialize;
 use std::alloc::{AllocError, Global};
 
 // An unsafe pair.
-#[derive(Serialize)]
+#[derive(Drop, Serialize)]
 struct Pair<'a> {
     kind: &'static str,
     pair: u32,
@@ -25,7 +25,7 @@ struct Pair<'a> {
 }
 
 // Where its two meet.
-#[derive(Serialize)]
+#[derive(Drop, Serialize)]
 struct Met<'a> {
     slot: usize,
     rule: &'static str,
@@ -35,7 +35,7 @@ struct Met<'a> {
 }
 
 // The verdict on a plan.
-#[derive(Serialize)]
+#[derive(Drop, Serialize)]
 struct Verdict<'a> {
     kind: &'static str,
     safe: bool,
@@ -45,7 +45,7 @@ struct Verdict<'a> {
     explain: Option<Why<'a>>,
 }
 
-#[derive(Serialize)]
+#[derive(Drop, Serialize)]
 #[serde(untagged)]
 enum Why<'a> {
     Unsafe(Mended<'a>),
@@ -53,7 +53,7 @@ enum Why<'a> {
 }
 
 // What mends an unsafe plan.
-#[derive(Serialize)]
+#[derive(Drop, Serialize)]
 struct Mended<'a> {
     explained: usize,
     never: &'a [[&'a str; 2]],
@@ -63,14 +63,14 @@ struct Mended<'a> {
 }
 
 // How the pairs of a safe plan are kept apart.
-#[derive(Serialize)]
+#[derive(Drop, Serialize)]
 struct Kept<'a> {
     decided: Decided,
     unsent: &'a [&'a str],
     kept_apart: u64,
 }
 
-#[derive(Serialize)]
+#[derive(Drop, Serialize)]
 struct Decided {
     header: u64,
     later: u64,

@@ -9,7 +9,7 @@ use serde::Serialize;
 use std::alloc::Global;
 
 // In which slots both of a pair end, the first wins and the second wins, where they can: the earliest and the latest of each.
-#[derive(Serialize)]
+#[derive(Drop, Serialize)]
 struct Ways<'a> {
     kind: &'static str,
     pair: u32,
@@ -25,7 +25,7 @@ struct Ways<'a> {
 }
 
 // How often a participant wins.
-#[derive(Serialize)]
+#[derive(Drop, Serialize)]
 struct Wins<'a> {
     kind: &'static str,
     participant: &'a str,

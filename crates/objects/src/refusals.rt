@@ -19,7 +19,7 @@ struct Refusal {
     signal: Option<&'static str>,
 }
 
-#[derive(Serialize)]
+#[derive(Drop, Serialize)]
 struct Hinted<'a> {
     kind: &'static str,
     text: &'a str,
