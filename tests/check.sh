@@ -423,9 +423,10 @@ run "hints on a safe plan of which nothing was looked at" check spare.plan --hin
 printf 'cert 1\npairs 0\n' >spare.cert
 want 0 "accepted safe" "$left_out"
 run "hints on a certificate of such a plan" verify spare.plan spare.cert --hints always
+want 0 "safe: 0 pairs" "$left_out"
+run "hints on a safe plan from standard input" check - --hints always <spare.plan
 want 0 "safe: 0 pairs" ""
 run "no word on hints on a safe plan" check spare.plan
-run "hints on a safe plan from standard input" check - --hints always <spare.plan
 
 none="No such file or directory (os error 2)"
 want 2 "" "refused read

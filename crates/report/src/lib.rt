@@ -19,12 +19,12 @@ pub mod telling;
 
 pub use answers::{answer_line, status_of_answer};
 pub use captures::{run_capture, run_capture_of};
+pub use cert_check::{Answer, Answered};
 pub use certificates::{run_certify, run_verify, verify_plan};
 pub use checked::check_plan;
 pub use checks::{run_check, run_check_with};
 pub use faulty::{FaultyReader, FaultyWriter};
 pub use finding::find_plan;
-pub use cert_check::{Answer, Answered};
 pub use found::Checked;
 pub use lines::{check_report, push_count, push_fault};
 pub use run_parts::{Input, Opened, Output, RunError, Status, Watched, read_within, write_report};

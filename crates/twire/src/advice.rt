@@ -128,7 +128,11 @@ pub fn advise<R: Eprint + AllocGlobal, F: Read + Seek + Drop>(
     };
     let voice = outcome.voice;
     match outcome.ended {
-        Ok(status) => say(rt, on_report(rt.alloc(), read, names, status, outcome), voice),
+        Ok(status) => say(
+            rt,
+            on_report(rt.alloc(), read, names, status, outcome),
+            voice,
+        ),
         Err(error) => {
             let hints = on_refusal(rt.alloc(), read, names, error, &outcome);
             say(rt, hints, voice_of(error, voice));
@@ -232,7 +236,14 @@ fn on_report<F: Read + Seek + Drop>(
         Told::Certificate(fault) => on_certificate(alloc, read.other, fault),
         Told::Fault => on_fault(alloc, output),
         Told::Recording => {
-            on_recorded(alloc, read.other, names, status, about.told, report.as_str())
+            on_recorded(
+                alloc,
+                read.other,
+                names,
+                status,
+                about.told,
+                report.as_str(),
+            )
         }
     }
 }

@@ -16,8 +16,8 @@ use objects::{write_answer, write_check, write_order};
 use order::{Order, order_of, order_report};
 use plan_core::Plan;
 use report::{
-    Answered, Checked, Input, NoGate, Output, RunError, Status, answer_line, check_plan, check_report,
-    find_plan, read_within, status_of_answer, verify_plan,
+    Answered, Checked, Input, NoGate, Output, RunError, Status, answer_line, check_plan,
+    check_report, find_plan, read_within, status_of_answer, verify_plan,
 };
 use run_parts::devices::reading::READS;
 use run_parts::write_lines;

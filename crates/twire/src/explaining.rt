@@ -4,9 +4,7 @@
 use crate::quieting::Quiet;
 use explain::{Heard, Notes, Overheard, explain_transactions};
 use plan_text::read_plan;
-use report::{
-    Input, Output, Probe, RunError, Status, Watched, read_within, run_capture_of,
-};
+use report::{Input, Output, Probe, RunError, Status, Watched, read_within, run_capture_of};
 use run_parts::devices::reading::READS;
 use std::alloc::Global;
 use std::thread::Threads;

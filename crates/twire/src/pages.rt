@@ -7,7 +7,8 @@ use order::{Order, order_of, order_report};
 use page::{Page, Texts, page_of};
 use plan_text::print_plan;
 use report::{
-    Checked, Input, NoGate, Output, RunError, Status, Watched, check_plan, check_report, read_within,
+    Checked, Input, NoGate, Output, RunError, Status, Watched, check_plan, check_report,
+    read_within,
 };
 use run_parts::devices::reading::READS;
 use run_parts::write_lines;
@@ -49,7 +50,14 @@ fn with_capture<R: AllocGlobal + Threads + Sync, J: Input, O: Output>(
     asked: Asked<'_>,
 ) -> Result<Ended, Halt> {
     let mut written = Watched::new(Vec::new(rt.alloc()));
-    let seen = view_capture(rt, rt.alloc(), &mut Watched::new(text), vcd, &mut written, asked)?;
+    let seen = view_capture(
+        rt,
+        rt.alloc(),
+        &mut Watched::new(text),
+        vcd,
+        &mut written,
+        asked,
+    )?;
     let capture = written.into_inner();
     let status = with_plan(rt, title, text, text_of(capture.as_slice()), out)?;
     Ok(Ended {
