@@ -21,7 +21,7 @@ pub fn due_of(asked: &Asked, explain: bool) -> Option<Vec<Value>> {
         Command::Bench { starters, fill, answers } => match verified(plan, &cert) {
             Ok(true) => of_bench(plan, starters, *fill, answers, explain),
             // (below this line nothing is explained)
-            _ => vec![of_certificate(plan, &cert, false)],
+            _ => vec![of_certificate(plan, &cert, explain)],
         },
         _ => Vec::new(),
     };
