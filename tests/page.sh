@@ -1,6 +1,7 @@
 #!/usr/bin/env bash
 # The page that twire writes of a plan: that it has the exact texts, loads nothing, and takes no text for markup; and, where the
-# machine has a browser (chromium), that it opens there without an error, and that a cell of the matrix leads to its drawing.
+# machine has a browser (chromium), that it opens there without an error, that its data says what its texts say, and that a cell of
+# the matrix leads to its drawing.
 # The last line is 'N passed, M failed', and the exit status is 1 where a case fails.
 #
 # It runs the launcher at the top of the repository, or the program that TWIRE names.
@@ -45,6 +46,8 @@ for plan in examples/*.plan; do
     want "$name: the plan" "$("$twire" print "$plan")" "$(text plan page.html)"
     want "$name: the report of check" "$(<check.txt)" "$(text check page.html)"
     want "$name: the report of order" "$("$twire" order "$plan")" "$(text order page.html)"
+    want "$name: its data, in which no markup can begin" 1 \
+        "$(grep -cE '^<script type="application/json" id="data">\{[^<]*\}</script>$' page.html)"
     want "$name: what it loads" "" "$(grep -oiE '(src|href) *= *.?(https?:|//|file:)|@import|url\(|fetch\(|XMLHttp' page.html)"
 done
 "$twire" page examples/stop_meets_data.plan >out.html
@@ -101,9 +104,52 @@ opened() {
     grep -E 'CONSOLE|Uncaught' log >errors
 }
 
+# Each line of the texts is made of the data again, and all of them are compared.
+cat >agrees.js <<'SCRIPT'
+<script>
+{
+  const data = JSON.parse(document.getElementById('data').textContent);
+  const range = ([first, last]) => first === last ? first : first + '..' + last;
+  const label = k => data.participants[k].label;
+  const tail = (nodes, k) => k ? 'again ' + header(nodes, k) : 'stop';
+  const payload = (nodes, k = 0) => {
+    const { byte, acked, refused } = nodes[k - 1] || {};
+    return byte ? byte + ' ' + payload(nodes, acked) + ' else ' + tail(nodes, refused) : tail(nodes, k);
+  };
+  const header = (nodes, k) => {
+    const { write, read, bytes, acked, after, refused } = nodes[k - 1];
+    return (write ? 'write ' + write + ' ' + payload(nodes, acked) : 'read ' + read + ' ' + range(bytes) + ' ' + tail(nodes, after))
+      + ' else ' + tail(nodes, refused);
+  };
+  const plan = [];
+  for (const { name, nodes } of data.messages) plan.push('message ' + name + ' ' + header(nodes, nodes.length) + ' ;');
+  data.controllers.forEach((name, k) => plan.push(['controller', name, ...data.participants.filter(one => one.controller === k)
+    .map(one => data.messages[one.message].name), ';'].join(' ')));
+  for (const { name, address } of data.interrupts) plan.push('interrupt ' + name + ' ' + address + ' ;');
+  for (const two of data.nevers) plan.push('never ' + two.map(k => data.controllers[k]).join(' ') + ' ;');
+  const { safe, pairs, unsafe_pairs } = data.verdict;
+  const check = data.faults.map(({ pair, kinds, wire }) => 'pair ' + pair + ' ' + data.pairs[pair].map(label).join(' ') + ': '
+    + kinds.join(' against ') + ' after ' + wire);
+  check.push(safe ? 'safe: ' + pairs + ' pairs' : 'unsafe: ' + unsafe_pairs + ' of ' + pairs + ' pairs');
+  const order = data.pairs.map(([x, y, way], number) => {
+    const names = { both: 'both', first: label(x), second: label(y) };
+    return 'pair ' + number + ' ' + label(x) + ' ' + label(y) + ': ' + (way === undefined ? 'unsafe'
+      : Object.entries(data.ways[way]).map(([who, slots]) => names[who] + ' ' + range(slots)).join(', '));
+  });
+  for (const { label, total } of data.participants) {
+    if (total) order.push('total ' + label + ': wins ' + total.wins + ', may win ' + total.may_win + ', loses ' + total.loses);
+  }
+  const said = id => document.getElementById(id).textContent;
+  document.body.dataset.agrees = [said('plan').replace(/^plan [12]\n/, '') === plan.map(line => line + '\n').join(''),
+    said('check') === check.join('\n') + '\n', said('order') === order.map(line => line + '\n').join('')];
+}
+</script>
+SCRIPT
+
 # followed: the page of the file page.html, in which the first cell that leads somewhere is clicked.
 followed() {
-    sed 's|^</body>|<script>document.querySelector("td a").click();</script>\n</body>|' page.html >followed.html
+    sed -e '/^<\/body>/e cat agrees.js' \
+        -e 's|^</body>|<script>document.querySelector("td a").click();</script>\n</body>|' page.html >followed.html
     opened followed.html
 }
 
@@ -115,12 +161,29 @@ for plan in examples/*.plan; do
     "$twire" page "$plan" -o page.html
     followed
     want "$name in a browser: errors" "" "$(<errors)"
+    want "$name in a browser: the data says what the plan, the check and the order say" 1 \
+        "$(grep -c '<body data-agrees="true,true,true">' dom)"
     cells=$(grep -o 'data-pair="[0-9]*"' page.html dom | sort -u | wc -l)
     want "$name in a browser: a cell for each pair" "$pairs" "$cells"
     want "$name in a browser: the drawing of the cell that was clicked" 1 "$(grep -c '<div class="drawing" id="pair-0">' dom)"
     want "$name in a browser: the cell is marked" 1 "$(grep -q 'data-pair="0" aria-current="true"' dom && echo 1)"
     want "$name in a browser: the verdict" "$("$twire" check "$plan" | tail -n 1)" \
         "$(sed -n 's/.*<p id="verdict" class="[a-z -]*">\([^<]*\)<.*/\1/p' dom)"
+done
+
+# Without its texts the page is drawn alike.
+drawn() {
+    grep -o '<main id="main">.*</main>' dom
+}
+for plan in examples/{stop_meets_data,interrupts,never_repairs}.plan; do
+    "$twire" page "$plan" -o page.html
+    opened page.html
+    want "${plan##*/} in a browser: something is drawn" 1 "$(drawn | grep -c '<h2>The pairs</h2>')"
+    drawn >drawn.html
+    sed -i '/^<details>/,/<\/details>$/d' page.html
+    opened page.html
+    want "${plan##*/} without its texts: errors" "" "$(<errors)"
+    want "${plan##*/} without its texts" "$(<drawn.html)" "$(drawn)"
 done
 
 # A narrow window: the slot of the fault, after 45 others, is seen beside the names, and open bits and bytes stand there.
@@ -167,6 +230,8 @@ if [[ $(<version) != *"trial"* ]]; then
     want "the largest plan: the status" 0 $?
     followed
     want "the largest plan in a browser: errors" "" "$(<errors)"
+    want "the largest plan in a browser: the data says what the plan, the check and the order say" 1 \
+        "$(grep -c '<body data-agrees="true,true,true">' dom)"
     want "the largest plan in a browser: it is shown by what is sent" 1 "$(grep -c '143856 pairs, shown by what is sent' dom)"
     want "the largest plan in a browser: a drawing" 1 "$(grep -o '<div class="drawing"' dom | wc -l)"
 fi

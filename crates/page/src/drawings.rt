@@ -17,22 +17,22 @@ function partedOf(first, second) {
   return ['1', '0'];
 }
 
-function metRun(pair, one, other) {
+function metRun(pair) {
   const slots = [];
-  let first = one.start(), second = other.start();
-  for (const symbol of pair.wire) {
+  let first = pair.first.start(), second = pair.second.start();
+  for (const symbol of pair.fault.wire) {
     slots.push({ wire: symbol, puts: [symbol, symbol], kinds: [first.kind, second.kind], open: [first, second].map(isOpen) });
     first = first.after(symbol);
     second = second.after(symbol);
   }
   const puts = [first, second].map(place => place.kind === 'data' ? place.bit : SYMBOLS[place.kind]);
   slots.push({ wire: '?', puts, kinds: [first.kind, second.kind], open: [first, second].map(isOpen), meets: true });
-  return { slots, end: pair.wire.length };
+  return { slots, end: pair.fault.wire.length };
 }
 
-function partedRun(one, other) {
+function partedRun(pair) {
   const slots = [];
-  let places = [one.start(), other.start()], lost = null, end = null;
+  let places = [pair.first.start(), pair.second.start()], lost = null, end = null;
   for (;;) {
     const kinds = places.map(place => place && place.kind);
     if (lost === null && kinds[0] === 'data' && kinds[1] === 'data') {
@@ -160,12 +160,12 @@ function stretchesOf(puts, kinds) {
   return stretches;
 }
 
-function drawingOf(pair, one, other) {
-  const run = pair.way === 'unsafe' ? metRun(pair, one, other) : partedRun(one, other);
+function drawingOf(pair) {
+  const run = pair.fault ? metRun(pair) : partedRun(pair);
   const from = Math.max(0, run.end - BEFORE);
   const shown = run.slots.slice(from);
   const begins = from === 0;
-  const margin = LEFT + 8 + 7.4 * Math.max(one.label.length, other.label.length, 4);
+  const margin = LEFT + 8 + 7.4 * Math.max(pair.first.label.length, pair.second.label.length, 4);
   const x = k => LEFT + (k + (begins ? 1 : 0)) * WIDE;
   const width = x(shown.length) + 70;
   const names = element('svg:svg', { viewBox: '0 0 ' + margin + ' 248', width: margin, height: 248, class: 'names' });
@@ -191,7 +191,7 @@ function drawingOf(pair, one, other) {
   call(14, 'slot', true);
   call(222, 'wire', true);
   call(241, 'byte', true);
-  [[one, ROWS.first, 0], [other, ROWS.second, 1]].forEach(([participant, top, k]) => {
+  [[pair.first, ROWS.first, 0], [pair.second, ROWS.second, 1]].forEach(([participant, top, k]) => {
     call(top + 14, participant.label);
     shown.forEach((slot, j) => {
       if (slot.open[k]) add('text', { x: x(j) + WIDE / 2, y: top - 5, 'text-anchor': 'middle', class: 'open' }, 'x');
@@ -215,7 +215,8 @@ function drawingOf(pair, one, other) {
   }
   if (mark.meets) {
     add('text', { x: x(run.end - from) + WIDE / 2, y: ROWS.sda + 13, 'text-anchor': 'middle' }, '?');
-    [0, 1].forEach(k => add('text', { x: x(run.end - from) + WIDE + 4, y: (k === 0 ? ROWS.first : ROWS.second) + 14 }, pair.kinds[k]));
+    [ROWS.first, ROWS.second].forEach((top, k) =>
+      add('text', { x: x(run.end - from) + WIDE + 4, y: top + 14 }, pair.fault.kinds[k]));
   }
   const drawn = element('div', { class: 'wide drawn' }, names, svg);
   // (once it stands in the page, and has a width)
@@ -223,38 +224,37 @@ function drawingOf(pair, one, other) {
   return { drawn, run };
 }
 
-const withInterrupt = pair => [pair.first, pair.second].some(label => label.startsWith('!'));
+const withInterrupt = pair => [pair.first, pair.second].some(one => one.interrupt !== undefined);
 
 // What makes a pair safe. An interrupt cannot be kept away by a never, and two equal headers are its fault.
 function mendingText(pair) {
   const parted = 'To mend it: let a bit before that slot be known in both and different, so that one of them loses first';
   if (withInterrupt(pair)) return parted + '.';
-  const controllers = [pair.first, pair.second].map(label => label.split('/')[0]);
+  const controllers = [pair.first, pair.second].map(one => data.controllers[one.controller]);
   return parted + '; or let both do the same from that slot on; or say never ' + controllers.join(' ')
     + ' ;, which leaves the pairs of the two unchecked.';
 }
 
 function meetingText(pair, run) {
   const slot = run.slots[run.end];
-  if (pair.way === 'unsafe') {
+  if (pair.fault) {
     const rule = withInterrupt(pair) ? 'the profile of interrupts' : 'UM10204 3.1.8';
-    return 'Slot ' + run.end + ', ' + rule + ': ' + pair.kinds[0] + ' meets ' + pair.kinds[1]
+    return 'Slot ' + run.end + ', ' + rule + ': ' + pair.fault.kinds.join(' meets ')
       + '. Both send alike until here, so neither has lost, and what follows is undefined. ' + mendingText(pair);
   }
   if (!slot.parts) return 'Where every byte is acknowledged, both send the same to the end, and neither loses.';
-  const winner = run.lost === 0 ? pair.second : pair.first;
+  const winner = (run.lost === 0 ? pair.second : pair.first).label;
   return slot.may ? 'Slot ' + run.end + ': the first in which they may part. Here ' + winner + ' sends 0 and wins.'
     : 'Slot ' + run.end + ': ' + winner + ' sends 0 and wins; the other one has lost.';
 }
 
-function shownPair(pair, byLabel) {
-  const one = byLabel.get(pair.first), other = byLabel.get(pair.second);
-  const { drawn, run } = drawingOf(pair, one, other);
+function shownPair(pair) {
+  const { drawn, run } = drawingOf(pair);
   const before = wordsOf(run.slots.slice(0, run.end).map(slot => slot.wire));
   return element('div', { class: 'drawing', id: 'pair-' + pair.number },
-    element('h3', {}, 'pair ' + pair.number + ': ' + pair.first + ' and ' + pair.second + ' ',
+    element('h3', {}, 'pair ' + pair.number + ': ' + namesText(pair) + ' ',
       element('b', { class: pair.way }, '\u00a0' + WAYS[pair.way][0] + '\u00a0')),
-    element('p', {}, saidOf(pair).replace(/^.*?: /, '') + '.'),
+    element('p', {}, endText(pair) + '.'),
     element('p', { class: 'mono' }, before),
     element('p', {}, meetingText(pair, run)),
     drawn, element('p', { class: 'open' }, run.slots.some(slot => slot.open.includes(true)) ? 'x: an open bit' : ''));

@@ -1,16 +1,22 @@
 //! A plan as a page for a browser: one file, with nothing that it loads from elsewhere.
 //!
-//! The page has the canonical text of the plan and the exact reports on it, and a script that draws them: a matrix of the
-//! pairs, the drawing of each, who wins, what is sent, and a capture on a line of time. The script decides nothing: what it
-//! says of a pair stands in a report. `pages` joins the parts, `style` has how they look, and `senders`, `pairs`, `drawings`
-//! and `times` have the script. Without a script the reports are there to be read.
+//! The page has what was found of the plan as JSON, and a script that draws it: a matrix of the pairs, the drawing of
+//! each, who wins, what is sent, and a capture on a line of time. The script decides nothing. `pages` joins the parts.
+//! `data` has the JSON, with `parties` for who takes part, `nodes` for the messages, `pairs` for the pairs and `ways` for
+//! who wins in them. `style` has how the page looks. The script stands in `senders`, `matrix`, `drawings` and `times`.
+//! Without a script the exact reports are there to be read.
 #![tactic(auto)]
 
+mod data;
 mod drawings;
+mod matrix;
+mod nodes;
 mod pages;
 mod pairs;
+mod parties;
 mod senders;
 mod style;
 mod times;
+mod ways;
 
-pub use pages::{Texts, page_of};
+pub use pages::{Page, Texts, page_of};

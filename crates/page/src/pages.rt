@@ -1,18 +1,32 @@
-// The page around the texts.
+// The page around its parts.
 
+use crate::data::data_of;
 use crate::drawings::DRAWINGS;
-use crate::pairs::PAIRS;
+use crate::matrix::MATRIX;
 use crate::senders::SENDERS;
 use crate::style::STYLE;
 use crate::times::TIMES;
+use order::Order;
+use report::Checked;
 use std::alloc::{AllocError, Global};
 
 /// What a page shows.
 #[derive(Clone, Copy)]
-pub struct Texts<'a> {
+pub struct Page<'a> {
     /// What the page is called.
     pub title: &'a str,
-    /// The canonical spelling of a plan.
+    /// A plan and its faults.
+    pub checked: &'a Checked,
+    /// Who wins in each pair of that plan.
+    pub order: &'a Order,
+    /// The same as texts.
+    pub texts: Texts<'a>,
+}
+
+/// The reports, for readers without a script.
+#[derive(Clone, Copy)]
+pub struct Texts<'a> {
+    /// The canonical spelling of the plan.
     pub plan: &'a str,
     /// The report of its check.
     pub check: &'a str,
@@ -22,13 +36,21 @@ pub struct Texts<'a> {
     pub capture: Option<&'a str>,
 }
 
-/// The page of these texts, in HTML. No text of theirs is taken for markup.
-pub fn page_of(alloc: Global, texts: &Texts<'_>) -> Result<String, AllocError> {
-    let mut page = String::new(alloc);
-    push_head(&mut page, texts.title)?;
-    push_texts(&mut page, texts)?;
-    push_script(&mut page)?;
-    Ok(page)
+/// The page in HTML. No text of it is taken for markup.
+///
+/// # Errors
+///
+/// Where an allocation fails.
+pub fn page_of(alloc: Global, page: &Page<'_>) -> Result<String, AllocError> {
+    let mut html = String::new(alloc);
+    push_head(&mut html, page.title)?;
+    push_texts(&mut html, &page.texts)?;
+    push_data(
+        &mut html,
+        data_of(alloc, page.checked, page.order)?.as_str(),
+    )?;
+    push_script(&mut html)?;
+    Ok(html)
 }
 
 fn push_head(page: &mut String, title: &str) -> Result<(), AllocError> {
@@ -80,16 +102,31 @@ fn push_text(page: &mut String, id: &str, summary: &str, text: &str) -> Result<(
     page.push_str("</pre></details>\n")
 }
 
+// JSON that the script reads. In it `<` stands in texts alone, and is written so that no markup begins.
+fn push_data(page: &mut String, data: &str) -> Result<(), AllocError> {
+    page.push_str("<script type=\"application/json\" id=\"data\">")?;
+    let mut between = "";
+    for part in data.split('<') {
+        page.push_str(between)?;
+        page.push_str(part)?;
+        between = "\\u003c";
+    }
+    page.push_str("</script>\n")
+}
+
 fn push_script(page: &mut String) -> Result<(), AllocError> {
     page.push_str("<script>")?;
-    for part in [SENDERS, PAIRS, DRAWINGS, TIMES] {
+    for part in [SENDERS, MATRIX, DRAWINGS, TIMES] {
         page.push_str(part)?;
     }
     page.push_str("</script>\n</body>\n</html>\n")
 }
 
-// The text, with what HTML would take for markup written by names.
+// The text, with what HTML would take for markup written by names. Most texts have nothing of that.
 fn push_escaped(page: &mut String, text: &str) -> Result<(), AllocError> {
+    if !has_markup(text.as_bytes()) {
+        return page.push_str(text);
+    }
     for symbol in text.chars() {
         match symbol {
             '&' => page.push_str("&amp;")?,
@@ -100,4 +137,13 @@ fn push_escaped(page: &mut String, text: &str) -> Result<(), AllocError> {
         }
     }
     Ok(())
+}
+
+fn has_markup(text: &[u8]) -> bool {
+    for byte in text {
+        if let b'&' | b'<' | b'>' | b'"' = byte {
+            return true;
+        }
+    }
+    false
 }

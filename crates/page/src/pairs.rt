@@ -1,126 +1,76 @@
-// The second part of the script: what the reports say of each pair, and the matrix.
+// The pairs, as the page has them: their participants with the way in which they end, and their faults.
 
-pub(crate) const PAIRS: &str = r#"
-// ---- What the reports say of the pairs: { number, first, second, way, both, wins, kinds, wire }.
+use certificate::{Fault, push_wire};
+use plan_core::Plan;
+use serde::{Described, Serialize, Serializer};
+use std::alloc::{AllocError, Global};
+use verdicts::Faults;
 
-const WAYS = {
-  unsafe: ['!', 'unsafe: the two meet in a state that the standard leaves undefined'],
-  header: ['H', 'only one can win, in the header'],
-  later: ['L', 'only one can win, perhaps later'],
-  either: ['E', 'either may win'],
-  alike: ['=', 'they end alike'],
-  apart: ['-', 'never together: one controller, or kept apart by never'],
-};
-const WORST = ['unsafe', 'either', 'later', 'header', 'alike', 'apart'];
-
-function slotsOf(text) {
-  const ends = text.split('..').map(Number);
-  return { earliest: ends[0], latest: ends[ends.length - 1], text };
+/// The pairs of a plan, in the order of their numbers: the numbers of the two participants, and that of the way in which
+/// the pair ends, which is left out where it has a fault.
+#[derive(Clone, Copy)]
+pub(crate) struct Pairs<'a> {
+    pub(crate) plan: &'a Plan,
+    pub(crate) ways: &'a [Option<usize>],
 }
 
-function wayOf(pair) {
-  if (pair.wins[0] && pair.wins[1]) return 'either';
-  const decided = pair.wins[0] || pair.wins[1];
-  if (!decided) return 'alike';
-  return decided.latest < 8 ? 'header' : 'later';
+/// The faults of a plan, one after the other.
+#[derive(Clone, Copy)]
+pub(crate) struct Unsafe<'a> {
+    pub(crate) alloc: Global,
+    pub(crate) faults: &'a Faults,
 }
 
-function pairOf(line) {
-  const found = /^pair (\d+) (\S+) (\S+): (.*)$/.exec(line);
-  if (!found) return null;
-  const pair = { number: Number(found[1]), first: found[2], second: found[3], both: null, wins: [null, null] };
-  if (found[4] === 'unsafe') return { ...pair, way: 'unsafe' };
-  for (const one of found[4].split(', ')) {
-    const cut = one.lastIndexOf(' ');
-    const who = one.slice(0, cut), slots = slotsOf(one.slice(cut + 1));
-    if (who === 'both') pair.both = slots;
-    else pair.wins[who === pair.first ? 0 : 1] = slots;
-  }
-  pair.way = wayOf(pair);
-  return pair;
+// The pair with this number: which kinds of item meet, and after which wire.
+#[derive(Clone, Copy, Serialize)]
+struct Met<'a> {
+    pair: u32,
+    kinds: (&'a str, &'a str),
+    wire: &'a str,
 }
 
-// The pairs by their two labels, in the order of the participants, with the faults that the check has found.
-function pairsOf(order, check) {
-  const faults = new Map();
-  for (const line of check) {
-    const found = /^pair (\d+) \S+ \S+: (\w+) against (\w+) after (\w+)$/.exec(line);
-    if (found) faults.set(Number(found[1]), { kinds: [found[2], found[3]], wire: found[4] });
-  }
-  const pairs = [];
-  for (const line of order) {
-    const pair = pairOf(line);
-    if (pair) pairs.push({ ...pair, ...faults.get(pair.number) });
-  }
-  return pairs;
+impl Described for Pairs<'_> {}
+
+impl Serialize for Pairs<'_> {
+    fn serialize<S: Serializer>(&self, out: &mut S) -> Result<(), S::Error> {
+        out.begin_seq(None)?;
+        for pair in 0..self.plan.pair_count() {
+            let (x, y) = self.plan.pair(pair);
+            match self.ways.get(pair as usize) {
+                Some(Some(way)) => (x, y, *way).serialize(out)?,
+                _ => (x, y).serialize(out)?,
+            }
+        }
+        out.end_seq()
+    }
 }
 
-function saidOf(pair) {
-  if (pair.way === 'unsafe') {
-    return pair.first + ' and ' + pair.second + ': ' + pair.kinds[0] + ' against ' + pair.kinds[1] + ' in slot '
-      + pair.wire.length;
-  }
-  const parts = [];
-  const slots = some => (some.earliest === some.latest ? 'slot ' : 'slots ') + some.text;
-  if (pair.both) parts.push('both may end together in ' + slots(pair.both));
-  [pair.first, pair.second].forEach((label, k) => {
-    if (pair.wins[k]) parts.push(label + (pair.way === 'either' ? ' may win in ' : ' wins in ') + slots(pair.wins[k]));
-  });
-  return pair.first + ' and ' + pair.second + ': ' + parts.join('; ');
+impl Described for Unsafe<'_> {}
+
+impl Serialize for Unsafe<'_> {
+    fn serialize<S: Serializer>(&self, out: &mut S) -> Result<(), S::Error> {
+        out.begin_seq(None)?;
+        for k in 0..self.faults.len() {
+            let (pair, fault) = self.faults.get(k);
+            match wire_of(self.alloc, fault) {
+                Ok(wire) => met_in(pair, fault, wire.as_str()).serialize(out)?,
+                Err(_) => return Err(out.custom("out of memory")),
+            }
+        }
+        out.end_seq()
+    }
 }
 
-// ---- The matrix: of participants, or of what they send where there are many pairs.
-
-function element(name, attributes, ...children) {
-  const made = name.startsWith('svg:') ? document.createElementNS('http://www.w3.org/2000/svg', name.slice(4))
-    : document.createElement(name);
-  for (const [key, value] of Object.entries(attributes || {})) made.setAttribute(key, value);
-  made.append(...children.filter(child => child !== null));
-  return made;
+fn met_in<'a>(pair: u32, fault: &Fault, wire: &'a str) -> Met<'a> {
+    Met {
+        pair,
+        kinds: (fault.first.word(), fault.second.word()),
+        wire,
+    }
 }
 
-const MOST_PAIRS = 2000;
-
-// Rows, columns, and the pair of each two that is to be shown: of several the worst.
-function gridOf(participants, pairs) {
-  const many = pairs.length > MOST_PAIRS;
-  const nameOf = many ? p => p.sender : p => p.label;
-  const names = [...new Set(participants.map(nameOf))];
-  const places = new Map(names.map((name, k) => [name, k]));
-  const senders = new Map(participants.map(p => [p.label, places.get(nameOf(p))]));
-  const cells = names.map(() => new Array(names.length).fill(null));
-  for (const pair of pairs) {
-    const x = senders.get(pair.first), y = senders.get(pair.second);
-    const old = cells[x][y];
-    if (!old || WORST.indexOf(pair.way) < WORST.indexOf(old.way)) cells[x][y] = cells[y][x] = pair;
-  }
-  return { names, cells, many };
+fn wire_of(alloc: Global, fault: &Fault) -> Result<String, AllocError> {
+    let mut wire = String::new(alloc);
+    push_wire(&mut wire, &fault.wire)?;
+    Ok(wire)
 }
-
-function cellOf(grid, x, y) {
-  const pair = grid.cells[x][y];
-  if (!pair) return element('td', { class: 'apart' }, x === y && !grid.many ? '' : WAYS.apart[0]);
-  const said = saidOf(pair);
-  const link = element('a', { href: '#pair-' + pair.number, title: said, 'aria-label': said, 'data-pair': pair.number },
-    WAYS[pair.way][0]);
-  return element('td', { class: pair.way }, link);
-}
-
-function matrixOf(grid) {
-  const head = element('tr', {}, element('td', {}), ...grid.names.map(name =>
-    element('th', { scope: 'col', class: 'column' }, element('span', {}, name))));
-  const rows = grid.names.map((name, x) => element('tr', {}, element('th', { scope: 'row', class: 'row' }, name),
-    ...grid.names.map((_, y) => cellOf(grid, x, y))));
-  const size = grid.names.length > 24 ? 'matrix small' : 'matrix';
-  return element('div', { class: 'wide' }, element('table', { class: size }, element('thead', {}, head),
-    element('tbody', {}, ...rows)));
-}
-
-function keyOf(pairs) {
-  const counts = {};
-  for (const pair of pairs) counts[pair.way] = (counts[pair.way] || 0) + 1;
-  return element('ul', { class: 'key' }, ...Object.entries(WAYS).map(([way, [sign, said]]) =>
-    element('li', {}, element('b', { class: way }, sign), ' ' + said
-      + (way === 'apart' ? '' : ' (' + (counts[way] || 0) + ')'))));
-}
-"#;

@@ -3,6 +3,8 @@
 pub(crate) const TIMES: &str = r#"
 // ---- A capture: { from, to, who, notes } for each transaction, of the lines of the report and those below them.
 
+const linesOf = id => document.getElementById(id).textContent.split('\n').filter(line => line);
+
 function transactionsOf(lines) {
   const list = [];
   for (const line of lines) {
@@ -68,41 +70,36 @@ function captureOf(lines) {
 
 // ---- Who wins.
 
-function totalsOf(lines) {
-  const rows = [];
-  for (const line of lines) {
-    const found = /^total (\S+): wins (\d+), may win (\d+), loses (\d+)$/.exec(line);
-    if (found) rows.push(found.slice(1));
-  }
-  if (rows.length === 0) return [];
+function totalsOf() {
+  const counted = participants.filter(one => one.total);
+  if (counted.length === 0) return [];
   const head = element('tr', {}, ...['participant', 'wins', 'may win', 'loses', ''].map((name, k) =>
     element('th', { scope: 'col', class: k === 0 || k === 4 ? '' : 'number' }, name)));
   return [element('h2', {}, 'Who wins'),
     element('p', {}, 'In how many of its pairs a participant alone can win, in how many either can, and in how many only the '
       + 'other one can. Whoever never wins may wait for long on a busy bus.'),
     element('div', { class: 'wide' }, element('table', { class: 'lines' }, element('thead', {}, head), element('tbody', {},
-      ...rows.map(([label, wins, may, loses]) => element('tr', {}, element('th', { scope: 'row' }, label),
-        element('td', { class: 'number' }, wins), element('td', { class: 'number' }, may),
-        element('td', { class: 'number' }, loses),
-        element('td', {}, wins === '0' && may === '0' ? 'never wins' : ''))))))];
+      ...counted.map(({ label, total }) => element('tr', {}, element('th', { scope: 'row' }, label),
+        ...[total.wins, total.may_win, total.loses].map(count => element('td', { class: 'number' }, count)),
+        element('td', {}, total.wins === 0 && total.may_win === 0 ? 'never wins' : ''))))))];
 }
 
 // ---- What each participant sends.
 
-function sendersOf(plan) {
+function sendersOf() {
   const rows = [];
   const row = (who, what) => rows.push(element('tr', {}, element('th', { scope: 'row' }, who), element('td', {}, ...what)));
-  for (const message of plan.messages.values()) {
+  for (const message of data.messages) {
     const paths = rowsOf(message.frame, 'S', 0, []);
     row(message.name, [...paths.map(path => element('div', { class: 'mono', style: 'margin-left:' + path.depth * 1.5 + 'rem' },
       path.text)), element('div', {}, message.controllers.length > 0 ? 'sent by ' + message.controllers.join(', ')
       : 'nobody sends it')]);
   }
-  for (const one of plan.interrupts) {
+  for (const one of data.interrupts) {
     row('!' + one.name, [element('div', { class: 'mono' }, 'S ' + hexOf(one.address) + ' Rd (waits)'),
       element('div', {}, 'an interrupt')]);
   }
-  const nevers = plan.nevers.map(([one, other]) => one + ' and ' + other + ' never start together');
+  const nevers = data.nevers.map(two => two.map(one => data.controllers[one]).join(' and ') + ' never start together');
   return [element('h2', {}, 'What is sent'),
     element('p', {}, 'S is START, Sr a repeated START, P STOP, A an acknowledge and NA none; 48 Wr is a write to address 0x48; '
       + 'any is a byte with eight open bits, x one open bit. What is done after an NA stands below, where it is more than a STOP.'),
@@ -114,12 +111,15 @@ function sendersOf(plan) {
 
 const MOST_DRAWN = 20;
 
-function choiceOf(participants, pairs, show) {
-  const byNames = new Map(pairs.flatMap(pair => [[pair.first + ' ' + pair.second, pair], [pair.second + ' ' + pair.first, pair]]));
+function choiceOf(show) {
+  const byNames = new Map(pairs.flatMap(pair => {
+    const [one, other] = [pair.first.label, pair.second.label];
+    return [[one + ' ' + other, pair], [other + ' ' + one, pair]];
+  }));
   const select = name => element('select', { 'aria-label': name }, ...participants.map(p => element('option', {}, p.label)));
   const one = select('one participant'), other = select('the other participant');
-  one.value = pairs[0].first;
-  other.value = pairs[0].second;
+  one.value = pairs[0].first.label;
+  other.value = pairs[0].second.label;
   const said = element('span', { role: 'status' });
   const form = element('form', {}, 'Draw ', one, ' and ', other, element('button', {}, 'Draw'), said);
   form.addEventListener('submit', event => {
@@ -131,22 +131,21 @@ function choiceOf(participants, pairs, show) {
   return form;
 }
 
+function verdictText() {
+  const { safe, pairs, unsafe_pairs } = data.verdict;
+  return safe ? 'safe: ' + pairs + ' pairs' : 'unsafe: ' + unsafe_pairs + ' of ' + pairs + ' pairs';
+}
+
 function page() {
-  const plan = readPlan(textOf('plan'));
-  const participants = participantsOf(plan);
-  const byLabel = new Map(participants.map(p => [p.label, p]));
-  const check = linesOf('check');
-  const pairs = pairsOf(linesOf('order'), check);
-  const byNumber = new Map(pairs.map(pair => [pair.number, pair]));
   const main = document.getElementById('main');
   const verdict = document.getElementById('verdict');
-  verdict.textContent = check[check.length - 1];
-  if (check[check.length - 1].startsWith('unsafe')) verdict.classList.add('is-unsafe');
+  verdict.textContent = verdictText();
+  if (!data.verdict.safe) verdict.classList.add('is-unsafe');
   const chosen = element('div', { id: 'chosen', tabindex: '-1', 'aria-live': 'polite' });
   const show = number => {
-    const pair = byNumber.get(number);
+    const pair = pairs[number];
     if (!pair) return;
-    chosen.replaceChildren(shownPair(pair, byLabel));
+    chosen.replaceChildren(shownPair(pair));
     for (const link of document.querySelectorAll('a[aria-current]')) link.removeAttribute('aria-current');
     for (const link of document.querySelectorAll('a[data-pair="' + number + '"]')) link.setAttribute('aria-current', 'true');
     chosen.scrollIntoView({ block: 'nearest' });
@@ -154,25 +153,25 @@ function page() {
   if (pairs.length === 0) {
     main.append(element('p', {}, 'No two participants may start together, so nothing was checked.'));
   } else {
-    const grid = gridOf(participants, pairs);
-    main.append(element('h2', {}, 'The pairs'), keyOf(pairs));
+    const grid = gridOf();
+    main.append(element('h2', {}, 'The pairs'), keyOf());
     if (grid.many) {
       main.append(element('p', {}, pairs.length + ' pairs, shown by what is sent: of the pairs with the same two messages the '
         + 'worst one.'));
     }
-    main.append(matrixOf(grid), choiceOf(participants, pairs, show), chosen);
-    const faulty = pairs.filter(pair => pair.way === 'unsafe');
+    main.append(matrixOf(grid), choiceOf(show), chosen);
+    const faulty = pairs.filter(pair => pair.fault);
     if (faulty.length > 0) {
       main.append(element('h2', {}, 'Unsafe pairs'), ...faulty.slice(0, MOST_DRAWN).map(pair => {
-        const drawn = shownPair(pair, byLabel);
+        const drawn = shownPair(pair);
         drawn.id = 'unsafe-' + pair.number;
         return drawn;
       }));
       if (faulty.length > MOST_DRAWN) main.append(element('p', {}, 'and ' + (faulty.length - MOST_DRAWN) + ' more'));
     }
-    main.append(...totalsOf(linesOf('order')));
+    main.append(...totalsOf());
   }
-  main.append(...sendersOf(plan));
+  main.append(...sendersOf());
   if (document.getElementById('capture')) main.append(...captureOf(linesOf('capture')));
   const follow = () => {
     const found = /^#pair-(\d+)$/.exec(location.hash);

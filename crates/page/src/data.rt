@@ -1,0 +1,67 @@
+// What a page shows, as JSON.
+
+use crate::pairs::{Pairs, Unsafe};
+use crate::parties::{Controllers, Interrupts, Messages, Nevers, Participants};
+use crate::ways::{Way, Ways};
+use order::Order;
+use report::Checked;
+use serde::Serialize;
+use std::alloc::{AllocError, Global};
+
+// All of it. Messages, controllers, interrupts, participants and pairs have their numbers in the plan, from 0.
+#[derive(Clone, Copy, Serialize)]
+struct Data<'a> {
+    verdict: Verdict,
+    messages: Messages<'a>,
+    controllers: Controllers<'a>,
+    interrupts: Interrupts<'a>,
+    nevers: Nevers<'a>,
+    participants: Participants<'a>,
+    ways: &'a [Way],
+    pairs: Pairs<'a>,
+    faults: Unsafe<'a>,
+}
+
+// Whether the plan is safe, and how many pairs it has and how many of them are not.
+#[derive(Clone, Copy, Serialize)]
+struct Verdict {
+    safe: bool,
+    pairs: u32,
+    unsafe_pairs: usize,
+}
+
+/// What was found of a plan, as JSON on one line.
+pub(crate) fn data_of(
+    alloc: Global,
+    checked: &Checked,
+    order: &Order,
+) -> Result<String, AllocError> {
+    let ways = Ways::new(alloc, order)?;
+    match serde_json::to_string(alloc, &all_of(alloc, checked, order, &ways)) {
+        Ok(text) => Ok(text),
+        // (for want of memory: every key is a text, and no number is wide)
+        Err(_) => Err(AllocError),
+    }
+}
+
+fn all_of<'a>(alloc: Global, checked: &'a Checked, order: &'a Order, ways: &'a Ways) -> Data<'a> {
+    let Checked { plan, faults } = checked;
+    Data {
+        verdict: Verdict {
+            safe: faults.is_safe(),
+            pairs: plan.pair_count(),
+            unsafe_pairs: faults.len(),
+        },
+        messages: Messages { alloc, plan },
+        controllers: Controllers(plan),
+        interrupts: Interrupts { alloc, plan },
+        nevers: Nevers(plan),
+        participants: Participants { alloc, plan, order },
+        ways: ways.different.as_slice(),
+        pairs: Pairs {
+            plan,
+            ways: ways.of_pairs.as_slice(),
+        },
+        faults: Unsafe { alloc, faults },
+    }
+}

@@ -1,0 +1,187 @@
+// Who takes part, as the page has it: all names, and what each participant sends.
+
+use crate::nodes::{Node, address, nodes_of};
+use message_tree::Address;
+use order::{Order, Total};
+use plan_core::{Participant, Plan};
+use serde::{Described, Serialize, Serializer};
+use std::alloc::{AllocError, Global};
+
+/// The messages of a plan, one after the other, so that the nodes of one alone are held.
+#[derive(Clone, Copy)]
+pub(crate) struct Messages<'a> {
+    pub(crate) alloc: Global,
+    pub(crate) plan: &'a Plan,
+}
+
+/// The names of the controllers.
+#[derive(Clone, Copy)]
+pub(crate) struct Controllers<'a>(pub(crate) &'a Plan);
+
+/// The interrupts of a plan.
+#[derive(Clone, Copy)]
+pub(crate) struct Interrupts<'a> {
+    pub(crate) alloc: Global,
+    pub(crate) plan: &'a Plan,
+}
+
+/// The numbers of the two controllers of each `never`.
+#[derive(Clone, Copy)]
+pub(crate) struct Nevers<'a>(pub(crate) &'a Plan);
+
+/// The participants, in the order of their numbers, with how often each wins.
+#[derive(Clone, Copy)]
+pub(crate) struct Participants<'a> {
+    pub(crate) alloc: Global,
+    pub(crate) plan: &'a Plan,
+    pub(crate) order: &'a Order,
+}
+
+#[derive(Drop, Serialize)]
+struct Message<'a> {
+    name: &'a str,
+    nodes: Vec<Node>,
+}
+
+#[derive(Drop, Serialize)]
+struct Interrupt<'a> {
+    name: &'a str,
+    address: String,
+}
+
+#[derive(Drop, Serialize)]
+struct Party {
+    label: String,
+    #[serde(skip_serializing_if = "Option::is_none")]
+    controller: Option<u32>,
+    #[serde(skip_serializing_if = "Option::is_none")]
+    message: Option<u32>,
+    #[serde(skip_serializing_if = "Option::is_none")]
+    interrupt: Option<u32>,
+    #[serde(skip_serializing_if = "Option::is_none")]
+    total: Option<Counts>,
+}
+
+#[derive(Clone, Copy, Serialize)]
+struct Counts {
+    wins: u32,
+    may_win: u32,
+    loses: u32,
+}
+
+impl Described for Messages<'_> {}
+
+impl Serialize for Messages<'_> {
+    fn serialize<S: Serializer>(&self, out: &mut S) -> Result<(), S::Error> {
+        out.begin_seq(None)?;
+        for k in 0..self.plan.messages() {
+            match nodes_of(self.alloc, self.plan.message(k)) {
+                Ok(nodes) => Message {
+                    name: self.plan.message_name(k).as_str(),
+                    nodes,
+                }
+                .serialize(out)?,
+                Err(_) => return Err(out.custom("out of memory")),
+            }
+        }
+        out.end_seq()
+    }
+}
+
+impl Described for Controllers<'_> {}
+
+impl Serialize for Controllers<'_> {
+    fn serialize<S: Serializer>(&self, out: &mut S) -> Result<(), S::Error> {
+        out.begin_seq(None)?;
+        for k in 0..self.0.controllers() {
+            self.0.controller_name(k).as_str().serialize(out)?;
+        }
+        out.end_seq()
+    }
+}
+
+impl Described for Interrupts<'_> {}
+
+impl Serialize for Interrupts<'_> {
+    fn serialize<S: Serializer>(&self, out: &mut S) -> Result<(), S::Error> {
+        out.begin_seq(None)?;
+        for k in 0..self.plan.interrupts() {
+            let target = Address::new(0x7f, self.plan.interrupt_address(k));
+            match address(self.alloc, &target) {
+                Ok(address) => Interrupt {
+                    name: self.plan.interrupt_name(k).as_str(),
+                    address,
+                }
+                .serialize(out)?,
+                Err(_) => return Err(out.custom("out of memory")),
+            }
+        }
+        out.end_seq()
+    }
+}
+
+impl Described for Nevers<'_> {}
+
+impl Serialize for Nevers<'_> {
+    fn serialize<S: Serializer>(&self, out: &mut S) -> Result<(), S::Error> {
+        out.begin_seq(None)?;
+        for k in 0..self.0.nevers() {
+            self.0.never(k).serialize(out)?;
+        }
+        out.end_seq()
+    }
+}
+
+impl Described for Participants<'_> {}
+
+impl Serialize for Participants<'_> {
+    fn serialize<S: Serializer>(&self, out: &mut S) -> Result<(), S::Error> {
+        out.begin_seq(None)?;
+        for p in 0..self.plan.participants() {
+            match self.plan.label(self.alloc, p) {
+                Ok(label) => taking_part(label, self.plan.participant(p), self.total(p)).serialize(
+                    out,
+                )?,
+                Err(_) => return Err(out.custom("out of memory")),
+            }
+        }
+        out.end_seq()
+    }
+}
+
+impl Participants<'_> {
+    // How often the participant wins, where it can win or lose.
+    fn total(&self, p: u32) -> Option<Counts> {
+        let total = self.order.totals.get(p as usize)?;
+        if total.is_empty() {
+            return None;
+        }
+        let Total {
+            wins,
+            may_win,
+            loses,
+        } = *total;
+        Some(Counts {
+            wins,
+            may_win,
+            loses,
+        })
+    }
+}
+
+fn taking_part(label: String, participant: Participant, total: Option<Counts>) -> Party {
+    let (controller, message, interrupt) = match participant {
+        Participant::Sending {
+            controller,
+            message,
+        } => (Some(controller), Some(message), None),
+        Participant::Interrupt(interrupt) => (None, None, Some(interrupt)),
+    };
+    Party {
+        label,
+        controller,
+        message,
+        interrupt,
+        total,
+    }
+}
