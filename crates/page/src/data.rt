@@ -39,7 +39,7 @@ pub(crate) fn data_of(
     let ways = Ways::new(alloc, order)?;
     match serde_json::to_string(alloc, &all_of(alloc, checked, order, &ways)) {
         Ok(text) => Ok(text),
-        // (for want of memory: every key is a text, and no number is wide)
+        // (out of memory: every key is a text, and no number is wide)
         Err(_) => Err(AllocError),
     }
 }
