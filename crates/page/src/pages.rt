@@ -45,10 +45,8 @@ pub fn page_of(alloc: Global, page: &Page<'_>) -> Result<String, AllocError> {
     let mut html = String::new(alloc);
     push_head(&mut html, page.title)?;
     push_texts(&mut html, &page.texts)?;
-    push_data(
-        &mut html,
-        data_of(alloc, page.checked, page.order)?.as_str(),
-    )?;
+    let data = data_of(alloc, page.checked, page.order)?;
+    push_data(&mut html, data.replace(alloc, '<', "\\u003c")?.as_str())?;
     push_script(&mut html)?;
     Ok(html)
 }
@@ -102,15 +100,10 @@ fn push_text(page: &mut String, id: &str, summary: &str, text: &str) -> Result<(
     page.push_str("</pre></details>\n")
 }
 
-// JSON that the script reads. In it `<` stands in texts alone, and is written so that no markup begins.
+// JSON that the script reads. No `<` stands in it, with which markup could begin.
 fn push_data(page: &mut String, data: &str) -> Result<(), AllocError> {
     page.push_str("<script type=\"application/json\" id=\"data\">")?;
-    let mut between = "";
-    for part in data.split('<') {
-        page.push_str(between)?;
-        page.push_str(part)?;
-        between = "\\u003c";
-    }
+    page.push_str(data)?;
     page.push_str("</script>\n")
 }
 
