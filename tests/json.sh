@@ -223,13 +223,13 @@ run "refusals: a code" 2 "" '{"kind":"refusal","code":"B2"}' bench --format json
 run "refusals: a word" 2 "" '{"kind":"refusal","code":"workers"}' check --format json --workers 9 "$two"
 run "refusals: two words" 2 "" '{"kind":"refusal","code":"brief name"}' brief --format json - <<<'plan 1 controller brief ;'
 run "refusals and hints" 2 "" '{"kind":"refusal","code":"workers"}
-{"kind":"hint","text":"'"'"'--workers'"'"' takes 1 to 8"}' check --format json --hints always --workers 9 "$two"
+{"kind":"hint","form":"sentence","text":"'"'"'--workers'"'"' takes 1 to 8"}' check --format json --hints always --workers 9 "$two"
 printf 'plan 1\nmessage m read 1001000 256 stop else stop ;' >p.plan
 run "a hint that has more than 80 columns as a line is one object" 2 "" '{"kind":"refusal","code":"P4","line":2}
-{"kind":"hint","text":"line 2 of the plan:"}
-{"kind":"hint","text":"  message m read 1001000 256 stop else stop ;"}
-{"kind":"hint","text":"                         ^^^"}
-{"kind":"hint","text":"a count is a number from 1 to 255; in '"'plan 2'"' also two of them as '"'2..4'"', the smaller first"}' \
+{"kind":"hint","form":"sentence","text":"line 2 of the plan:"}
+{"kind":"hint","form":"line","text":"message m read 1001000 256 stop else stop ;"}
+{"kind":"hint","form":"marks","text":"                       ^^^"}
+{"kind":"hint","form":"sentence","text":"a count is a number from 1 to 255; in '"'plan 2'"' also two of them as '"'2..4'"', the smaller first"}' \
     check --format json --hints always p.plan
 run "a file in place of a report stays" 0 "plan 1" "" print --format json - <<<'plan 2'
 run "no third form" 2 "" "error: invalid value 'xml' for '--format <HOW>'

@@ -72,7 +72,7 @@ fn told(fields: &mut Fields) -> Result<String, String> {
         "signals" => format!("{} signals, {} buses", fields.number("signals")?, fields.number("buses")?),
         "won" => format!("won {}", fields.texts("participants")?.join(" ")),
         "refusal" => refusal(fields)?,
-        "hint" => hint(&fields.text("text")?),
+        "hint" => hint(&fields.text("form")?, &fields.text("text")?)?,
         "line" => fields.text("text")?,
         _ => return Err(format!("there is no kind {kind}")),
     })
@@ -88,13 +88,17 @@ fn refusal(fields: &mut Fields) -> Result<String, String> {
 // How many columns a line of hints has at most, where it is not one word.
 const COLUMNS: usize = 80;
 
-// A sentence is broken between words, and goes on behind the same head. A line that belongs to the sentence before begins with
-// two blanks more.
-fn hint(text: &str) -> String {
-    let (head, words) = match text.strip_prefix("  ") {
-        Some(words) => ("hint:  ", words),
-        None => ("hint:", text),
-    };
+// A sentence is broken between words, and goes on after the same head. A line is shown as it stands.
+fn hint(form: &str, text: &str) -> Result<String, String> {
+    match form {
+        "sentence" => Ok(broken("hint:", text)),
+        "item" => Ok(broken("hint:  ", text)),
+        "line" | "marks" => Ok(format!("hint:   {text}")),
+        _ => Err(format!("no form of a hint: {form}")),
+    }
+}
+
+fn broken(head: &str, words: &str) -> String {
     let mut lines = head.to_owned();
     let mut column = head.len();
     for word in words.split(' ') {

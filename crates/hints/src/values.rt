@@ -10,9 +10,6 @@ const ITEM_HEAD: &str = "hint:  ";
 
 const DETAIL_HEAD: &str = "hint:   ";
 
-// What stands before all but sentences where no head does.
-const MARGIN: &str = "  ";
-
 /// How many columns a detail has.
 pub const DETAIL: usize = COLUMNS - DETAIL_HEAD.len();
 
@@ -77,7 +74,7 @@ impl Hints {
 }
 
 impl Hint {
-    /// The text of this hint, which is not broken. Where it belongs to the one before it begins with two blanks.
+    /// The text of this hint, which is not broken. Of marks it is the line that shows them.
     ///
     /// # Errors
     ///
@@ -85,19 +82,9 @@ impl Hint {
     pub fn text(&self, alloc: Global) -> Result<String, AllocError> {
         let mut text = Text::new(alloc);
         match self {
-            Hint::Sentence(words) => push_words(&mut text, words.as_slice()),
-            Hint::Item(words) => {
-                text.push(MARGIN);
-                push_words(&mut text, words.as_slice());
-            }
-            Hint::Detail(line) => {
-                text.push(MARGIN);
-                text.push(line.as_str());
-            }
-            Hint::Marks { column, width } => {
-                text.push(MARGIN);
-                push_marks(&mut text, *column, *width, false);
-            }
+            Hint::Sentence(words) | Hint::Item(words) => push_words(&mut text, words.as_slice()),
+            Hint::Detail(line) => text.push(line.as_str()),
+            Hint::Marks { column, width } => push_marks(&mut text, *column, *width, false),
         }
         text.finish()
     }

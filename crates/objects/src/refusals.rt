@@ -1,7 +1,7 @@
 // Objects of what goes to standard error.
 
 use crate::objects::Lines;
-use hints::Hints;
+use hints::{Hint, Hints};
 use plan_text::{NoBrief, PlanError};
 use plays::OpenError;
 use run_parts::RunError;
@@ -22,6 +22,7 @@ struct Refusal {
 #[derive(Drop, Serialize)]
 struct Hinted<'a> {
     kind: &'static str,
+    form: &'static str,
     text: &'a str,
 }
 
@@ -129,8 +130,18 @@ pub fn hint_objects(alloc: Global, hints: &Hints) -> Result<String, AllocError> 
         let text = hint.text(alloc)?;
         lines.add(&Hinted {
             kind: "hint",
+            form: form_of(hint),
             text: text.as_str(),
         });
     }
     lines.finish()
+}
+
+fn form_of(hint: &Hint) -> &'static str {
+    match hint {
+        Hint::Sentence(_) => "sentence",
+        Hint::Item(_) => "item",
+        Hint::Detail(_) => "line",
+        Hint::Marks { .. } => "marks",
+    }
 }
