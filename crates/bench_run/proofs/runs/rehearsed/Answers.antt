@@ -1,34 +1,20 @@
-use Rattle.std.proofs.Common.{◌≡◌, ◌≢◌, ◌⊎◌, refl, subst, List, ℕ, Result}
-use Rattle.std.specs.Prelude.{IfOk, OnOk, IfErr}
+use Rattle.std.proofs.Common.{◌≡◌, ◌⊎◌, ◌∙◌, subst, List, ℕ, Bool}
 use Rattle.plan_core.specs.PlanContents.{plan_contents}
 use Rattle.plan_text.specs.Grammar.{Spells}
-use Rattle.cert_check.specs.Accepts.{IsAnswer}
-use Rattle.cert_check.specs.Holds.{accepted_plan}
-use Rattle.cert_check.specs.declared.accepted.Accepted.{Accepted}
-use Rattle.cert_check.specs.declared.answers.Answer.{Answer}
-use Rattle.cert_check.specs.declared.answers.Answer.TheVariants.{Safe}
 use Rattle.run_parts.specs.declared.errors.RunError.TheVariants as error
-use Rattle.run_parts.specs.declared.runs.Status.TheVariants.{Good}
 use Rattle.run_parts.proofs.RunLemmas.{on_error}
+use Rattle.bench_run.specs.Outcomes.{IsOutcomeOf}
 use Rattle.bench_run.specs.Rehearsals.{IsNotOpened}
-use Rattle.bench_run.proofs.RehearsalLemmas.{not_opened, rehearses, not_accepted}
-use Rattle.bench_run.proofs.runs.rehearse.Goals as goal
+use Rattle.bench_run.specs.Starters.{bits_in}
+use Rattle.bench_run.proofs.RehearsalLemmas.{due_of}
+use Rattle.bench_run.proofs.runs.rehearsed.Goals as goal
 
-pub returns-in_err-report-in-Ok-clause-refused : goal.returns-in_err-report-in-Ok-clause-refused
-returns-in_err-report-in-Ok-clause-refused g c =
-    let same = subst (λ (r : Result Accepted Answer). IfOk r (λ it. accepted_plan it ≡ c.args.plan)) c.in-Ok.is c.in_ok-accepted.ensures.plan in
-    let safe = subst (λ (r : Result Accepted Answer). OnOk r (IsAnswer (plan_contents c.args.plan) c.args.cert.now Safe)) c.in-Ok.is c.in_ok-accepted.ensures.safe in
-    let e = c.in_err-report-in-Ok.field-0.0 in
-    on_error c.from_residual-in_err-report-in-Ok.result e (λ x. (text : List ℕ) → Spells text (plan_contents c.args.plan) → (x ≡ error.NoMemory) ⊎ IsNotOpened c.args.starters.now (text, c.args.cert.now) x) c.from_residual-in_err-report-in-Ok.ensures.1
-    (not_opened c.args.plan (accepted_plan c.in-Ok.accepted) c.args.starters.now c.args.cert.now e same safe c.in_err-report-in-Ok.ensures.refused)
+pub returns-in_err-outcome-clause-refused : goal.returns-in_err-outcome-clause-refused
+returns-in_err-outcome-clause-refused g c =
+    on_error c.from_residual-in_err-outcome.result c.in_err-outcome.field-0.0 (λ x. (text : List ℕ) → Spells text (plan_contents c.args.plan) → (x ≡ error.NoMemory) ⊎ IsNotOpened c.args.starters.now (text, c.args.cert.now) x) c.from_residual-in_err-outcome.ensures.1 c.in_err-outcome.ensures.refused
 
-pub returns-in_ok-report-in-Ok-clause-report : goal.returns-in_ok-report-in-Ok-clause-report
-returns-in_ok-report-in-Ok-clause-report g c =
-    let same = subst (λ (r : Result Accepted Answer). IfOk r (λ it. accepted_plan it ≡ c.args.plan)) c.in-Ok.is c.in_ok-accepted.ensures.plan in
-    let safe = subst (λ (r : Result Accepted Answer). OnOk r (IsAnswer (plan_contents c.args.plan) c.args.cert.now Safe)) c.in-Ok.is c.in_ok-accepted.ensures.safe in
-    rehearses c.args.plan (accepted_plan c.in-Ok.accepted) c.args.starters.now c.args.answers.now c.args.cert.now _ c.args.fill Good same safe c.in_ok-report-in-Ok.ensures.report refl
-
-pub returns-in_ok-answer_line-in-Err-clause-report : goal.returns-in_ok-answer_line-in-Err-clause-report
-returns-in_ok-answer_line-in-Err-clause-report g c =
-    let right = subst (λ (r : Result Accepted Answer). IfErr r (λ answer. (answer ≢ Safe) × IsAnswer (plan_contents c.args.plan) c.args.cert.now answer)) c.in-Err.is c.in_ok-accepted.ensures.not_safe in
-    not_accepted c.args.plan c.args.starters.now c.args.answers.now c.args.cert.now _ c.args.fill c.in-Err.answer c.status_of_answer.result right c.in_ok-answer_line-in-Err.ensures c.status_of_answer.ensures
+pub returns-clause-report : goal.returns-clause-report
+returns-clause-report g c text spelled =
+    let bits : c.as_slice.result.now ≡ bits_in c.args.answers.now = c.as_slice.ensures.value ∙ c.in_ok-bits.ensures in
+    let found = subst (λ (bs : List Bool). IsOutcomeOf c.args.starters.now bs c.args.fill (text, c.args.cert.now) c.in_ok-outcome.outcome) bits (c.in_ok-outcome.ensures.found text spelled) in
+    due_of c.args.starters.now c.args.answers.now _ c.args.fill (text, c.args.cert.now) c.status_of_outcome.result c.in_ok-outcome.outcome found c.in_ok-report.ensures c.status_of_outcome.ensures
