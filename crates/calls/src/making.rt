@@ -3,12 +3,12 @@
 use crate::scarcity::be_there_again;
 use crate::tasks::Task;
 use crate::words::Call;
-use answer_lines::{answer_line, status_of_answer};
 use cert_check::{AcceptError, Answer, accept, accept_plan};
 use certificate::{Cert, CertError, CertText, print_cert, read_cert};
 use growing_text::Text;
 use plan_core::Plan;
 use plan_text::{PlanError, read_plan};
+use report::{answer_line, status_of_answer};
 use run_parts::{RunError, Status};
 use std::alloc::{AllocError, Global};
 use std::str;

@@ -3,6 +3,7 @@
 use crate::scarcity::be_there_again;
 use crate::sittings::Sitting;
 use crate::tasks::Task;
+use bench_run::filled;
 use bus_bench::{FinishFault, MOST_SLOTS, Offered, Played, Put, PutError, Sight};
 use growing_text::Text;
 use message_tree::{Bit, Item};
@@ -173,23 +174,9 @@ fn push_slots(sitting: &mut Sitting<'_>, slots: u32, fill: &str, page: &mut Text
 // Each seat puts what it may, where it has not.
 pub fn put_all(sitting: &mut Sitting<'_>, fill: &str) {
     for seat in 0..sitting.len() {
-        if let Some(put) = put_for(sitting.offered(seat), bit_of(seat, fill)) {
+        if let Some(put) = filled(sitting.offered(seat), bit_of(seat, fill)) {
             let _ = sitting.put(seat, put);
         }
-    }
-}
-
-// What is put where this is offered, and this bit where either may be.
-fn put_for(offered: Offered, fill: bool) -> Option<Put> {
-    match offered {
-        Offered::Bit(Bit::Zero) => Some(Put::Drive(false)),
-        Offered::Bit(Bit::One) => Some(Put::Drive(true)),
-        Offered::Bit(Bit::Either) => Some(Put::Drive(fill)),
-        Offered::Listen => Some(Put::Listen),
-        Offered::Again => Some(Put::Again),
-        Offered::Stop => Some(Put::Stop),
-        Offered::Claim => Some(Put::Claim),
-        Offered::Nothing => None,
     }
 }
 

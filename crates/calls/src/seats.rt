@@ -8,7 +8,7 @@ use crate::tasks::Task;
 use crate::texts::tell_quiet;
 use crate::words::Call;
 use bus_bench::{MOST_SLOTS, OpenError};
-use cert_check::{Accepted, Answer, accept_certificate};
+use cert_check::{Accepted, Answer, Answered, accept_certificate};
 use growing_text::Text;
 use plan_core::Plan;
 use plan_text::read_plan;
@@ -45,12 +45,12 @@ fn run_certified(task: &Task<'_>, cert: &[u8], page: &mut Text) -> Result<Status
 
 fn run_answered(
     task: &Task<'_>,
-    answer: Result<Result<Accepted, Answer>, AllocError>,
+    answer: Result<Result<Accepted, Answered>, AllocError>,
     page: &mut Text,
 ) -> Result<Status, RunError> {
     match answer {
         Ok(Ok(accepted)) => run_accepted(task, &accepted, page),
-        Ok(Err(answer)) => run_unsafe(task, answer, page),
+        Ok(Err(answered)) => run_unsafe(task, answered.answer, page),
         Err(AllocError) => Err(RunError::NoMemory),
     }
 }
