@@ -3,7 +3,7 @@
 use crate::below::{begin, say, say_all};
 use crate::breaks::{Break, Reason};
 use crate::labels::label_of;
-use crate::wrongs::Wrong;
+use crate::mistakes::Mistake;
 use growing_text::{Lines, Text};
 use plan_core::Plan;
 use std::alloc::{AllocError, Global};
@@ -12,10 +12,14 @@ const AFTER_A_CHANGE: &str = "a plan that was changed wants a new certificate: t
 
 /// What is said below the line of an answer that the certificate is wrong: which pair it is and where its proof breaks off, or
 /// how many proofs and pairs there are; and what to do.
-pub(crate) fn below_wrong(alloc: Global, plan: &Plan, wrong: Wrong) -> Result<String, AllocError> {
+pub(crate) fn below_mistake(
+    alloc: Global,
+    plan: &Plan,
+    mistake: Mistake,
+) -> Result<String, AllocError> {
     let mut lines = Lines::new(alloc);
-    match wrong {
-        Wrong::Pair {
+    match mistake {
+        Mistake::Pair {
             pair,
             participants,
             found,
@@ -25,8 +29,8 @@ pub(crate) fn below_wrong(alloc: Global, plan: &Plan, wrong: Wrong) -> Result<St
                 tell_break(&mut lines, found);
             }
         }
-        Wrong::Count { pairs, proofs } => tell_counts(&mut lines, pairs, proofs),
-        Wrong::Text => {}
+        Mistake::Count { pairs, proofs } => tell_counts(&mut lines, pairs, proofs),
+        Mistake::Text => {}
     }
     say(&mut lines, AFTER_A_CHANGE);
     lines.finish()

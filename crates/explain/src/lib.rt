@@ -1,7 +1,7 @@
 //! What people read of a run: bytes in the place of slots, and why a line says what it says.
 //!
 //! Each thing that is explained is a value first: `meetings` has where an unsafe pair meets, `mends` what mends a plan, `safety`
-//! how the pairs of a safe one are kept apart, `wrongs` and `breaks` what is wrong with a certificate, `tracks` what starters put
+//! how the pairs of a safe one are kept apart, `reasons` which of the two a plan has, `mistakes` and `breaks` what is wrong with a certificate, `tracks` what starters put
 //! along a wire. `reports` writes a report with lines for people between its own, made of these values by `faults`, `plans`,
 //! `certificates` and `benches`; each of these lines begins with four spaces and has at most 80 columns, however long the names
 //! are. The exact lines are those of the crates below. `captures`, `hearing` and `views` are for captures: some of the
@@ -23,26 +23,28 @@ mod hearing;
 mod labels;
 mod meetings;
 mod mends;
+mod mistakes;
 mod paints;
 mod plans;
 mod pulsing;
+mod reasons;
 mod reports;
 mod safety;
 mod sending;
 mod tracks;
 mod views;
 mod words;
-mod wrongs;
 
 pub use breaks::{Break, Reason};
 pub use hearing::{Heard, Notes};
 pub use meetings::{Meeting, Rule, Side, meeting_of};
-pub use mends::{Mends, mends_of};
+pub use mends::Mends;
+pub use mistakes::{Mistake, mistake_of};
 pub use paints::Paint;
+pub use reasons::{Reasons, reasons_of};
 pub use reports::{
     Overheard, explain_answer, explain_check, explain_rehearsal, explain_transactions,
 };
-pub use safety::{Decided, Safety, safety_of};
-pub use tracks::{Along, Track, along};
+pub use safety::{Decided, Safety};
+pub use tracks::{Track, WireTracks, tracks_of};
 pub use views::{View, has_unit, shown, steps};
-pub use wrongs::{Wrong, wrong_of};

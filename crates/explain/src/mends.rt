@@ -29,7 +29,7 @@ pub struct Mends {
 /// # Errors
 ///
 /// Where an allocation fails.
-pub fn mends_of(alloc: Global, plan: &Plan, faults: &Faults) -> Result<Mends, AllocError>
+pub(crate) fn mends_of(alloc: Global, plan: &Plan, faults: &Faults) -> Result<Mends, AllocError>
     requires { AreFaults (plan_contents plan.now) (fault_list faults.now) }
 {
     let nevers = nevers_that_mend(alloc, plan, faults)?;

@@ -6,7 +6,7 @@ use pair_walk::{Outcome, walk};
 use plan_core::Plan;
 use std::alloc::{AllocError, Global};
 
-// How many nodes a path of a proof has at most.
+// How many nodes a path of a proof has at most, as a certificate may have (C3).
 const DEPTH: u32 = 512;
 
 /// How the pairs of a safe plan are kept apart, and what the plan leaves out.
@@ -20,7 +20,7 @@ pub struct Safety {
     pub kept_apart: u64,
 }
 
-/// How many pairs are decided where, while targets acknowledge: in the first header, later, at the end of a read, or never,
+/// How many pairs are decided where, while targets acknowledge: in the first byte, later, at the end of a read, or never,
 /// since both send alike to the end.
 #[derive(Clone, Copy)]
 pub struct Decided {
@@ -35,7 +35,7 @@ pub struct Decided {
 /// # Errors
 ///
 /// Where an allocation fails.
-pub fn safety_of(alloc: Global, plan: &Plan) -> Result<Safety, AllocError> {
+pub(crate) fn safety_of(alloc: Global, plan: &Plan) -> Result<Safety, AllocError> {
     let decided = decided_in(alloc, plan)?;
     let unsent = unsent_in(alloc, plan)?;
     Ok(Safety {

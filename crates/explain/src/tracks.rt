@@ -11,7 +11,7 @@ use std::alloc::{AllocError, Global};
 
 /// A rehearsal, looked at: the bytes of its wire, and what each starter puts.
 #[derive(Drop)]
-pub struct Along {
+pub struct WireTracks {
     pub bytes: String,
     pub tracks: Vec<Track>,
 }
@@ -30,15 +30,15 @@ pub struct Track {
 /// # Errors
 ///
 /// Where an allocation fails.
-pub fn along(alloc: Global, rehearsal: &Rehearsal) -> Result<Along, AllocError> {
+pub fn tracks_of(alloc: Global, rehearsal: &Rehearsal) -> Result<WireTracks, AllocError> {
     let wire = rehearsal.played.wire.as_slice();
     let bytes = bytes_of(alloc, wire)?;
     let plan = rehearsal.accepted.plan();
-    let tracks = tracks_of(alloc, plan, &rehearsal.starters, wire, rehearsal.fill)?;
-    Ok(Along { bytes, tracks })
+    let tracks = all_tracks(alloc, plan, &rehearsal.starters, wire, rehearsal.fill)?;
+    Ok(WireTracks { bytes, tracks })
 }
 
-fn tracks_of(
+fn all_tracks(
     alloc: Global,
     plan: &Plan,
     starters: &[u32],

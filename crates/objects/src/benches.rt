@@ -1,10 +1,10 @@
 // Objects of a rehearsal.
 
 use crate::labels::labels_of;
-use crate::objects::Lines;
+use crate::writing::ObjectLines;
 use bench_run::Rehearsal;
 use certificate::push_wire;
-use explain::{Track, along};
+use explain::{Track, tracks_of};
 use report::{Output, RunError};
 use serde::Serialize;
 use std::alloc::{AllocError, Global};
@@ -51,7 +51,7 @@ pub fn write_rehearsal<O: Output>(
     is_explained: bool,
     out: &mut O,
 ) -> Result<(), RunError> {
-    let mut lines = Lines::new(alloc);
+    let mut lines = ObjectLines::new(alloc);
     if is_explained {
         add_explained(&mut lines, rehearsal)?;
     } else {
@@ -61,8 +61,8 @@ pub fn write_rehearsal<O: Output>(
     lines.write_rest(out)
 }
 
-fn add_explained(lines: &mut Lines, rehearsal: &Rehearsal) -> Result<(), AllocError> {
-    let along = along(lines.alloc, rehearsal)?;
+fn add_explained(lines: &mut ObjectLines, rehearsal: &Rehearsal) -> Result<(), AllocError> {
+    let along = tracks_of(lines.alloc, rehearsal)?;
     let mut starters = Vec::with_capacity(lines.alloc, along.tracks.len())?;
     for track in &along.tracks {
         starters.push(starter_of(track))?;
@@ -83,7 +83,7 @@ fn starter_of(track: &Track) -> Starter<'_> {
 }
 
 fn add_wire(
-    lines: &mut Lines,
+    lines: &mut ObjectLines,
     rehearsal: &Rehearsal,
     explain: Option<Along<'_>>,
 ) -> Result<(), AllocError> {
@@ -97,7 +97,7 @@ fn add_wire(
     Ok(())
 }
 
-fn add_won(lines: &mut Lines, rehearsal: &Rehearsal) -> Result<(), AllocError> {
+fn add_won(lines: &mut ObjectLines, rehearsal: &Rehearsal) -> Result<(), AllocError> {
     let labels = labels_of(lines.alloc, rehearsal.accepted.plan())?;
     let mut participants = Vec::with_capacity(lines.alloc, rehearsal.played.won.len())?;
     for p in &rehearsal.played.won {

@@ -1,10 +1,10 @@
 // Objects of the answer to a certificate.
 
-use crate::labels::{Labels, labels_of};
-use crate::objects::Lines;
+use crate::labels::label_of;
+use crate::writing::ObjectLines;
 use cert_check::Answer;
 use certificate::CertFault;
-use explain::{Break, Reason, Wrong, wrong_of};
+use explain::{Break, Mistake, Reason};
 use plan_core::Plan;
 use report::{Output, RunError};
 use serde::Serialize;
@@ -45,7 +45,7 @@ struct Misproved<'a> {
     why: Option<&'static str>,
 }
 
-/// Writes the object of the answer to a certificate of the plan, explained where this is the text of the certificate.
+/// Writes the object of the answer to a certificate of the plan, and what is wrong with it, where that was found.
 ///
 /// # Errors
 ///
@@ -53,42 +53,28 @@ struct Misproved<'a> {
 pub fn write_answer<O: Output>(
     alloc: Global,
     plan: &Plan,
-    cert: Option<&[u8]>,
     answer: Answer,
+    mistake: Option<Mistake>,
     out: &mut O,
 ) -> Result<(), RunError> {
-    let mut lines = Lines::new(alloc);
-    add_answer(&mut lines, plan, cert, answer)?;
-    lines.write_rest(out)
-}
-
-fn add_answer(
-    lines: &mut Lines,
-    plan: &Plan,
-    cert: Option<&[u8]>,
-    answer: Answer,
-) -> Result<(), AllocError> {
-    let wrong = match cert {
-        Some(cert) => wrong_of(lines.alloc, plan, cert, answer)?,
-        None => None,
-    };
-    let mut object = object_of(answer);
-    match wrong {
+    let mut lines = ObjectLines::new(alloc);
+    match mistake {
         Some(
-            Wrong::Pair {
+            Mistake::Pair {
                 participants,
                 found,
                 ..
             },
-        ) => return add_misproved(lines, plan, object, participants, found),
-        Some(Wrong::Count { pairs, proofs }) => object.explain = Some(Why::Count { pairs, proofs }),
-        Some(Wrong::Text) | None => {}
+        ) => add_misproved(&mut lines, plan, answer, participants, found)?,
+        Some(Mistake::Count { pairs, proofs }) => {
+            lines.add(&object_of(answer, Some(Why::Count { pairs, proofs })));
+        }
+        Some(Mistake::Text) | None => lines.add(&object_of(answer, None)),
     }
-    lines.add(&object);
-    Ok(())
+    lines.write_rest(out)
 }
 
-fn object_of<'a>(answer: Answer) -> Certificate<'a> {
+fn object_of(answer: Answer, explain: Option<Why<'_>>) -> Certificate<'_> {
     let mut object = Certificate {
         kind: "certificate",
         accepted: !matches!(answer, Answer::Wrong(_)),
@@ -96,7 +82,7 @@ fn object_of<'a>(answer: Answer) -> Certificate<'a> {
         code: None,
         line: None,
         pair: None,
-        explain: None,
+        explain,
     };
     match answer {
         Answer::Safe => object.safe = Some(true),
@@ -122,32 +108,20 @@ fn place(object: &mut Certificate<'_>, fault: CertFault) {
 }
 
 fn add_misproved(
-    lines: &mut Lines,
+    lines: &mut ObjectLines,
     plan: &Plan,
-    object: Certificate<'_>,
+    answer: Answer,
     participants: (u32, u32),
     found: Option<Break>,
 ) -> Result<(), AllocError> {
-    let labels = labels_of(lines.alloc, plan)?;
-    let Certificate { code, pair, .. } = object;
-    lines.add(&Certificate {
-        kind: "certificate",
-        accepted: false,
-        safe: None,
-        code,
-        line: None,
-        pair,
-        explain: Some(Why::Pair(misproved_of(&labels, participants, found))),
-    });
+    let first = label_of(lines.alloc, plan, participants.0)?;
+    let second = label_of(lines.alloc, plan, participants.1)?;
+    let why = misproved_of([first.as_str(), second.as_str()], found);
+    lines.add(&object_of(answer, Some(Why::Pair(why))));
     Ok(())
 }
 
-fn misproved_of<'a>(
-    labels: &'a Labels,
-    participants: (u32, u32),
-    found: Option<Break>,
-) -> Misproved<'a> {
-    let participants = [labels.of(participants.0), labels.of(participants.1)];
+fn misproved_of<'a>(participants: [&'a str; 2], found: Option<Break>) -> Misproved<'a> {
     let (word, slot, why) = match found {
         Some(found) => (
             Some(found.word),

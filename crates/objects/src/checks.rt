@@ -1,12 +1,9 @@
 // Objects of a check.
 
-ghost use Rattle.plan_core.specs.PlanContents.{plan_contents};
-ghost use Rattle.verdicts.specs.Faults.{AreFaults, fault_list};
-
 use crate::labels::{Labels, labels_of};
-use crate::objects::Lines;
+use crate::writing::ObjectLines;
 use certificate::{Fault, push_wire};
-use explain::{Meeting, Mends, Rule, Safety, meeting_of, mends_of, safety_of};
+use explain::{Meeting, Mends, Reasons, Rule, Safety, meeting_of};
 use plan_core::Plan;
 use report::{Checked, Output, RunError};
 use serde::Serialize;
@@ -78,7 +75,8 @@ struct Decided {
     alike: u64,
 }
 
-/// Writes an object for each unsafe pair of a plan that was checked, of which so many are explained, and one for the plan.
+/// Writes an object for each unsafe pair of a plan that was checked, and one for the plan. Where there are reasons, the last one
+/// has them, and the first so many pairs are explained.
 ///
 /// # Errors
 ///
@@ -86,56 +84,64 @@ struct Decided {
 pub fn write_check<O: Output>(
     alloc: Global,
     checked: &Checked,
-    most: Option<u32>,
+    reasons: Option<&Reasons>,
+    most: u32,
     out: &mut O,
-) -> Result<(), RunError>
-    requires { AreFaults (plan_contents checked.now.plan) (fault_list checked.now.faults) }
-{
+) -> Result<(), RunError> {
     let Checked { plan, faults } = checked;
     let labels = labels_of(alloc, plan)?;
-    let explained = (most.unwrap_or(0) as usize).min(faults.len());
-    let mut lines = Lines::new(alloc);
+    let explained = match reasons {
+        Some(_) => faults.len().min(most as usize),
+        None => 0,
+    };
+    let mut lines = ObjectLines::new(alloc);
     for k in 0..faults.len() {
         let (pair, fault) = faults.get(k);
         if pair < plan.pair_count() {
-            add_pair(&mut lines, plan, &labels, pair, fault, k < explained);
+            let both = plan.pair(pair);
+            if k < explained {
+                add_met(&mut lines, plan, &labels, (pair, both), fault)?;
+            } else {
+                add_pair(&mut lines, &labels, (pair, both), fault, None)?;
+            }
         }
         lines.write_block(out)?;
     }
-    add_plan(&mut lines, checked, most.map(|_most| explained));
+    add_plan(&mut lines, checked, reasons, explained)?;
     lines.write_rest(out)
 }
 
-fn add_pair(
-    lines: &mut Lines,
-    plan: &Plan,
-    labels: &Labels,
-    pair: u32,
-    fault: &Fault,
-    is_explained: bool,
-) {
-    let added = if is_explained {
-        add_met(lines, plan, labels, pair, fault)
-    } else {
-        add_pair_of(lines, plan, labels, pair, fault, None)
-    };
-    if added.is_err() {
-        lines.cut();
-    }
-}
-
+// A pair, by its number and its participants, with where they meet.
 fn add_met(
-    lines: &mut Lines,
+    lines: &mut ObjectLines,
     plan: &Plan,
     labels: &Labels,
-    pair: u32,
+    pair: (u32, (u32, u32)),
     fault: &Fault,
 ) -> Result<(), AllocError> {
-    if plan.pair_count() <= pair {
-        return Ok(());
-    }
-    let meeting = meeting_of(lines.alloc, plan, plan.pair(pair), fault.wire.as_slice())?;
-    add_pair_of(lines, plan, labels, pair, fault, Some(met_of(&meeting)))
+    let meeting = meeting_of(lines.alloc, plan, pair.1, fault.wire.as_slice())?;
+    add_pair(lines, labels, pair, fault, Some(met_of(&meeting)))
+}
+
+fn add_pair(
+    lines: &mut ObjectLines,
+    labels: &Labels,
+    pair: (u32, (u32, u32)),
+    fault: &Fault,
+    explain: Option<Met<'_>>,
+) -> Result<(), AllocError> {
+    let (pair, (x, y)) = pair;
+    let mut after = String::new(lines.alloc);
+    push_wire(&mut after, &fault.wire)?;
+    lines.add(&Pair {
+        kind: "pair",
+        pair,
+        participants: [labels.of(x), labels.of(y)],
+        meet: [fault.first.word(), fault.second.word()],
+        after: after.as_str(),
+        explain,
+    });
+    Ok(())
 }
 
 fn met_of(meeting: &Meeting) -> Met<'_> {
@@ -157,46 +163,21 @@ fn met_of(meeting: &Meeting) -> Met<'_> {
     }
 }
 
-fn add_pair_of(
-    lines: &mut Lines,
-    plan: &Plan,
-    labels: &Labels,
-    pair: u32,
-    fault: &Fault,
-    explain: Option<Met<'_>>,
-) -> Result<(), AllocError> {
-    if plan.pair_count() <= pair {
-        return Ok(());
-    }
-    let (x, y) = plan.pair(pair);
-    let mut after = String::new(lines.alloc);
-    push_wire(&mut after, &fault.wire)?;
-    lines.add(&Pair {
-        kind: "pair",
-        pair,
-        participants: [labels.of(x), labels.of(y)],
-        meet: [fault.first.word(), fault.second.word()],
-        after: after.as_str(),
-        explain,
-    });
-    Ok(())
-}
-
 // The verdict, where so many pairs were explained.
-fn add_plan(lines: &mut Lines, checked: &Checked, explained: Option<usize>)
-    requires { AreFaults (plan_contents checked.now.plan) (fault_list checked.now.faults) }
-{
-    let added = match explained {
+fn add_plan(
+    lines: &mut ObjectLines,
+    checked: &Checked,
+    reasons: Option<&Reasons>,
+    explained: usize,
+) -> Result<(), AllocError> {
+    match reasons {
         None => Ok(add_verdict(lines, checked, None)),
-        Some(_) if checked.faults.is_safe() => add_safe(lines, checked),
-        Some(explained) => add_unsafe(lines, checked, explained),
-    };
-    if added.is_err() {
-        lines.cut();
+        Some(Reasons::Safe(safety)) => add_safe(lines, checked, safety),
+        Some(Reasons::Unsafe(mends)) => add_unsafe(lines, checked, mends, explained),
     }
 }
 
-fn add_verdict(lines: &mut Lines, checked: &Checked, explain: Option<Why<'_>>) {
+fn add_verdict(lines: &mut ObjectLines, checked: &Checked, explain: Option<Why<'_>>) {
     lines.add(&Verdict {
         kind: "plan",
         safe: checked.faults.is_safe(),
@@ -206,11 +187,9 @@ fn add_verdict(lines: &mut Lines, checked: &Checked, explain: Option<Why<'_>>) {
     });
 }
 
-fn add_safe(lines: &mut Lines, checked: &Checked) -> Result<(), AllocError> {
-    let plan = &checked.plan;
-    let safety = safety_of(lines.alloc, plan)?;
-    let unsent = names_of(lines.alloc, plan, &safety.unsent)?;
-    let why = kept_of(&safety, unsent.as_slice());
+fn add_safe(lines: &mut ObjectLines, checked: &Checked, safety: &Safety) -> Result<(), AllocError> {
+    let unsent = names_of(lines.alloc, &checked.plan, &safety.unsent)?;
+    let why = kept_of(safety, unsent.as_slice());
     add_verdict(lines, checked, Some(Why::Safe(why)));
     Ok(())
 }
@@ -243,11 +222,13 @@ fn kept_of<'a>(safety: &Safety, unsent: &'a [&'a str]) -> Kept<'a> {
     }
 }
 
-fn add_unsafe(lines: &mut Lines, checked: &Checked, explained: usize) -> Result<(), AllocError>
-    requires { AreFaults (plan_contents checked.now.plan) (fault_list checked.now.faults) }
-{
-    let mends = mends_of(lines.alloc, &checked.plan, &checked.faults)?;
-    let never = nevers_of(lines.alloc, &checked.plan, &mends)?;
+fn add_unsafe(
+    lines: &mut ObjectLines,
+    checked: &Checked,
+    mends: &Mends,
+    explained: usize,
+) -> Result<(), AllocError> {
+    let never = nevers_of(lines.alloc, &checked.plan, mends)?;
     let why = Mended {
         explained,
         never: never.as_slice(),

@@ -27,3 +27,12 @@ pub(crate) fn labels_of(alloc: Global, plan: &Plan) -> Result<Labels, AllocError
     }
     Ok(Labels { labels })
 }
+
+/// The label of a participant, and nothing for a number that is none.
+pub(crate) fn label_of(alloc: Global, plan: &Plan, p: u32) -> Result<String, AllocError> {
+    if p < plan.participants() {
+        plan.label(alloc, p)
+    } else {
+        Ok(String::new(alloc))
+    }
+}

@@ -1,6 +1,6 @@
 //! What runs find as JSON, one object a line, for programs; and refusals and hints.
 //!
-//! `objects` writes them. `checks`, `certificates`, `benches` and `orders` have the objects of what commands over plans find,
+//! `writing` writes them. `checks`, `certificates`, `benches` and `orders` have the objects of what commands over plans find,
 //! and `refusals` what goes to standard error: each is a plain struct, made of a value. Of captures and of signals the lines
 //! of a report are taken apart: `pages` makes the objects of a whole report, `lines` finds the form of a line, `captures` and
 //! `signals` take it apart, `below` the lines for people, and `fields` writes the object.
@@ -14,12 +14,12 @@ mod checks;
 mod fields;
 mod labels;
 mod lines;
-mod objects;
 mod orders;
 mod pages;
 mod refusals;
 mod signals;
 mod words;
+mod writing;
 
 pub use benches::write_rehearsal;
 pub use certificates::write_answer;

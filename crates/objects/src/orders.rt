@@ -1,7 +1,7 @@
 // Objects of who wins.
 
 use crate::labels::{Labels, labels_of};
-use crate::objects::Lines;
+use crate::writing::ObjectLines;
 use order::{Order, Outcomes, Slots, Total};
 use plan_core::Plan;
 use run_parts::{Output, RunError};
@@ -10,7 +10,7 @@ use std::alloc::Global;
 
 // In which slots both of a pair end, the first wins and the second wins, where they can: the earliest and the latest of each.
 #[derive(Drop, Serialize)]
-struct Ways<'a> {
+struct PairOrder<'a> {
     kind: &'static str,
     pair: u32,
     participants: [&'a str; 2],
@@ -46,10 +46,11 @@ pub fn write_order<O: Output>(
     out: &mut O,
 ) -> Result<(), RunError> {
     let labels = labels_of(alloc, plan)?;
-    let mut lines = Lines::new(alloc);
+    let mut lines = ObjectLines::new(alloc);
     for pair in 0..plan.pair_count() {
         if let Some(outcomes) = order.ways.get(pair as usize) {
-            lines.add(&ways_of(plan, &labels, pair, outcomes));
+            let (x, y) = plan.pair(pair);
+            lines.add(&pair_order(pair, [labels.of(x), labels.of(y)], outcomes));
         }
         lines.write_block(out)?;
     }
@@ -59,34 +60,28 @@ pub fn write_order<O: Output>(
     lines.write_rest(out)
 }
 
-fn ways_of<'a>(
-    plan: &Plan,
-    labels: &'a Labels,
+fn pair_order<'a>(
     pair: u32,
+    participants: [&'a str; 2],
     outcomes: &Option<Outcomes>,
-) -> Ways<'a> {
-    let (x, y) = if pair < plan.pair_count() {
-        plan.pair(pair)
-    } else {
-        (u32::MAX, u32::MAX)
-    };
+) -> PairOrder<'a> {
     let Outcomes {
         both,
         first,
         second,
-    } = outcomes.unwrap_or(NOBODY);
-    Ways {
+    } = outcomes.unwrap_or(NO_WAY);
+    PairOrder {
         kind: "order",
         pair,
-        participants: [labels.of(x), labels.of(y)],
-        is_unsafe: if outcomes.is_none() { Some(true) } else { None },
+        participants,
+        is_unsafe: outcomes.is_none().then_some(true),
         both: slots_of(both),
         first: slots_of(first),
         second: slots_of(second),
     }
 }
 
-const NOBODY: Outcomes = Outcomes {
+const NO_WAY: Outcomes = Outcomes {
     both: None,
     first: None,
     second: None,
@@ -97,7 +92,7 @@ fn slots_of(slots: Option<Slots>) -> Option<(u32, u32)> {
     Some((earliest, latest))
 }
 
-fn add_total(lines: &mut Lines, participant: &str, total: Option<&Total>) {
+fn add_total(lines: &mut ObjectLines, participant: &str, total: Option<&Total>) {
     match total {
         Some(total) if !total.is_empty() => lines.add(&Wins {
             kind: "total",

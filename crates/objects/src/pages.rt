@@ -7,8 +7,8 @@ use std::alloc::{AllocError, Global};
 // With what a line for people begins.
 const MARGIN: &str = "    ";
 
-/// The objects of a report on a capture or on signals, one a line. Lines for people, which begin with four spaces, belong to the object of the line
-/// above them.
+/// The objects of a report on a capture or on signals, one a line. Lines for people, which begin with four spaces, belong to
+/// the object of the line above them.
 pub fn report_objects(alloc: Global, report: &str) -> Result<String, AllocError> {
     let mut page = Page::new(alloc);
     for line in report.lines() {

@@ -1,6 +1,6 @@
 // Objects of what goes to standard error.
 
-use crate::objects::Lines;
+use crate::writing::ObjectLines;
 use hints::{Hint, Hints};
 use plan_text::{NoBrief, PlanError};
 use plays::OpenError;
@@ -45,7 +45,7 @@ pub fn timescale_object(alloc: Global) -> Result<String, AllocError> {
 }
 
 fn object_of(alloc: Global, refusal: Refusal) -> Result<String, AllocError> {
-    let mut lines = Lines::new(alloc);
+    let mut lines = ObjectLines::new(alloc);
     lines.add(&refusal);
     lines.finish()
 }
@@ -125,7 +125,7 @@ fn placed(code: &'static str, line: u64) -> Refusal {
 ///
 /// Where an allocation fails.
 pub fn hint_objects(alloc: Global, hints: &Hints) -> Result<String, AllocError> {
-    let mut lines = Lines::new(alloc);
+    let mut lines = ObjectLines::new(alloc);
     for hint in hints.all() {
         let text = hint.text(alloc)?;
         lines.add(&Hinted {

@@ -1,6 +1,6 @@
 // Further lines for people on standard error, after a refusal or a report.
 
-use crate::endings::Told;
+use crate::endings::{Recorded, Remark};
 use crate::inputs::Inputs;
 use crate::runs::Extras;
 use crate::voices::{Voice, refused_timescale, say};
@@ -26,23 +26,15 @@ pub struct About<'a> {
     pub names: Names<'a>,
     /// That command, a file, an option and a file, as they can be given once more. Some may be empty.
     pub words: [&'a str; 4],
-    /// What was made of a dump, where one was read.
-    pub told: Option<Recorded>,
-}
-
-/// What is made of a dump.
-#[derive(Clone, Copy)]
-pub enum Recorded {
-    /// This was told of it.
-    Capture(View),
-    /// Its signals were listed.
-    Signals,
-    /// It was made into a brief or a page.
-    Other,
 }
 
 impl<'a> About<'a> {
-    /// A run with these starters, or with none where it is no bench.
+    /// A run over plans alone.
+    pub fn plans() -> About<'a> {
+        About::bench("")
+    }
+
+    /// A rehearsal with these starters.
     pub fn bench(starters: &'a str) -> About<'a> {
         let none = Probe::Coded("");
         let names = names_of(none, none, None, None, "");
@@ -50,17 +42,15 @@ impl<'a> About<'a> {
             starters,
             names,
             words: ["", "", "", ""],
-            told: None,
         }
     }
 
     /// A run over a dump.
-    pub fn recording(names: Names<'a>, words: [&'a str; 4], told: Recorded) -> About<'a> {
+    pub fn recording(names: Names<'a>, words: [&'a str; 4]) -> About<'a> {
         About {
             starters: "",
             names,
             words,
-            told: Some(told),
         }
     }
 }
@@ -83,13 +73,13 @@ pub fn names_of<'a>(
     }
 }
 
-/// How a run ended, and what is to be said of what it has found. `output` is the file that was to be written in place of
+/// How a run has ended, and what is to be said of what it has found. `output` is the file that was to be written in place of
 /// standard output, and `error` why it was not. `report` is the beginning of what was written with its last lines. Hints are
 /// written by this voice.
 #[derive(Drop)]
-pub struct Outcome<'a> {
+pub struct Closing<'a> {
     pub ended: Result<Status, RunError>,
-    pub told: Told,
+    pub remark: Remark,
     pub output: Option<&'a str>,
     pub error: Option<io::Error>,
     pub report: String,
@@ -116,9 +106,9 @@ pub fn advise_on_closed_input<R: Eprint + AllocGlobal>(rt: &R, file: Named<'_>, 
 pub fn advise<R: Eprint + AllocGlobal, F: Read + Seek + Drop>(
     rt: &R,
     read: Inputs<'_, F>,
-    outcome: Outcome<'_>,
+    closing: Closing<'_>,
 ) {
-    let about = outcome.about;
+    let about = closing.about;
     let command = made(rt.alloc(), command_of(rt.alloc(), &about.words));
     let vcd = made(rt.alloc(), file_word(rt.alloc(), about.names.vcd));
     let names = Names {
@@ -126,15 +116,15 @@ pub fn advise<R: Eprint + AllocGlobal, F: Read + Seek + Drop>(
         vcd: vcd.as_str(),
         ..about.names
     };
-    let voice = outcome.voice;
-    match outcome.ended {
+    let voice = closing.voice;
+    match closing.ended {
         Ok(status) => say(
             rt,
-            on_report(rt.alloc(), read, names, status, outcome),
+            on_report(rt.alloc(), read, names, status, closing),
             voice,
         ),
         Err(error) => {
-            let hints = on_refusal(rt.alloc(), read, names, error, &outcome);
+            let hints = on_refusal(rt.alloc(), read, names, error, &closing);
             say(rt, hints, voice_of(error, voice));
         }
     }
@@ -194,7 +184,7 @@ fn on_refusal<F: Read + Seek + Drop>(
     read: Inputs<'_, F>,
     names: Names<'_>,
     ended: RunError,
-    outcome: &Outcome<'_>,
+    closing: &Closing<'_>,
 ) -> Result<Hints, AllocError> {
     let Inputs {
         last,
@@ -208,9 +198,9 @@ fn on_refusal<F: Read + Seek + Drop>(
         RunError::Plan(refusal) => on_plan(alloc, plan, refusal),
         RunError::Brief(_) => on_no_brief(alloc, plan),
         RunError::Vcd(refusal) => on_dump(alloc, other, names, refusal),
-        RunError::Bench(refusal) => on_starters(alloc, plan, outcome.about.starters, refusal),
+        RunError::Bench(refusal) => on_starters(alloc, plan, closing.about.starters, refusal),
         RunError::Read => on_reading(alloc, last, error.as_ref()),
-        RunError::Write => on_writing(alloc, outcome.output, outcome.error.as_ref()),
+        RunError::Write => on_writing(alloc, closing.output, closing.error.as_ref()),
         RunError::Workers => on_workers(alloc),
         RunError::NoMemory => on_memory(alloc),
     }
@@ -221,29 +211,21 @@ fn on_report<F: Read + Seek + Drop>(
     read: Inputs<'_, F>,
     names: Names<'_>,
     status: Status,
-    outcome: Outcome<'_>,
+    closing: Closing<'_>,
 ) -> Result<Hints, AllocError> {
-    let Outcome {
-        told,
+    let Closing {
+        remark,
         output,
         report,
-        about,
         ..
-    } = outcome;
-    match told {
-        Told::Nothing => Ok(Hints::new(alloc)),
-        Told::Hints(hints) => Ok(hints),
-        Told::Certificate(fault) => on_certificate(alloc, read.other, fault),
-        Told::Fault => on_fault(alloc, output),
-        Told::Recording => {
-            on_recorded(
-                alloc,
-                read.other,
-                names,
-                status,
-                about.told,
-                report.as_str(),
-            )
+    } = closing;
+    match remark {
+        Remark::Nothing => Ok(Hints::new(alloc)),
+        Remark::Hints(hints) => Ok(hints),
+        Remark::Certificate(fault) => on_certificate(alloc, read.other, fault),
+        Remark::Fault => on_fault(alloc, output),
+        Remark::Recording(recorded) => {
+            on_recorded(alloc, read.other, names, status, recorded, report.as_str())
         }
     }
 }
@@ -253,15 +235,13 @@ fn on_recorded<F: Read + Seek + Drop>(
     vcd: Option<F>,
     names: Names<'_>,
     status: Status,
-    recorded: Option<Recorded>,
+    recorded: Recorded,
     report: &str,
 ) -> Result<Hints, AllocError> {
     match recorded {
-        Some(Recorded::Capture(view)) => {
-            on_capture(alloc, vcd, names, status, seen_by(report, view))
-        }
-        Some(Recorded::Signals) => on_signals(alloc, vcd, names),
-        Some(Recorded::Other) | None => on_recording(alloc, vcd, names),
+        Recorded::Capture(view) => { on_capture(alloc, vcd, names, status, seen_by(report, view)) }
+        Recorded::Signals => on_signals(alloc, vcd, names),
+        Recorded::Other => on_recording(alloc, vcd, names),
     }
 }
 

@@ -5,12 +5,12 @@ ghost use Rattle.plan_core.specs.PlanContents.{plan_contents};
 ghost use Rattle.verdicts.specs.Faults.{AreFaults, fault_list};
 
 use crate::drawings::{Canvas, draw_fault};
-use crate::endings::{Ended, Halt, Told};
+use crate::endings::{Ended, Halt, Remark};
 use crate::outputs::Style;
 use crate::progress::Comparing;
 use crate::runs::Extras;
 use cert_check::{Answer, check_certificate};
-use explain::{explain_answer, explain_check};
+use explain::{Mistake, Paint, Reasons, explain_answer, explain_check, mistake_of, reasons_of};
 use hints::on_safe;
 use objects::{write_answer, write_check, write_order};
 use order::{Order, order_of, order_report};
@@ -49,26 +49,26 @@ pub fn check<R: Files + Print + Eprint + Clock + AllocGlobal + Threads + Sync, I
 ) -> Result<Ended, Halt> {
     let gate = Comparing::new(rt, extras.watcher);
     let checked = check_plan(rt, rt.alloc(), plan, look.workers, &gate)?;
-    let status = write_checked(rt.alloc(), &checked, out, look.explain, extras.style())?;
+    let status = tell_checked(rt.alloc(), &checked, out, look.explain, extras.style())?;
     if let Some(canvas) = canvas {
         draw_fault(rt, &checked, look.pair, status, canvas)?;
     }
     Ok(Ended {
         status,
-        told: told_of(rt.alloc(), &checked, extras),
+        remark: remark_on(rt.alloc(), &checked, extras),
     })
 }
 
-fn told_of(alloc: Global, checked: &Checked, extras: Extras) -> Told {
+fn remark_on(alloc: Global, checked: &Checked, extras: Extras) -> Remark {
     if extras.hints && checked.faults.is_safe() {
-        Told::hints(on_safe(alloc, &checked.plan))
+        Remark::hints(on_safe(alloc, &checked.plan))
     } else {
-        Told::Nothing
+        Remark::Nothing
     }
 }
 
-// Writes what was found, with so many unsafe pairs explained where that is wanted.
-fn write_checked<O: Output>(
+// Writes what was found, with the reasons and so many unsafe pairs explained where that is wanted.
+fn tell_checked<O: Output>(
     alloc: Global,
     checked: &Checked,
     out: &mut O,
@@ -77,14 +77,31 @@ fn write_checked<O: Output>(
 ) -> Result<Status, RunError>
     requires { AreFaults (plan_contents checked.now.plan) (fault_list checked.now.faults) }
 {
+    match explain {
+        Some(most) => {
+            let reasons = reasons_of(alloc, checked)?;
+            write_checked(alloc, checked, Some(&reasons), most, style, out)
+        }
+        None => write_checked(alloc, checked, None, 0, style, out),
+    }
+}
+
+fn write_checked<O: Output>(
+    alloc: Global,
+    checked: &Checked,
+    reasons: Option<&Reasons>,
+    most: u32,
+    style: Style,
+    out: &mut O,
+) -> Result<Status, RunError> {
     let status = status_of(checked);
     match style {
-        Style::Objects => write_check(alloc, checked, explain, out)?,
-        Style::Plain if explain.is_none() => {
+        Style::Objects => write_check(alloc, checked, reasons, most, out)?,
+        Style::Lines(Paint::Plain) if reasons.is_none() => {
             let report = check_report(alloc, checked)?;
             return write_lines(out, report.as_bytes(), status);
         }
-        _ => explain_check(alloc, checked, explain, style.paint(), out)?,
+        Style::Lines(paint) => explain_check(alloc, checked, reasons, most, paint, out)?,
     }
     Ok(status)
 }
@@ -115,7 +132,7 @@ pub fn verify<I: Input, J: Input, O: Output>(
         return verify_kept(alloc, &plan, cert, out, extras);
     }
     let Answered { plan, answer } = verify_plan(alloc, plan, cert)?;
-    tell_answer(alloc, &plan, None, answer, out, extras)
+    tell_answer(alloc, &plan, answer, None, out, extras)
 }
 
 fn verify_kept<J: Input, O: Output>(
@@ -127,33 +144,34 @@ fn verify_kept<J: Input, O: Output>(
 ) -> Result<Ended, Halt> {
     let cert = read_within(alloc, cert, READS)?;
     let answer = check_certificate(alloc, plan, cert.as_slice())?;
-    tell_answer(alloc, plan, Some(cert.as_slice()), answer, out, extras)
+    let mistake = mistake_of(alloc, plan, cert.as_slice(), answer)?;
+    tell_answer(alloc, plan, answer, mistake, out, extras)
 }
 
-/// Writes the answer to a certificate of the plan, explained where this is the text of the certificate.
+/// Writes the answer to a certificate of the plan, and what is wrong with it, where that was found.
 pub fn tell_answer<O: Output>(
     alloc: Global,
     plan: &Plan,
-    cert: Option<&[u8]>,
     answer: Answer,
+    mistake: Option<Mistake>,
     out: &mut O,
     extras: Extras,
 ) -> Result<Ended, Halt> {
     let status = status_of_answer(answer);
     match extras.style() {
-        Style::Objects => write_answer(alloc, plan, cert, answer, out)?,
-        Style::Plain if cert.is_none() => {
+        Style::Objects => write_answer(alloc, plan, answer, mistake, out)?,
+        Style::Lines(Paint::Plain) if mistake.is_none() => {
             let line = answer_line(alloc, answer)?;
             write_lines(out, line.as_bytes(), status)?;
         }
-        style => explain_answer(alloc, plan, cert, answer, style.paint(), out)?,
+        Style::Lines(paint) => explain_answer(alloc, plan, answer, mistake, paint, out)?,
     }
     Ok(Ended {
         status,
-        told: match answer {
-            Answer::Safe if extras.hints => Told::hints(on_safe(alloc, plan)),
-            Answer::Wrong(fault) => Told::Certificate(fault),
-            _ => Told::Nothing,
+        remark: match answer {
+            Answer::Safe if extras.hints => Remark::hints(on_safe(alloc, plan)),
+            Answer::Wrong(fault) => Remark::Certificate(fault),
+            _ => Remark::Nothing,
         },
     })
 }

@@ -1,6 +1,7 @@
 // How runs end.
 
 use certificate::CertFault;
+use explain::View;
 use hints::Hints;
 use report::{RunError, Status};
 use std::alloc::AllocError;
@@ -10,7 +11,7 @@ use std::io;
 #[derive(Drop)]
 pub struct Ended {
     pub status: Status,
-    pub told: Told,
+    pub remark: Remark,
 }
 
 impl Ended {
@@ -18,14 +19,14 @@ impl Ended {
     pub fn quietly(status: Status) -> Ended {
         Ended {
             status,
-            told: Told::Nothing,
+            remark: Remark::Nothing,
         }
     }
 }
 
 /// What is to be said to people of what a run has found.
 #[derive(Drop)]
-pub enum Told {
+pub enum Remark {
     Nothing,
     Hints(Hints),
     /// What is wrong with the certificate, of which the place is shown.
@@ -33,15 +34,26 @@ pub enum Told {
     /// That what was written is the certificate of a fault.
     Fault,
     /// What can be said of a dump, by its report.
-    Recording,
+    Recording(Recorded),
 }
 
-impl Told {
+/// What is made of a dump.
+#[derive(Clone, Copy)]
+pub enum Recorded {
+    /// This was told of it.
+    Capture(View),
+    /// Its signals were listed.
+    Signals,
+    /// It was made into a brief or a page.
+    Other,
+}
+
+impl Remark {
     /// These hints, where there was memory for them.
-    pub fn hints(hints: Result<Hints, AllocError>) -> Told {
+    pub fn hints(hints: Result<Hints, AllocError>) -> Remark {
         match hints {
-            Ok(hints) => Told::Hints(hints),
-            Err(_) => Told::Nothing,
+            Ok(hints) => Remark::Hints(hints),
+            Err(_) => Remark::Nothing,
         }
     }
 }

@@ -34,25 +34,16 @@ const STANDARD_OUTPUT: &str = "/dev/stdout";
 /// How what a run finds is written: as lines, perhaps with words of them in colours, or as objects, for programs.
 #[derive(Clone, Copy)]
 pub enum Style {
-    Plain,
-    Colored,
+    Lines(Paint),
     Objects,
 }
 
 impl Style {
-    /// The colours of its lines.
-    pub fn paint(self) -> Paint {
-        match self {
-            Style::Colored => Paint::Colored,
-            Style::Plain | Style::Objects => Paint::Plain,
-        }
-    }
-
     /// How a report on a capture or on signals is written, which is made as lines.
     pub fn form(self) -> Form<'static> {
         match self {
-            Style::Plain => Form::Plain,
-            Style::Colored => Form::Colored,
+            Style::Lines(Paint::Plain) => Form::Plain,
+            Style::Lines(Paint::Colored) => Form::Colored,
             Style::Objects => Form::Objects,
         }
     }

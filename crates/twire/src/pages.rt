@@ -1,9 +1,9 @@
 // The run that writes a page. Each value and each text of it has a function that owns it, and the next one borrows it.
 
 use crate::checking::status_of;
-use crate::endings::{Ended, Halt, Told};
+use crate::endings::{Ended, Halt, Recorded, Remark};
 use crate::viewing::{Asked, view_capture};
-use order::{Order, order_of, order_report};
+use order::{order_of, order_report};
 use page::{Page, Texts, page_of};
 use plan_text::print_plan;
 use report::{
@@ -62,7 +62,7 @@ fn with_capture<R: AllocGlobal + Threads + Sync, J: Input, O: Output>(
     let status = with_plan(rt, title, text, text_of(capture.as_slice()), out)?;
     Ok(Ended {
         status: worse(status, seen),
-        told: Told::Recording,
+        remark: Remark::Recording(Recorded::Other),
     })
 }
 
@@ -87,51 +87,36 @@ fn write_page<O: Output>(
 ) -> Result<(), RunError> {
     let order = order_of(alloc, &checked.plan, &checked.faults)?;
     let plan = print_plan(alloc, &checked.plan)?;
-    let texts = Texts {
-        plan: text_of(plan.as_slice()),
-        check: "",
-        order: "",
-        capture,
-    };
-    with_check(alloc, title, checked, &order, texts, out)
-}
-
-fn with_check<O: Output>(
-    alloc: Global,
-    title: &str,
-    checked: &Checked,
-    order: &Order,
-    texts: Texts<'_>,
-    out: &mut O,
-) -> Result<(), RunError> {
-    let check = check_report(alloc, checked)?;
-    let texts = Texts {
-        check: check.as_str(),
-        ..texts
-    };
-    with_order(alloc, title, checked, order, texts, out)
-}
-
-fn with_order<O: Output>(
-    alloc: Global,
-    title: &str,
-    checked: &Checked,
-    order: &Order,
-    texts: Texts<'_>,
-    out: &mut O,
-) -> Result<(), RunError> {
-    let report = order_report(alloc, &checked.plan, order)?;
-    let texts = Texts {
-        order: report.as_str(),
-        ..texts
-    };
     let page = Page {
         title,
         checked,
-        order,
-        texts,
+        order: &order,
+        texts: Texts {
+            plan: text_of(plan.as_slice()),
+            check: "",
+            order: "",
+            capture,
+        },
     };
-    write_texts(alloc, &page, out)
+    with_check(alloc, &page, out)
+}
+
+fn with_check<O: Output>(alloc: Global, page: &Page<'_>, out: &mut O) -> Result<(), RunError> {
+    let check = check_report(alloc, page.checked)?;
+    let texts = Texts {
+        check: check.as_str(),
+        ..page.texts
+    };
+    with_order(alloc, &Page { texts, ..*page }, out)
+}
+
+fn with_order<O: Output>(alloc: Global, page: &Page<'_>, out: &mut O) -> Result<(), RunError> {
+    let order = order_report(alloc, &page.checked.plan, page.order)?;
+    let texts = Texts {
+        order: order.as_str(),
+        ..page.texts
+    };
+    write_texts(alloc, &Page { texts, ..*page }, out)
 }
 
 fn write_texts<O: Output>(alloc: Global, page: &Page<'_>, out: &mut O) -> Result<(), RunError> {

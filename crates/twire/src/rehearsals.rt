@@ -1,22 +1,20 @@
 // The run of a bench: it finds what comes of a plan and its certificate, and writes that in the form that is wanted.
 
-ghost use Rattle.plan_core.specs.PlanContents.{plan_contents};
-ghost use Rattle.cert_check.specs.Holds.{accepted_plan};
-ghost use Rattle.bench_run.specs.Outcomes.{AreParticipants, HasWinners};
+ghost use Rattle.bench_run.specs.Outcomes.{HasWinners};
 
 use crate::checking::tell_answer;
 use crate::drawings::{Canvas, draw_outcome};
-use crate::endings::{Ended, Halt, Told};
+use crate::endings::{Ended, Halt, Remark};
 use crate::outputs::Style;
 use crate::runs::Extras;
-use bench_run::{NoGate, Outcome, Rehearsal, outcome_report, rehearse};
+use bench_run::{NoGate, Outcome, Rehearsal, outcome_report, rehearse, status_of_outcome};
 use bus_bench::opening::MOST_SLOTS;
-use explain::explain_rehearsal;
+use explain::{explain_rehearsal, mistake_of};
 use hints::on_no_answers;
 use message_tree::Item;
 use objects::write_rehearsal;
 use plan_core::Plan;
-use report::{Input, Output, RunError, Status, find_plan, read_within};
+use report::{Input, Output, RunError, find_plan, read_within};
 use run_parts::devices::reading::READS;
 use run_parts::write_lines;
 use std::alloc::{AllocError, Global};
@@ -154,46 +152,40 @@ fn write_outcome<O: Output>(
 {
     match outcome {
         Outcome::Played(rehearsal) => {
-            write_played(alloc, outcome, rehearsal, out, explain, extras.style())?;
+            match extras.style() {
+                Style::Objects => write_rehearsal(alloc, rehearsal, explain, out)?,
+                Style::Lines(_) if explain => explain_rehearsal(alloc, rehearsal, out)?,
+                Style::Lines(_) => write_report_of(alloc, outcome, out)?,
+            }
             Ok(Ended {
-                status: Status::Good,
-                told: told_of(alloc, rehearsal, extras),
+                status: status_of_outcome(outcome),
+                remark: remark_on(alloc, rehearsal, extras),
             })
         }
         Outcome::NotAccepted(it) => {
-            let cert = if explain { Some(cert) } else { None };
-            tell_answer(alloc, &it.plan, cert, it.answer, out, extras)
+            let mistake = if explain {
+                mistake_of(alloc, &it.plan, cert, it.answer)?
+            } else {
+                None
+            };
+            tell_answer(alloc, &it.plan, it.answer, mistake, out, extras)
         }
     }
 }
 
-fn write_played<O: Output>(
-    alloc: Global,
-    outcome: &Outcome,
-    rehearsal: &Rehearsal,
-    out: &mut O,
-    explain: bool,
-    style: Style,
-) -> Result<(), RunError>
-    requires outcome { HasWinners outcome.now }
-    requires rehearsal { AreParticipants (plan_contents (accepted_plan rehearsal.now.accepted)) rehearsal.now.played.won.items }
+fn write_report_of<O: Output>(alloc: Global, outcome: &Outcome, out: &mut O) -> Result<(), RunError>
+    requires { HasWinners outcome.now }
 {
-    if let Style::Objects = style {
-        return write_rehearsal(alloc, rehearsal, explain, out);
-    }
-    if explain {
-        return explain_rehearsal(alloc, rehearsal, out);
-    }
     let report = outcome_report(alloc, outcome)?;
-    write_lines(out, report.as_bytes(), Status::Good)?;
+    write_lines(out, report.as_bytes(), status_of_outcome(outcome))?;
     Ok(())
 }
 
-fn told_of(alloc: Global, rehearsal: &Rehearsal, extras: Extras) -> Told {
+fn remark_on(alloc: Global, rehearsal: &Rehearsal, extras: Extras) -> Remark {
     if extras.hints && is_unanswered(rehearsal.played.wire.as_slice()) {
-        Told::hints(on_no_answers(alloc))
+        Remark::hints(on_no_answers(alloc))
     } else {
-        Told::Nothing
+        Remark::Nothing
     }
 }
 

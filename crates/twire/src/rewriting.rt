@@ -1,6 +1,6 @@
 // Runs over one text that write another one.
 
-use crate::endings::{Ended, Halt, Told};
+use crate::endings::{Ended, Halt, Recorded, Remark};
 use report::{Input, Output, Status, run_brief, run_certify, run_expand, run_print};
 use signals::{Lesson, run_learn, run_signals};
 use std::alloc::Global;
@@ -38,15 +38,16 @@ impl Rewriting<'_> {
         }?;
         Ok(Ended {
             status,
-            told: self.told(status),
+            remark: self.remark(status),
         })
     }
 
-    fn told(self, status: Status) -> Told {
+    fn remark(self, status: Status) -> Remark {
         match (self, status) {
-            (Rewriting::Certify, Status::Bad) => Told::Fault,
-            (Rewriting::Signals | Rewriting::Learn(_), _) => Told::Recording,
-            _ => Told::Nothing,
+            (Rewriting::Certify, Status::Bad) => Remark::Fault,
+            (Rewriting::Signals, _) => Remark::Recording(Recorded::Signals),
+            (Rewriting::Learn(_), _) => Remark::Recording(Recorded::Other),
+            _ => Remark::Nothing,
         }
     }
 }

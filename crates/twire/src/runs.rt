@@ -1,7 +1,7 @@
 // What the program does, and the status that it ends with.
 
-use crate::advice::{About, Outcome, advise, no_timescale};
-use crate::endings::{Ended, Halt, Told};
+use crate::advice::{About, Closing, advise, no_timescale};
+use crate::endings::{Ended, Halt, Remark};
 use crate::inputs::{FilesRead, Inputs, both_read, is_standard_input, one_read, open, open_both};
 use crate::outputs::{Form, Sheet, Style};
 use crate::progress::Watcher;
@@ -9,6 +9,7 @@ use crate::tasks::{Over, OverBoth, Task, task_of};
 use crate::versions::version_of;
 use crate::voices::{Voice, refused};
 use command_words::{Asked, Manner, Request, When, read_words};
+use explain::Paint;
 use hints::{Named, visible};
 use report::{RunError, Status, Watched};
 use std::env::{self, VarError};
@@ -35,9 +36,9 @@ impl Extras {
         if self.is_json {
             Style::Objects
         } else if self.colors_out {
-            Style::Colored
+            Style::Lines(Paint::Colored)
         } else {
-            Style::Plain
+            Style::Lines(Paint::Plain)
         }
     }
 
@@ -183,7 +184,7 @@ fn run_over<R: Files + Input + Print + Eprint + AllocGlobal + Threads + Wait + C
     let sheet = Sheet::telling(rt, form, read, extras.watcher, over.writes_long());
     let mut out = Watched::new(sheet);
     let ended = over.run(rt, text.path, &mut reader, &mut out, extras, read);
-    let files = Targets {
+    let files = FilesWritten {
         output: form.path(),
         wave: over.wave(),
     };
@@ -223,7 +224,7 @@ fn run_over_both<R: Files + Input + Print + Eprint + AllocGlobal + Threads + Wai
         extras,
         read,
     );
-    let files = Targets {
+    let files = FilesWritten {
         output: form.path(),
         wave: over.wave(),
     };
@@ -241,7 +242,7 @@ fn run_over_both<R: Files + Input + Print + Eprint + AllocGlobal + Threads + Wai
 
 // The files that a run was to write: of its report, where that is not standard output, and of its waves.
 #[derive(Clone, Copy)]
-struct Targets<'a> {
+struct FilesWritten<'a> {
     output: Option<&'a str>,
     wave: Option<&'a str>,
 }
@@ -253,36 +254,36 @@ fn finish<R: Files + Print + Eprint + Clock + AllocGlobal>(
     read: Inputs<'_, R::File>,
     mut out: Sheet<'_, R>,
     ended: Result<Ended, Halt>,
-    files: Targets<'_>,
+    files: FilesWritten<'_>,
     about: About<'_>,
     extras: Extras,
 ) -> u8 {
-    let (ended, told, output, reason) = match ended {
-        Ok(Ended { status, told }) => (Ok(status), told, files.output, None),
-        Err(Halt::Run(error)) => (Err(error), Told::Nothing, files.output, None),
-        Err(Halt::Undrawn(error, reason)) => (Err(error), Told::Nothing, files.wave, reason),
+    let (ended, remark, output, reason) = match ended {
+        Ok(Ended { status, remark }) => (Ok(status), remark, files.output, None),
+        Err(Halt::Run(error)) => (Err(error), Remark::Nothing, files.output, None),
+        Err(Halt::Undrawn(error, reason)) => (Err(error), Remark::Nothing, files.wave, reason),
         Err(Halt::NoTimescale) => return no_timescale(rt, extras),
     };
     let ended = out.settle(ended);
-    let status = status_of(rt, ended, extras);
+    let status = exit_code_of(rt, ended, extras);
     if extras.hints {
         let (report, error) = out.into_parts();
-        let outcome = Outcome {
+        let closing = Closing {
             ended,
-            told,
+            remark,
             output,
             error: reason.or(error),
             report,
             about,
             voice: extras.voice(),
         };
-        advise(rt, read, outcome);
+        advise(rt, read, closing);
     }
     status
 }
 
-// The status of a run that has ended, with the line of a refusal. The line that told how far it was goes away.
-fn status_of<R: Clock + Eprint + AllocGlobal>(
+// The exit code of a run that has ended, with the line of a refusal. The line that told how far it was goes away.
+fn exit_code_of<R: Clock + Eprint + AllocGlobal>(
     rt: &R,
     ended: Result<Status, RunError>,
     extras: Extras,

@@ -1,6 +1,6 @@
 // What a request comes to: a run over one text or over two, and where its report goes.
 
-use crate::advice::{About, Recorded, names_of};
+use crate::advice::{About, names_of};
 use crate::checking::{Look, check, order, verify};
 use crate::drawings::Canvas;
 use crate::endings::{Ended, Halt};
@@ -249,14 +249,14 @@ impl<'a> Over<'a> {
             Over::Rewrite(Rewriting::Signals) => {
                 let none = Probe::Coded("");
                 let names = names_of(none, none, None, None, path);
-                About::recording(names, ["", "", "", ""], Recorded::Signals)
+                About::recording(names, ["", "", "", ""])
             }
             Over::Rewrite(Rewriting::Learn(lesson)) => {
                 let names = names_of(lesson.scl, lesson.sda, lesson.scope, None, path);
-                About::recording(names, ["twire learn", path, "", ""], Recorded::Other)
+                About::recording(names, ["twire learn", path, "", ""])
             }
             Over::Bench(play) => About::bench(play.starters),
-            _ => About::bench(""),
+            _ => About::plans(),
         }
     }
 }
@@ -303,16 +303,15 @@ impl<'a> OverBoth<'a> {
         match self {
             OverBoth::Capture(asked) => {
                 let names = names_of(asked.scl, asked.sda, asked.scope, asked.min_pulse, other);
-                let told = Recorded::Capture(asked.view);
-                About::recording(names, ["twire capture", plan, "", other], told)
+                About::recording(names, ["twire capture", plan, "", other])
             }
             OverBoth::Page(asked) => {
                 let names = names_of(asked.scl, asked.sda, asked.scope, None, other);
                 let words = ["twire page", plan, "--capture", other];
-                About::recording(names, words, Recorded::Other)
+                About::recording(names, words)
             }
             OverBoth::Bench(play) => About::bench(play.starters),
-            OverBoth::Verify { .. } => About::bench(""),
+            OverBoth::Verify { .. } => About::plans(),
         }
     }
 }

@@ -1,6 +1,6 @@
 // The run that shows a capture as it is asked for.
 
-use crate::endings::{Ended, Halt, Told};
+use crate::endings::{Ended, Halt, Recorded, Remark};
 use crate::explaining::explain_capture;
 use crate::quieting::Quiet;
 use dump_tokens::{Scale, Time};
@@ -59,7 +59,7 @@ pub fn capture<I: Input, J: Input, O: Output>(
 ) -> Result<Ended, Halt> {
     Ok(Ended {
         status: view_capture(rt, alloc, plan, vcd, out, asked)?,
-        told: Told::Recording,
+        remark: Remark::Recording(Recorded::Capture(asked.view)),
     })
 }
 

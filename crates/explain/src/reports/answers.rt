@@ -1,17 +1,16 @@
 // The answer to a certificate, explained.
 
-use crate::certificates::below_wrong;
+use crate::certificates::below_mistake;
+use crate::mistakes::Mistake;
 use crate::paints::Paint;
 use crate::reports::write_block;
-use crate::wrongs::wrong_of;
 use cert_check::Answer;
 use growing_text::Text;
 use plan_core::Plan;
 use report::{Output, RunError, answer_line};
-use std::alloc::{AllocError, Global};
+use std::alloc::Global;
 
-/// Writes the line of the answer to a certificate of the plan. Where this is the text of the certificate, it stands below it which
-/// pair is meant, and where its proof breaks off.
+/// Writes the line of the answer to a certificate of the plan, and below it what is wrong with it, where that was found.
 ///
 /// # Errors
 ///
@@ -19,8 +18,8 @@ use std::alloc::{AllocError, Global};
 pub fn explain_answer<O: Output>(
     alloc: Global,
     plan: &Plan,
-    cert: Option<&[u8]>,
     answer: Answer,
+    mistake: Option<Mistake>,
     paint: Paint,
     out: &mut O,
 ) -> Result<(), RunError> {
@@ -31,20 +30,8 @@ pub fn explain_answer<O: Output>(
         Answer::Unsafe => paint.push_verdict(&mut text, line, (9, 6), false),
         Answer::Wrong(_) => text.push_made(line),
     }
-    if let Some(cert) = cert {
-        text.push_made(below_answer(alloc, plan, cert, answer));
+    if let Some(mistake) = mistake {
+        text.push_made(below_mistake(alloc, plan, mistake));
     }
     write_block(text, out)
-}
-
-fn below_answer(
-    alloc: Global,
-    plan: &Plan,
-    cert: &[u8],
-    answer: Answer,
-) -> Result<String, AllocError> {
-    match wrong_of(alloc, plan, cert, answer)? {
-        Some(wrong) => below_wrong(alloc, plan, wrong),
-        None => Ok(String::new(alloc)),
-    }
 }

@@ -1,15 +1,11 @@
 // The report of a check, explained.
 
-ghost use Rattle.plan_core.specs.PlanContents.{plan_contents};
-ghost use Rattle.verdicts.specs.Faults.{AreFaults, fault_list};
-
 use crate::faults::{below_pair, below_unsafe};
 use crate::meetings::meeting_of;
-use crate::mends::mends_of;
 use crate::paints::Paint;
 use crate::plans::below_safe;
+use crate::reasons::Reasons;
 use crate::reports::{BLOCK, write_block};
-use crate::safety::safety_of;
 use certificate::Fault;
 use growing_text::Text;
 use plan_core::Plan;
@@ -18,8 +14,8 @@ use std::alloc::{AllocError, Global};
 use std::cmp::Ordering;
 use std::mem;
 
-/// Writes the report of a check. Where so many unsafe pairs are to be explained, there stand below the line of each of them the
-/// bytes of both participants; and at the end what would mend the plan, or how the pairs of a safe one are kept apart.
+/// Writes the report of a check. Where there are reasons, they stand at its end, and below the lines of the first so many unsafe
+/// pairs the bytes of both participants.
 ///
 /// # Errors
 ///
@@ -27,42 +23,48 @@ use std::mem;
 pub fn explain_check<O: Output>(
     alloc: Global,
     checked: &Checked,
-    most: Option<u32>,
+    reasons: Option<&Reasons>,
+    most: u32,
     paint: Paint,
     out: &mut O,
-) -> Result<(), RunError>
-    requires { AreFaults (plan_contents checked.now.plan) (fault_list checked.now.faults) }
-{
+) -> Result<(), RunError> {
     let Checked { plan, faults } = checked;
     let mut text = Text::new(alloc);
     for k in 0..faults.len() {
         let (pair, fault) = faults.get(k);
         text.push_made(line_of(alloc, plan, pair, fault));
-        if let Some(most) = most {
-            push_below(
-                alloc,
-                &mut text,
-                plan,
-                (pair, fault),
-                (k, most as usize, faults.len()),
-            );
+        if reasons.is_some() {
+            match k.cmp(&(most as usize)) {
+                Ordering::Less => text.push_made(below_fault(alloc, plan, pair, fault)),
+                Ordering::Equal => push_left(&mut text, faults.len().saturating_sub(k)),
+                Ordering::Greater => {}
+            }
         }
         if BLOCK <= text.len() || !text.is_whole() {
             write_block(mem::replace(&mut text, Text::new(alloc)), out)?;
         }
     }
+    push_end(alloc, &mut text, checked, reasons, paint);
+    write_block(text, out)
+}
+
+// The last line, and the reasons below it.
+fn push_end(
+    alloc: Global,
+    text: &mut Text,
+    checked: &Checked,
+    reasons: Option<&Reasons>,
+    paint: Paint,
+) {
+    let Checked { plan, faults } = checked;
     let is_safe = faults.is_safe();
     let word = (0, if is_safe { 4 } else { 6 });
-    paint.push_verdict(
-        &mut text,
-        last_line(alloc, plan, faults.len()),
-        word,
-        is_safe,
-    );
-    if most.is_some() {
-        text.push_made(below_end(alloc, checked));
+    paint.push_verdict(text, last_line(alloc, plan, faults.len()), word, is_safe);
+    match reasons {
+        Some(Reasons::Safe(safety)) => text.push_made(below_safe(alloc, plan, safety)),
+        Some(Reasons::Unsafe(mends)) => text.push_made(below_unsafe(alloc, plan, mends)),
+        None => {}
     }
-    write_block(text, out)
 }
 
 // The line of an unsafe pair.
@@ -72,23 +74,6 @@ fn line_of(alloc: Global, plan: &Plan, pair: u32, fault: &Fault) -> Result<Strin
         push_fault(alloc, &mut line, plan, pair, fault)?;
     }
     Ok(line)
-}
-
-// What is said below the line of a pair with this number, of so many that are explained and of so many in all.
-fn push_below(
-    alloc: Global,
-    text: &mut Text,
-    plan: &Plan,
-    unsafe_pair: (u32, &Fault),
-    place: (usize, usize, usize),
-) {
-    let (pair, fault) = unsafe_pair;
-    let (k, most, all) = place;
-    match k.cmp(&most) {
-        Ordering::Less => text.push_made(below_fault(alloc, plan, pair, fault)),
-        Ordering::Equal => push_left(text, all.saturating_sub(k)),
-        Ordering::Greater => {}
-    }
 }
 
 fn below_fault(alloc: Global, plan: &Plan, pair: u32, fault: &Fault) -> Result<String, AllocError> {
@@ -110,17 +95,4 @@ fn last_line(alloc: Global, plan: &Plan, unsafe_pairs: usize) -> Result<String, 
     let mut line = String::new(alloc);
     push_count(&mut line, plan.pair_count(), unsafe_pairs)?;
     Ok(line)
-}
-
-// Below the last line.
-fn below_end(alloc: Global, checked: &Checked) -> Result<String, AllocError>
-    requires { AreFaults (plan_contents checked.now.plan) (fault_list checked.now.faults) }
-{
-    let Checked { plan, faults } = checked;
-    if faults.is_safe() {
-        let safety = safety_of(alloc, plan)?;
-        return below_safe(alloc, plan, &safety);
-    }
-    let mends = mends_of(alloc, plan, faults)?;
-    below_unsafe(alloc, plan, &mends)
 }

@@ -6,7 +6,7 @@ ghost use Rattle.bench_run.specs.Outcomes.{AreParticipants};
 
 use crate::benches::below_wire;
 use crate::reports::write_block;
-use crate::tracks::along;
+use crate::tracks::tracks_of;
 use bench_run::{Rehearsal, push_wire_line, push_won_line};
 use growing_text::Text;
 use report::{Output, RunError};
@@ -51,7 +51,7 @@ fn won_line(alloc: Global, rehearsal: &Rehearsal) -> Result<String, AllocError>
 }
 
 fn below(alloc: Global, rehearsal: &Rehearsal) -> Result<String, AllocError> {
-    let along = along(alloc, rehearsal)?;
+    let along = tracks_of(alloc, rehearsal)?;
     below_wire(
         alloc,
         rehearsal.played.wire.as_slice(),

@@ -12,7 +12,7 @@ use std::alloc::{AllocError, Global};
 
 /// What is wrong with a certificate, beside what its answer says.
 #[derive(Clone, Copy)]
-pub enum Wrong {
+pub enum Mistake {
     /// What it says of this pair, of these participants, is not so.
     Pair {
         pair: u32,
@@ -34,26 +34,28 @@ pub enum Wrong {
 /// # Errors
 ///
 /// Where an allocation fails.
-pub fn wrong_of(
+pub fn mistake_of(
     alloc: Global,
     plan: &Plan,
     cert: &[u8],
     answer: Answer,
-) -> Result<Option<Wrong>, AllocError> {
+) -> Result<Option<Mistake>, AllocError> {
     let Answer::Wrong(fault) = answer else {
         return Ok(None);
     };
     Ok(Some(match fault {
-        CertFault::Pair(pair) if pair < plan.pair_count() => wrong_pair(alloc, plan, cert, pair)?,
-        CertFault::Count => Wrong::Count {
+        CertFault::Pair(pair) if pair < plan.pair_count() => misproved_pair(
+            alloc, plan, cert, pair,
+        )?,
+        CertFault::Count => Mistake::Count {
             pairs: plan.pair_count(),
             proofs: proofs_in(cert),
         },
-        _ => Wrong::Text,
+        _ => Mistake::Text,
     }))
 }
 
-fn wrong_pair(alloc: Global, plan: &Plan, cert: &[u8], pair: u32) -> Result<Wrong, AllocError>
+fn misproved_pair(alloc: Global, plan: &Plan, cert: &[u8], pair: u32) -> Result<Mistake, AllocError>
     requires { pair < length (pairs_of (plan_contents plan.now)) }
 {
     let participants = plan.pair(pair);
@@ -61,7 +63,7 @@ fn wrong_pair(alloc: Global, plan: &Plan, cert: &[u8], pair: u32) -> Result<Wron
         Some(proof) => break_of(alloc, plan, participants, proof)?,
         None => None,
     };
-    Ok(Wrong::Pair {
+    Ok(Mistake::Pair {
         pair,
         participants,
         found,

@@ -11,15 +11,15 @@ const BLOCK: usize = 65_536;
 
 /// Objects, one a line, as they are written.
 #[derive(Drop)]
-pub(crate) struct Lines {
+pub(crate) struct ObjectLines {
     pub(crate) alloc: Global,
     text: Text,
 }
 
-impl Lines {
+impl ObjectLines {
     /// No object yet.
-    pub(crate) fn new(alloc: Global) -> Lines {
-        Lines {
+    pub(crate) fn new(alloc: Global) -> ObjectLines {
+        ObjectLines {
             alloc,
             text: Text::new(alloc),
         }

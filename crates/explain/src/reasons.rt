@@ -1,0 +1,32 @@
+// Why a plan is safe, or what mends it.
+
+ghost use Rattle.plan_core.specs.PlanContents.{plan_contents};
+ghost use Rattle.verdicts.specs.Faults.{AreFaults, fault_list};
+
+use crate::mends::{Mends, mends_of};
+use crate::safety::{Safety, safety_of};
+use report::Checked;
+use std::alloc::{AllocError, Global};
+
+/// What explains the verdict on a plan.
+#[derive(Drop)]
+pub enum Reasons {
+    Safe(Safety),
+    Unsafe(Mends),
+}
+
+/// What explains the verdict on a plan that was checked. Of a safe one the proof of each two senders is looked at once more.
+///
+/// # Errors
+///
+/// Where an allocation fails.
+pub fn reasons_of(alloc: Global, checked: &Checked) -> Result<Reasons, AllocError>
+    requires { AreFaults (plan_contents checked.now.plan) (fault_list checked.now.faults) }
+{
+    let Checked { plan, faults } = checked;
+    if faults.is_safe() {
+        Ok(Reasons::Safe(safety_of(alloc, plan)?))
+    } else {
+        Ok(Reasons::Unsafe(mends_of(alloc, plan, faults)?))
+    }
+}
