@@ -20,7 +20,6 @@ pub fn due_of(asked: &Asked, explain: bool) -> Option<Vec<Value>> {
         Command::Verify => vec![of_certificate(plan, &cert, explain)],
         Command::Bench { starters, fill, answers } => match verified(plan, &cert) {
             Ok(true) => of_bench(plan, starters, *fill, answers, explain),
-            // (below this line nothing is explained)
             _ => vec![of_certificate(plan, &cert, explain)],
         },
         _ => Vec::new(),

@@ -56,7 +56,7 @@ fn refusal_of(error: RunError) -> Refusal {
         RunError::Brief(error) => coded(match error {
             NoBrief::Name => "brief name",
             NoBrief::Unwritten => "brief text",
-            NoBrief::NoMemory => "out of memory",
+            NoBrief::NoMemory => "memory",
         }),
         RunError::Vcd(error) => of_dump(error),
         RunError::Bench(error) => coded(match error {
@@ -64,7 +64,7 @@ fn refusal_of(error: RunError) -> Refusal {
             OpenError::Unknown => "B2",
             OpenError::SameController => "B3",
             OpenError::Never => "B8",
-            OpenError::NoMemory => "B4",
+            OpenError::NoMemory => "memory",
         }),
         RunError::Workers => coded("workers"),
         RunError::Read => coded("read"),
@@ -83,7 +83,7 @@ fn of_text(error: PlanError) -> Refusal {
         PlanError::TooMany(line) => placed("P6", line),
         PlanError::Twice(line) => placed("P7", line),
         PlanError::Unknown(line) => placed("P8", line),
-        PlanError::NoMemory => coded("P9"),
+        PlanError::NoMemory => coded("memory"),
     }
 }
 
@@ -99,7 +99,7 @@ fn of_dump(error: VcdError) -> Refusal {
         VcdError::BadToken(line) => placed("V2", line),
         VcdError::TimeBack(line) => placed("V3", line),
         VcdError::Unended(line) => placed("V4", line),
-        VcdError::NoMemory => coded("V5"),
+        VcdError::NoMemory => coded("memory"),
     }
 }
 
