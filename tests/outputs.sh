@@ -345,8 +345,8 @@ hint: PLAN, the plan \"./-x\", cannot be opened:
 hint: No such file or directory (os error 2)" check --hints always -- -x
 judge "a name that would be an option"
 ran 2 '{"kind":"refusal","code":"read"}
-{"kind":"hint","text":"PLAN, the plan $'"'a\\\\xe2\\\\x80\\\\xaeb'"', cannot be opened:"}
-{"kind":"hint","text":"No such file or directory (os error 2)"}' check $'a\u202eb' --hints always --format json
+{"kind":"hint","form":"sentence","text":"PLAN, the plan $'"'a\\\\xe2\\\\x80\\\\xaeb'"', cannot be opened:"}
+{"kind":"hint","form":"sentence","text":"No such file or directory (os error 2)"}' check $'a\u202eb' --hints always --format json
 judge "a mark of direction in an object"
 long="a name with many words that is broken nowhere, as it could not be pasted then"
 "$twire" check plan --wave "$long" --hints always >out 2>err
