@@ -114,8 +114,8 @@ fn where_decided(alloc: Global, plan: &Plan, pair: u32) -> Result<Where, AllocEr
         return Ok(Where::Never);
     }
     let verdict = walk(alloc, plan, pair)?;
-    Ok(match verdict.outcome {
-        Outcome::Safe(proof) => end_of(&proof),
+    Ok(match &verdict.outcome {
+        Outcome::Safe(proof) => end_of(proof),
         // (no pair of a safe plan)
         Outcome::Unsafe(_) => Where::Never,
     })
