@@ -218,17 +218,20 @@ fn a_rehearsal_is_explained() {
 #[test]
 fn hints_are_broken_for_80_columns() {
     let long = "x".repeat(90);
-    for (text, lines) in [
+    for (form, text, lines) in [
         (
+            "sentence",
             "expected here: ';' or a name (a letter, then letters, digits and '_', 32 at most) or 'x'",
             "hint: expected here: ';' or a name (a letter, then letters, digits and '_', 32\nhint: at most) or 'x'\n",
         ),
-        ("  .. S S S", "hint:   .. S S S\n"),
-        ("       ^^", "hint:        ^^\n"),
-        (long.as_str(), &format!("hint: {long}\n")),
-        (&format!("a {long} b"), &format!("hint: a\nhint: {long}\nhint: b\n")),
+        ("line", ".. S S S", "hint:   .. S S S\n"),
+        ("marks", "     ^^", "hint:        ^^\n"),
+        ("item", "two words", "hint:   two words\n"),
+        ("line", long.as_str(), &format!("hint:   {long}\n")),
+        ("sentence", long.as_str(), &format!("hint: {long}\n")),
+        ("sentence", &format!("a {long} b"), &format!("hint: a\nhint: {long}\nhint: b\n")),
     ] {
-        let object = format!("{{\"kind\":\"hint\",\"text\":\"{text}\"}}\n");
+        let object = format!("{{\"kind\":\"hint\",\"form\":\"{form}\",\"text\":\"{text}\"}}\n");
         assert_eq!(lines_of(&object).as_deref(), Ok(lines), "{text}");
     }
 }
