@@ -3,7 +3,7 @@
 //! `writing` writes them. `checks`, `certificates`, `benches` and `orders` have the objects of what commands over plans find,
 //! and `refusals` what goes to standard error: each is a plain struct, made of a value. Of captures and of signals the lines
 //! of a report are taken apart: `pages` makes the objects of a whole report, `lines` finds the form of a line, `captures` and
-//! `signals` take it apart, `below` the lines for people, and `fields` writes the object.
+//! `listed_signals` take it apart, `below` the lines for people, and `fields` writes the object.
 #![tactic(auto)]
 
 mod below;
@@ -14,10 +14,10 @@ mod checks;
 mod fields;
 mod labels;
 mod lines;
+mod listed_signals;
 mod orders;
 mod pages;
 mod refusals;
-mod signals;
 mod words;
 mod writing;
 
