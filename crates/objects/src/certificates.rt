@@ -36,7 +36,7 @@ enum Why<'a> {
 // A pair of which what the certificate says is not so.
 #[derive(Drop, Serialize)]
 struct Misproved<'a> {
-    participants: [&'a str; 2],
+    participants: (&'a str, &'a str),
     #[serde(skip_serializing_if = "Option::is_none")]
     word: Option<u32>,
     #[serde(skip_serializing_if = "Option::is_none")]
@@ -116,12 +116,12 @@ fn add_misproved(
 ) -> Result<(), AllocError> {
     let first = label_of(lines.alloc, plan, participants.0)?;
     let second = label_of(lines.alloc, plan, participants.1)?;
-    let why = misproved_of([first.as_str(), second.as_str()], found);
+    let why = misproved_of((first.as_str(), second.as_str()), found);
     lines.add(&object_of(answer, Some(Why::Pair(why))));
     Ok(())
 }
 
-fn misproved_of<'a>(participants: [&'a str; 2], found: Option<Break>) -> Misproved<'a> {
+fn misproved_of<'a>(participants: (&'a str, &'a str), found: Option<Break>) -> Misproved<'a> {
     let (word, slot, why) = match found {
         Some(found) => (
             Some(found.word),

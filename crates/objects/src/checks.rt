@@ -123,12 +123,12 @@ fn add_met(
     add_pair(lines, labels, pair, fault, Some(met_of(&meeting)))
 }
 
-fn add_pair(
+fn add_pair<'a>(
     lines: &mut ObjectLines,
-    labels: &Labels,
+    labels: &'a Labels,
     pair: (u32, (u32, u32)),
     fault: &Fault,
-    explain: Option<Met<'_>>,
+    explain: Option<Met<'a>>,
 ) -> Result<(), AllocError> {
     let (pair, (x, y)) = pair;
     let mut after = String::new(lines.alloc);

@@ -9,7 +9,7 @@ use crate::outputs::Style;
 use crate::runs::Extras;
 use bench_run::{NoGate, Outcome, Rehearsal, outcome_report, rehearse, status_of_outcome};
 use bus_bench::opening::MOST_SLOTS;
-use explain::{explain_rehearsal, mistake_of};
+use explain::{Paint, explain_answer, explain_rehearsal, mistake_of};
 use hints::on_no_answers;
 use message_tree::Item;
 use objects::write_rehearsal;
@@ -154,7 +154,7 @@ fn write_outcome<O: Output>(
         Outcome::Played(rehearsal) => {
             match extras.style() {
                 Style::Objects => write_rehearsal(alloc, rehearsal, explain, out)?,
-                Style::Lines(_) if explain => explain_rehearsal(alloc, rehearsal, out)?,
+                Style::Lines(_) if explain => explain_outcome(alloc, outcome, out)?,
                 Style::Lines(_) => write_report_of(alloc, outcome, out)?,
             }
             Ok(Ended {
@@ -169,6 +169,17 @@ fn write_outcome<O: Output>(
                 None
             };
             tell_answer(alloc, &it.plan, it.answer, mistake, out, extras)
+        }
+    }
+}
+
+fn explain_outcome<O: Output>(alloc: Global, outcome: &Outcome, out: &mut O) -> Result<(), RunError>
+    requires { HasWinners outcome.now }
+{
+    match outcome {
+        Outcome::Played(rehearsal) => explain_rehearsal(alloc, rehearsal, out),
+        Outcome::NotAccepted(it) => {
+            explain_answer(alloc, &it.plan, it.answer, None, Paint::Plain, out)
         }
     }
 }
