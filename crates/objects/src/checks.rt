@@ -11,14 +11,14 @@ use std::alloc::{AllocError, Global};
 
 // An unsafe pair.
 #[derive(Drop, Serialize)]
-struct Pair<'a> {
+struct Pair<'l, 'w, 'm> {
     kind: &'static str,
     pair: u32,
-    participants: [&'a str; 2],
+    participants: [&'l str; 2],
     meet: [&'static str; 2],
-    after: &'a str,
+    after: &'w str,
     #[serde(skip_serializing_if = "Option::is_none")]
-    explain: Option<Met<'a>>,
+    explain: Option<Met<'m>>,
 }
 
 // Where its two meet.
@@ -123,12 +123,12 @@ fn add_met(
     add_pair(lines, labels, pair, fault, Some(met_of(&meeting)))
 }
 
-fn add_pair<'a>(
+fn add_pair(
     lines: &mut ObjectLines,
-    labels: &'a Labels,
+    labels: &Labels,
     pair: (u32, (u32, u32)),
     fault: &Fault,
-    explain: Option<Met<'a>>,
+    explain: Option<Met<'_>>,
 ) -> Result<(), AllocError> {
     let (pair, (x, y)) = pair;
     let mut after = String::new(lines.alloc);
