@@ -78,25 +78,26 @@ fn with_plan<R: AllocGlobal + Threads + Sync, O: Output>(
     Ok(status_of(&checked))
 }
 
-fn write_page<O: Output>(
+fn write_page<'a, O: Output>(
     alloc: Global,
-    title: &str,
-    checked: &Checked,
-    capture: Option<&str>,
+    title: &'a str,
+    checked: &'a Checked,
+    capture: Option<&'a str>,
     out: &mut O,
 ) -> Result<(), RunError> {
     let order = order_of(alloc, &checked.plan, &checked.faults)?;
     let plan = print_plan(alloc, &checked.plan)?;
+    let texts = Texts {
+        plan: text_of(plan.as_slice()),
+        check: "",
+        order: "",
+        capture,
+    };
     let page = Page {
         title,
         checked,
         order: &order,
-        texts: Texts {
-            plan: text_of(plan.as_slice()),
-            check: "",
-            order: "",
-            capture,
-        },
+        texts,
     };
     with_check(alloc, &page, out)
 }

@@ -167,11 +167,11 @@ fn do_request<R: Files + Input + Print + Eprint + AllocGlobal + Threads + Wait +
 }
 
 // A run over one text, from the opening of its file to the status.
-fn run_over<R: Files + Input + Print + Eprint + AllocGlobal + Threads + Wait + Clock + Sync>(
+fn run_over<'a, R: Files + Input + Print + Eprint + AllocGlobal + Threads + Wait + Clock + Sync>(
     rt: &R,
-    text: Named<'_>,
-    over: Over<'_>,
-    form: Form<'_>,
+    text: Named<'a>,
+    over: Over<'a>,
+    form: Form<'a>,
     extras: Extras,
 ) -> u8 {
     let Some((mut reader, first)) = open(rt, text, extras) else {
@@ -201,12 +201,15 @@ fn run_over<R: Files + Input + Print + Eprint + AllocGlobal + Threads + Wait + C
 }
 
 // The same over a plan and a second text.
-fn run_over_both<R: Files + Input + Print + Eprint + AllocGlobal + Threads + Wait + Clock + Sync>(
+fn run_over_both<
+    'a,
+    R: Files + Input + Print + Eprint + AllocGlobal + Threads + Wait + Clock + Sync,
+>(
     rt: &R,
-    plan: Named<'_>,
-    other: Named<'_>,
-    over: OverBoth<'_>,
-    form: Form<'_>,
+    plan: Named<'a>,
+    other: Named<'a>,
+    over: OverBoth<'a>,
+    form: Form<'a>,
     extras: Extras,
 ) -> u8 {
     let Some(((mut reader, first), (mut another, second))) = open_both(rt, plan, other, extras)
