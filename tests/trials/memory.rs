@@ -129,7 +129,7 @@ fn judge_ample(task: &Task<'_>, ample: &Said) -> Option<Disagreement> {
     Disagreement::of(task.case, "ample memory", wanted, &ample.answer, fault)
 }
 
-// The answer is the one with memory; or want of memory, where an allocation was refused, and then nothing is written.
+// The answer is the one with memory; or out of memory, where an allocation was refused, and then nothing is written.
 fn judge(case: &Case, ample: &Answer, said: &Said) -> Option<Disagreement> {
     let found = &said.answer;
     let is_want = is_memory(&found.refusal) && found.status == 2 && found.out.is_empty();
