@@ -3,15 +3,20 @@
 //!
 //! Times of a dump (IEEE 1364-2005, 18.2.3.6) are numbers in the unit that its `$timescale` names; people also write them
 //! with a unit of their own. `units` has the parts of a second, `times` reads what people write, and `scales` what stands in
-//! a `$timescale`, and writes times of that scale.
+//! a `$timescale`, and writes times of that scale. `windows` has which transactions are told by their times, and `quiet` how
+//! long a level has to last.
 #![tactic(auto)]
 
+mod quiet;
 pub mod reading;
 mod scales;
 mod times;
 pub mod tokens;
 mod units;
+mod windows;
 
+pub use quiet::Quiet;
 pub use scales::Scale;
 pub use times::Time;
 pub use units::Unit;
+pub use windows::{View, Window, has_unit, steps};

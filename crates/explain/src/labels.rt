@@ -3,8 +3,42 @@
 use plan_core::Plan;
 use std::alloc::{AllocError, Global};
 
+/// The labels of all participants of a plan.
+#[derive(Drop)]
+pub struct Labels {
+    labels: Vec<String>,
+}
+
+impl Labels {
+    /// The label of a participant, and nothing for a number that is none.
+    pub fn of(&self, p: u32) -> &str {
+        match self.labels.get(p as usize) {
+            Some(label) => label.as_str(),
+            None => "",
+        }
+    }
+
+    /// How many there are.
+    pub(crate) fn len(&self) -> usize {
+        self.labels.len()
+    }
+}
+
+/// The labels of the plan's participants.
+///
+/// # Errors
+///
+/// Where an allocation fails.
+pub fn labels_of(alloc: Global, plan: &Plan) -> Result<Labels, AllocError> {
+    let mut labels = Vec::with_capacity(alloc, plan.participants() as usize)?;
+    for p in 0..plan.participants() {
+        labels.push(plan.label(alloc, p)?)?;
+    }
+    Ok(Labels { labels })
+}
+
 /// The label of a participant, and nothing for a number that is none.
-pub(crate) fn label_of(alloc: Global, plan: &Plan, p: u32) -> Result<String, AllocError> {
+pub fn label_of(alloc: Global, plan: &Plan, p: u32) -> Result<String, AllocError> {
     if p < plan.participants() {
         plan.label(alloc, p)
     } else {

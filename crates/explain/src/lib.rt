@@ -4,47 +4,62 @@
 //! how the pairs of a safe one are kept apart, `reasons` which of the two a plan has, `mistakes` and `breaks` what is wrong with a certificate, `tracks` what starters put
 //! along a wire. `reports` writes a report with lines for people between its own, made of these values by `faults`, `plans`,
 //! `certificates` and `benches`; each of these lines begins with four spaces and has at most 80 columns, however long the names
-//! are. The exact lines are those of the crates below. `captures`, `hearing` and `views` are for captures: some of the
-//! transactions of a report, with times in parts of a second, or counted for each participant.
+//! are. The exact lines are those of the crates below.
+//!
+//! What a dump shows goes to sinks: `capture_lines` writes its transactions with who explains each, and `decode_lines` without
+//! a plan, as they end. `selecting` has which of them are told, `moments` their times, `captures` what people read below them
+//! (`nearest` participants, `glitches`), and `tallies` and `addresses` count.
 //!
 //! Bytes are written as the Linux kernel's documents of the bus write them: `S 48 Wr A 01 A Sr 48 Rd A d4 NA P`. `S` is
 //! START, `Sr` a repeated START, `P` a STOP, `A` an acknowledge and `NA` none; an address has seven bits, `Wr` and `Rd` are
 //! the direction bit. A byte with open bits, and one that is cut short, is written in bits.
 #![tactic(auto)]
 
+mod addresses;
 mod below;
 mod benches;
 mod breaks;
+mod capture_lines;
 mod captures;
 mod cells;
 mod certificates;
+mod decode_lines;
 mod faults;
-mod hearing;
+mod glitches;
 mod labels;
 mod meetings;
 mod mends;
 mod mistakes;
+mod moments;
+mod nearest;
 mod paints;
 mod plans;
-mod pulsing;
+mod pulse_lines;
 mod reasons;
 mod reports;
 mod safety;
+mod selecting;
 mod sending;
+mod tallies;
 mod tracks;
-mod views;
 mod words;
+mod written;
 
+pub use addresses::{Addresses, Calls};
 pub use breaks::{Break, Reason};
-pub use hearing::{Heard, Notes};
+pub use capture_lines::{CaptureLines, Layout};
+pub use decode_lines::DecodeLines;
+pub use glitches::{Cut, Cuts};
+pub use labels::{Labels, label_of, labels_of};
 pub use meetings::{Meeting, Rule, Side, meeting_of};
 pub use mends::Mends;
 pub use mistakes::{Mistake, mistake_of};
+pub use nearest::{Leaves, nearest};
 pub use paints::Paint;
 pub use reasons::{Reasons, reasons_of};
-pub use reports::{
-    Overheard, explain_answer, explain_check, explain_rehearsal, explain_transactions,
-};
+pub use reports::{explain_answer, explain_check, explain_rehearsal};
 pub use safety::{Decided, Safety};
+pub use selecting::{Seen, Selection};
+pub use tallies::{Explains, Others, Tallies};
 pub use tracks::{Track, WireTracks, tracks_of};
-pub use views::{View, has_unit, shown, steps};
+pub use words::bytes_of;

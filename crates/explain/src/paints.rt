@@ -32,6 +32,16 @@ impl Paint {
     }
 }
 
+impl Paint {
+    /// Adds a word in the colour of this verdict.
+    pub(crate) fn push_word(self, text: &mut Text, word: &str, is_safe: bool) {
+        match self {
+            Paint::Plain => text.push(word),
+            Paint::Colored => push_colored(text, word, (0, word.len()), is_safe),
+        }
+    }
+}
+
 fn push_colored(text: &mut Text, line: &str, word: (usize, usize), is_safe: bool) {
     let (from, count) = word;
     let to = from.saturating_add(count);

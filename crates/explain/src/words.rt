@@ -17,18 +17,47 @@ pub(crate) struct Words {
     is_header: bool,
 }
 
+/// The bytes of a transaction: a byte without its acknowledge is cut short.
+///
+/// # Errors
+///
+/// Where an allocation fails.
+pub fn bytes_of(alloc: Global, marks: &[Mark]) -> Result<String, AllocError> {
+    with_bytes(Text::new(alloc), marks).finish()
+}
+
+/// The text with the bytes of a transaction after it.
+pub(crate) fn with_bytes(text: Text, marks: &[Mark]) -> Text {
+    let mut words = Words::after(text);
+    for mark in marks {
+        words.mark(*mark);
+    }
+    words.end_byte(true);
+    let Words { text, .. } = words;
+    text
+}
+
 impl Words {
     /// A START.
     pub(crate) fn new(alloc: Global) -> Words {
-        let mut words = Words::of_byte(alloc, true);
+        Words::after(Text::new(alloc))
+    }
+
+    // A START after this text.
+    fn after(text: Text) -> Words {
+        let mut words = Words::in_text(text, true);
         words.text.push("S");
         words
     }
 
     /// No START: a single byte follows.
     pub(crate) fn of_byte(alloc: Global, is_header: bool) -> Words {
+        Words::in_text(Text::new(alloc), is_header)
+    }
+
+    fn in_text(text: Text, is_header: bool) -> Words {
         Words {
-            text: Text::new(alloc),
+            text,
             value: 0,
             open: 0,
             bits: 0,
@@ -95,12 +124,6 @@ impl Words {
     /// All words, of what may go on.
     pub(crate) fn finish(mut self) -> Result<String, AllocError> {
         self.end_byte(false);
-        self.text.finish()
-    }
-
-    /// All words, of what goes no further: a byte without its acknowledge is cut short.
-    pub(crate) fn finish_cut(mut self) -> Result<String, AllocError> {
-        self.end_byte(true);
         self.text.finish()
     }
 

@@ -2,7 +2,7 @@
 // refusals, and one controller that has them all.
 //
 // `paths` reads the marks of a transaction as a path through a message, `seen` keeps each path once, `trees` puts paths
-// together into messages, `naming` names these, and `writing` writes them. `runs` goes from the dump to the brief. What a
+// together into messages, `naming` names these, and `writing` writes them. `runs` goes from what was seen to the brief. What a
 // brief means is decided by `brief_text`, and what explains a capture by `capture_check`: nothing here is proved but that it
 // is safe.
 
@@ -14,4 +14,5 @@ mod trees;
 mod words;
 mod writing;
 
-pub use runs::{Lesson, run_learn};
+pub use runs::{Learned, brief_of};
+pub use seen::Sights;

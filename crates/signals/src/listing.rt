@@ -1,4 +1,4 @@
-// The run that lists the signals of a dump.
+// The signals of a dump, and the pairs of them that look like a bus.
 
 use crate::beginning::read_beginning;
 use crate::blocks::{Blocks, read_all};
@@ -10,7 +10,7 @@ use crate::levels::Levels;
 use dump_tokens::reading::Reading;
 use dump_tokens::tokens::Cutter;
 use growing_text::Text;
-use run_parts::{Input, Output, RunError, Status, Watched, write_report};
+use run_parts::{Input, RunError, Watched};
 use std::alloc::{AllocError, Global};
 use std::str;
 use vcd_read::{Probe, Reader};
@@ -180,14 +180,42 @@ fn is_point(byte: &u8) -> bool {
     *byte == b'.'
 }
 
-// A dump that was read to its end.
+/// The signals of one bit that a dump has, and the pairs of them that look like the two lines of a bus.
 #[derive(Drop)]
-struct Listed {
+pub struct Listed {
     declared: Declared,
     levels: Levels,
+    buses: Vec<Bus>,
 }
 
-fn list<J: Input>(alloc: Global, vcd: &mut J) -> Result<Listed, RunError> {
+/// A signal. A byte of a text that does not print is `\x` and two digits.
+#[derive(Drop)]
+pub struct Signal {
+    pub code: String,
+    /// How often the level after a time stamp differs from before.
+    pub changes: u64,
+    /// The names of the scopes around it, joined by points; of a long path the end, after `..`.
+    pub scope: Option<String>,
+    pub name: String,
+}
+
+/// Two signals that look like the two lines of a bus.
+#[derive(Drop)]
+pub struct Pair {
+    /// How many transactions a STOP ended.
+    pub transactions: u32,
+    /// The codes of the two.
+    pub scl: String,
+    pub sda: String,
+}
+
+/// Reads a dump to its end, and finds its signals.
+///
+/// # Errors
+///
+/// `Read` where the reader failed or gave no end, `Vcd` with the first refusal of the dump, where V1 says that it has
+/// no signal of one bit. `NoMemory` where an allocation fails.
+pub fn find_signals<J: Input>(alloc: Global, vcd: &mut J) -> Result<Listed, RunError> {
     let entries = Entries::new(alloc)?;
     let (again, entries, _) = read_beginning(alloc, vcd, entries)?;
     let Entries {
@@ -196,8 +224,19 @@ fn list<J: Input>(alloc: Global, vcd: &mut J) -> Result<Listed, RunError> {
         ..
     } = entries;
     match levels_of(alloc, &mut Watched::new(again), codes, &declared) {
-        Ok(levels) => Ok(Listed { declared, levels }),
+        Ok(levels) => listed_of(alloc, declared, levels),
         Err(error) => Err(error),
+    }
+}
+
+fn listed_of(alloc: Global, declared: Declared, levels: Levels) -> Result<Listed, RunError> {
+    match levels.found(alloc) {
+        Ok(buses) => Ok(Listed {
+            declared,
+            levels,
+            buses,
+        }),
+        Err(error) => Err(RunError::from(error)),
     }
 }
 
@@ -254,39 +293,14 @@ impl Blocks for Changes {
     }
 }
 
-/// Lists the signals of one bit of the dump that the reader gives, in its order: for each its code, how often it
-/// changes, its scope and its name; and then the pairs of signals that look like the two lines of a bus.
-///
-/// # Errors
-///
-/// `Read` where the reader failed or gave no end, `Vcd` with the first refusal of the dump, where V1 says that it has
-/// no signal of one bit, and `Write` where the writer failed or took no bytes. `NoMemory` where an allocation fails.
-pub fn run_signals<J: Input, O: Output>(
-    alloc: Global,
-    vcd: &mut J,
-    out: &mut O,
-) -> Result<Status, RunError> {
-    let text = told(alloc, vcd)?;
-    write_report(out, text.as_bytes())?;
-    Ok(Status::Good)
-}
-
-fn told<J: Input>(alloc: Global, vcd: &mut J) -> Result<String, RunError> {
-    let listed = list(alloc, vcd)?;
-    match listed.text(alloc) {
-        Ok(text) => Ok(text),
-        Err(error) => Err(RunError::from(error)),
-    }
-}
-
 /// The options that choose the first pair of signals of a dump that looks like a bus: by names where these are plain and no
 /// other signal of one bit has them, and else by codes.
 ///
 /// # Errors
 ///
-/// Those of `run_signals`, without `Write`.
+/// Those of `find_signals`.
 pub fn bus_options<J: Input>(alloc: Global, vcd: &mut J) -> Result<Option<String>, RunError> {
-    let listed = list(alloc, vcd)?;
+    let listed = find_signals(alloc, vcd)?;
     match listed.options(alloc) {
         Ok(options) => Ok(options),
         Err(error) => Err(RunError::from(error)),
@@ -294,18 +308,84 @@ pub fn bus_options<J: Input>(alloc: Global, vcd: &mut J) -> Result<Option<String
 }
 
 impl Listed {
-    fn text(&self, alloc: Global) -> Result<String, AllocError> {
-        let buses = self.levels.found(alloc)?;
+    /// How many signals there are.
+    pub fn signals(&self) -> usize {
+        self.declared.entries.len()
+    }
+
+    /// How many pairs look like a bus.
+    pub fn pairs(&self) -> usize {
+        self.buses.len()
+    }
+
+    /// The signal with this number, in the order of the dump.
+    ///
+    /// # Errors
+    ///
+    /// Where an allocation fails.
+    pub fn signal(&self, alloc: Global, k: usize) -> Result<Option<Signal>, AllocError> {
+        match self.declared.entries.get(k) {
+            Some(entry) => Ok(Some(self.signal_of(alloc, entry)?)),
+            None => Ok(None),
+        }
+    }
+
+    fn signal_of(&self, alloc: Global, entry: &Entry) -> Result<Signal, AllocError> {
+        Ok(Signal {
+            code: shown(alloc, entry.code.as_slice())?,
+            changes: self.levels.changes(entry.number),
+            scope: self.scope_of(alloc, entry)?,
+            name: shown(alloc, entry.name.as_slice())?,
+        })
+    }
+
+    fn scope_of(&self, alloc: Global, entry: &Entry) -> Result<Option<String>, AllocError> {
+        match self.declared.scopes.get(entry.scope) {
+            Some(scope) if !scope.end.is_empty() => {
+                let mut text = Text::new(alloc);
+                push_scope(&mut text, scope);
+                Ok(Some(text.finish()?))
+            }
+            _ => Ok(None),
+        }
+    }
+
+    /// The pair with this number.
+    ///
+    /// # Errors
+    ///
+    /// Where an allocation fails.
+    pub fn pair(&self, alloc: Global, k: usize) -> Result<Option<Pair>, AllocError> {
+        match self.buses.get(k) {
+            Some(bus) => Ok(Some(self.pair_of(alloc, bus)?)),
+            None => Ok(None),
+        }
+    }
+
+    fn pair_of(&self, alloc: Global, bus: &Bus) -> Result<Pair, AllocError> {
+        Ok(Pair {
+            transactions: bus.stopped,
+            scl: shown(alloc, self.declared.code(bus.scl))?,
+            sda: shown(alloc, self.declared.code(bus.sda))?,
+        })
+    }
+
+    /// A line for each signal, one for each pair with the options that choose it, and one that counts them.
+    ///
+    /// # Errors
+    ///
+    /// Where an allocation fails.
+    pub fn report(&self, alloc: Global) -> Result<String, AllocError> {
         let mut text = Text::new(alloc);
-        self.push_all(&mut text, buses.as_slice());
+        for entry in self.declared.entries.iter() {
+            self.push_signal(&mut text, entry);
+        }
+        self.push_pairs(&mut text);
         text.finish()
     }
 
-    fn push_all(&self, text: &mut Text, buses: &[Bus]) {
-        for entry in self.declared.entries.iter() {
-            self.push_signal(text, entry);
-        }
-        for bus in buses {
+    fn push_pairs(&self, text: &mut Text) {
+        for bus in self.buses.iter() {
             text.push("bus ");
             text.push_number(u64::from(bus.stopped));
             text.push(" transactions ");
@@ -314,13 +394,12 @@ impl Listed {
         }
         text.push_number(self.declared.entries.len() as u64);
         text.push(" signals, ");
-        text.push_number(buses.len() as u64);
+        text.push_number(self.buses.len() as u64);
         text.push(" buses\n");
     }
 
     fn options(&self, alloc: Global) -> Result<Option<String>, AllocError> {
-        let buses = self.levels.found(alloc)?;
-        match buses.first() {
+        match self.buses.first() {
             Some(bus) => self.options_of(alloc, bus),
             None => Ok(None),
         }
@@ -400,6 +479,12 @@ fn push_quoted(text: &mut Text, code: &[u8]) {
         }
     }
     text.push("'");
+}
+
+fn shown(alloc: Global, bytes: &[u8]) -> Result<String, AllocError> {
+    let mut text = Text::new(alloc);
+    push_bytes(&mut text, bytes);
+    text.finish()
 }
 
 fn push_bytes(text: &mut Text, bytes: &[u8]) {

@@ -2,6 +2,9 @@
 
 use crate::lessons::paths::{NoPath, Step, key_of, path_of};
 use capture_check::{Transaction, Until};
+use decoding::TransactionSink;
+use dump_tokens::{Scale, View};
+use run_parts::RunError;
 use std::alloc::{AllocError, Global};
 use std::collections::BTreeMap;
 
@@ -23,8 +26,10 @@ pub(crate) struct Odd {
 
 /// All that was seen, each path once, in the order in which they first came.
 #[derive(Drop)]
-pub(crate) struct Sights {
+pub struct Sights {
     alloc: Global,
+    view: View,
+    scale: Option<Scale>,
     places: BTreeMap<Vec<u8>, usize>,
     pub(crate) sights: Vec<Sight>,
     pub(crate) odd: Vec<Odd>,
@@ -33,10 +38,12 @@ pub(crate) struct Sights {
 }
 
 impl Sights {
-    /// Nothing was seen.
-    pub(crate) fn new(alloc: Global) -> Sights {
+    /// Nothing was seen of a dump whose numbers count this.
+    pub fn new(alloc: Global, view: View, scale: Option<Scale>) -> Sights {
         Sights {
             alloc,
+            view,
+            scale,
             places: BTreeMap::new(alloc),
             sights: Vec::new(alloc),
             odd: Vec::new(alloc),
@@ -44,18 +51,19 @@ impl Sights {
         }
     }
 
-    /// Further transactions. One that no STOP ended does not count.
-    pub(crate) fn see_all(&mut self, transactions: &[Transaction]) -> Result<(), AllocError> {
-        for transaction in transactions {
-            self.see(transaction)?;
-        }
-        Ok(())
+    /// What the numbers of the dump count, where times are told in parts of a second.
+    pub(crate) fn told_scale(&self) -> Option<Scale> {
+        if self.view.si { self.scale } else { None }
     }
 
+    // One that no STOP ended does not count, nor one that is not told by its time.
     fn see(&mut self, transaction: &Transaction) -> Result<(), AllocError> {
         let Until::Stopped(_) = transaction.until else {
             return Ok(());
         };
+        if !self.view.window.has(self.scale, transaction.from) {
+            return Ok(());
+        }
         self.stopped = self.stopped.saturating_add(1);
         match path_of(self.alloc, transaction.marks.as_slice())? {
             Ok(path) => self.see_path(path, transaction.from),
@@ -103,6 +111,19 @@ impl Sights {
             times,
             first: from,
         })?;
+        Ok(())
+    }
+}
+
+impl TransactionSink for Sights {
+    ghost use Rattle.decoding.specs.Sinks.{any_sink};
+
+    ghost sink = { any_sink };
+
+    fn take(&mut self, transactions: &[Transaction]) -> Result<(), RunError> {
+        for transaction in transactions {
+            self.see(transaction)?;
+        }
         Ok(())
     }
 }

@@ -5,6 +5,7 @@ use crate::lessons::paths::Sent;
 use crate::lessons::seen::{Odd, Sight, Sights};
 use crate::lessons::trees::{After, Node, Tree};
 use crate::lessons::words::{push_data, push_path, push_unseen, why};
+use dump_tokens::Scale;
 use growing_text::{Lines, Text};
 use std::alloc::{AllocError, Global};
 
@@ -29,7 +30,7 @@ pub(crate) fn written(
 fn push_brief(alloc: Global, line: &mut Lines, seen: &Sights, trees: &Vec<Tree>, names: &[Name]) {
     line.begin("brief 1", "");
     line.end();
-    push_counts(line, seen, trees.len());
+    push_counts(alloc, line, seen, trees.len());
     for (k, name) in names.iter().enumerate() {
         if let Some(tree) = trees.get(k) {
             line.end();
@@ -50,7 +51,7 @@ fn push_controller(alloc: Global, line: &mut Lines, names: &[Name]) {
     line.end();
 }
 
-fn push_counts(line: &mut Lines, seen: &Sights, messages: usize) {
+fn push_counts(alloc: Global, line: &mut Lines, seen: &Sights, messages: usize) {
     line.begin("# seen:", "#");
     line.number(seen.stopped, "");
     line.word("transactions,");
@@ -58,15 +59,14 @@ fn push_counts(line: &mut Lines, seen: &Sights, messages: usize) {
     line.word("messages");
     line.end();
     for odd in seen.odd.iter() {
-        push_odd(line, *odd);
+        push_odd(alloc, line, *odd, seen.told_scale());
     }
 }
 
-fn push_odd(line: &mut Lines, odd: Odd) {
+fn push_odd(alloc: Global, line: &mut Lines, odd: Odd, scale: Option<Scale>) {
     line.begin("# in no message:", "#  ");
     line.number(odd.times, ",");
-    line.words("first at");
-    line.number(odd.first, ":");
+    push_first(alloc, line, odd.first, scale);
     line.words(why(odd.why));
     line.end();
 }
@@ -75,7 +75,7 @@ fn push_odd(line: &mut Lines, odd: Odd) {
 fn push_sights(alloc: Global, line: &mut Lines, tree: &Tree, seen: &Sights) {
     for number in tree.paths.iter().take(TOLD) {
         if let Some(sight) = seen.sights.get(*number) {
-            push_sight(alloc, line, sight);
+            push_sight(alloc, line, sight, seen.told_scale());
         }
     }
     let others = tree.paths.len().saturating_sub(TOLD);
@@ -89,13 +89,28 @@ fn push_sights(alloc: Global, line: &mut Lines, tree: &Tree, seen: &Sights) {
     line.end();
 }
 
-fn push_sight(alloc: Global, line: &mut Lines, sight: &Sight) {
+fn push_sight(alloc: Global, line: &mut Lines, sight: &Sight, scale: Option<Scale>) {
     line.begin("#", "#    ");
     line.number(sight.times, "");
-    line.words("times, first at");
-    line.number(sight.first, ":");
+    line.word("times,");
+    push_first(alloc, line, sight.first, scale);
     push_path(alloc, line, sight.path.as_slice());
     line.end();
+}
+
+// When something was first seen, in parts of a second where it is told what the numbers of the dump count.
+fn push_first(alloc: Global, line: &mut Lines, time: u64, scale: Option<Scale>) {
+    line.words("first at");
+    match scale {
+        Some(scale) => line.word_made(first_word(alloc, time, scale)),
+        None => line.number(time, ":"),
+    }
+}
+
+fn first_word(alloc: Global, time: u64, scale: Scale) -> Result<String, AllocError> {
+    let mut word = scale.told(alloc, time)?;
+    word.push(':')?;
+    Ok(word)
 }
 
 fn push_message(alloc: Global, line: &mut Lines, tree: &Tree, name: Name) {

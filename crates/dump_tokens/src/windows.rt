@@ -1,0 +1,118 @@
+// Which part of a dump is told.
+
+use crate::scales::Scale;
+use crate::times::Time;
+use std::cmp::Ordering;
+
+/// The times at which a transaction may begin that is told. One that is not given bounds nothing.
+#[derive(Clone, Copy)]
+pub struct Window {
+    /// No transaction is told that begins before this time.
+    pub from: Option<Time>,
+    /// No transaction is told that begins after this time.
+    pub to: Option<Time>,
+}
+
+impl Window {
+    /// One that has every time.
+    pub fn whole() -> Window {
+        Window {
+            from: None,
+            to: None,
+        }
+    }
+
+    /// Whether it has every time.
+    pub fn is_whole(self) -> bool {
+        self.from.is_none() && self.to.is_none()
+    }
+
+    /// Whether one of its times has a unit.
+    pub fn has_unit(self) -> bool {
+        has_unit(self.from) || has_unit(self.to)
+    }
+
+    /// Whether it has this time of a dump, whose numbers count this.
+    pub fn has(self, scale: Option<Scale>, time: u64) -> bool {
+        let is_late = match self.from {
+            Some(least) => compare(scale, time, least) != Ordering::Less,
+            None => true,
+        };
+        let is_early = match self.to {
+            Some(most) => compare(scale, time, most) != Ordering::Greater,
+            None => true,
+        };
+        is_late && is_early
+    }
+}
+
+/// Which transactions of a dump are told, and how.
+#[derive(Clone, Copy)]
+pub struct View {
+    /// How many Stopped transactions there are to be.
+    pub at_least: Option<u32>,
+    pub window: Window,
+    /// Whether times are written in parts of a second, where the dump says what its numbers count.
+    pub si: bool,
+    /// Whether transactions are counted, and not told.
+    pub summary: bool,
+}
+
+impl View {
+    /// All transactions, as they are.
+    pub fn whole() -> View {
+        View {
+            at_least: None,
+            window: Window::whole(),
+            si: false,
+            summary: false,
+        }
+    }
+
+    /// Whether all transactions are told as they are.
+    pub fn is_whole(self) -> bool {
+        self.at_least.is_none() && self.window.is_whole() && !self.si && !self.summary
+    }
+
+    /// Whether it matters what the numbers of the dump count.
+    pub fn needs_scale(self) -> bool {
+        self.si || self.window.has_unit()
+    }
+}
+
+/// Whether it has a unit.
+pub fn has_unit(time: Option<Time>) -> bool {
+    match time {
+        Some(time) => time.unit.is_some(),
+        None => false,
+    }
+}
+
+/// The least number of steps of a dump that are at least this time, where the dump says what they count or the time counts
+/// steps; at most 2 to the power 64, less one.
+pub fn steps(scale: Option<Scale>, time: Time) -> Option<u64> {
+    if time.unit.is_none() {
+        return Some(time.number);
+    }
+    let scale = scale?;
+    let mut below = 0u64;
+    let mut enough = u64::MAX;
+    // halved 64 times, one number is left
+    for _ in 0..64 {
+        let half = enough.saturating_sub(below) / 2;
+        let middle = below.saturating_add(half);
+        if scale.compare(middle, time) == Ordering::Less {
+            below = middle.saturating_add(1);
+        } else {
+            enough = middle;
+        }
+    }
+    Some(enough)
+}
+
+fn compare(scale: Option<Scale>, time: u64, other: Time) -> Ordering {
+    match scale {
+        Some(scale) => scale.compare(time, other),
+        None => time.cmp(&other.number),
+    }
+}

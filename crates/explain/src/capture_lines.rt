@@ -1,0 +1,217 @@
+// The lines of a capture, as its transactions end.
+
+use crate::captures::{after_transaction, below_transaction};
+use crate::labels::{Labels, labels_of};
+use crate::moments::push_times;
+use crate::paints::Paint;
+use crate::pulse_lines::pulse_line;
+use crate::selecting::{Seen, Selection};
+use crate::tallies::{Tallies, push_stopped};
+use crate::written::Written;
+use capture_check::{Transaction, Until};
+use decoding::{Ending, ExplainedSink};
+use dump_tokens::Quiet;
+use growing_text::Text;
+use plan_core::Plan;
+use run_parts::{Output, RunError};
+use std::alloc::{AllocError, Global};
+
+/// How the lines of a capture are written.
+#[derive(Clone, Copy)]
+pub struct Layout {
+    /// Whether lines for people stand below those of transactions.
+    pub explain: bool,
+    pub paint: Paint,
+    /// Whether all that has ended is written before the dump is read on.
+    pub live: bool,
+    /// Whether the first transaction that nobody explains is the last one.
+    pub stops: bool,
+}
+
+/// Writes the lines of a capture.
+#[derive(Drop)]
+pub struct CaptureLines<'a, O> {
+    written: Written<'a, O>,
+    layout: Layout,
+    selection: Selection,
+    labels: Labels,
+    // where transactions are counted, and not told
+    tallies: Option<Tallies>,
+    // whether the last transaction was told
+    was_told: bool,
+    has_stopped: bool,
+}
+
+impl<'a, O: Output> CaptureLines<'a, O> {
+    /// Nothing has been written of a capture that is explained by this plan.
+    ///
+    /// # Errors
+    ///
+    /// Where an allocation fails.
+    pub fn new(
+        alloc: Global,
+        plan: &Plan,
+        selection: Selection,
+        layout: Layout,
+        out: &'a mut O,
+    ) -> Result<CaptureLines<'a, O>, AllocError> {
+        let labels = labels_of(alloc, plan)?;
+        let tallies = tallies_of(alloc, plan, &selection)?;
+        Ok(CaptureLines {
+            written: Written::new(alloc, layout.live, out),
+            layout,
+            selection,
+            labels,
+            tallies,
+            was_told: false,
+            has_stopped: false,
+        })
+    }
+
+    fn transaction(&mut self, plan: &Plan, transaction: &Transaction, participants: &[u32]) {
+        self.follow(transaction.idle);
+        self.was_told = self.selection.takes(transaction, !participants.is_empty());
+        if !self.was_told {
+            return;
+        }
+        if let Some(tallies) = &mut self.tallies {
+            return tallies.count(transaction, participants);
+        }
+        self.line(transaction, participants);
+        if self.layout.explain {
+            self.written.text.push_made(below_transaction(
+                self.written.alloc,
+                plan,
+                &self.labels,
+                transaction,
+                !participants.is_empty(),
+            ));
+        }
+    }
+
+    // So many bits came on the free bus after the last transaction.
+    fn follow(&mut self, idle: u64) {
+        if idle != 0 && self.was_told && self.layout.explain {
+            self.written.text.push_made(after_transaction(self.written.alloc, idle));
+        }
+    }
+
+    fn line(&mut self, transaction: &Transaction, participants: &[u32]) {
+        push_times(
+            self.written.alloc,
+            &mut self.written.text,
+            self.selection.told_scale(),
+            transaction,
+        );
+        match transaction.until {
+            Until::Stopped(_) if participants.is_empty() => {
+                self.written.text.push(" ");
+                self.layout
+                    .paint
+                    .push_word(&mut self.written.text, "unexplained", false);
+            }
+            Until::Stopped(_) => self.push_labels(participants),
+            Until::Cut(_) => self.written.text.push(" cut"),
+            Until::Unfinished => self.written.text.push(" unfinished"),
+        }
+        self.written.text.push("\n");
+    }
+
+    fn push_labels(&mut self, participants: &[u32]) {
+        for p in participants {
+            self.written.text.push(" ");
+            self.written.text.push(self.labels.of(*p));
+        }
+    }
+
+    /// Writes the last lines of a capture that ended so, and answers what those that were told come to.
+    ///
+    /// # Errors
+    ///
+    /// `Write` where the writer failed or took no bytes, and `NoMemory`.
+    pub fn finish(mut self, quiet: Quiet, ending: Ending) -> Result<Selection, RunError> {
+        self.follow(ending.idle);
+        if let Some(tallies) = &self.tallies {
+            tallies.push_to(&mut self.written.text, &self.labels);
+        }
+        if self.layout.explain {
+            let line = pulse_line(self.written.alloc, quiet, ending.short);
+            self.written.text.push_made(line);
+        }
+        self.end()
+    }
+
+    /// Writes the last lines of a capture of which nothing more is read, where it stopped by itself: none else.
+    ///
+    /// # Errors
+    ///
+    /// Those of `finish`, and this one where it has not stopped.
+    pub fn stop(self, error: RunError) -> Result<Selection, RunError> {
+        if self.has_stopped {
+            self.end()
+        } else {
+            Err(error)
+        }
+    }
+
+    fn end(mut self) -> Result<Selection, RunError> {
+        push_last(&mut self.written.text, self.selection.seen);
+        if let Some(least) = self.selection.missed() {
+            push_too_few(&mut self.written.text, self.selection.seen.stopped, least);
+        }
+        self.written.write()?;
+        Ok(self.selection)
+    }
+}
+
+impl<O: Output> ExplainedSink for CaptureLines<'_, O> {
+    ghost use Rattle.decoding.specs.Sinks.{any_sink};
+
+    ghost sink = { λ plan. any_sink };
+
+    fn take(
+        &mut self,
+        _alloc: Global,
+        plan: &Plan,
+        transactions: &[Transaction],
+        explainers: &[Vec<u32>],
+    ) -> Result<(), RunError> {
+        for (transaction, participants) in transactions.iter().zip(explainers) {
+            self.transaction(plan, transaction, participants.as_slice());
+            if self.layout.stops && self.selection.seen.unexplained != 0 {
+                self.has_stopped = true;
+                // nothing more is to be read
+                return Err(RunError::Read);
+            }
+        }
+        self.written.pause()
+    }
+}
+
+fn tallies_of(
+    alloc: Global,
+    plan: &Plan,
+    selection: &Selection,
+) -> Result<Option<Tallies>, AllocError> {
+    if selection.is_summary() {
+        Ok(Some(Tallies::new(alloc, plan.participants())?))
+    } else {
+        Ok(None)
+    }
+}
+
+fn push_last(text: &mut Text, seen: Seen) {
+    push_stopped(text, seen);
+    text.push(", ");
+    text.push_number(seen.unexplained);
+    text.push(" unexplained\n");
+}
+
+/// Adds the line of fewer transactions than there were to be.
+pub(crate) fn push_too_few(text: &mut Text, stopped: u64, least: u64) {
+    text.push("too few: ");
+    text.push_number(stopped);
+    text.push(" of ");
+    text.push_number(least);
+    text.push("\n");
+}

@@ -1,0 +1,103 @@
+// The lines of the transactions of a dump, without a plan.
+
+use crate::addresses::Addresses;
+use crate::capture_lines::push_too_few;
+use crate::moments::push_times;
+use crate::selecting::Selection;
+use crate::tallies::push_stopped;
+use crate::words::with_bytes;
+use crate::written::Written;
+use capture_check::{Transaction, Until};
+use decoding::TransactionSink;
+use growing_text::Text;
+use run_parts::{Output, RunError};
+use std::alloc::{AllocError, Global};
+use std::mem;
+
+/// Writes the lines of transactions with their bytes.
+#[derive(Drop)]
+pub struct DecodeLines<'a, O> {
+    written: Written<'a, O>,
+    selection: Selection,
+    // where headers are counted, and transactions are not told
+    addresses: Option<Addresses>,
+}
+
+impl<'a, O: Output> DecodeLines<'a, O> {
+    /// Nothing has been written. Where it is live, all that has ended is written before the dump is read on.
+    ///
+    /// # Errors
+    ///
+    /// Where an allocation fails.
+    pub fn new(
+        alloc: Global,
+        selection: Selection,
+        live: bool,
+        out: &'a mut O,
+    ) -> Result<DecodeLines<'a, O>, AllocError> {
+        let addresses = if selection.is_summary() {
+            Some(Addresses::new(alloc)?)
+        } else {
+            None
+        };
+        Ok(DecodeLines {
+            written: Written::new(alloc, live, out),
+            selection,
+            addresses,
+        })
+    }
+
+    fn transaction(&mut self, transaction: &Transaction) {
+        if !self.selection.takes(transaction, true) {
+            return;
+        }
+        if let Some(addresses) = &mut self.addresses {
+            return addresses.count(transaction);
+        }
+        push_times(
+            self.written.alloc,
+            &mut self.written.text,
+            self.selection.told_scale(),
+            transaction,
+        );
+        self.written.text.push(match transaction.until {
+            Until::Stopped(_) => "  ",
+            Until::Cut(_) => " cut ",
+            Until::Unfinished => " unfinished ",
+        });
+        let text = mem::replace(&mut self.written.text, Text::new(self.written.alloc));
+        self.written.text = with_bytes(text, transaction.marks.as_slice());
+        self.written.text.push("\n");
+    }
+
+    /// Writes the last lines, and answers what those that were told come to.
+    ///
+    /// # Errors
+    ///
+    /// `Write` where the writer failed or took no bytes, and `NoMemory`.
+    pub fn finish(mut self) -> Result<Selection, RunError> {
+        if let Some(addresses) = &self.addresses {
+            addresses.push_to(&mut self.written.text);
+        }
+        push_stopped(&mut self.written.text, self.selection.seen);
+        self.written.text.push("\n");
+        if let Some(least) = self.selection.missed() {
+            push_too_few(&mut self.written.text, self.selection.seen.stopped, least);
+        }
+        self.written.write()?;
+        Ok(self.selection)
+    }
+}
+
+impl<O: Output> TransactionSink for DecodeLines<'_, O> {
+    ghost use Rattle.decoding.specs.Sinks.{any_sink};
+
+    ghost sink = { any_sink };
+
+    fn take(&mut self, transactions: &[Transaction]) -> Result<(), RunError> {
+        for transaction in transactions {
+            self.transaction(transaction);
+        }
+        self.written.pause()
+    }
+}

@@ -1,0 +1,72 @@
+// Who goes along with a transaction that nobody explains, and where.
+
+use crate::sending::pass;
+use capture_check::Mark;
+use message_tree::Item;
+use places::{Offered, Place};
+use plan_core::Plan;
+use std::mem;
+
+// How many participants are named for a transaction.
+const NEAREST: usize = 3;
+
+/// Where a participant leaves a transaction: how many marks it goes along with, and what it does then.
+#[derive(Clone, Copy)]
+pub struct Leaves {
+    pub participant: u32,
+    pub slot: usize,
+    pub offered: Offered,
+}
+
+/// The participants that go along furthest with these marks, in this order, and of those that leave in one slot the first.
+pub fn nearest(plan: &Plan, marks: &[Mark]) -> [Option<Leaves>; NEAREST] {
+    let mut nearest = [None; NEAREST];
+    for participant in 0..plan.participants() {
+        let (slot, offered) = leaving(Place::start(plan.sends(participant)), marks);
+        let new = Leaves {
+            participant,
+            slot,
+            offered,
+        };
+        insert(&mut nearest, new);
+    }
+    nearest
+}
+
+// Puts a participant after those that go along as far. Who has no place then is forgotten.
+fn insert(nearest: &mut [Option<Leaves>], new: Leaves) {
+    let mut next = Some(new);
+    let mut is_placed = false;
+    for near in nearest {
+        if let Some(other) = near {
+            is_placed = is_placed || other.slot < new.slot;
+        } else {
+            is_placed = true;
+        }
+        if is_placed {
+            mem::swap(near, &mut next);
+        }
+    }
+}
+
+// In which slot somebody leaves these marks, and what it does there.
+fn leaving(start: Place<'_>, marks: &[Mark]) -> (usize, Offered) {
+    let mut place = start;
+    for (slot, mark) in marks.iter().enumerate() {
+        let offered = place.offered();
+        if !pass(&mut place, item_for(offered, *mark)) {
+            return (slot, offered);
+        }
+    }
+    (marks.len(), place.offered())
+}
+
+// The item that leaves this mark, by whoever drives the bit.
+fn item_for(offered: Offered, mark: Mark) -> Item {
+    match mark {
+        Mark::Level(bit) if offered == Offered::Listen => Item::Heard(bit),
+        Mark::Level(bit) => Item::Sent(bit),
+        Mark::Again => Item::Again,
+        Mark::Stop => Item::Stop,
+    }
+}

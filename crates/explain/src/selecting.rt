@@ -1,0 +1,90 @@
+// Which transactions are told, and what they come to.
+
+use capture_check::{Transaction, Until};
+use dump_tokens::{Scale, View};
+use run_parts::Status;
+
+/// What a dump has shown, as far as it is told.
+#[derive(Clone, Copy)]
+pub struct Seen {
+    /// How many transactions.
+    pub transactions: u64,
+    /// How many of them a STOP ended.
+    pub stopped: u64,
+    /// How many of these nobody explains.
+    pub unexplained: u64,
+}
+
+impl Seen {
+    /// One more transaction.
+    fn count(&mut self, transaction: &Transaction, is_explained: bool) {
+        self.transactions = self.transactions.saturating_add(1);
+        if let Until::Stopped(_) = transaction.until {
+            self.stopped = self.stopped.saturating_add(1);
+            let unexplained = u64::from(!is_explained);
+            self.unexplained = self.unexplained.saturating_add(unexplained);
+        }
+    }
+}
+
+/// Transactions, as they are chosen and counted.
+#[derive(Clone, Copy)]
+pub struct Selection {
+    view: View,
+    scale: Option<Scale>,
+    /// What those that are told come to.
+    pub seen: Seen,
+}
+
+impl Selection {
+    /// No transaction yet of a dump whose numbers count this.
+    pub fn new(view: View, scale: Option<Scale>) -> Selection {
+        Selection {
+            view,
+            scale,
+            seen: Seen {
+                transactions: 0,
+                stopped: 0,
+                unexplained: 0,
+            },
+        }
+    }
+
+    /// Whether the next transaction is told, and if so it is counted.
+    pub fn takes(&mut self, transaction: &Transaction, is_explained: bool) -> bool {
+        let is_told = self.view.window.has(self.scale, transaction.from);
+        if is_told {
+            self.seen.count(transaction, is_explained);
+        }
+        is_told
+    }
+
+    /// What the numbers of the dump count, where times are told in parts of a second.
+    pub fn told_scale(&self) -> Option<Scale> {
+        if self.view.si { self.scale } else { None }
+    }
+
+    /// Whether transactions are counted, and not told.
+    pub fn is_summary(&self) -> bool {
+        self.view.summary
+    }
+
+    /// How many there were to be that a STOP ended, where there are fewer.
+    pub fn missed(&self) -> Option<u64> {
+        let least = u64::from(self.view.at_least.unwrap_or(0));
+        if self.seen.stopped < least {
+            Some(least)
+        } else {
+            None
+        }
+    }
+
+    /// The status of a run that has told of these.
+    pub fn status(&self) -> Status {
+        if self.seen.unexplained == 0 && self.missed().is_none() {
+            Status::Good
+        } else {
+            Status::Bad
+        }
+    }
+}

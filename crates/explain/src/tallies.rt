@@ -1,0 +1,100 @@
+// How often each participant explains a transaction.
+
+use crate::labels::Labels;
+use crate::selecting::Seen;
+use capture_check::{Transaction, Until};
+use growing_text::Text;
+use std::alloc::{AllocError, Global};
+
+/// How often a participant explains a transaction alone, and with others.
+#[derive(Clone, Copy)]
+pub struct Explains {
+    pub alone: u64,
+    pub with_others: u64,
+}
+
+/// How transactions ended, other than explained.
+#[derive(Clone, Copy)]
+pub struct Others {
+    pub unexplained: u64,
+    pub cut: u64,
+    pub unfinished: u64,
+}
+
+/// The participants of a plan, and the other ends of transactions, counted.
+#[derive(Drop)]
+pub struct Tallies {
+    /// By the number of the participant.
+    pub senders: Vec<Explains>,
+    pub others: Others,
+}
+
+impl Tallies {
+    /// So many participants, and no transaction.
+    pub fn new(alloc: Global, participants: u32) -> Result<Tallies, AllocError> {
+        let none = Explains {
+            alone: 0,
+            with_others: 0,
+        };
+        Ok(Tallies {
+            senders: vec![in alloc; none; participants as usize]?,
+            others: Others {
+                unexplained: 0,
+                cut: 0,
+                unfinished: 0,
+            },
+        })
+    }
+
+    /// One more transaction, which these explain.
+    pub fn count(&mut self, transaction: &Transaction, participants: &[u32]) {
+        let others = &mut self.others;
+        match transaction.until {
+            Until::Cut(_) => others.cut = others.cut.saturating_add(1),
+            Until::Unfinished => others.unfinished = others.unfinished.saturating_add(1),
+            Until::Stopped(_) if participants.is_empty() => {
+                others.unexplained = others.unexplained.saturating_add(1)
+            }
+            Until::Stopped(_) => self.explained(participants),
+        }
+    }
+
+    fn explained(&mut self, participants: &[u32]) {
+        let is_alone = participants.len() == 1;
+        for p in participants {
+            if let Some(count) = self.senders.get_mut(*p as usize) {
+                count.alone = count.alone.saturating_add(u64::from(is_alone));
+                count.with_others = count.with_others.saturating_add(u64::from(!is_alone));
+            }
+        }
+    }
+
+    /// The lines of the summary: the participants in the order of their numbers, and then the rest.
+    pub(crate) fn push_to(&self, text: &mut Text, labels: &Labels) {
+        for (p, count) in self.senders.iter().enumerate() {
+            text.push(labels.of(p as u32));
+            push_count(text, " ", count.alone);
+            push_count(text, " alone, ", count.with_others);
+            text.push(" with others\n");
+        }
+        push_others(text, self.others);
+    }
+}
+
+fn push_others(text: &mut Text, others: Others) {
+    push_count(text, "unexplained ", others.unexplained);
+    push_count(text, "\ncut ", others.cut);
+    push_count(text, "\nunfinished ", others.unfinished);
+    text.push("\n");
+}
+
+pub(crate) fn push_count(text: &mut Text, before: &str, count: u64) {
+    text.push(before);
+    text.push_number(count);
+}
+
+/// Adds `N transactions`.
+pub(crate) fn push_stopped(text: &mut Text, seen: Seen) {
+    text.push_number(seen.stopped);
+    text.push(" transactions");
+}
