@@ -178,7 +178,7 @@ impl Ear {
     // The last transaction has no end.
     fn finish(self) -> Result<Vec<Heard>, AllocError> {
         let Ear {
-            listener,
+            mut listener,
             mut heard,
             is_whole,
             ..

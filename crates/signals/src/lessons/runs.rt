@@ -137,7 +137,7 @@ impl Hearing {
 fn see_last(
     alloc: Global,
     seen: &mut Sights,
-    follower: Follower,
+    mut follower: Follower,
     samples: &[Sample],
 ) -> Result<(), AllocError> {
     let found = follower.follow_to_end(alloc, samples)?;
