@@ -67,16 +67,21 @@ impl Follower {
 
     /// The transactions that end within the last samples, and the one that goes on at the end of the capture, if any.
     pub fn follow_to_end(
-        mut self,
+        &mut self,
         alloc: Global,
         samples: &[Sample],
     ) -> Result<Vec<Transaction>, AllocError>
         ensures { IfOk result (λ found.
-            map recorded found.items ≡ transactions_behind (place_of self) samples.now) }
+            map recorded found.items ≡ transactions_behind (place_of self.old) samples.now) }
     {
         let found = self.follow(alloc, samples)?;
         let all = with_last(found, self.listener.end())?;
         Ok(all)
+    }
+
+    /// How many bits have come on the free bus since the last transaction.
+    pub fn idle(&self) -> u64 {
+        self.listener.idle()
     }
 }
 

@@ -36,6 +36,8 @@ pub struct Transaction {
     pub from: u64,
     pub until: Until,
     pub marks: Vec<Mark>,
+    /// How many bits came on the free bus before it.
+    pub idle: u64,
 }
 
 // What is known of the bus.
@@ -51,6 +53,8 @@ pub(crate) enum Heard {
 #[derive(Debug, Drop)]
 pub struct Listener {
     pub(crate) heard: Heard,
+    // how many bits have come on the free bus since the last transaction
+    pub(crate) idle: u64,
 }
 
 impl Listener {
@@ -65,6 +69,7 @@ impl Listener {
     {
         Listener {
             heard: Heard::Unknown,
+            idle: 0,
         }
     }
 
@@ -87,6 +92,7 @@ impl Listener {
             (Heard::Busy(..), What::Known(_)) => {}
             (Heard::Free, What::Start) => self.heard = Heard::Busy(event.time, Vec::new(alloc)),
             (Heard::Free, What::Known(false) | What::Unknown) => self.heard = Heard::Unknown,
+            (Heard::Free, What::Bit(_)) => self.idle = self.idle.saturating_add(1),
             (Heard::Unknown, What::Known(true) | What::Stop) => self.heard = Heard::Free,
             _ => {}
         }
@@ -99,23 +105,26 @@ impl Listener {
         ensures bus { bus_of self.new ≡ bus_in then }
     {
         match mem::replace(&mut self.heard, then) {
-            Heard::Busy(from, marks) => Some(Transaction { from, until, marks }),
+            Heard::Busy(from, marks) => Some(Transaction {
+                from,
+                until,
+                marks,
+                idle: mem::replace(&mut self.idle, 0),
+            }),
             _ => None,
         }
     }
 
-    /// The transaction that goes on, if any.
-    pub fn end(self) -> Option<Transaction>
-        ensures { recorded_option result ≡ ended (bus_of self) Unfinished }
+    /// The end of the capture: the transaction that goes on, if any.
+    pub fn end(&mut self) -> Option<Transaction>
+        ensures { recorded_option result ≡ ended (bus_of self.old) Unfinished }
     {
-        match self.heard {
-            Heard::Busy(from, marks) => Some(Transaction {
-                from,
-                until: Until::Unfinished,
-                marks,
-            }),
-            _ => None,
-        }
+        self.finish(Heard::Unknown, Until::Unfinished)
+    }
+
+    /// How many bits have come on the free bus since the last transaction.
+    pub fn idle(&self) -> u64 {
+        self.idle
     }
 }
 

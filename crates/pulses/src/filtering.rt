@@ -17,6 +17,8 @@ pub struct Filter {
     pub(crate) scl: Wire,
     pub(crate) sda: Wire,
     pub(crate) first: First,
+    // how many levels were left out
+    pub(crate) short: u64,
     ghost scl_is_first: { first ≡ Scl → scl.missing ≤ sda.missing },
     ghost sda_is_first: { first ≡ Sda → sda.missing ≤ scl.missing },
     ghost both_last: { first ≡ Both → scl.missing ≡ sda.missing },
@@ -44,7 +46,13 @@ impl Filter {
             scl: Wire::new(Level::Unknown),
             sda: Wire::new(Level::Unknown),
             first: First::Both,
+            short: 0,
         }
+    }
+
+    /// How many levels were too short, and left out. The first level of a line and its last never are.
+    pub fn short(&self) -> u64 {
+        self.short
     }
 
     /// Takes the next samples, and puts those that are now known after the ones in `quiet`. Where an allocation fails,
@@ -60,8 +68,8 @@ impl Filter {
     }
 
     /// The end of the capture: the samples that are left are put after the ones in `quiet`.
-    pub fn end(mut self, quiet: &mut Vec<Sample>) -> Result<(), AllocError>
-        ensures { OnOk result (quiet.new.items ≡ quiet.old.items ++ behind self []) }
+    pub fn end(&mut self, quiet: &mut Vec<Sample>) -> Result<(), AllocError>
+        ensures { OnOk result (quiet.new.items ≡ quiet.old.items ++ behind self.old []) }
     {
         if self.begun {
             self.scl.missing = 0;
@@ -73,11 +81,11 @@ impl Filter {
 
     /// Takes the last samples, and puts all that are left after the ones in `quiet`.
     pub fn feed_to_end(
-        mut self,
+        &mut self,
         samples: &[Sample],
         quiet: &mut Vec<Sample>,
     ) -> Result<(), AllocError>
-        ensures { OnOk result (quiet.new.items ≡ quiet.old.items ++ behind self samples.now) }
+        ensures { OnOk result (quiet.new.items ≡ quiet.old.items ++ behind self.old samples.now) }
     {
         self.feed(samples, quiet)?;
         self.end(quiet)?;
@@ -249,14 +257,18 @@ impl Filter {
         match (self.scl.has(sample.scl), self.sda.has(sample.sda)) {
             (true, true) => {}
             (true, false) => {
+                self.short = self.short.saturating_add(self.sda.short());
                 self.sda.begin(sample.sda, sample.time, self.least);
                 self.first = First::Scl;
             }
             (false, true) => {
+                self.short = self.short.saturating_add(self.scl.short());
                 self.scl.begin(sample.scl, sample.time, self.least);
                 self.first = First::Sda;
             }
             (false, false) => {
+                let short = self.short.saturating_add(self.scl.short());
+                self.short = short.saturating_add(self.sda.short());
                 self.scl.begin(sample.scl, sample.time, self.least);
                 self.sda.begin(sample.sda, sample.time, self.least);
                 self.first = First::Both;

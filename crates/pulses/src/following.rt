@@ -60,13 +60,13 @@ impl QuietFollower {
 
     /// The transactions that are left, with these last samples, and the one that goes on at the end of the capture, if any.
     pub fn follow_to_end(
-        mut self,
+        &mut self,
         alloc: Global,
         samples: &[Sample],
     ) -> Result<Vec<Transaction>, AllocError>
-        ensures { IfOk result (λ found. map recorded found.items ≡ quiet_behind self samples.now) }
+        ensures { IfOk result (λ found. map recorded found.items ≡ quiet_behind self.old samples.now) }
     {
-        match self.filter {
+        match &mut self.filter {
             None => self.follower.follow_to_end(alloc, samples),
             Some(filter) => {
                 self.left.clear();
@@ -74,5 +74,18 @@ impl QuietFollower {
                 self.follower.follow_to_end(alloc, self.left.as_slice())
             }
         }
+    }
+
+    /// How many levels were too short, and left out.
+    pub fn short(&self) -> u64 {
+        match &self.filter {
+            Some(filter) => filter.short(),
+            None => 0,
+        }
+    }
+
+    /// How many bits have come on the free bus since the last transaction.
+    pub fn idle(&self) -> u64 {
+        self.follower.idle()
     }
 }

@@ -57,6 +57,12 @@ impl Wire {
         self.missing = self.missing.saturating_sub(passed);
     }
 
+    /// 1 where its run has not lasted, and else 0.
+    #[inline(always)]
+    pub(crate) fn short(&self) -> u64 {
+        u64::from(self.missing != 0)
+    }
+
     /// Whether this is its level.
     #[inline(always)]
     pub(crate) fn has(&self, level: Level) -> bool

@@ -1,14 +1,11 @@
--- What a report that is being made stands for. Only private contracts and proofs use this.
-use Rattle.std.specs.Prelude.{◌≡◌, ℕ, List, ◌++◌, string_bytes}
+-- What the lines that are being made stand for.
+use Rattle.std.specs.Prelude.{◌≡◌, List, ◌++◌, string_bytes}
 use Rattle.plan_core.specs.Contents.{Contents}
-use Rattle.vcd_read.specs.declared.samples.Sample.{Sample}
-use Rattle.vcd_read.specs.Probes.{Finder}
-use Rattle.vcd_read.specs.Readers.{Fed, reading_of}
-use Rattle.pulses.specs.Following.{quiet_behind, quiet_transactions}
 use Rattle.capture_check.specs.Transactions.{Recorded}
-use Rattle.report.specs.declared.following.Capture.{Capture}
+use Rattle.decoding.specs.Sinks.{Sink}
 use Rattle.report.specs.declared.telling.Telling.{Telling}
 use Rattle.report.specs.CaptureLines.{Tally, Tells}
+use Rattle.run_parts.specs.declared.errors.RunError.TheVariants.{NoMemory}
 
 abbrev pub tally_of : Telling → Tally
 tally_of telling = record {
@@ -17,11 +14,10 @@ tally_of telling = record {
   unexplained = telling.unexplained;
 }
 
--- this text of a dump was read, and what its samples say is told, but for what goes on
-pub record Follows (least : ℕ) (scl sda : Finder) (plan : Contents) (text : List ℕ) (c : Capture) : Type 0 where
-  pub cleared : List Sample
-  pub fed : Fed scl sda text cleared (reading_of c.reader)
-  pub done : List Recorded
-  pub told : Tells plan done (tally_of c.telling)
-  pub left : (more : List Sample) →
-      done ++ quiet_behind c.follower more ≡ quiet_transactions least (cleared ++ more)
+-- a call tells of its transactions too, or memory runs out
+abbrev pub telling_sink : Contents → Sink Telling
+telling_sink plan = record {
+  takes = λ before more after.
+      (ts : List Recorded) → Tells plan ts (tally_of before) → Tells plan (ts ++ more) (tally_of after);
+  stops = λ before more error after. error ≡ NoMemory;
+}

@@ -1,17 +1,18 @@
 // The run that explains a capture.
 
-ghost use Rattle.std.specs.Prelude.{◌≡◌, ◌<◌, ℕ, List, [], length, string_bytes, IfOk, IfErr};
+ghost use Rattle.std.specs.Prelude.{ℕ, List, string_bytes, IfOk, IfErr};
 ghost use Rattle.plan_core.specs.PlanContents.{plan_contents};
-ghost use Rattle.report.specs.Captures.{CaptureOf, Captured, HaltsAtCapture, HaltsAtDump};
-ghost use Rattle.report.specs.CaptureViews.{Follows};
-ghost use Rattle.vcd_read.specs.Probes.{Finder, by_name};
+ghost use Rattle.decoding.specs.Dumps.{HaltsAtDump};
+ghost use Rattle.report.specs.Captures.{CaptureOf, Captured, HaltsAtCapture};
+ghost use Rattle.vcd_read.specs.Probes.{by_name};
 ghost use Rattle.vcd_read.specs.Views.{asked};
 ghost use Rattle.run_parts.specs.Runs.{ReadsText, ReadsBoth, Reports, Stops};
 
-use crate::following::Capture;
+use crate::telling::Telling;
+use decoding::{Explaining, decode};
 use plan_core::Plan;
 use plan_text::read_plan;
-use run_parts::devices::reading::{BLOCK, READS};
+use run_parts::devices::reading::READS;
 use run_parts::{Input, Output, RunError, Status, read_within, write_lines};
 use std::alloc::Global;
 use std::thread::Threads;
@@ -102,33 +103,15 @@ fn read_capture<J: Input>(
         × CaptureOf least (asked scl.entry) (asked sda.entry) (plan_contents plan.now) dump (string_bytes it.0) it.1) }
     ensures stops { IfErr result (λ error. HaltsAtDump J.reader (asked scl.entry) (asked sda.entry) vcd.old error vcd.new) }
 {
-    let mut block = vec![in alloc; 0u8; BLOCK]?;
-    let capture = Capture::new(alloc, scl, sda, least)?;
-    read_blocks(rt, alloc, plan, vcd, block.as_mut_slice(), capture)
-}
-
-// The same, with a block of memory for what one call gives.
-fn read_blocks<J: Input>(
-    rt: &(impl Threads + Sync),
-    alloc: Global,
-    plan: &Plan,
-    vcd: &mut J,
-    block: &mut [u8],
-    mut capture: Capture,
-) -> Result<(String, Status), RunError>
-    requires { 0 < length block.old }
-    ensures all { (least : ℕ) (scl sda : Finder) → Follows least scl sda (plan_contents plan.now) [] capture →
-        IfOk result (λ it. (dump : List ℕ) × ReadsText J.reader vcd.old dump vcd.new
-        × CaptureOf least scl sda (plan_contents plan.now) dump (string_bytes it.0) it.1) }
-    ensures stops { (least : ℕ) (scl sda : Finder) → Follows least scl sda (plan_contents plan.now) [] capture →
-        IfErr result (λ error. HaltsAtDump J.reader scl sda vcd.old error vcd.new) }
-{
-    for _ in 0..READS {
-        match vcd.read(block) {
-            Ok(0) => return capture.end(rt, alloc, plan),
-            Ok(count) => capture.feed(rt, alloc, plan, &block[..count])?,
-            Err(_) => return Err(RunError::Read),
-        }
-    }
-    Err(RunError::Read)
+    let mut explaining = Explaining {
+        rt,
+        alloc,
+        plan,
+        sink: Telling::new(alloc),
+    };
+    decode(alloc, vcd, scl, sda, least, &mut explaining)?;
+    let telling = explaining.sink;
+    let status = telling.status();
+    let report = telling.finish()?;
+    Ok((report, status))
 }

@@ -10,7 +10,6 @@ pub mod checked;
 pub mod checks;
 pub mod faulty;
 pub mod finding;
-mod following;
 pub mod found;
 pub mod laws;
 pub mod lines;

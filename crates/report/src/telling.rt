@@ -6,11 +6,11 @@ ghost use Rattle.plan_core.specs.PlanContents.{plan_contents};
 ghost use Rattle.report.specs.CaptureLines.{capture_line, ending_text, who};
 ghost use Rattle.run_parts.specs.Lines.{labels};
 
-use capture_check::{Transaction, Until, explain_all};
+use capture_check::{Transaction, Until};
+use decoding::ExplainedSink;
 use plan_core::Plan;
-use run_parts::{Status, push_labels};
+use run_parts::{RunError, Status, push_labels};
 use std::alloc::{AllocError, Global};
-use std::thread::Threads;
 
 /// The lines of the transactions so far, how many of them a STOP ended, and how many of these nobody explains.
 #[derive(Drop)]
@@ -40,24 +40,6 @@ impl Telling {
             stopped: 0,
             unexplained: 0,
         }
-    }
-
-    /// The lines of these transactions too, which several threads explain.
-    pub(crate) fn push_all(
-        &mut self,
-        rt: &(impl Threads + Sync),
-        alloc: Global,
-        plan: &Plan,
-        transactions: &[Transaction],
-    ) -> Result<(), AllocError>
-        ensures { OnOk result ((ts : List Recorded) → Tells (plan_contents plan.now) ts (tally_of self.old) →
-            Tells (plan_contents plan.now) (ts ++ map recorded transactions.now) (tally_of self.new)) }
-    {
-        let explainers = explain_all(rt, alloc, plan, transactions)?;
-        for k in 0..transactions.len() {
-            self.push(alloc, plan, &transactions[k], explainers[k].as_slice())?;
-        }
-        Ok(())
     }
 
     /// The line of one more transaction, which these participants explain.
@@ -104,6 +86,25 @@ impl Telling {
         } = self;
         writeln!(lines, "{stopped} transactions, {unexplained} unexplained")?;
         Ok(lines)
+    }
+}
+
+impl ExplainedSink for Telling {
+    ghost use Rattle.report.specs.CaptureViews.{telling_sink};
+
+    ghost sink = { telling_sink };
+
+    fn take(
+        &mut self,
+        alloc: Global,
+        plan: &Plan,
+        transactions: &[Transaction],
+        explainers: &[Vec<u32>],
+    ) -> Result<(), RunError> {
+        for k in 0..transactions.len() {
+            self.push(alloc, plan, &transactions[k], explainers[k].as_slice())?;
+        }
+        Ok(())
     }
 }
 

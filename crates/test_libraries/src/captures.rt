@@ -249,6 +249,7 @@ fn headers(alloc: Global, answer: bool, count: usize) -> Result<Vec<Transaction>
             from: 10,
             until: Until::Stopped(115),
             marks,
+            idle: 0,
         })?;
     }
     Ok(transactions)

@@ -1,0 +1,5 @@
+pub mod Sinks
+pub mod Explaining
+pub mod Dumps
+pub mod Decoding
+pub mod DecoderViews

@@ -1,0 +1,88 @@
+// A dump that comes in pieces, from its bytes to its transactions.
+
+use crate::runs::Ending;
+use crate::sinks::TransactionSink;
+use pulses::QuietFollower;
+use run_parts::RunError;
+use std::alloc::{AllocError, Global};
+use vcd_read::{Probe, Reader};
+
+/// What is read of a dump, and what is known of the bus.
+#[derive(Drop)]
+pub(crate) struct Decoder {
+    pub(crate) reader: Reader,
+    pub(crate) follower: QuietFollower,
+}
+
+impl Decoder {
+    ghost use Rattle.std.specs.Prelude.{ℕ, List, ◌++◌, IfOk, IfErr, OnOk};
+    ghost use Rattle.vcd_read.specs.Probes.{Finder};
+    ghost use Rattle.vcd_read.specs.Views.{asked};
+    ghost use Rattle.decoding.specs.Decoding.{DecodesDump};
+    ghost use Rattle.decoding.specs.Dumps.{PassesSoFar};
+    ghost use Rattle.decoding.specs.DecoderViews.{IsNew, Follows, StopsAtPiece, StopsAtEnd};
+
+    /// Nothing of the dump has been read. Levels that last less than this time are left out.
+    pub(crate) fn new(
+        alloc: Global,
+        scl: Probe<'_>,
+        sda: Probe<'_>,
+        least: u64,
+    ) -> Result<Decoder, AllocError>
+        ensures { IfOk result (λ decoder. IsNew least (asked scl.entry) (asked sda.entry) decoder) }
+    {
+        Ok(Decoder {
+            reader: Reader::of(alloc, scl, sda)?,
+            follower: QuietFollower::new(alloc, least),
+        })
+    }
+
+    /// The next piece of the dump. The sink takes the transactions that end in it.
+    pub(crate) fn feed<S: TransactionSink>(
+        &mut self,
+        alloc: Global,
+        piece: &[u8],
+        sink: &mut S,
+    ) -> Result<(), RunError>
+        ensures fed { OnOk result ((start : S) (least : ℕ) (scl sda : Finder) (text : List ℕ) →
+            Follows S.sink start least scl sda text self.old sink.old →
+            Follows S.sink start least scl sda (text ++ piece.now) self.new sink.new) }
+        ensures passed { OnOk result ((start : S) (least : ℕ) (scl sda : Finder) (text : List ℕ) →
+            Follows S.sink start least scl sda text self.old sink.old → PassesSoFar scl sda (text ++ piece.now)) }
+        ensures stops { IfErr result (λ error. (start : S) (least : ℕ) (scl sda : Finder) (text : List ℕ) →
+            Follows S.sink start least scl sda text self.old sink.old →
+            StopsAtPiece S.sink start least scl sda text piece.now error sink.new) }
+    {
+        self.reader.feed(piece)?;
+        let found = self.follower.follow(alloc, self.reader.samples())?;
+        sink.take(found.as_slice())?;
+        self.reader.clear_samples();
+        Ok(())
+    }
+
+    /// The end of the dump. The sink takes the transactions that are left.
+    pub(crate) fn end<S: TransactionSink>(
+        self,
+        alloc: Global,
+        sink: &mut S,
+    ) -> Result<Ending, RunError>
+        ensures read { IfOk result (λ ending. (start : S) (least : ℕ) (scl sda : Finder) (text : List ℕ) →
+            Follows S.sink start least scl sda text self sink.old →
+            DecodesDump S.sink start least scl sda text sink.new) }
+        ensures stops { IfErr result (λ error. (start : S) (least : ℕ) (scl sda : Finder) (text : List ℕ) →
+            Follows S.sink start least scl sda text self sink.old →
+            StopsAtEnd S.sink start least scl sda text error sink.new) }
+    {
+        let Decoder {
+            reader,
+            mut follower,
+        } = self;
+        let samples = reader.end()?;
+        let found = follower.follow_to_end(alloc, samples.as_slice())?;
+        sink.take(found.as_slice())?;
+        Ok(Ending {
+            short: follower.short(),
+            idle: follower.idle(),
+        })
+    }
+}
