@@ -1,10 +1,10 @@
 // What a command line asks for.
 
 use crate::building::program;
-use crate::capturing::{Lines, Options, View};
+use crate::capturing::Options;
 use clap::error::ErrorKind;
 use clap::{ArgMatches, Error};
-use dump_tokens::Time;
+use dump_tokens::Bus;
 use std::alloc::{AllocError, Global};
 
 /// What a command line comes to.
@@ -48,26 +48,33 @@ pub enum Request<'a> {
         cert: &'a str,
         explain: bool,
     },
-    /// A page that shows a plan, and a recorded bus where there is one, on which these are the two lines.
+    /// A page that shows a plan, and a recorded bus where there is one.
     Page {
         plan: &'a str,
         capture: Option<&'a str>,
-        lines: Lines<'a>,
+        bus: Bus<'a>,
         output: Option<&'a str>,
     },
     /// Who wins arbitration.
     Order {
         plan: &'a str,
     },
-    /// Who of a plan explains a recorded bus, on which these are the two lines.
+    /// Who of a plan explains a recorded bus.
     Capture {
         plan: &'a str,
         vcd: &'a str,
-        lines: Lines<'a>,
-        /// A level that lasts less is ignored.
-        min_pulse: Option<Time>,
-        view: View,
+        bus: Bus<'a>,
         explain: bool,
+        /// Whether all that has ended is written before the dump is read on.
+        live: bool,
+        /// Whether the first transaction that nobody explains ends the run.
+        stops: bool,
+    },
+    /// The transactions of a recorded bus, in bytes.
+    Decode {
+        vcd: &'a str,
+        bus: Bus<'a>,
+        live: bool,
     },
     /// The signals of a dump.
     Signals {
@@ -76,7 +83,7 @@ pub enum Request<'a> {
     /// A brief of what was recorded, where bytes of messages of one shape are put together if `merge` says so.
     Learn {
         vcd: &'a str,
-        lines: Lines<'a>,
+        bus: Bus<'a>,
         merge: bool,
         output: Option<&'a str>,
     },
@@ -212,7 +219,7 @@ fn request_of<'a>(name: &str, matches: &ArgMatches<'a>) -> Result<Request<'a>, F
         "signals" => Ok(Request::Signals {
             vcd: word(matches, "VCD"),
         }),
-        "capture" | "learn" | "page" => recorded_of(name, matches),
+        "capture" | "decode" | "learn" | "page" => recorded_of(name, matches),
         "bench" => bench_of(matches),
         _ => Ok(written_of(name, matches)),
     }
@@ -290,43 +297,48 @@ fn recorded_of<'a>(name: &str, matches: &ArgMatches<'a>) -> Result<Request<'a>, 
         return Err(fault);
     }
     match name {
-        "capture" => capture_of(matches, &options),
-        "learn" => Ok(learn_of(matches, options.lines())),
-        _ => page_of(matches, options.lines()),
+        "capture" => capture_of(matches, options.bus()),
+        "decode" => Ok(Request::Decode {
+            vcd: word(matches, "VCD"),
+            bus: options.bus(),
+            live: matches.get_flag("live"),
+        }),
+        "learn" => Ok(learn_of(matches, options.bus())),
+        _ => page_of(matches, options.bus()),
     }
 }
 
-fn capture_of<'a>(matches: &ArgMatches<'a>, options: &Options<'a>) -> Result<Request<'a>, Fault> {
+fn capture_of<'a>(matches: &ArgMatches<'a>, bus: Bus<'a>) -> Result<Request<'a>, Fault> {
     let plan = word(matches, "PLAN");
     let vcd = word(matches, "VCD");
     refuse_input_twice(plan, vcd)?;
     Ok(Request::Capture {
         plan,
         vcd,
-        lines: options.lines(),
-        min_pulse: options.min_pulse(),
-        view: options.view(),
+        bus,
         explain: matches.get_flag("explain"),
+        live: matches.get_flag("live"),
+        stops: matches.get_flag("stop-at-unexplained"),
     })
 }
 
-fn learn_of<'a>(matches: &ArgMatches<'a>, lines: Lines<'a>) -> Request<'a> {
+fn learn_of<'a>(matches: &ArgMatches<'a>, bus: Bus<'a>) -> Request<'a> {
     Request::Learn {
         vcd: word(matches, "VCD"),
-        lines,
+        bus,
         merge: matches.get_flag("merge"),
         output: output_of(matches),
     }
 }
 
-fn page_of<'a>(matches: &ArgMatches<'a>, lines: Lines<'a>) -> Result<Request<'a>, Fault> {
+fn page_of<'a>(matches: &ArgMatches<'a>, bus: Bus<'a>) -> Result<Request<'a>, Fault> {
     let plan = word(matches, "PLAN");
     let capture = matches.get_str("capture");
     refuse_input_twice(plan, capture.unwrap_or(""))?;
     Ok(Request::Page {
         plan,
         capture,
-        lines,
+        bus,
         output: output_of(matches),
     })
 }

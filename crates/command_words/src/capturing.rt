@@ -1,38 +1,8 @@
 // What the options of a capture ask for.
 
 use clap::ArgMatches;
-use dump_tokens::Time;
-
-/// Which signals of a dump are the two lines of the bus: those of these names, in this scope where there is one, or those
-/// of these codes.
-#[derive(Clone, Copy)]
-pub struct Lines<'a> {
-    pub scl: Line<'a>,
-    pub sda: Line<'a>,
-    pub scope: Option<&'a str>,
-}
-
-/// How one of the two lines is found.
-#[derive(Clone, Copy)]
-pub enum Line<'a> {
-    Named(&'a str),
-    Coded(&'a str),
-}
-
-/// Which transactions are told, and how.
-#[derive(Clone, Copy)]
-pub struct View {
-    /// How many Stopped transactions there are to be.
-    pub at_least: Option<u32>,
-    /// No transaction is told that begins before this time.
-    pub from: Option<Time>,
-    /// No transaction is told that begins after this time.
-    pub to: Option<Time>,
-    /// Whether times are written in parts of a second.
-    pub si: bool,
-    /// Whether participants are counted in place of transactions.
-    pub summary: bool,
-}
+use dump_tokens::{Bus, BusLines, Time, View, Window};
+use vcd_read::Probe;
 
 /// The options of a capture, as they were given.
 #[derive(Clone, Copy)]
@@ -70,26 +40,30 @@ impl<'a> Options<'a> {
         }
     }
 
-    /// Which two signals they name.
-    pub(crate) fn lines(&self) -> Lines<'a> {
-        Lines {
-            scl: line_of(self.scl, self.scl_code, "scl"),
-            sda: line_of(self.sda, self.sda_code, "sda"),
-            scope: self.scope,
+    /// The bus that they ask for.
+    pub(crate) fn bus(&self) -> Bus<'a> {
+        Bus {
+            lines: self.lines(),
+            view: self.view(),
         }
     }
 
-    /// What a level has to last for to count.
-    pub(crate) fn min_pulse(&self) -> Option<Time> {
-        time_of(self.min_pulse)
+    fn lines(&self) -> BusLines<'a> {
+        BusLines {
+            scl: probe_of(self.scl, self.scl_code, "scl"),
+            sda: probe_of(self.sda, self.sda_code, "sda"),
+            scope: self.scope,
+            min_pulse: time_of(self.min_pulse),
+        }
     }
 
-    /// What they say of the report.
-    pub(crate) fn view(&self) -> View {
+    fn view(&self) -> View {
         View {
             at_least: self.at_least,
-            from: time_of(self.from),
-            to: time_of(self.to),
+            window: Window {
+                from: time_of(self.from),
+                to: time_of(self.to),
+            },
             si: self.times == Some("si"),
             summary: self.summary,
         }
@@ -122,11 +96,11 @@ impl<'a> Options<'a> {
     }
 }
 
-fn line_of<'a>(name: Option<&'a str>, code: Option<&'a str>, usual: &'a str) -> Line<'a> {
+fn probe_of<'a>(name: Option<&'a str>, code: Option<&'a str>, usual: &'a str) -> Probe<'a> {
     match (name, code) {
-        (None, Some(code)) => Line::Coded(code),
-        (Some(name), _) => Line::Named(name),
-        (None, None) => Line::Named(usual),
+        (None, Some(code)) => Probe::Coded(code),
+        (Some(name), _) => Probe::Named(name),
+        (None, None) => Probe::Named(usual),
     }
 }
 

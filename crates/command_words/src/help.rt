@@ -161,6 +161,9 @@ adds a line 'too few: C of N'. With '--summary' each participant has a line
 
 and 'unexplained N', 'cut N' and 'unfinished N' stand below.
 
+With '--live' all that has ended is written before the capture is read on, also
+of one that is refused later.
+
 A refused capture is named on standard error with a code, as 'refused V1 scl' or
 'refused V2 line 9':
 
@@ -184,6 +187,32 @@ With '--hints always', and on a terminal, further lines on standard error say
 what is wrong with a refused capture, or why a report may have no transaction.
 
 Exit status: 0 all is explained, 1 something is not, 2 refused.";
+
+pub const AFTER_DECODE_HELP: &str = "\
+The capture is a value change dump, as for 'twire capture'. Each transaction has
+a line with its times and its bytes, as the Linux kernel writes them:
+
+  10-115  S 10 Wr A P              from a START to a STOP
+  210-240 cut S 10 Wr A 0b10(cut)  a level was no longer known
+  250- unfinished S 0b1(cut)       it goes on where the capture ends
+
+and then 'N transactions', of those that ended with a STOP. An address has seven
+bits, 'Wr' and 'Rd' are the direction, 'A' is an acknowledge and 'NA' none, 'Sr'
+is a repeated START. A byte that is cut short is written in bits.
+
+With '--summary' each address and direction has a line
+
+  48 Wr 12 times, 3 not acknowledged
+
+and 'cut N' and 'unfinished N' stand below.
+
+With '--live' all that has ended is written before the capture is read on, also
+of one that is refused later:
+
+  PRODUCER | twire decode --live -
+
+Refusals are those of 'twire capture'.
+Exit status: 0 written, 2 refused.";
 
 pub const AFTER_SIGNALS_HELP: &str = "\
 Each signal of one bit has a line, with its identifier code, how often it

@@ -11,4 +11,3 @@ mod help;
 mod table;
 
 pub use asking::{Asked, Manner, Request, When, read_words};
-pub use capturing::{Line, Lines, View};

@@ -2,7 +2,7 @@
 
 use crate::help::{
     AFTER_BENCH_HELP, AFTER_BRIEF_HELP, AFTER_CAPTURE_HELP, AFTER_CERTIFY_HELP, AFTER_CHECK_HELP,
-    AFTER_EXPAND_HELP, AFTER_LEARN_HELP, AFTER_ORDER_HELP, AFTER_PAGE_HELP, AFTER_PRINT_HELP,
+    AFTER_DECODE_HELP, AFTER_EXPAND_HELP, AFTER_LEARN_HELP, AFTER_ORDER_HELP, AFTER_PAGE_HELP, AFTER_PRINT_HELP,
     AFTER_SIGNALS_HELP, AFTER_VERIFY_HELP,
 };
 
@@ -112,8 +112,9 @@ pub const FORMAT: Argument = Argument::Choice {
 };
 
 /// The commands, in the order of the help.
-pub const COMMANDS: [Entry; 12] = [
-    CHECK, CERTIFY, VERIFY, ORDER, CAPTURE, SIGNALS, LEARN, BENCH, PAGE, EXPAND, PRINT, BRIEF,
+pub const COMMANDS: [Entry; 13] = [
+    CHECK, CERTIFY, VERIFY, ORDER, CAPTURE, DECODE, SIGNALS, LEARN, BENCH, PAGE, EXPAND, PRINT,
+    BRIEF,
 ];
 
 const CHECK: Entry = Entry {
@@ -155,7 +156,17 @@ const CAPTURE: Entry = Entry {
     after_help: AFTER_CAPTURE_HELP,
     arguments: &[
         PLAN, VCD, SCL, SDA, SCOPE, SCL_CODE, SDA_CODE, MIN_PULSE, FROM, TO, AT_LEAST, TIMES,
-        SUMMARY, EXPLAIN,
+        SUMMARY, EXPLAIN, LIVE, STOPS,
+    ],
+};
+
+const DECODE: Entry = Entry {
+    name: "decode",
+    about: "Write what a recorded bus shows in bytes, without a plan",
+    usage: None,
+    after_help: AFTER_DECODE_HELP,
+    arguments: &[
+        VCD, SCL, SDA, SCOPE, SCL_CODE, SDA_CODE, MIN_PULSE, FROM, TO, TIMES, ADDRESSES, LIVE,
     ],
 };
 
@@ -172,7 +183,9 @@ const LEARN: Entry = Entry {
     about: "Write a brief of what was recorded: a message for each thing sent",
     usage: None,
     after_help: AFTER_LEARN_HELP,
-    arguments: &[VCD, SCL, SDA, SCOPE, SCL_CODE, SDA_CODE, MERGE, OUTPUT],
+    arguments: &[
+        VCD, SCL, SDA, SCOPE, SCL_CODE, SDA_CODE, MIN_PULSE, FROM, TO, TIMES, MERGE, OUTPUT,
+    ],
 };
 
 const BENCH: Entry = Entry {
@@ -195,7 +208,9 @@ const PAGE: Entry = Entry {
     about: "Write a page for a browser: the pairs, who wins, a capture",
     usage: None,
     after_help: AFTER_PAGE_HELP,
-    arguments: &[PLAN, RECORDED, SCL, SDA, SCOPE, SCL_CODE, SDA_CODE, OUTPUT],
+    arguments: &[
+        PLAN, RECORDED, SCL, SDA, SCOPE, SCL_CODE, SDA_CODE, MIN_PULSE, FROM, TO, TIMES, OUTPUT,
+    ],
 };
 
 const EXPAND: Entry = Entry {
@@ -373,6 +388,22 @@ const TIMES: Argument = Argument::Choice {
 const SUMMARY: Argument = Argument::Flag {
     id: "summary",
     help: "Count for each participant, and list no transactions",
+};
+
+// Where nobody is named who may have sent something.
+const ADDRESSES: Argument = Argument::Flag {
+    id: "summary",
+    help: "Count for each address, and list no transactions",
+};
+
+const LIVE: Argument = Argument::Flag {
+    id: "live",
+    help: "Write what has ended before the capture is read on",
+};
+
+const STOPS: Argument = Argument::Flag {
+    id: "stop-at-unexplained",
+    help: "End with status 1 at the first one that is unexplained",
 };
 
 const FILL: Argument = Argument::Choice {

@@ -3,10 +3,11 @@
 //!
 //! Times of a dump (IEEE 1364-2005, 18.2.3.6) are numbers in the unit that its `$timescale` names; people also write them
 //! with a unit of their own. `units` has the parts of a second, `times` reads what people write, and `scales` what stands in
-//! a `$timescale`, and writes times of that scale. `windows` has which transactions are told by their times, and `quiet` how
-//! long a level has to last.
+//! a `$timescale`, and writes times of that scale. `windows` has which transactions are told by their times, `quiet` how long
+//! a level has to last, and `buses` which signals are the lines of a bus.
 #![tactic(auto)]
 
+mod buses;
 mod quiet;
 pub mod reading;
 mod scales;
@@ -15,6 +16,7 @@ pub mod tokens;
 mod units;
 mod windows;
 
+pub use buses::{Bus, BusLines};
 pub use quiet::Quiet;
 pub use scales::Scale;
 pub use times::Time;

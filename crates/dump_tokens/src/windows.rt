@@ -73,11 +73,6 @@ impl View {
     pub fn is_whole(self) -> bool {
         self.at_least.is_none() && self.window.is_whole() && !self.si && !self.summary
     }
-
-    /// Whether it matters what the numbers of the dump count.
-    pub fn needs_scale(self) -> bool {
-        self.si || self.window.has_unit()
-    }
 }
 
 /// Whether it has a unit.

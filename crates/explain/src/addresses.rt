@@ -1,5 +1,6 @@
 // How often each address of a recorded bus was called.
 
+use crate::selecting::Selection;
 use crate::tallies::push_count;
 use capture_check::{Mark, Transaction, Until};
 use growing_text::Text;
@@ -26,12 +27,20 @@ pub struct Addresses {
 }
 
 impl Addresses {
-    /// No transaction.
+    /// No transaction, where transactions are counted, and not told.
     ///
     /// # Errors
     ///
     /// Where an allocation fails.
-    pub fn new(alloc: Global) -> Result<Addresses, AllocError> {
+    pub fn wanted(alloc: Global, selection: &Selection) -> Result<Option<Addresses>, AllocError> {
+        if selection.is_summary() {
+            Ok(Some(Addresses::new(alloc)?))
+        } else {
+            Ok(None)
+        }
+    }
+
+    fn new(alloc: Global) -> Result<Addresses, AllocError> {
         let mut calls = Vec::with_capacity(alloc, HEADERS)?;
         for header in 0u8..=255 {
             calls.push(Calls {

@@ -56,7 +56,7 @@ impl<'a, O: Output> CaptureLines<'a, O> {
         out: &'a mut O,
     ) -> Result<CaptureLines<'a, O>, AllocError> {
         let labels = labels_of(alloc, plan)?;
-        let tallies = tallies_of(alloc, plan, &selection)?;
+        let tallies = Tallies::wanted(alloc, plan, &selection)?;
         Ok(CaptureLines {
             written: Written::new(alloc, layout.live, out),
             layout,
@@ -188,18 +188,6 @@ impl<O: Output> ExplainedSink for CaptureLines<'_, O> {
     }
 }
 
-fn tallies_of(
-    alloc: Global,
-    plan: &Plan,
-    selection: &Selection,
-) -> Result<Option<Tallies>, AllocError> {
-    if selection.is_summary() {
-        Ok(Some(Tallies::new(alloc, plan.participants())?))
-    } else {
-        Ok(None)
-    }
-}
-
 fn push_last(text: &mut Text, seen: Seen) {
     push_stopped(text, seen);
     text.push(", ");
@@ -207,8 +195,8 @@ fn push_last(text: &mut Text, seen: Seen) {
     text.push(" unexplained\n");
 }
 
-/// Adds the line of fewer transactions than there were to be.
-pub(crate) fn push_too_few(text: &mut Text, stopped: u64, least: u64) {
+// The line of fewer transactions than there were to be.
+fn push_too_few(text: &mut Text, stopped: u64, least: u64) {
     text.push("too few: ");
     text.push_number(stopped);
     text.push(" of ");

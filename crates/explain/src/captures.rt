@@ -3,12 +3,10 @@
 use crate::below::begin;
 use crate::glitches::{Cut, Cuts};
 use crate::labels::Labels;
-use crate::nearest::{Leaves, nearest};
+use crate::nearest::{Leaves, does, nearest, shown};
 use crate::words::bytes_of;
 use capture_check::{Mark, Transaction, Until};
 use growing_text::Lines;
-use message_tree::Bit;
-use places::Offered;
 use plan_core::Plan;
 use std::alloc::{AllocError, Global};
 
@@ -84,27 +82,4 @@ fn tell_leaves(lines: &mut Lines, labels: &Labels, mark: Option<&Mark>, near: Le
     lines.words("there, the wire has");
     lines.words(shown(mark));
     lines.end();
-}
-
-fn does(offered: Offered) -> &'static str {
-    match offered {
-        Offered::Bit(Bit::Zero) => "it sends 0",
-        Offered::Bit(Bit::One) => "it sends 1",
-        Offered::Bit(Bit::Either) => "it sends a bit",
-        Offered::Listen => "a target answers it",
-        Offered::Again => "it sends a repeated START",
-        Offered::Stop => "it sends a STOP",
-        Offered::Claim => "it waits for the answer",
-        Offered::Nothing => "it has ended",
-    }
-}
-
-fn shown(mark: Option<&Mark>) -> &'static str {
-    match mark {
-        Some(Mark::Level(false)) => "0",
-        Some(Mark::Level(true)) => "1",
-        Some(Mark::Again) => "a repeated START",
-        Some(Mark::Stop) => "a STOP",
-        None => "nothing",
-    }
 }

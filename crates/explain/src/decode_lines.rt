@@ -1,7 +1,6 @@
 // The lines of the transactions of a dump, without a plan.
 
 use crate::addresses::Addresses;
-use crate::capture_lines::push_too_few;
 use crate::moments::push_times;
 use crate::selecting::Selection;
 use crate::tallies::push_stopped;
@@ -35,11 +34,7 @@ impl<'a, O: Output> DecodeLines<'a, O> {
         live: bool,
         out: &'a mut O,
     ) -> Result<DecodeLines<'a, O>, AllocError> {
-        let addresses = if selection.is_summary() {
-            Some(Addresses::new(alloc)?)
-        } else {
-            None
-        };
+        let addresses = Addresses::wanted(alloc, &selection)?;
         Ok(DecodeLines {
             written: Written::new(alloc, live, out),
             selection,
@@ -81,9 +76,6 @@ impl<'a, O: Output> DecodeLines<'a, O> {
         }
         push_stopped(&mut self.written.text, self.selection.seen);
         self.written.text.push("\n");
-        if let Some(least) = self.selection.missed() {
-            push_too_few(&mut self.written.text, self.selection.seen.stopped, least);
-        }
         self.written.write()?;
         Ok(self.selection)
     }

@@ -54,7 +54,7 @@ pub use labels::{Labels, label_of, labels_of};
 pub use meetings::{Meeting, Rule, Side, meeting_of};
 pub use mends::Mends;
 pub use mistakes::{Mistake, mistake_of};
-pub use nearest::{Leaves, nearest};
+pub use nearest::{Leaves, does, nearest, shown};
 pub use paints::Paint;
 pub use reasons::{Reasons, reasons_of};
 pub use reports::{explain_answer, explain_check, explain_rehearsal};

@@ -2,7 +2,7 @@
 
 use crate::sending::pass;
 use capture_check::Mark;
-use message_tree::Item;
+use message_tree::{Bit, Item};
 use places::{Offered, Place};
 use plan_core::Plan;
 use std::mem;
@@ -68,5 +68,30 @@ fn item_for(offered: Offered, mark: Mark) -> Item {
         Mark::Level(bit) => Item::Sent(bit),
         Mark::Again => Item::Again,
         Mark::Stop => Item::Stop,
+    }
+}
+
+/// What a participant does that offers this, in words.
+pub fn does(offered: Offered) -> &'static str {
+    match offered {
+        Offered::Bit(Bit::Zero) => "it sends 0",
+        Offered::Bit(Bit::One) => "it sends 1",
+        Offered::Bit(Bit::Either) => "it sends a bit",
+        Offered::Listen => "a target answers it",
+        Offered::Again => "it sends a repeated START",
+        Offered::Stop => "it sends a STOP",
+        Offered::Claim => "it waits for the answer",
+        Offered::Nothing => "it has ended",
+    }
+}
+
+/// What a wire has there, in words.
+pub fn shown(mark: Option<&Mark>) -> &'static str {
+    match mark {
+        Some(Mark::Level(false)) => "0",
+        Some(Mark::Level(true)) => "1",
+        Some(Mark::Again) => "a repeated START",
+        Some(Mark::Stop) => "a STOP",
+        None => "nothing",
     }
 }

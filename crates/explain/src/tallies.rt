@@ -1,9 +1,10 @@
 // How often each participant explains a transaction.
 
 use crate::labels::Labels;
-use crate::selecting::Seen;
+use crate::selecting::{Seen, Selection};
 use capture_check::{Transaction, Until};
 use growing_text::Text;
+use plan_core::Plan;
 use std::alloc::{AllocError, Global};
 
 /// How often a participant explains a transaction alone, and with others.
@@ -30,8 +31,24 @@ pub struct Tallies {
 }
 
 impl Tallies {
-    /// So many participants, and no transaction.
-    pub fn new(alloc: Global, participants: u32) -> Result<Tallies, AllocError> {
+    /// The participants of the plan with no transaction, where transactions are counted, and not told.
+    ///
+    /// # Errors
+    ///
+    /// Where an allocation fails.
+    pub fn wanted(
+        alloc: Global,
+        plan: &Plan,
+        selection: &Selection,
+    ) -> Result<Option<Tallies>, AllocError> {
+        if selection.is_summary() {
+            Ok(Some(Tallies::new(alloc, plan.participants())?))
+        } else {
+            Ok(None)
+        }
+    }
+
+    fn new(alloc: Global, participants: u32) -> Result<Tallies, AllocError> {
         let none = Explains {
             alone: 0,
             with_others: 0,

@@ -1,10 +1,9 @@
 // Objects of a rehearsal.
 
-use crate::labels::labels_of;
 use crate::writing::ObjectLines;
 use bench_run::Rehearsal;
 use certificate::push_wire;
-use explain::{Track, tracks_of};
+use explain::{Track, labels_of, tracks_of};
 use report::{Output, RunError};
 use serde::Serialize;
 use std::alloc::{AllocError, Global};

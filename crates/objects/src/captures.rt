@@ -1,159 +1,250 @@
-// Lines of `capture`.
+// Objects of a capture.
 
-use crate::below::unbroken;
-use crate::fields::{Objects, Value};
-use crate::words::number;
+use crate::transactions::{Moment, Seen, Times, seen_of, times_of, too_few_of};
+use crate::written::Written;
+use capture_check::Transaction;
+use decoding::{Ending, ExplainedSink};
+use dump_tokens::Scale;
+use explain::{Labels, Layout, Others, Selection, Tallies, labels_of};
+use plan_core::Plan;
+use run_parts::{Output, RunError};
+use serde::Serialize;
+use std::alloc::{AllocError, Global};
 
-// When a transaction begins and ends, and what is said of it.
-#[derive(Clone, Copy)]
-struct Told<'a> {
-    from: Value<'a>,
-    to: Value<'a>,
-    words: &'a str,
+// A transaction, and who explains it.
+#[derive(Drop, Serialize)]
+struct Explained<'a> {
+    kind: &'static str,
+    from: Moment,
+    #[serde(skip_serializing_if = "Option::is_none")]
+    to: Option<Moment>,
+    end: &'static str,
+    participants: Vec<&'a str>,
+    #[serde(skip_serializing_if = "Option::is_none")]
+    explain: Option<Seen<'a>>,
 }
 
-// Takes apart `FROM-TO WORDS`, where times may be plain or as `15.5 us`.
-fn taken_apart(line: &str) -> Option<Told<'_>> {
-    let (from, rest) = line.split_once('-')?;
-    let (to, words) = match rest.strip_prefix(' ') {
-        Some(words) => (Value::Absent, words),
-        None => {
-            let (to, words) = split_time(rest, from.contains(' '))?;
-            (time_of(to), words)
+// What those come to that a STOP ended.
+#[derive(Clone, Copy, Serialize)]
+struct Transactions {
+    kind: &'static str,
+    transactions: u64,
+    unexplained: u64,
+    #[serde(skip_serializing_if = "Option::is_none")]
+    explain: Option<Rest>,
+}
+
+// What is known only at the end: bits on a free bus, and levels that were too short.
+#[derive(Clone, Copy, Serialize)]
+struct Rest {
+    idle: u64,
+    short: u64,
+}
+
+// How many transactions a participant explains.
+#[derive(Clone, Copy, Serialize)]
+struct Counted<'a> {
+    kind: &'static str,
+    participant: &'a str,
+    alone: u64,
+    with_others: u64,
+}
+
+// How many others there are.
+#[derive(Clone, Copy, Serialize)]
+pub(crate) struct Count {
+    kind: &'static str,
+    what: &'static str,
+    transactions: u64,
+}
+
+impl Count {
+    /// So many transactions of this end.
+    pub(crate) fn new(what: &'static str, transactions: u64) -> Count {
+        Count {
+            kind: "count",
+            what,
+            transactions,
         }
-    };
-    Some(Told {
-        from: time_of(from),
+    }
+}
+
+/// Writes the objects of a capture.
+#[derive(Drop)]
+pub struct CaptureObjects<'a, O> {
+    written: Written<'a, O>,
+    layout: Layout,
+    selection: Selection,
+    labels: Labels,
+    // where transactions are counted, and not told
+    tallies: Option<Tallies>,
+    has_stopped: bool,
+}
+
+impl<'a, O: Output> CaptureObjects<'a, O> {
+    /// Nothing has been written of a capture that is explained by this plan.
+    ///
+    /// # Errors
+    ///
+    /// Where an allocation fails.
+    pub fn new(
+        alloc: Global,
+        plan: &Plan,
+        selection: Selection,
+        layout: Layout,
+        out: &'a mut O,
+    ) -> Result<CaptureObjects<'a, O>, AllocError> {
+        let labels = labels_of(alloc, plan)?;
+        let tallies = Tallies::wanted(alloc, plan, &selection)?;
+        Ok(CaptureObjects {
+            written: Written::new(alloc, layout.live, out),
+            layout,
+            selection,
+            labels,
+            tallies,
+            has_stopped: false,
+        })
+    }
+
+    fn transaction(&mut self, plan: &Plan, transaction: &Transaction, participants: &[u32]) {
+        if !self.selection.takes(transaction, !participants.is_empty()) {
+            return;
+        }
+        if let Some(tallies) = &mut self.tallies {
+            return tallies.count(transaction, participants);
+        }
+        let alloc = self.written.alloc;
+        let scale = self.selection.told_scale();
+        let explain = if self.layout.explain {
+            Some(seen_of(alloc, plan, &self.labels, transaction, participants))
+        } else {
+            None
+        };
+        self.written.add_made(explained_of(
+            alloc,
+            &self.labels,
+            transaction,
+            participants,
+            scale,
+            explain,
+        ));
+    }
+
+    /// Writes the last objects of a capture that ended so, and answers what those that were told come to.
+    ///
+    /// # Errors
+    ///
+    /// `Write` where the writer failed or took no bytes, and `NoMemory`.
+    pub fn finish(mut self, ending: Ending) -> Result<Selection, RunError> {
+        if let Some(tallies) = &self.tallies {
+            add_tallies(&mut self.written, tallies, &self.labels);
+        }
+        let explain = if self.layout.explain {
+            Some(Rest {
+                idle: ending.idle,
+                short: ending.short,
+            })
+        } else {
+            None
+        };
+        self.end(explain)
+    }
+
+    /// Writes the last objects of a capture of which nothing more is read, where it stopped by itself.
+    ///
+    /// # Errors
+    ///
+    /// Those of `finish`, and this one where it has not stopped.
+    pub fn stop(self, error: RunError) -> Result<Selection, RunError> {
+        if self.has_stopped {
+            self.end(None)
+        } else {
+            Err(error)
+        }
+    }
+
+    fn end(mut self, explain: Option<Rest>) -> Result<Selection, RunError> {
+        let selection = self.selection;
+        self.written.add(&Transactions {
+            kind: "transactions",
+            transactions: selection.seen.stopped,
+            unexplained: selection.seen.unexplained,
+            explain,
+        });
+        if let Some(too_few) = too_few_of(&selection) {
+            self.written.add(&too_few);
+        }
+        let CaptureObjects { written, .. } = self;
+        written.finish()?;
+        Ok(selection)
+    }
+}
+
+impl<O: Output> ExplainedSink for CaptureObjects<'_, O> {
+    ghost use Rattle.decoding.specs.Sinks.{any_sink};
+
+    ghost sink = { λ plan. any_sink };
+
+    fn take(
+        &mut self,
+        _alloc: Global,
+        plan: &Plan,
+        transactions: &[Transaction],
+        explainers: &[Vec<u32>],
+    ) -> Result<(), RunError> {
+        for (transaction, participants) in transactions.iter().zip(explainers) {
+            self.transaction(plan, transaction, participants.as_slice());
+            if self.layout.stops && self.selection.seen.unexplained != 0 {
+                self.has_stopped = true;
+                // nothing more is to be read
+                return Err(RunError::Read);
+            }
+        }
+        self.written.pause()
+    }
+}
+
+fn add_tallies<O: Output>(written: &mut Written<'_, O>, tallies: &Tallies, labels: &Labels) {
+    for (p, count) in tallies.senders.iter().enumerate() {
+        written.add(&Counted {
+            kind: "participant",
+            participant: labels.of(p as u32),
+            alone: count.alone,
+            with_others: count.with_others,
+        });
+    }
+    let Others {
+        unexplained,
+        cut,
+        unfinished,
+    } = tallies.others;
+    written.add(&Count::new("unexplained", unexplained));
+    written.add(&Count::new("cut", cut));
+    written.add(&Count::new("unfinished", unfinished));
+}
+
+fn explained_of<'a>(
+    alloc: Global,
+    labels: &'a Labels,
+    transaction: &Transaction,
+    participants: &[u32],
+    scale: Option<Scale>,
+    explain: Option<Result<Seen<'a>, AllocError>>,
+) -> Result<Explained<'a>, AllocError> {
+    let Times { from, to, end } = times_of(alloc, transaction, scale)?;
+    let mut names = Vec::new(alloc);
+    for p in participants {
+        names.push(labels.of(*p))?;
+    }
+    Ok(Explained {
+        kind: "transaction",
+        from,
         to,
-        words,
+        end,
+        participants: names,
+        explain: match explain {
+            Some(seen) => Some(seen?),
+            None => None,
+        },
     })
-}
-
-// What stands before the first blank, or before the second one where a time has a unit, and what stands after it.
-fn split_time(rest: &str, has_unit: bool) -> Option<(&str, &str)> {
-    let (first, words) = rest.split_once(' ')?;
-    if !has_unit {
-        return Some((first, words));
-    }
-    let (_, words) = words.split_once(' ')?;
-    let size = rest.len().checked_sub(words.len())?.checked_sub(1)?;
-    Some((rest.get(..size)?, words))
-}
-
-// A time as it stands in a dump, or in parts of a second.
-fn time_of(text: &str) -> Value<'_> {
-    match number(text) {
-        Some(number) => Value::Number(number),
-        None => Value::Text(text),
-    }
-}
-
-/// Adds the object of a transaction. Lines for people give its bytes, and who goes along with it furthest.
-pub(crate) fn push_transaction(objects: &mut Objects, line: &str, notes: &[&str]) -> Option<()> {
-    let told = taken_apart(line)?;
-    match unbroken(objects.alloc, notes) {
-        Ok(said) => push_said(objects, told, said.as_str(), notes),
-        Err(_) => objects.cut(),
-    }
-    Some(())
-}
-
-fn push_said<'a>(objects: &mut Objects, told: Told<'a>, said: &'a str, notes: &[&str]) {
-    objects.add_explained(
-        "transaction",
-        &[
-            ("from", told.from),
-            ("to", told.to),
-            ("end", end_of(told.words)),
-            ("participants", participants_of(told.words)),
-        ],
-        &[
-            ("bytes", first_line(said)),
-            ("nearest", Value::Nearest(said)),
-        ],
-        notes,
-    );
-}
-
-fn first_line(said: &str) -> Value<'_> {
-    Value::Text(said.split('\n').next().unwrap_or(""))
-}
-
-// How a transaction ended of which these words are said.
-fn end_of(words: &str) -> Value<'_> {
-    Value::Text(match words {
-        "cut" | "unfinished" => words,
-        _ => "stop",
-    })
-}
-
-// Those who explain it.
-fn participants_of(words: &str) -> Value<'_> {
-    match words {
-        "cut" | "unfinished" | "unexplained" => Value::Empty,
-        _ => Value::Words(words),
-    }
-}
-
-/// Adds the object of `N transactions, U unexplained`: how many a STOP ended.
-pub(crate) fn push_last(objects: &mut Objects, line: &str) -> Option<()> {
-    let (transactions, rest) = line.split_once(" transactions, ")?;
-    let unexplained = rest.strip_suffix(" unexplained")?;
-    let transactions = number(transactions)?;
-    let unexplained = number(unexplained)?;
-    objects.add(
-        "transactions",
-        &[
-            ("transactions", Value::Number(transactions)),
-            ("unexplained", Value::Number(unexplained)),
-        ],
-    );
-    Some(())
-}
-
-/// Adds the object of what stands after `too` in `too few: C of N`.
-pub(crate) fn push_too_few(objects: &mut Objects, rest: &str) -> Option<()> {
-    let (transactions, least) = rest.strip_prefix("few: ")?.split_once(" of ")?;
-    let transactions = number(transactions)?;
-    let at_least = number(least)?;
-    objects.add(
-        "too_few",
-        &[
-            ("transactions", Value::Number(transactions)),
-            ("at_least", Value::Number(at_least)),
-        ],
-    );
-    Some(())
-}
-
-/// Adds the object of `LABEL A alone, B with others`: how many transactions a participant explains.
-pub(crate) fn push_participant(objects: &mut Objects, line: &str) -> Option<()> {
-    let (participant, counts) = line.split_once(' ')?;
-    let (alone, others) = counts.split_once(" alone, ")?;
-    let others = others.strip_suffix(" with others")?;
-    let alone = number(alone)?;
-    let with_others = number(others)?;
-    objects.add(
-        "participant",
-        &[
-            ("participant", Value::Text(participant)),
-            ("alone", Value::Number(alone)),
-            ("with_others", Value::Number(with_others)),
-        ],
-    );
-    Some(())
-}
-
-/// Adds the object of `unexplained N`, `cut N` or `unfinished N`.
-pub(crate) fn push_count(objects: &mut Objects, line: &str) -> Option<()> {
-    let (what, transactions) = line.split_once(' ')?;
-    let transactions = number(transactions)?;
-    objects.add(
-        "count",
-        &[
-            ("what", Value::Text(what)),
-            ("transactions", Value::Number(transactions)),
-        ],
-    );
-    Some(())
 }

@@ -1,10 +1,9 @@
 // Objects of the answer to a certificate.
 
-use crate::labels::label_of;
 use crate::writing::ObjectLines;
 use cert_check::Answer;
 use certificate::CertFault;
-use explain::{Break, Mistake, Reason};
+use explain::{Break, Mistake, Reason, label_of};
 use plan_core::Plan;
 use report::{Output, RunError};
 use serde::Serialize;

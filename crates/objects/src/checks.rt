@@ -1,9 +1,8 @@
 // Objects of a check.
 
-use crate::labels::{Labels, labels_of};
 use crate::writing::ObjectLines;
 use certificate::{Fault, push_wire};
-use explain::{Meeting, Mends, Reasons, Rule, Safety, meeting_of};
+use explain::{Labels, Meeting, Mends, Reasons, Rule, Safety, labels_of, meeting_of};
 use plan_core::Plan;
 use report::{Checked, Output, RunError};
 use serde::Serialize;

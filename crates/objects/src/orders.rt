@@ -1,7 +1,7 @@
 // Objects of who wins.
 
-use crate::labels::{Labels, labels_of};
 use crate::writing::ObjectLines;
+use explain::{Labels, labels_of};
 use order::{Order, Outcomes, Slots, Total};
 use plan_core::Plan;
 use run_parts::{Output, RunError};

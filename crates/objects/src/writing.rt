@@ -43,10 +43,15 @@ impl ObjectLines {
     /// Writes what was gathered, where that is much.
     pub(crate) fn write_block<O: Output>(&mut self, out: &mut O) -> Result<(), RunError> {
         if BLOCK <= self.text.len() || !self.text.is_whole() {
-            let text = mem::replace(&mut self.text, Text::new(self.alloc)).finish()?;
-            write_report(out, text.as_bytes())?;
+            self.write_all(out)?;
         }
         Ok(())
+    }
+
+    /// Writes all that was gathered.
+    pub(crate) fn write_all<O: Output>(&mut self, out: &mut O) -> Result<(), RunError> {
+        let text = mem::replace(&mut self.text, Text::new(self.alloc)).finish()?;
+        write_report(out, text.as_bytes())
     }
 
     /// Writes what is left.

@@ -2,6 +2,7 @@
 
 use crate::pairs::{Pairs, Unsafe};
 use crate::parties::{Controllers, Interrupts, Messages, Nevers, Participants};
+use crate::recording::{Recorded, Recording};
 use crate::ways::{Way, Ways};
 use order::Order;
 use report::Checked;
@@ -20,6 +21,8 @@ struct Data<'a> {
     ways: &'a [Way],
     pairs: Pairs<'a>,
     faults: Unsafe<'a>,
+    #[serde(skip_serializing_if = "Option::is_none")]
+    capture: Option<Recorded<'a>>,
 }
 
 // Whether the plan is safe, and how many pairs it has and how many of them are not.
@@ -35,9 +38,17 @@ pub(crate) fn data_of(
     alloc: Global,
     checked: &Checked,
     order: &Order,
+    recording: Option<&Recording>,
 ) -> Result<String, AllocError> {
     let ways = Ways::new(alloc, order)?;
-    match serde_json::to_string(alloc, &all_of(alloc, checked, order, &ways)) {
+    let data = Data {
+        capture: match recording {
+            Some(recording) => Some(recording.recorded()),
+            None => None,
+        },
+        ..all_of(alloc, checked, order, &ways)
+    };
+    match serde_json::to_string(alloc, &data) {
         Ok(text) => Ok(text),
         // (out of memory: every key is a text, and no number is wide)
         Err(_) => Err(AllocError),
@@ -63,5 +74,6 @@ fn all_of<'a>(alloc: Global, checked: &'a Checked, order: &'a Order, ways: &'a W
             ways: ways.of_pairs.as_slice(),
         },
         faults: Unsafe { alloc, faults },
+        capture: None,
     }
 }

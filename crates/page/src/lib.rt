@@ -2,8 +2,8 @@
 //!
 //! The page has what was found of the plan as JSON, and a script that draws it: a matrix of the pairs, the drawing of
 //! each, who wins, what is sent, and a capture on a line of time. The script decides nothing. `pages` joins the parts.
-//! `data` has the JSON, with `parties` for who takes part, `nodes` for the messages, `pairs` for the pairs and `ways` for
-//! who wins in them. `style` has how the page looks. The script stands in `senders`, `matrix`, `drawings` and `times`.
+//! `data` has the JSON, with `parties` for who takes part, `nodes` for the messages, `pairs` for the pairs, `ways` for
+//! who wins in them, and `recording` for a capture. `style` has how the page looks. The script stands in `senders`, `matrix`, `drawings` and `times`.
 //! Without a script the exact reports are there to be read.
 #![tactic(auto)]
 
@@ -14,9 +14,11 @@ mod nodes;
 mod pages;
 mod pairs;
 mod parties;
+mod recording;
 mod senders;
 mod style;
 mod times;
 mod ways;
 
 pub use pages::{Page, Texts, page_of};
+pub use recording::Recording;

@@ -3,6 +3,7 @@
 use crate::data::data_of;
 use crate::drawings::DRAWINGS;
 use crate::matrix::MATRIX;
+use crate::recording::Recording;
 use crate::senders::SENDERS;
 use crate::style::STYLE;
 use crate::times::TIMES;
@@ -19,6 +20,8 @@ pub struct Page<'a> {
     pub checked: &'a Checked,
     /// Who wins in each pair of that plan.
     pub order: &'a Order,
+    /// A recorded bus.
+    pub recording: Option<&'a Recording>,
     /// The same as texts.
     pub texts: Texts<'a>,
 }
@@ -45,7 +48,7 @@ pub fn page_of(alloc: Global, page: &Page<'_>) -> Result<String, AllocError> {
     let mut html = String::new(alloc);
     push_head(&mut html, page.title)?;
     push_texts(&mut html, &page.texts)?;
-    let data = data_of(alloc, page.checked, page.order)?;
+    let data = data_of(alloc, page.checked, page.order, page.recording)?;
     push_data(&mut html, data.replace(alloc, '<', "\\u003c")?.as_str())?;
     push_script(&mut html)?;
     Ok(html)

@@ -1,21 +1,19 @@
 // The last part of the script: a capture on a line of time, who wins, and the page itself.
 
 pub(crate) const TIMES: &str = r#"
-// ---- A capture: { from, to, who, notes } for each transaction, of the lines of the report and those below them.
+// ---- A capture.
 
-const linesOf = id => document.getElementById(id).textContent.split('\n').filter(line => line);
+const shownTransactions = list => list.map(one => ({ ...one, from: BigInt(one.from), to: one.to === undefined ? null : BigInt(one.to) }));
 
-function transactionsOf(lines) {
-  const list = [];
-  for (const line of lines) {
-    const found = /^(\d+)-(\d*) (.+)$/.exec(line);
-    if (found) list.push({ from: BigInt(found[1]), to: found[2] ? BigInt(found[2]) : null, who: found[3], notes: [] });
-    else if (line.startsWith('    ') && list.length > 0) list[list.length - 1].notes.push(line.slice(4));
-  }
-  return list;
-}
+const fateOf = one => one.end !== 'stop' ? 'cut' : one.by.length === 0 ? 'odd' : 'seen';
 
-const fateOf = one => one.who === 'unexplained' ? 'odd' : one.who === 'cut' || one.who === 'unfinished' ? 'cut' : 'seen';
+const timesOf = one => one.times ?? one.from + '-' + (one.to ?? '');
+
+const whoOf = one => one.end !== 'stop' ? one.end : one.by.length === 0 ? 'unexplained'
+  : one.by.map(number => participants[number].label).join(' ');
+
+const notesOf = one => [one.bytes, ...(one.nearest ?? []).map(near => participants[near.participant].label + ' leaves at slot '
+  + near.slot + ': ' + near.does + ' there, the wire has ' + near.wire)];
 
 const MOST_BARS = 1000, MOST_ROWS = 200;
 
@@ -35,7 +33,7 @@ function timeLineOf(list) {
     const left = place(some[0].from), end = some[some.length - 1];
     const right = Math.max(left + 3, place(end.to === null ? last : end.to));
     const bar = element('svg:rect', { x: left, y: fate === 'odd' ? 14 : 22, width: right - left, height: fate === 'odd' ? 38 : 22,
-      class: fate }, element('svg:title', {}, some[0].from + '-' + (end.to === null ? '' : end.to) + ' ' + some[0].who));
+      class: fate }, element('svg:title', {}, (step === 1 ? timesOf(end) : some[0].from + '-' + (end.to ?? '')) + ' ' + whoOf(some[0])));
     svg.append(bar);
     if (fate === 'odd' && list.length <= 60) {
       svg.append(element('svg:text', { x: (left + right) / 2, y: 11, 'text-anchor': 'middle' }, '!'));
@@ -47,10 +45,10 @@ function timeLineOf(list) {
   return element('div', { class: 'times wide' }, svg);
 }
 
-function captureOf(lines) {
-  const list = transactionsOf(lines);
-  const parts = [element('h2', { id: 'capture-seen' }, 'The capture'), element('p', {}, lines.filter(line =>
-    /transactions, \d+ unexplained$/.test(line)).join(''))];
+function captureOf({ stopped, unexplained, transactions }) {
+  const list = shownTransactions(transactions);
+  const parts = [element('h2', { id: 'capture-seen' }, 'The capture'),
+    element('p', {}, stopped + ' transactions, ' + unexplained + ' unexplained')];
   if (list.length === 0) return parts;
   parts.push(timeLineOf(list), element('ul', { class: 'key' },
     element('li', {}, 'low bar: explained by the plan'), element('li', {}, 'tall bar, !: nobody of the plan explains it'),
@@ -59,8 +57,8 @@ function captureOf(lines) {
   const told = odd.length > 0 ? odd : list;
   parts.push(element('h3', {}, odd.length > 0 ? 'Unexplained' : 'Transactions'));
   for (const one of told.slice(0, MOST_ROWS)) {
-    parts.push(element('p', { class: 'mono' }, one.from + '-' + (one.to === null ? '' : one.to) + ' ' + one.who),
-      element('div', { class: 'notes mono' }, one.notes.join('\n')));
+    parts.push(element('p', { class: 'mono' }, timesOf(one) + ' ' + whoOf(one)),
+      element('div', { class: 'notes mono' }, notesOf(one).join('\n')));
   }
   if (told.length > MOST_ROWS) {
     parts.push(element('p', {}, 'and ' + (told.length - MOST_ROWS) + ' more, which stand in the report below'));
@@ -172,7 +170,7 @@ function page() {
     main.append(...totalsOf());
   }
   main.append(...sendersOf());
-  if (document.getElementById('capture')) main.append(...captureOf(linesOf('capture')));
+  if (data.capture) main.append(...captureOf(data.capture));
   const follow = () => {
     const found = /^#pair-(\d+)$/.exec(location.hash);
     if (found) show(Number(found[1]));

@@ -8,7 +8,7 @@ ghost use Rattle.vcd_read.specs.Probes.{by_name};
 ghost use Rattle.vcd_read.specs.Views.{asked};
 ghost use Rattle.run_parts.specs.Runs.{ReadsText, ReadsBoth, Reports, Stops};
 
-use crate::telling::Telling;
+use crate::telling::{Captured, Telling};
 use decoding::{Explaining, decode};
 use plan_core::Plan;
 use plan_text::read_plan;
@@ -85,7 +85,11 @@ pub fn run_capture_of<I: Input, J: Input, O: Output>(
 {
     let text = read_within(alloc, plan, READS)?;
     let plan = read_plan(alloc, text.as_slice())?;
-    let (report, status) = read_capture(rt, alloc, &plan, vcd, scl, sda, least)?;
+    let Captured {
+        report,
+        status,
+        ..
+    } = read_capture(rt, alloc, &plan, vcd, scl, sda, least)?;
     write_lines(out, report.as_bytes(), status)
 }
 
@@ -98,9 +102,9 @@ fn read_capture<J: Input>(
     scl: Probe<'_>,
     sda: Probe<'_>,
     least: u64,
-) -> Result<(String, Status), RunError>
+) -> Result<Captured, RunError>
     ensures all { IfOk result (λ it. (dump : List ℕ) × ReadsText J.reader vcd.old dump vcd.new
-        × CaptureOf least (asked scl.entry) (asked sda.entry) (plan_contents plan.now) dump (string_bytes it.0) it.1) }
+        × CaptureOf least (asked scl.entry) (asked sda.entry) (plan_contents plan.now) dump (string_bytes it.report) it.status) }
     ensures stops { IfErr result (λ error. HaltsAtDump J.reader (asked scl.entry) (asked sda.entry) vcd.old error vcd.new) }
 {
     let mut explaining = Explaining {
@@ -111,7 +115,6 @@ fn read_capture<J: Input>(
     };
     decode(alloc, vcd, scl, sda, least, &mut explaining)?;
     let telling = explaining.sink;
-    let status = telling.status();
-    let report = telling.finish()?;
-    Ok((report, status))
+    let captured = telling.finish()?;
+    Ok(captured)
 }

@@ -12,10 +12,26 @@ use plan_core::Plan;
 use run_parts::{RunError, Status, push_labels};
 use std::alloc::{AllocError, Global};
 
+/// What a run says of a capture.
+#[derive(Drop)]
+pub struct Captured {
+    /// A line for each transaction, and one that counts them.
+    pub report: String,
+    /// The status of a run with this report.
+    pub status: Status,
+    /// How many transactions there are.
+    pub transactions: u64,
+    /// How many of them a STOP ended.
+    pub stopped: u64,
+    /// How many of these nobody explains.
+    pub unexplained: u64,
+}
+
 /// The lines of the transactions so far, how many of them a STOP ended, and how many of these nobody explains.
 #[derive(Drop)]
-pub(crate) struct Telling {
+pub struct Telling {
     pub(crate) lines: String,
+    pub(crate) transactions: u64,
     pub(crate) stopped: u64,
     pub(crate) unexplained: u64,
 }
@@ -32,11 +48,12 @@ impl Telling {
     ghost use Rattle.report.specs.Captures.{Explained};
 
     /// No transaction yet.
-    pub(crate) fn new(alloc: Global) -> Telling
+    pub fn new(alloc: Global) -> Telling
         ensures { (plan : Contents) → Tells plan [] (tally_of result) }
     {
         Telling {
             lines: String::new(alloc),
+            transactions: 0,
             stopped: 0,
             unexplained: 0,
         }
@@ -55,6 +72,7 @@ impl Telling {
             with_line (plan_contents plan.now) (tally_of self.old) (recorded transaction.now) participants.now) }
     {
         push_line(alloc, &mut self.lines, plan, transaction, participants)?;
+        self.transactions = self.transactions.saturating_add(1);
         if let Until::Stopped(_) = transaction.until {
             self.stopped = more(self.stopped)?;
             if participants.is_empty() {
@@ -65,7 +83,7 @@ impl Telling {
     }
 
     /// The status of a run that tells of these transactions and no others.
-    pub(crate) fn status(&self) -> Status
+    fn status(&self) -> Status
         ensures { Explained result (tally_of self.now) }
     {
         if self.unexplained == 0 {
@@ -75,17 +93,30 @@ impl Telling {
         }
     }
 
-    /// The whole report.
-    pub(crate) fn finish(self) -> Result<String, AllocError>
-        ensures { IfOk result (λ report. string_bytes report ≡ capture_report (tally_of self)) }
+    /// The whole report, and what it says.
+    ///
+    /// # Errors
+    ///
+    /// Where an allocation fails.
+    pub fn finish(self) -> Result<Captured, AllocError>
+        ensures report { IfOk result (λ it. string_bytes it.report ≡ capture_report (tally_of self)) }
+        ensures status { IfOk result (λ it. Explained it.status (tally_of self)) }
     {
+        let status = self.status();
         let Telling {
             mut lines,
+            transactions,
             stopped,
             unexplained,
         } = self;
         writeln!(lines, "{stopped} transactions, {unexplained} unexplained")?;
-        Ok(lines)
+        Ok(Captured {
+            report: lines,
+            status,
+            transactions,
+            stopped,
+            unexplained,
+        })
     }
 }
 

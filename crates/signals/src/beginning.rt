@@ -19,6 +19,18 @@ pub struct Again<'a, J> {
     rest: &'a mut J,
 }
 
+impl<'a, J> Again<'a, J> {
+    /// A dump of which nothing was read.
+    pub fn unread(alloc: Global, vcd: &'a mut J) -> Again<'a, J> {
+        Again {
+            text: Vec::new(alloc),
+            at: 0,
+            is_whole: false,
+            rest: vcd,
+        }
+    }
+}
+
 impl<J: Input> Read for Again<'_, J> {
     fn read(&mut self, buf: &mut [u8]) -> io::Result<usize> {
         let left = self.text.as_slice().get(self.at..).unwrap_or(&[]);

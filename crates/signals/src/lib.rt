@@ -14,6 +14,7 @@ mod buses;
 mod candidates;
 mod codes;
 mod definitions;
+mod dumps;
 mod lessons;
 mod levels;
 mod listing;
@@ -21,6 +22,7 @@ mod masks;
 mod picking;
 
 pub use beginning::{Again, read_beginning};
+pub use dumps::Dump;
 pub use definitions::{Found, Listing};
 pub use lessons::{Learned, Sights, brief_of};
 pub use listing::{Listed, Pair, Signal, bus_options, find_signals};

@@ -4,8 +4,8 @@ use crate::endings::{Recorded, Remark};
 use crate::inputs::Inputs;
 use crate::runs::Extras;
 use crate::voices::{Voice, refused_timescale, say};
-use dump_tokens::Time;
-use explain::View;
+use dump_tokens::BusLines;
+use explain::Seen;
 use growing_text::Text;
 use hints::{
     Hints, Named, Names, file_word, on_brief, on_certificate, on_choice, on_closed_input, on_dump,
@@ -36,11 +36,9 @@ impl<'a> About<'a> {
 
     /// A rehearsal with these starters.
     pub fn bench(starters: &'a str) -> About<'a> {
-        let none = Probe::Coded("");
-        let names = names_of(none, none, None, None, "");
         About {
             starters,
-            names,
+            names: names_of(no_lines(), ""),
             words: ["", "", "", ""],
         }
     }
@@ -56,13 +54,13 @@ impl<'a> About<'a> {
 }
 
 /// How the two lines are to be found in this dump.
-pub fn names_of<'a>(
-    scl: Probe<'a>,
-    sda: Probe<'a>,
-    scope: Option<&'a str>,
-    min_pulse: Option<Time>,
-    vcd: &'a str,
-) -> Names<'a> {
+pub fn names_of<'a>(lines: BusLines<'a>, vcd: &'a str) -> Names<'a> {
+    let BusLines {
+        scl,
+        sda,
+        scope,
+        min_pulse,
+    } = lines;
     Names {
         scl,
         sda,
@@ -73,16 +71,24 @@ pub fn names_of<'a>(
     }
 }
 
+/// No lines.
+pub fn no_lines() -> BusLines<'static> {
+    BusLines {
+        scl: Probe::Coded(""),
+        sda: Probe::Coded(""),
+        scope: None,
+        min_pulse: None,
+    }
+}
+
 /// How a run has ended, and what is to be said of what it has found. `output` is the file that was to be written in place of
-/// standard output, and `error` why it was not. `report` is the beginning of what was written with its last lines. Hints are
-/// written by this voice.
+/// standard output, and `error` why it was not. Hints are written by this voice.
 #[derive(Drop)]
 pub struct Closing<'a> {
     pub ended: Result<Status, RunError>,
     pub remark: Remark,
     pub output: Option<&'a str>,
     pub error: Option<io::Error>,
-    pub report: String,
     pub about: About<'a>,
     pub voice: Voice,
 }
@@ -213,20 +219,13 @@ fn on_report<F: Read + Seek + Drop>(
     status: Status,
     closing: Closing<'_>,
 ) -> Result<Hints, AllocError> {
-    let Closing {
-        remark,
-        output,
-        report,
-        ..
-    } = closing;
+    let Closing { remark, output, .. } = closing;
     match remark {
         Remark::Nothing => Ok(Hints::new(alloc)),
         Remark::Hints(hints) => Ok(hints),
         Remark::Certificate(fault) => on_certificate(alloc, read.other, fault),
         Remark::Fault => on_fault(alloc, output),
-        Remark::Recording(recorded) => {
-            on_recorded(alloc, read.other, names, status, recorded, report.as_str())
-        }
+        Remark::Recording(recorded) => on_recorded(alloc, read.other, names, status, recorded),
     }
 }
 
@@ -236,79 +235,31 @@ fn on_recorded<F: Read + Seek + Drop>(
     names: Names<'_>,
     status: Status,
     recorded: Recorded,
-    report: &str,
 ) -> Result<Hints, AllocError> {
     match recorded {
-        Recorded::Capture(view) => { on_capture(alloc, vcd, names, status, seen_by(report, view)) }
+        Recorded::Bus(window, seen) if window.is_whole() => {
+            on_bus(alloc, vcd, names, status, seen)
+        }
+        // what was left out by its time says nothing of the lines
+        Recorded::Bus(..) => on_choice(alloc, vcd, names),
         Recorded::Signals => on_signals(alloc, vcd, names),
         Recorded::Other => on_recording(alloc, vcd, names),
     }
 }
 
-fn on_capture<F: Read + Seek + Drop>(
+fn on_bus<F: Read + Seek + Drop>(
     alloc: Global,
     vcd: Option<F>,
     names: Names<'_>,
     status: Status,
     seen: Seen,
 ) -> Result<Hints, AllocError> {
-    match seen {
-        Seen::Nothing => on_silence(alloc, vcd, names),
-        Seen::NoneEnded => on_unexplained(alloc, vcd, names),
-        Seen::NoneExplained if status == Status::Bad => on_unexplained(alloc, vcd, names),
-        _ => on_choice(alloc, vcd, names),
+    let none_explained = status == Status::Bad && seen.unexplained == seen.stopped;
+    if seen.transactions == 0 {
+        on_silence(alloc, vcd, names)
+    } else if seen.stopped == 0 || none_explained {
+        on_unexplained(alloc, vcd, names)
+    } else {
+        on_choice(alloc, vcd, names)
     }
-}
-
-// What a report on a capture tells, as far as its beginning and its last lines show it.
-#[derive(Clone, Copy)]
-enum Seen {
-    // no transaction: nothing but lines for people, or a summary of nothing, stands before the last line
-    Nothing,
-    // transactions of which none ended: each was cut or is unfinished
-    NoneEnded,
-    // a transaction that nobody explains, and none that somebody does
-    NoneExplained,
-    Something,
-}
-
-// The line of a report of which no transaction ended.
-const NONE: &str = "0 transactions, 0 unexplained";
-
-// The same below the numbers of a summary, where none was cut or is unfinished.
-const SILENT_SUMMARY: &str = "\ncut 0\nunfinished 0\n0 transactions, 0 unexplained\n";
-
-// What was left out by its time says nothing of the lines.
-fn seen_by(report: &str, view: View) -> Seen {
-    if view.from.is_some() || view.to.is_some() {
-        return Seen::Something;
-    }
-    if report.contains(SILENT_SUMMARY) {
-        return Seen::Nothing;
-    }
-    seen_line_by_line(report)
-}
-
-fn seen_line_by_line(report: &str) -> Seen {
-    let mut is_first = true;
-    let mut seen = Seen::Something;
-    if report.contains(" unexplained\n") {
-        seen = Seen::NoneExplained;
-    }
-    for line in report.lines() {
-        if line == NONE {
-            return if is_first {
-                Seen::Nothing
-            } else {
-                Seen::NoneEnded
-            };
-        }
-        if !line.starts_with("    ") {
-            is_first = false;
-            if line.contains('/') || line.contains('!') {
-                seen = Seen::Something;
-            }
-        }
-    }
-    seen
 }

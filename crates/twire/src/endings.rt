@@ -1,7 +1,8 @@
 // How runs end.
 
 use certificate::CertFault;
-use explain::View;
+use dump_tokens::Window;
+use explain::Seen;
 use hints::Hints;
 use report::{RunError, Status};
 use std::alloc::AllocError;
@@ -33,15 +34,15 @@ pub enum Remark {
     Certificate(CertFault),
     /// That what was written is the certificate of a fault.
     Fault,
-    /// What can be said of a dump, by its report.
+    /// What can be said of a dump.
     Recording(Recorded),
 }
 
 /// What is made of a dump.
 #[derive(Clone, Copy)]
 pub enum Recorded {
-    /// This was told of it.
-    Capture(View),
+    /// These are its transactions that begin within these times.
+    Bus(Window, Seen),
     /// Its signals were listed.
     Signals,
     /// It was made into a brief or a page.

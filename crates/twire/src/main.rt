@@ -3,22 +3,18 @@
 
 mod advice;
 mod checking;
-mod colors;
 mod drawings;
 mod endings;
-mod explaining;
 mod inputs;
 mod outputs;
 mod pages;
 mod progress;
-mod quieting;
 mod recordings;
 mod rehearsals;
 mod rewriting;
 mod runs;
 mod tasks;
 mod versions;
-mod viewing;
 mod voices;
 
 use runs::Terminals;

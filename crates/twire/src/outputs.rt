@@ -2,12 +2,10 @@
 
 ghost use Rattle.std.specs.Io.{WritesAtMost};
 
-use crate::colors::colored_report;
 use crate::inputs::{FileId, FilesRead, identity_of};
 use crate::progress::{Count, Watcher};
 use explain::Paint;
 use growing_text::Text;
-use objects::report_objects;
 use report::{RunError, Status};
 use std::alloc::{AllocError, Global};
 use std::fs::{self, OpenFile, OpenOptions, Permissions};
@@ -16,12 +14,6 @@ use std::path::PathBuf;
 use std::rt::Files;
 use std::time::Clock;
 use std::{mem, str};
-
-/// How much of a report is kept to look at.
-const KEPT: usize = 64;
-
-// And how much of its end, in which the last lines stand.
-const ENDING: usize = 96;
 
 // How many names are tried for the file that is written first.
 const NAMES: u32 = 1_000;
@@ -38,30 +30,15 @@ pub enum Style {
     Objects,
 }
 
-impl Style {
-    /// How a report on a capture or on signals is written, which is made as lines.
-    pub fn form(self) -> Form<'static> {
-        match self {
-            Style::Lines(Paint::Plain) => Form::Plain,
-            Style::Lines(Paint::Colored) => Form::Colored,
-            Style::Objects => Form::Objects,
-        }
-    }
-}
-
-/// Where a report goes: to standard output as it is, or, of a capture or of signals, with its words in colours or as objects; or
-/// into a path's file.
+/// Where a report goes: to standard output, or into a path's file.
 #[derive(Clone, Copy)]
 pub enum Form<'a> {
     Plain,
-    Colored,
-    Objects,
     File(&'a str),
 }
 
 impl<'a> Form<'a> {
-    /// How a text is written that has no words for people: into this file, or to standard output where none is given. A name
-    /// of standard output is that stream, so that a file behind it is written from where the stream is.
+    /// Into this file, or to standard output where none is given. A name of standard output is that stream, so that a file behind it is written from where the stream is.
     pub fn of(output: Option<&'a str>) -> Form<'a> {
         match output {
             None | Some("/dev/stdout" | "/dev/fd/1" | "/proc/self/fd/1") => Form::Plain,
@@ -73,12 +50,12 @@ impl<'a> Form<'a> {
     pub fn path(self) -> Option<&'a str> {
         match self {
             Form::File(path) => Some(path),
-            _ => None,
+            Form::Plain => None,
         }
     }
 }
 
-/// What takes a report. It keeps the beginning and the end of the report, and the last error.
+/// What takes a report. It keeps the last error.
 #[derive(Drop)]
 pub struct Sheet<'a, R: Files> {
     rt: &'a R,
@@ -86,12 +63,6 @@ pub struct Sheet<'a, R: Files> {
     // none of which is written
     read: FilesRead,
     target: Target<R::File>,
-    beginning: String,
-    ending: Vec<u8>,
-    // the whole report, of which objects are made at its end
-    gathered: Vec<u8>,
-    // whether the next byte begins a line
-    is_at_line: bool,
     error: Option<io::Error>,
     watcher: Watcher,
     // how much of a long text was written, where it is seen neither here nor there
@@ -135,23 +106,18 @@ impl<'a, R: Files + Print + Eprint + Clock + AllocGlobal> Sheet<'a, R> {
             form,
             read,
             target: Target::None,
-            beginning: String::new(rt.alloc()),
-            ending: Vec::new(rt.alloc()),
-            gathered: Vec::new(rt.alloc()),
-            is_at_line: true,
             error: None,
             watcher,
             count: count_of(form, watcher, what),
         }
     }
 
-    /// Writes the objects, or gives the file its name, once the run has ended with its report, and answers how the run ends
+    /// Gives the file its name, once the run has ended with its report, and answers how the run ends
     /// by that. After a run that has not, nothing is left of it. A file that was read is not replaced.
     pub fn settle(&mut self, ended: Result<Status, RunError>) -> Result<Status, RunError> {
-        let settled = match (self.form, ended) {
-            (Form::Objects, Ok(_)) => self.write_objects(),
-            (Form::File(_), _) => self.settle_file(ended.is_ok()),
-            _ => Ok(()),
+        let settled = match self.form {
+            Form::File(_) => self.settle_file(ended.is_ok()),
+            Form::Plain => Ok(()),
         };
         match settled {
             Ok(()) => self.named(ended),
@@ -162,13 +128,6 @@ impl<'a, R: Files + Print + Eprint + Clock + AllocGlobal> Sheet<'a, R> {
         }
     }
 
-    fn write_objects(&self) -> io::Result<()> {
-        self.make_room();
-        let report = str::from_utf8(self.gathered.as_slice()).unwrap_or("");
-        let text = report_objects(self.rt.alloc(), report)?;
-        io::writer(self.rt).write_all(text.as_bytes())
-    }
-
     fn settle_file(&mut self, is_whole: bool) -> io::Result<()> {
         match mem::replace(&mut self.target, Target::None) {
             Target::Part(part) => settle_part(self.rt, &part, self.read, is_whole),
@@ -176,10 +135,10 @@ impl<'a, R: Files + Print + Eprint + Clock + AllocGlobal> Sheet<'a, R> {
         }
     }
 
-    // Where an allocation failed for a file or for objects, that is why the run ended.
+    // Where an allocation failed for a file, that is why the run ended.
     fn named(&self, ended: Result<Status, RunError>) -> Result<Status, RunError> {
         match (self.form, &self.error, ended) {
-            (Form::File(_) | Form::Objects, Some(error), Err(RunError::Write))
+            (Form::File(_), Some(error), Err(RunError::Write))
                 if error.kind() == ErrorKind::OutOfMemory => { Err(RunError::NoMemory) }
             _ => ended,
         }
@@ -189,33 +148,6 @@ impl<'a, R: Files + Print + Eprint + Clock + AllocGlobal> Sheet<'a, R> {
     pub fn into_error(self) -> Option<io::Error> {
         let Sheet { error, .. } = self;
         error
-    }
-
-    /// The beginning of the report, below it the last lines of a longer one, and the last error, if there was one.
-    pub fn into_parts(self) -> (String, Option<io::Error>) {
-        let Sheet {
-            mut beginning,
-            ending,
-            error,
-            ..
-        } = self;
-        push_last_lines(&mut beginning, ending.as_slice());
-        (beginning, error)
-    }
-
-    // Keeps what is the beginning of the report, and its end. Without memory there is less of them.
-    fn look_at(&mut self, taken: &[u8]) {
-        let left = KEPT.saturating_sub(self.beginning.len());
-        for byte in taken.get(..left).unwrap_or(taken) {
-            let _ = self.beginning.push(char::from(*byte));
-        }
-        if let Some(last) = taken.last() {
-            self.is_at_line = *last == b'\n';
-        }
-        match end_of(self.rt.alloc(), self.ending.as_slice(), taken) {
-            Ok(ending) => self.ending = ending,
-            Err(_) => self.ending.clear(),
-        }
     }
 
     // What is written on the terminal stands where the line that tells how far the run is stood.
@@ -240,25 +172,8 @@ impl<'a, R: Files + Print + Eprint + Clock + AllocGlobal> Sheet<'a, R> {
         match &mut self.target {
             Target::Direct(file) => file.write(buf),
             Target::Part(part) => part.file.write(buf),
-            Target::None | Target::Standard => self.put_in_stream(buf),
+            Target::None | Target::Standard => io::writer(self.rt).write(buf),
         }
-    }
-
-    fn put_in_stream(&mut self, buf: &[u8]) -> io::Result<usize>
-        ensures bound { WritesAtMost result buf.now }
-    {
-        match self.form {
-            Form::Colored => write_colored(self.rt, self.is_at_line, buf),
-            Form::Objects => self.gather(buf),
-            _ => io::writer(self.rt).write(buf),
-        }
-    }
-
-    fn gather(&mut self, buf: &[u8]) -> io::Result<usize>
-        ensures bound { WritesAtMost result buf.now }
-    {
-        self.gathered.extend_from_slice(buf)?;
-        Ok(buf.len())
     }
 }
 
@@ -267,7 +182,6 @@ impl<R: Files + Print + Eprint + Clock + AllocGlobal> Write for Sheet<'_, R> {
         self.make_room();
         match self.put(buf) {
             Ok(count) => {
-                self.look_at(buf.get(..count).unwrap_or(buf));
                 self.tell(count);
                 Ok(count)
             }
@@ -290,41 +204,6 @@ fn count_of(form: Form<'_>, watcher: Watcher, what: Option<&'static str>) -> Opt
         (Some(what), _) => Some(Count::new(watcher, what, None)),
         (None, _) => None,
     }
-}
-
-// The last lines of a longer report, of which this is the end.
-fn push_last_lines(beginning: &mut String, ending: &[u8]) {
-    if ending.len() > KEPT {
-        let ending = str::from_utf8(ending).unwrap_or("");
-        if let Some((_, lines)) = ending.split_once('\n') {
-            let _ = beginning.push('\n');
-            let _ = beginning.push_str(lines);
-        }
-    }
-}
-
-// The end of a report, of which this was the end before, and these bytes follow.
-fn end_of(alloc: Global, before: &[u8], taken: &[u8]) -> Result<Vec<u8>, AllocError> {
-    let from = taken.len().saturating_sub(ENDING);
-    let taken = taken.get(from..).unwrap_or(taken);
-    let room = ENDING.saturating_sub(taken.len());
-    let from = before.len().saturating_sub(room);
-    let mut end = before.get(from..).unwrap_or(&[]).to_vec(alloc)?;
-    end.extend_from_slice(taken)?;
-    Ok(end)
-}
-
-// Writes all of a part of a report, with its words in colours.
-fn write_colored<R: Print + AllocGlobal>(
-    rt: &R,
-    is_at_line: bool,
-    report: &[u8],
-) -> io::Result<usize>
-    ensures bound { WritesAtMost result report.now }
-{
-    let text = colored_report(rt.alloc(), report, is_at_line)?;
-    io::writer(rt).write_all(text.as_slice())?;
-    Ok(report.len())
 }
 
 // Looks for what takes the report, which is none of the files that are read.

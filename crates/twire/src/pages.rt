@@ -2,15 +2,18 @@
 
 use crate::checking::status_of;
 use crate::endings::{Ended, Halt, Recorded, Remark};
-use crate::viewing::{Asked, view_capture};
+use crate::recordings::open;
+use capture_check::Transaction;
+use decoding::{ExplainedSink, Explaining};
+use dump_tokens::Bus;
+use explain::{CaptureLines, Layout, Paint, Selection};
 use order::{order_of, order_report};
-use page::{Page, Texts, page_of};
+use page::{Page, Recording, Texts, page_of};
+use plan_core::Plan;
 use plan_text::print_plan;
 use report::{
     Checked, Input, NoGate, Output, RunError, Status, Watched, check_plan, check_report,
-    read_within,
 };
-use run_parts::devices::reading::READS;
 use run_parts::write_lines;
 use std::alloc::Global;
 use std::str;
@@ -35,68 +38,113 @@ pub fn write_page_with<R: AllocGlobal + Threads + Sync, I: Input, J: Input, O: O
     plan: &mut I,
     vcd: &mut J,
     out: &mut O,
-    asked: Asked<'_>,
+    bus: Bus<'_>,
 ) -> Result<Ended, Halt> {
-    let text = read_within(rt.alloc(), plan, READS)?;
-    with_capture(rt, title, text.as_slice(), vcd, out, asked)
-}
-
-fn with_capture<R: AllocGlobal + Threads + Sync, J: Input, O: Output>(
-    rt: &R,
-    title: &str,
-    text: &[u8],
-    vcd: &mut J,
-    out: &mut O,
-    asked: Asked<'_>,
-) -> Result<Ended, Halt> {
+    let checked = check_plan(rt, rt.alloc(), plan, 1, &NoGate)?;
     let mut written = Watched::new(Vec::new(rt.alloc()));
-    let seen = view_capture(
-        rt,
-        rt.alloc(),
-        &mut Watched::new(text),
-        vcd,
-        &mut written,
-        asked,
-    )?;
+    let (recording, seen) = recording_of(rt, &checked.plan, vcd, &mut written, bus)?;
     let capture = written.into_inner();
-    let status = with_plan(rt, title, text, text_of(capture.as_slice()), out)?;
+    let capture = Shown {
+        recording: &recording,
+        report: text_of(capture.as_slice()),
+    };
+    write_page(rt.alloc(), title, &checked, Some(capture), out)?;
     Ok(Ended {
-        status: worse(status, seen),
+        status: worse(status_of(&checked), seen),
         remark: Remark::Recording(Recorded::Other),
     })
 }
 
-fn with_plan<R: AllocGlobal + Threads + Sync, O: Output>(
+// A capture, and its explained report.
+#[derive(Clone, Copy)]
+struct Shown<'a> {
+    recording: &'a Recording,
+    report: &'a str,
+}
+
+// What a dump shows, with its explained report, and the status of a run with that.
+fn recording_of<R: AllocGlobal + Threads + Sync, J: Input, O: Output>(
     rt: &R,
-    title: &str,
-    text: &[u8],
-    capture: &str,
-    out: &mut O,
-) -> Result<Status, RunError> {
-    let checked = check_plan(rt, rt.alloc(), &mut Watched::new(text), 1, &NoGate)?;
-    write_page(rt.alloc(), title, &checked, Some(capture), out)?;
-    Ok(status_of(&checked))
+    plan: &Plan,
+    vcd: &mut J,
+    report: &mut O,
+    bus: Bus<'_>,
+) -> Result<(Recording, Status), Halt> {
+    let alloc = rt.alloc();
+    let mut dump = open(alloc, vcd, bus)?;
+    let selection = Selection::new(bus.view, dump.scale());
+    let mut explaining = Explaining {
+        rt,
+        alloc,
+        plan,
+        sink: Both {
+            lines: CaptureLines::new(alloc, plan, selection, LAYOUT, report)?,
+            recording: Recording::new(alloc, selection),
+        },
+    };
+    let ending = dump.decode(alloc, &mut explaining)?;
+    let Explaining { sink, .. } = explaining;
+    let Both { lines, recording } = sink;
+    let selection = lines.finish(dump.quiet(), ending)?;
+    Ok((recording, selection.status()))
+}
+
+// How the explained report is written.
+const LAYOUT: Layout = Layout {
+    explain: true,
+    paint: Paint::Plain,
+    live: false,
+    stops: false,
+};
+
+// The explained report, and what the page draws.
+#[derive(Drop)]
+struct Both<'a, O> {
+    lines: CaptureLines<'a, O>,
+    recording: Recording,
+}
+
+impl<O: Output> ExplainedSink for Both<'_, O> {
+    ghost use Rattle.decoding.specs.Sinks.{any_sink};
+
+    ghost sink = { λ plan. any_sink };
+
+    fn take(
+        &mut self,
+        alloc: Global,
+        plan: &Plan,
+        transactions: &[Transaction],
+        explainers: &[Vec<u32>],
+    ) -> Result<(), RunError> {
+        self.lines.take(alloc, plan, transactions, explainers)?;
+        self.recording.take(alloc, plan, transactions, explainers)
+    }
 }
 
 fn write_page<'a, O: Output>(
     alloc: Global,
     title: &'a str,
     checked: &'a Checked,
-    capture: Option<&'a str>,
+    capture: Option<Shown<'a>>,
     out: &mut O,
 ) -> Result<(), RunError> {
     let order = order_of(alloc, &checked.plan, &checked.faults)?;
     let plan = print_plan(alloc, &checked.plan)?;
+    let (recording, report) = match capture {
+        Some(Shown { recording, report }) => (Some(recording), Some(report)),
+        None => (None, None),
+    };
     let texts = Texts {
         plan: text_of(plan.as_slice()),
         check: "",
         order: "",
-        capture,
+        capture: report,
     };
     let page = Page {
         title,
         checked,
         order: &order,
+        recording,
         texts,
     };
     with_check(alloc, &page, out)

@@ -1,60 +1,271 @@
-// What the options of runs over recorded buses ask for.
+// Runs over the dump of a recorded bus: each hands what the dump shows to the form that is wanted.
 
-use crate::viewing::Asked;
-use command_words::{self, Line, Lines};
-use dump_tokens::Time;
-use explain::View;
-use report::Probe;
-use signals::Lesson;
+use crate::endings::{Ended, Halt, Recorded, Remark};
+use crate::outputs::Style;
+use decoding::Explaining;
+use dump_tokens::Bus;
+use explain::{CaptureLines, DecodeLines, Layout, Paint, Seen, Selection};
+use objects::{CaptureObjects, DecodeObjects, write_signals};
+use plan_core::Plan;
+use report::{Captured, Input, Output, RunError, Status, Telling, find_plan};
+use run_parts::write_lines;
+use signals::{Dump, Learned, Listed, Sights, brief_of, find_signals};
+use std::alloc::Global;
+use std::thread::Threads;
 
-/// What the options of a capture ask for.
-pub fn asked_of<'a>(
-    lines: Lines<'a>,
-    min_pulse: Option<Time>,
-    view: command_words::View,
-    explain: bool,
-) -> Asked<'a> {
-    Asked {
-        scl: probe_of(lines.scl),
-        sda: probe_of(lines.sda),
-        scope: lines.scope,
-        min_pulse,
-        view: View {
-            at_least: view.at_least,
-            from: view.from,
-            to: view.to,
-            si: view.si,
-            summary: view.summary,
-        },
-        explain,
+/// A capture that is asked for.
+#[derive(Clone, Copy)]
+pub struct Capture<'a> {
+    pub bus: Bus<'a>,
+    pub explain: bool,
+    pub live: bool,
+    /// Whether the first transaction that nobody explains ends the run.
+    pub stops: bool,
+}
+
+impl Capture<'_> {
+    // Whether its report is the exact one, which is written when it is whole.
+    fn is_exact(self) -> bool {
+        self.bus.view.is_whole() && !self.explain && !self.live && !self.stops
+    }
+
+    /// How its lines are written.
+    pub fn layout(self, paint: Paint) -> Layout {
+        Layout {
+            explain: self.explain,
+            paint,
+            live: self.live,
+            stops: self.stops,
+        }
     }
 }
 
-/// The whole report on a capture with these lines, explained.
-pub fn whole_of(lines: Lines<'_>) -> Asked<'_> {
-    let view = command_words::View {
-        at_least: None,
-        from: None,
-        to: None,
-        si: false,
-        summary: false,
+/// The dump, where it says what its numbers count or nobody needs to know.
+pub fn open<'v, 'a, J: Input>(
+    alloc: Global,
+    vcd: &'v mut J,
+    bus: Bus<'a>,
+) -> Result<Dump<'v, 'a, J>, Halt> {
+    let dump = Dump::open(alloc, vcd, bus)?;
+    if bus.has_unit() && dump.scale().is_none() {
+        return Err(Halt::NoTimescale);
+    }
+    Ok(dump)
+}
+
+// ---- capture
+
+/// Explains the capture that the second reader gives by the plan that the first reader gives. The plan is read to its end and
+/// judged before the second reader is called.
+pub fn capture<R: AllocGlobal + Threads + Sync, I: Input, J: Input, O: Output>(
+    rt: &R,
+    plan: &mut I,
+    vcd: &mut J,
+    out: &mut O,
+    capture: Capture<'_>,
+    style: Style,
+) -> Result<Ended, Halt> {
+    let plan = find_plan(rt.alloc(), plan)?;
+    let (status, seen) = capture_by(rt, &plan, vcd, out, capture, style)?;
+    Ok(Ended {
+        status,
+        remark: Remark::Recording(Recorded::Bus(capture.bus.view.window, seen)),
+    })
+}
+
+fn capture_by<R: AllocGlobal + Threads + Sync, J: Input, O: Output>(
+    rt: &R,
+    plan: &Plan,
+    vcd: &mut J,
+    out: &mut O,
+    capture: Capture<'_>,
+    style: Style,
+) -> Result<(Status, Seen), Halt> {
+    let mut dump = open(rt.alloc(), vcd, capture.bus)?;
+    let selection = match style {
+        Style::Objects => capture_objects(rt, plan, &mut dump, out, capture)?,
+        Style::Lines(Paint::Plain) if capture.is_exact() => {
+            return Ok(exact_capture(rt, plan, &mut dump, out)?);
+        }
+        Style::Lines(paint) => capture_lines(rt, plan, &mut dump, out, capture, paint)?,
     };
-    asked_of(lines, None, view, true)
+    Ok((selection.status(), selection.seen))
 }
 
-fn probe_of(line: Line<'_>) -> Probe<'_> {
-    match line {
-        Line::Named(name) => Probe::Named(name),
-        Line::Coded(code) => Probe::Coded(code),
+// The exact report, which is written when it is whole.
+fn exact_capture<R: AllocGlobal + Threads + Sync, J: Input, O: Output>(
+    rt: &R,
+    plan: &Plan,
+    dump: &mut Dump<'_, '_, J>,
+    out: &mut O,
+) -> Result<(Status, Seen), RunError> {
+    let alloc = rt.alloc();
+    let mut explaining = Explaining {
+        rt,
+        alloc,
+        plan,
+        sink: Telling::new(alloc),
+    };
+    dump.decode(alloc, &mut explaining)?;
+    let Explaining { sink, .. } = explaining;
+    let Captured {
+        report,
+        status,
+        transactions,
+        stopped,
+        unexplained,
+    } = sink.finish()?;
+    write_lines(out, report.as_bytes(), status)?;
+    let seen = Seen {
+        transactions,
+        stopped,
+        unexplained,
+    };
+    Ok((status, seen))
+}
+
+fn capture_lines<R: AllocGlobal + Threads + Sync, J: Input, O: Output>(
+    rt: &R,
+    plan: &Plan,
+    dump: &mut Dump<'_, '_, J>,
+    out: &mut O,
+    capture: Capture<'_>,
+    paint: Paint,
+) -> Result<Selection, RunError> {
+    let alloc = rt.alloc();
+    let selection = Selection::new(capture.bus.view, dump.scale());
+    let lines = CaptureLines::new(alloc, plan, selection, capture.layout(paint), out)?;
+    let mut explaining = Explaining {
+        rt,
+        alloc,
+        plan,
+        sink: lines,
+    };
+    let ended = dump.decode(alloc, &mut explaining);
+    let Explaining { sink, .. } = explaining;
+    match ended {
+        Ok(ending) => sink.finish(dump.quiet(), ending),
+        Err(error) => sink.stop(error),
     }
 }
 
-/// What the options of a lesson ask for.
-pub fn lesson_of<'a>(lines: Lines<'a>, merge: bool) -> Lesson<'a> {
-    Lesson {
-        scl: probe_of(lines.scl),
-        sda: probe_of(lines.sda),
-        scope: lines.scope,
-        merge,
+fn capture_objects<R: AllocGlobal + Threads + Sync, J: Input, O: Output>(
+    rt: &R,
+    plan: &Plan,
+    dump: &mut Dump<'_, '_, J>,
+    out: &mut O,
+    capture: Capture<'_>,
+) -> Result<Selection, RunError> {
+    let alloc = rt.alloc();
+    let selection = Selection::new(capture.bus.view, dump.scale());
+    let layout = capture.layout(Paint::Plain);
+    let mut explaining = Explaining {
+        rt,
+        alloc,
+        plan,
+        sink: CaptureObjects::new(alloc, plan, selection, layout, out)?,
+    };
+    let ended = dump.decode(alloc, &mut explaining);
+    let Explaining { sink, .. } = explaining;
+    match ended {
+        Ok(ending) => sink.finish(ending),
+        Err(error) => sink.stop(error),
     }
+}
+
+// ---- decode
+
+/// Writes the transactions of the dump that the reader gives, in bytes.
+pub fn decode<J: Input, O: Output>(
+    alloc: Global,
+    vcd: &mut J,
+    out: &mut O,
+    bus: Bus<'_>,
+    live: bool,
+    style: Style,
+) -> Result<Ended, Halt> {
+    let mut dump = open(alloc, vcd, bus)?;
+    let selection = Selection::new(bus.view, dump.scale());
+    let selection = match style {
+        Style::Objects => decode_objects(alloc, &mut dump, out, selection, live)?,
+        Style::Lines(_) => decode_lines(alloc, &mut dump, out, selection, live)?,
+    };
+    Ok(Ended {
+        status: selection.status(),
+        remark: Remark::Recording(Recorded::Bus(bus.view.window, selection.seen)),
+    })
+}
+
+fn decode_lines<J: Input, O: Output>(
+    alloc: Global,
+    dump: &mut Dump<'_, '_, J>,
+    out: &mut O,
+    selection: Selection,
+    live: bool,
+) -> Result<Selection, RunError> {
+    let mut lines = DecodeLines::new(alloc, selection, live, out)?;
+    dump.decode(alloc, &mut lines)?;
+    lines.finish()
+}
+
+fn decode_objects<J: Input, O: Output>(
+    alloc: Global,
+    dump: &mut Dump<'_, '_, J>,
+    out: &mut O,
+    selection: Selection,
+    live: bool,
+) -> Result<Selection, RunError> {
+    let mut lines = DecodeObjects::new(alloc, selection, live, out)?;
+    dump.decode(alloc, &mut lines)?;
+    lines.finish()
+}
+
+// ---- learn and signals
+
+/// Writes a brief of what the dump that the reader gives has shown.
+pub fn learn<J: Input, O: Output>(
+    alloc: Global,
+    vcd: &mut J,
+    out: &mut O,
+    bus: Bus<'_>,
+    merge: bool,
+) -> Result<Ended, Halt> {
+    let mut dump = open(alloc, vcd, bus)?;
+    let mut seen = Sights::new(alloc, bus.view, dump.scale());
+    dump.decode(alloc, &mut seen)?;
+    let Learned { brief, status } = brief_of(alloc, seen, merge)?;
+    write_lines(out, brief.as_bytes(), status)?;
+    Ok(Ended {
+        status,
+        remark: Remark::Recording(Recorded::Other),
+    })
+}
+
+/// Lists the signals of the dump that the reader gives.
+pub fn list_signals<J: Input, O: Output>(
+    alloc: Global,
+    vcd: &mut J,
+    out: &mut O,
+    style: Style,
+) -> Result<Ended, Halt> {
+    let listed = find_signals(alloc, vcd)?;
+    write_listed(alloc, &listed, out, style)?;
+    Ok(Ended {
+        status: Status::Good,
+        remark: Remark::Recording(Recorded::Signals),
+    })
+}
+
+fn write_listed<O: Output>(
+    alloc: Global,
+    listed: &Listed,
+    out: &mut O,
+    style: Style,
+) -> Result<(), RunError> {
+    if let Style::Objects = style {
+        return write_signals(alloc, listed, out);
+    }
+    let report = listed.report(alloc)?;
+    write_lines(out, report.as_bytes(), Status::Good)?;
+    Ok(())
 }

@@ -132,7 +132,9 @@ fn files_of(request: Request<'_>) -> Option<(&str, &str)> {
         Request::Check { plan, .. } | Request::Certify { plan, .. } => Some((plan, plan)),
         Request::Verify { plan, cert, .. } => Some((plan, cert)),
         Request::Capture { plan, vcd, .. } => Some((plan, vcd)),
-        Request::Signals { vcd } | Request::Learn { vcd, .. } => Some((vcd, vcd)),
+        Request::Decode { vcd, .. } | Request::Signals { vcd } | Request::Learn { vcd, .. } => {
+            Some((vcd, vcd))
+        }
         Request::Page { plan, capture, .. } => Some((plan, capture.unwrap_or(plan))),
         _ => None,
     }
@@ -160,7 +162,7 @@ fn do_request<R: Files + Input + Print + Eprint + AllocGlobal + Threads + Wait +
     request: Request<'_>,
     extras: Extras,
 ) -> u8 {
-    match task_of(request, extras.style()) {
+    match task_of(request) {
         Task::One(text, over, form) => run_over(rt, text, over, form, extras),
         Task::Two(plan, other, over, form) => run_over_both(rt, plan, other, over, form, extras),
     }
@@ -270,13 +272,11 @@ fn finish<R: Files + Print + Eprint + Clock + AllocGlobal>(
     let ended = out.settle(ended);
     let status = exit_code_of(rt, ended, extras);
     if extras.hints {
-        let (report, error) = out.into_parts();
         let closing = Closing {
             ended,
             remark,
             output,
-            error: reason.or(error),
-            report,
+            error: reason.or(out.into_error()),
             about,
             voice: extras.voice(),
         };

@@ -1,20 +1,20 @@
 // What a request comes to: a run over one text or over two, and where its report goes.
 
-use crate::advice::{About, names_of};
+use crate::advice::{About, names_of, no_lines};
 use crate::checking::{Look, check, order, verify};
 use crate::drawings::Canvas;
 use crate::endings::{Ended, Halt};
 use crate::inputs::FilesRead;
-use crate::outputs::{Form, Style};
+use crate::outputs::Form;
 use crate::pages::{write_page_alone, write_page_with};
-use crate::recordings::{asked_of, lesson_of, whole_of};
+use crate::recordings::{Capture, capture, decode, learn, list_signals};
 use crate::rehearsals::{Play, bench, bench_alone};
 use crate::rewriting::Rewriting;
 use crate::runs::Extras;
-use crate::viewing::{Asked, capture};
-use command_words::{Lines, Request};
+use command_words::Request;
+use dump_tokens::Bus;
 use hints::Named;
-use report::{Input, Output, Probe};
+use report::{Input, Output};
 use std::rt::Files;
 use std::sync::Wait;
 use std::thread::Threads;
@@ -33,23 +33,26 @@ pub enum Over<'a> {
     Check(Look<'a>),
     Order,
     Page,
-    Rewrite(Rewriting<'a>),
+    Rewrite(Rewriting),
     Bench(Play<'a>),
+    Decode { bus: Bus<'a>, live: bool },
+    Signals,
+    Learn { bus: Bus<'a>, merge: bool },
 }
 
 /// A run over a plan and a second text.
 #[derive(Clone, Copy)]
 pub enum OverBoth<'a> {
     Verify { explain: bool },
-    Capture(Asked<'a>),
-    Page(Asked<'a>),
+    Capture(Capture<'a>),
+    Page(Bus<'a>),
     Bench(Play<'a>),
 }
 
 // ---- from the request
 
-/// What is run for a request. Reports on captures and on signals are made as lines, which are then written in this style.
-pub fn task_of<'a>(request: Request<'a>, style: Style) -> Task<'a> {
+/// What is run for a request.
+pub fn task_of<'a>(request: Request<'a>) -> Task<'a> {
     match request {
         Request::Check {
             plan,
@@ -77,25 +80,29 @@ pub fn task_of<'a>(request: Request<'a>, style: Style) -> Task<'a> {
         Request::Capture {
             plan,
             vcd,
-            lines,
-            min_pulse,
-            view,
+            bus,
             explain,
+            live,
+            stops,
         } => {
-            let asked = asked_of(lines, min_pulse, view, explain);
-            Task::Two(
-                the_plan(plan),
-                the_capture(vcd),
-                OverBoth::Capture(asked),
-                style.form(),
-            )
+            let capture = Capture {
+                bus,
+                explain,
+                live,
+                stops,
+            };
+            let capture = OverBoth::Capture(capture);
+            Task::Two(the_plan(plan), the_capture(vcd), capture, Form::Plain)
+        }
+        Request::Decode { vcd, bus, live } => {
+            Task::One(the_capture(vcd), Over::Decode { bus, live }, Form::Plain)
         }
         Request::Page {
             plan,
             capture,
-            lines,
+            bus,
             output,
-        } => page_of(the_plan(plan), capture, lines, Form::of(output)),
+        } => page_of(the_plan(plan), capture, bus, Form::of(output)),
         Request::Bench {
             plan,
             cert,
@@ -117,15 +124,15 @@ pub fn task_of<'a>(request: Request<'a>, style: Style) -> Task<'a> {
             bench_of(the_plan(plan), cert, play)
         }
         Request::Order { plan } => Task::One(the_plan(plan), Over::Order, Form::Plain),
-        Request::Signals { vcd } => rewrite(Rewriting::Signals, the_capture(vcd), style.form()),
+        Request::Signals { vcd } => Task::One(the_capture(vcd), Over::Signals, Form::Plain),
         Request::Learn {
             vcd,
-            lines,
+            bus,
             merge,
             output,
         } => {
-            let learn = Rewriting::Learn(lesson_of(lines, merge));
-            rewrite(learn, the_capture(vcd), Form::of(output))
+            let learn = Over::Learn { bus, merge };
+            Task::One(the_capture(vcd), learn, Form::of(output))
         }
         Request::Certify { plan, output } => {
             rewrite(Rewriting::Certify, the_plan(plan), Form::of(output))
@@ -145,16 +152,11 @@ pub fn task_of<'a>(request: Request<'a>, style: Style) -> Task<'a> {
 fn page_of<'a>(
     plan: Named<'a>,
     capture: Option<&'a str>,
-    lines: Lines<'a>,
+    bus: Bus<'a>,
     form: Form<'a>,
 ) -> Task<'a> {
     match capture {
-        Some(vcd) => Task::Two(
-            plan,
-            the_capture(vcd),
-            OverBoth::Page(whole_of(lines)),
-            form,
-        ),
+        Some(vcd) => Task::Two(plan, the_capture(vcd), OverBoth::Page(bus), form),
         None => Task::One(plan, Over::Page, form),
     }
 }
@@ -171,7 +173,7 @@ fn bench_of<'a>(plan: Named<'a>, cert: Option<&'a str>, play: Play<'a>) -> Task<
     }
 }
 
-fn rewrite<'a>(rewriting: Rewriting<'a>, text: Named<'a>, form: Form<'a>) -> Task<'a> {
+fn rewrite<'a>(rewriting: Rewriting, text: Named<'a>, form: Form<'a>) -> Task<'a> {
     Task::One(text, Over::Rewrite(rewriting), form)
 }
 
@@ -223,6 +225,9 @@ impl<'a> Over<'a> {
             Over::Page => write_page_alone(rt, path, text, out),
             Over::Rewrite(rewriting) => rewriting.run(rt.alloc(), text, out),
             Over::Bench(play) => bench_alone(rt, text, out, play, extras, canvas),
+            Over::Decode { bus, live } => decode(rt.alloc(), text, out, bus, live, extras.style()),
+            Over::Signals => list_signals(rt.alloc(), text, out, extras.style()),
+            Over::Learn { bus, merge } => learn(rt.alloc(), text, out, bus, merge),
         }
     }
 
@@ -246,14 +251,12 @@ impl<'a> Over<'a> {
     /// What hints say of a run over the text of this path.
     pub fn about(self, path: &'a str) -> About<'a> {
         match self {
-            Over::Rewrite(Rewriting::Signals) => {
-                let none = Probe::Coded("");
-                let names = names_of(none, none, None, None, path);
-                About::recording(names, ["", "", "", ""])
+            Over::Decode { bus, .. } => {
+                About::recording(names_of(bus.lines, path), ["twire decode", path, "", ""])
             }
-            Over::Rewrite(Rewriting::Learn(lesson)) => {
-                let names = names_of(lesson.scl, lesson.sda, lesson.scope, None, path);
-                About::recording(names, ["twire learn", path, "", ""])
+            Over::Signals => About::recording(names_of(no_lines(), path), ["", "", "", ""]),
+            Over::Learn { bus, .. } => {
+                About::recording(names_of(bus.lines, path), ["twire learn", path, "", ""])
             }
             Over::Bench(play) => About::bench(play.starters),
             _ => About::plans(),
@@ -281,8 +284,8 @@ impl<'a> OverBoth<'a> {
         let alloc = rt.alloc();
         match self {
             OverBoth::Verify { explain } => verify(alloc, plan, other, out, explain, extras),
-            OverBoth::Capture(asked) => capture(rt, alloc, plan, other, out, asked),
-            OverBoth::Page(asked) => write_page_with(rt, path, plan, other, out, asked),
+            OverBoth::Capture(asked) => capture(rt, plan, other, out, asked, extras.style()),
+            OverBoth::Page(bus) => write_page_with(rt, path, plan, other, out, bus),
             OverBoth::Bench(play) => {
                 let canvas = canvas_of(play.wave, extras, read);
                 bench(rt, plan, other, out, play, extras, canvas)
@@ -302,13 +305,12 @@ impl<'a> OverBoth<'a> {
     pub fn about(self, plan: &'a str, other: &'a str) -> About<'a> {
         match self {
             OverBoth::Capture(asked) => {
-                let names = names_of(asked.scl, asked.sda, asked.scope, asked.min_pulse, other);
+                let names = names_of(asked.bus.lines, other);
                 About::recording(names, ["twire capture", plan, "", other])
             }
-            OverBoth::Page(asked) => {
-                let names = names_of(asked.scl, asked.sda, asked.scope, None, other);
+            OverBoth::Page(bus) => {
                 let words = ["twire page", plan, "--capture", other];
-                About::recording(names, words)
+                About::recording(names_of(bus.lines, other), words)
             }
             OverBoth::Bench(play) => About::bench(play.starters),
             OverBoth::Verify { .. } => About::plans(),

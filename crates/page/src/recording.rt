@@ -1,0 +1,181 @@
+// A recorded bus, as the page has it.
+
+use capture_check::{Mark, Transaction, Until};
+use decoding::ExplainedSink;
+use dump_tokens::Scale;
+use explain::{Leaves, Seen, Selection, bytes_of, does, nearest, shown};
+use plan_core::Plan;
+use run_parts::RunError;
+use serde::Serialize;
+use std::alloc::{AllocError, Global};
+
+/// The transactions that are told, in the order in which they ended.
+#[derive(Drop)]
+pub struct Recording {
+    alloc: Global,
+    selection: Selection,
+    transactions: Vec<Shown>,
+}
+
+/// A transaction. Its times are whole numbers, which may be too great for a number of a script.
+#[derive(Drop, Serialize)]
+pub(crate) struct Shown {
+    from: String,
+    #[serde(skip_serializing_if = "Option::is_none")]
+    to: Option<String>,
+    // both times in parts of a second, where they are told so
+    #[serde(skip_serializing_if = "Option::is_none")]
+    times: Option<String>,
+    end: &'static str,
+    by: Vec<u32>,
+    bytes: String,
+    #[serde(skip_serializing_if = "Vec::is_empty")]
+    nearest: Vec<Near>,
+}
+
+// Where a participant leaves a transaction that nobody explains.
+#[derive(Drop, Serialize)]
+struct Near {
+    participant: u32,
+    slot: usize,
+    does: &'static str,
+    wire: &'static str,
+}
+
+/// What the page has of it.
+#[derive(Clone, Copy, Serialize)]
+pub(crate) struct Recorded<'a> {
+    stopped: u64,
+    unexplained: u64,
+    transactions: &'a [Shown],
+}
+
+impl Recording {
+    /// No transaction yet of those that are selected.
+    pub fn new(alloc: Global, selection: Selection) -> Recording {
+        Recording {
+            alloc,
+            selection,
+            transactions: Vec::new(alloc),
+        }
+    }
+
+    /// What the page has of it.
+    pub(crate) fn recorded(&self) -> Recorded<'_> {
+        let Seen {
+            stopped,
+            unexplained,
+            ..
+        } = self.selection.seen;
+        Recorded {
+            stopped,
+            unexplained,
+            transactions: self.transactions.as_slice(),
+        }
+    }
+
+    fn add(
+        &mut self,
+        plan: &Plan,
+        transaction: &Transaction,
+        participants: &[u32],
+    ) -> Result<(), AllocError> {
+        if self.selection.takes(transaction, !participants.is_empty()) {
+            let scale = self.selection.told_scale();
+            let shown = shown_of(self.alloc, plan, transaction, participants, scale)?;
+            self.transactions.push(shown)?;
+        }
+        Ok(())
+    }
+}
+
+impl ExplainedSink for Recording {
+    ghost use Rattle.decoding.specs.Sinks.{any_sink};
+
+    ghost sink = { λ plan. any_sink };
+
+    fn take(
+        &mut self,
+        _alloc: Global,
+        plan: &Plan,
+        transactions: &[Transaction],
+        explainers: &[Vec<u32>],
+    ) -> Result<(), RunError> {
+        for (transaction, participants) in transactions.iter().zip(explainers) {
+            self.add(plan, transaction, participants.as_slice())?;
+        }
+        Ok(())
+    }
+}
+
+fn shown_of(
+    alloc: Global,
+    plan: &Plan,
+    transaction: &Transaction,
+    participants: &[u32],
+    scale: Option<Scale>,
+) -> Result<Shown, AllocError> {
+    let (to, end) = match transaction.until {
+        Until::Stopped(time) => (Some(time), "stop"),
+        Until::Cut(time) => (Some(time), "cut"),
+        Until::Unfinished => (None, "unfinished"),
+    };
+    let marks = transaction.marks.as_slice();
+    let from = transaction.from;
+    Ok(Shown {
+        from: format!(in alloc; "{from}")?,
+        to: number_of(alloc, to)?,
+        times: told_times(alloc, from, to, scale)?,
+        end,
+        by: participants.to_vec(alloc)?,
+        bytes: bytes_of(alloc, marks)?,
+        nearest: if end == "stop" && participants.is_empty() {
+            nearest_of(alloc, plan, marks)?
+        } else {
+            Vec::new(alloc)
+        },
+    })
+}
+
+fn number_of(alloc: Global, time: Option<u64>) -> Result<Option<String>, AllocError> {
+    match time {
+        Some(time) => Ok(Some(format!(in alloc; "{time}")?)),
+        None => Ok(None),
+    }
+}
+
+fn told_times(
+    alloc: Global,
+    from: u64,
+    to: Option<u64>,
+    scale: Option<Scale>,
+) -> Result<Option<String>, AllocError> {
+    let Some(scale) = scale else {
+        return Ok(None);
+    };
+    let mut text = scale.told(alloc, from)?;
+    text.push('-')?;
+    if let Some(to) = to {
+        text.push_str(scale.told(alloc, to)?.as_str())?;
+    }
+    Ok(Some(text))
+}
+
+fn nearest_of(alloc: Global, plan: &Plan, marks: &[Mark]) -> Result<Vec<Near>, AllocError> {
+    let mut found = Vec::new(alloc);
+    for near in nearest(plan, marks).iter() {
+        if let Some(near) = near {
+            found.push(near_of(*near, marks.get(near.slot)))?;
+        }
+    }
+    Ok(found)
+}
+
+fn near_of(near: Leaves, mark: Option<&Mark>) -> Near {
+    Near {
+        participant: near.participant,
+        slot: near.slot,
+        does: does(near.offered),
+        wire: shown(mark),
+    }
+}

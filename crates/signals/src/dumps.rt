@@ -1,0 +1,86 @@
+// A dump with the two lines of a bus.
+
+use crate::beginning::Again;
+use crate::picking::{Picked, needs_picking, pick};
+use decoding::{Ending, TransactionSink, decode};
+use dump_tokens::{Bus, BusLines, Quiet, Scale};
+use run_parts::{Input, RunError, Watched};
+use std::alloc::Global;
+
+/// A dump, and what its definitions say, where that has to be known ahead.
+#[derive(Drop)]
+pub struct Dump<'a, 'l, J> {
+    again: Watched<Again<'a, J>>,
+    lines: BusLines<'l>,
+    picked: Option<Picked>,
+}
+
+impl<'a, 'l, J: Input> Dump<'a, 'l, J> {
+    /// A dump with the lines of this bus. Its definitions are read ahead, and kept, where the lines are looked for in a scope or by
+    /// names with white space, or it matters what the numbers of the dump count.
+    ///
+    /// # Errors
+    ///
+    /// `Read` where the reader fails, and `NoMemory`.
+    pub fn open(
+        alloc: Global,
+        vcd: &'a mut J,
+        bus: Bus<'l>,
+    ) -> Result<Dump<'a, 'l, J>, RunError> {
+        let lines = bus.lines;
+        let BusLines {
+            scl,
+            sda,
+            scope,
+            ..
+        } = lines;
+        if !bus.needs_scale() && !needs_picking(scl, sda, scope) {
+            return Ok(Dump {
+                again: Watched::new(Again::unread(alloc, vcd)),
+                lines,
+                picked: None,
+            });
+        }
+        let (again, picked) = pick(alloc, vcd, scl, sda, scope)?;
+        Ok(Dump {
+            again: Watched::new(again),
+            lines,
+            picked: Some(picked),
+        })
+    }
+
+    /// What the numbers of the dump count, where that was read and stands there.
+    pub fn scale(&self) -> Option<Scale> {
+        match &self.picked {
+            Some(picked) => picked.scale,
+            None => None,
+        }
+    }
+
+    /// How long a level has to last.
+    pub fn quiet(&self) -> Quiet {
+        Quiet::of(self.lines.min_pulse, self.scale())
+    }
+
+    /// Hands the transactions of the dump on.
+    ///
+    /// # Errors
+    ///
+    /// Those of `decode`, in the same order.
+    pub fn decode<S: TransactionSink>(
+        &mut self,
+        alloc: Global,
+        sink: &mut S,
+    ) -> Result<Ending, RunError> {
+        let least = self.quiet().least;
+        let Dump {
+            again,
+            lines,
+            picked,
+        } = self;
+        match picked {
+            Some(picked) => decode(alloc, again, picked.scl(), picked.sda(), least, sink),
+            None => decode(alloc, again, lines.scl, lines.sda, least, sink),
+        }
+    }
+}
