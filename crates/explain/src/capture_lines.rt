@@ -92,7 +92,9 @@ impl<'a, O: Output> CaptureLines<'a, O> {
     // So many bits came on the free bus after the last transaction.
     fn follow(&mut self, idle: u64) {
         if idle != 0 && self.was_told && self.layout.explain {
-            self.written.text.push_made(after_transaction(self.written.alloc, idle));
+            self.written
+                .text
+                .push_made(after_transaction(self.written.alloc, idle));
         }
     }
 

@@ -85,11 +85,7 @@ pub fn run_capture_of<I: Input, J: Input, O: Output>(
 {
     let text = read_within(alloc, plan, READS)?;
     let plan = read_plan(alloc, text.as_slice())?;
-    let Captured {
-        report,
-        status,
-        ..
-    } = read_capture(rt, alloc, &plan, vcd, scl, sda, least)?;
+    let Captured { report, status, .. } = read_capture(rt, alloc, &plan, vcd, scl, sda, least)?;
     write_lines(out, report.as_bytes(), status)
 }
 

@@ -22,11 +22,7 @@ impl<'a, 'l, J: Input> Dump<'a, 'l, J> {
     /// # Errors
     ///
     /// `Read` where the reader fails, and `NoMemory`.
-    pub fn open(
-        alloc: Global,
-        vcd: &'a mut J,
-        bus: Bus<'l>,
-    ) -> Result<Dump<'a, 'l, J>, RunError> {
+    pub fn open(alloc: Global, vcd: &'a mut J, bus: Bus<'l>) -> Result<Dump<'a, 'l, J>, RunError> {
         let lines = bus.lines;
         let BusLines {
             scl,

@@ -22,8 +22,8 @@ mod masks;
 mod picking;
 
 pub use beginning::{Again, read_beginning};
-pub use dumps::Dump;
 pub use definitions::{Found, Listing};
+pub use dumps::Dump;
 pub use lessons::{Learned, Sights, brief_of};
 pub use listing::{Listed, Pair, Signal, bus_options, find_signals};
 pub use masks::MOST as CANDIDATES;

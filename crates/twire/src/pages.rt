@@ -11,9 +11,7 @@ use order::{order_of, order_report};
 use page::{Page, Recording, Texts, page_of};
 use plan_core::Plan;
 use plan_text::print_plan;
-use report::{
-    Checked, Input, NoGate, Output, RunError, Status, Watched, check_plan, check_report,
-};
+use report::{Checked, Input, NoGate, Output, RunError, Status, Watched, check_plan, check_report};
 use run_parts::write_lines;
 use std::alloc::Global;
 use std::str;
