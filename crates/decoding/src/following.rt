@@ -44,6 +44,7 @@ impl Decoder {
         piece: &[u8],
         sink: &mut S,
     ) -> Result<(), RunError>
+        requires { S.needs }
         ensures fed { OnOk result ((start : S) (least : ℕ) (scl sda : Finder) (text : List ℕ) →
             Follows S.sink start least scl sda text self.old sink.old →
             Follows S.sink start least scl sda (text ++ piece.now) self.new sink.new) }
@@ -66,6 +67,7 @@ impl Decoder {
         alloc: Global,
         sink: &mut S,
     ) -> Result<Ending, RunError>
+        requires { S.needs }
         ensures read { IfOk result (λ ending. (start : S) (least : ℕ) (scl sda : Finder) (text : List ℕ) →
             Follows S.sink start least scl sda text self sink.old →
             DecodesDump S.sink start least scl sda text sink.new) }

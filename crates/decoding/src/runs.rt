@@ -38,6 +38,7 @@ pub fn decode<J: Input, S: TransactionSink>(
     least: u64,
     sink: &mut S,
 ) -> Result<Ending, RunError>
+    requires { S.needs }
     ensures all { IfOk result (λ ending. DecodesAll S.sink sink.old least (asked scl.entry) (asked sda.entry)
         J.reader vcd.old vcd.new sink.new) }
     ensures stops { IfErr result (λ error. HaltsAtDecoding S.sink sink.old least (asked scl.entry) (asked sda.entry)
@@ -56,7 +57,8 @@ fn decode_blocks<J: Input, S: TransactionSink>(
     mut decoder: Decoder,
     sink: &mut S,
 ) -> Result<Ending, RunError>
-    requires { 0 < length block.old }
+    requires room { 0 < length block.old }
+    requires needs { S.needs }
     ensures all { (least : ℕ) (scl sda : Finder) → IsNew least scl sda decoder →
         IfOk result (λ ending. DecodesAll S.sink sink.old least scl sda J.reader vcd.old vcd.new sink.new) }
     ensures stops { (least : ℕ) (scl sda : Finder) → IsNew least scl sda decoder →

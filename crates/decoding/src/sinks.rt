@@ -17,9 +17,12 @@ use std::thread::Threads;
 /// Takes transactions in the order in which they end.
 pub trait TransactionSink {
     ghost sink: { Sink Self };
+    // what its calls need of its type, as that a handle can be shared by threads
+    ghost needs: { Type 0 } = { Unit {0} };
 
     /// Takes the next transactions: those that ended in a block of the dump, or at its end. There may be none.
     fn take(&mut self, transactions: &[Transaction]) -> Result<(), RunError>
+        requires { needs }
         ensures taken { OnOk result (sink.takes self.old (map recorded transactions.now) self.new) }
         ensures stops { IfErr result (λ error. sink.stops self.old (map recorded transactions.now) error self.new) };
 }
@@ -54,9 +57,12 @@ pub struct Explaining<'a, R, S> {
 }
 
 impl<R: Threads + Sync, S: ExplainedSink> TransactionSink for Explaining<'_, R, S> {
+    ghost use Rattle.std.specs.Thread.{IsSync};
     ghost use Rattle.decoding.specs.Explaining.{explaining_sink};
 
     ghost sink = { explaining_sink S.sink };
+
+    ghost needs = { IsSync R.row };
 
     fn take(&mut self, transactions: &[Transaction]) -> Result<(), RunError> {
         let explainers = explain_all(self.rt, self.alloc, self.plan, transactions)?;

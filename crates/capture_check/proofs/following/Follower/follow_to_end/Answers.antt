@@ -9,4 +9,4 @@ returns c =
     c.in_ok-all.ensures
     ∙ (ap (λ last. map recorded c.in_ok-found.found.items ++ before last []) c.end.ensures
     ∙ (c.in_ok-found.ensures []
-    ∙ ap (λ samples. transactions_behind (place_of c.args.self) samples) (append-nil c.args.samples.now)))
+    ∙ ap (λ samples. transactions_behind (place_of c.args.self.now) samples) (append-nil c.args.samples.now)))

@@ -15,4 +15,4 @@ returns-in_ok-hand_out c =
     ∙ (ap (λ (rest : List Sample). c.hand_out.new.quiet.items ++ rest) (sym none)
     ∙ (given.to_come []
     ∙ ap (λ (rest : List Sample). c.args.quiet.now.items ++ rest)
-    (coming_last c.args.self.least c.args.self.first c.args.self.scl c.args.self.sda c.args.self.time))))
+    (coming_last c.args.self.now.least c.args.self.now.first c.args.self.now.scl c.args.self.now.sda c.args.self.now.time))))

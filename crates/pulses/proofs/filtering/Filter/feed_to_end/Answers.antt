@@ -7,5 +7,5 @@ pub returns : goal.returns
 returns c =
     c.in_ok-end.ensures
     ∙ (c.in_ok-feed.ensures []
-    ∙ ap (λ (samples : List Sample). c.args.quiet.now.items ++ behind c.args.self samples)
+    ∙ ap (λ (samples : List Sample). c.args.quiet.now.items ++ behind c.args.self.now samples)
     (append-nil c.args.samples.now))
