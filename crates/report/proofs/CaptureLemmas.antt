@@ -1,19 +1,7 @@
--- Captures: lists that are told one item after another, and pieces of a dump.
-use Rattle.std.proofs.Common.{◌≡◌, ◌⊎◌, inl, inr, ℕ, zero, suc, ◌+◌, ◌<◌, List, [], ◌∷◌, ◌++◌, length, map, take, slice_index_or, arith, ap, sym, ◌∙◌, subst, refl, Result, Ok, Err}
+-- Captures: lists that are told one item after another.
+use Rattle.std.proofs.Common.{◌≡◌, ℕ, zero, suc, ◌+◌, ◌<◌, List, [], ◌∷◌, ◌++◌, length, map, take, slice_index_or, arith, ap, sym, ◌∙◌, subst}
 use Rattle.std.proofs.lemmas.List.{append_assoc}
 use Rattle.std.specs.List.{AllZip}
-use Rattle.vcd_read.specs.declared.errors.Refusal.{Refusal}
-use Rattle.vcd_read.specs.declared.errors.Refusal.TheVariants.{NoSignal, BadToken, TimeBack, Unended}
-use Rattle.vcd_read.specs.declared.errors.VcdError.{VcdError}
-use Rattle.vcd_read.specs.declared.errors.VcdError.TheVariants.{NoMemory}
-use Rattle.vcd_read.specs.Dumps.{said_so_far}
-use Rattle.vcd_read.specs.declared.samples.Sample.{Sample}
-use Rattle.vcd_read.specs.Dumps.{samples_of}
-use Rattle.vcd_read.specs.Probes.{Finder}
-use Rattle.vcd_read.specs.Readers.{IsRefusal}
-use Rattle.vcd_read.specs.Refusals.{error_of}
-use Rattle.report.specs.Captures.{RefusesBeginning, RefusesDump}
-use Rattle.run_parts.specs.RunErrors.{vcd_error}
 
 pub zip_at : {X Y : Type 0} (R : X → Y → Type 0) (xs : List X) (ys : List Y) (k : ℕ) (x : X) (y : Y) → AllZip R xs ys → k < length xs → R (slice_index_or xs k x) (slice_index_or ys k y)
 zip_at R [] ys k x y h l = absurd (omega (arith, l))
@@ -42,36 +30,3 @@ said_at items P xs ys k x y z h l ex ey ez =
     (subst (λ b. P x (items b)) (sym ey)
     (subst (λ a. P a (items (slice_index_or ys k y))) (sym ex)
     (zip_at (λ a b. P a (items b)) xs ys k x y h l)))
-
--- ---- refusals of a dump
-
-given_refusal : (scl sda : Finder) (text : List ℕ) (r : Refusal) → samples_of scl sda text ≡ Err r → RefusesDump scl sda text (vcd_error (error_of r))
-given_refusal scl sda text (NoSignal s) q = (NoSignal s, q, refl)
-given_refusal scl sda text (BadToken line) q = (BadToken line, q, refl)
-given_refusal scl sda text (TimeBack line) q = (TimeBack line, q, refl)
-given_refusal scl sda text (Unended line) q = (Unended line, q, refl)
-
-pub refuses_dump : (scl sda : Finder) (text : List ℕ) (e : VcdError) → IsRefusal (samples_of scl sda text) e → RefusesDump scl sda text (vcd_error e)
-refuses_dump scl sda text e h = go (samples_of scl sda text) refl h
-  where
-    go : (given : Result (List Sample) Refusal) → samples_of scl sda text ≡ given → IsRefusal given e → RefusesDump scl sda text (vcd_error e)
-    go (Ok samples) q f = absurd f
-    go (Err r) q f = subst (λ (d : VcdError). RefusesDump scl sda text (vcd_error d)) (sym f) (given_refusal scl sda text r q)
-
-given_beginning : (scl sda : Finder) (text : List ℕ) (r : Refusal) → said_so_far scl sda text ≡ Err r →
-    RefusesBeginning scl sda text (vcd_error (error_of r))
-given_beginning scl sda text (NoSignal which) q = (NoSignal which, q, refl)
-given_beginning scl sda text (BadToken line) q = (BadToken line, q, refl)
-given_beginning scl sda text (TimeBack line) q = (TimeBack line, q, refl)
-given_beginning scl sda text (Unended line) q = (Unended line, q, refl)
-
-pub refuses_beginning : (scl sda : Finder) (text : List ℕ) (e : VcdError) →
-    (e ≡ NoMemory) ⊎ IsRefusal (said_so_far scl sda text) e → RefusesBeginning scl sda text (vcd_error e)
-refuses_beginning scl sda text e (inl none) =
-    subst (λ (d : VcdError). RefusesBeginning scl sda text (vcd_error d)) (sym none) tt
-refuses_beginning scl sda text e (inr h) = go (said_so_far scl sda text) refl h
-  where
-    go : (given : _) → said_so_far scl sda text ≡ given → IsRefusal given e → RefusesBeginning scl sda text (vcd_error e)
-    go (Ok said) q f = absurd f
-    go (Err r) q f =
-        subst (λ (d : VcdError). RefusesBeginning scl sda text (vcd_error d)) (sym f) (given_beginning scl sda text r q)

@@ -6,5 +6,5 @@ pub mod AnswerReading
 pub mod LineLemmas
 pub mod CheckLemmas
 pub mod CaptureLemmas
-pub mod CaptureReading
+pub mod TellingLemmas
 pub mod SpellingLemmas

@@ -37,11 +37,10 @@ pub struct Telling {
 }
 
 impl Telling {
-    ghost use Rattle.std.specs.Prelude.{◌≡◌, List, [], ◌++◌, map, OnOk, string_bytes, IfOk};
+    ghost use Rattle.std.specs.Prelude.{◌≡◌, [], OnOk, string_bytes, IfOk};
     ghost use Rattle.plan_core.specs.PlanContents.{plan_contents};
     ghost use Rattle.plan_core.specs.Contents.{Contents};
     ghost use Rattle.capture_check.specs.Explained.{AreExplainers};
-    ghost use Rattle.capture_check.specs.Transactions.{Recorded};
     ghost use Rattle.capture_check.specs.Views.{recorded};
     ghost use Rattle.report.specs.CaptureLines.{Tells, with_line, capture_report};
     ghost use Rattle.report.specs.CaptureViews.{tally_of};

@@ -5,7 +5,7 @@ use Rattle.run_parts.specs.Devices.{HasGiven}
 use Rattle.run_parts.specs.declared.errors.RunError.TheVariants as error
 use Rattle.run_parts.proofs.RunLemmas.{on_error}
 use Rattle.report.proofs.AnswerReading.{begin, one_more, ends, ended, piece_halts}
-use Rattle.report.proofs.CaptureReading.{all_read}
+use Rattle.decoding.proofs.DecodingLemmas.{all_read}
 use Rattle.report.proofs.answering.answer_blocks.Goals as goal
 
 pub loop-init : goal.loop-init

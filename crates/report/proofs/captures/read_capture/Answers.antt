@@ -1,22 +1,24 @@
-use Rattle.std.proofs.Common.{[], arith}
 use Rattle.plan_core.specs.PlanContents.{plan_contents}
 use Rattle.vcd_read.specs.Views.{asked}
-use Rattle.report.specs.Captures.{HaltsAtDump, no_memory}
-use Rattle.run_parts.specs.Devices.{no_read}
+use Rattle.decoding.specs.Dumps.{HaltsAtDump, refused_at_end}
 use Rattle.run_parts.specs.declared.errors.RunError.TheVariants as error
+use Rattle.report.proofs.TellingLemmas.{report_of, only_the_dump}
 use Rattle.run_parts.proofs.RunLemmas.{on_error}
 use Rattle.report.proofs.captures.read_capture.Goals as goal
 
-pub returns-in_err-block-clause-stops : goal.returns-in_err-block-clause-stops
-returns-in_err-block-clause-stops g c =
-    on_error c.from_residual.result error.NoMemory (λ e. HaltsAtDump g.J.Input.reader (asked c.args.scl) (asked c.args.sda) c.args.vcd.now e c.args.vcd.now) c.from_residual.ensures.1 (no_memory {reads = 0} {text = []} (omega arith) (record { given = no_read; passes = tt }))
+pub returns-in_err-decode-clause-stops : goal.returns-in_err-decode-clause-stops
+returns-in_err-decode-clause-stops g c =
+    let e = c.in_err-decode.field-0.0 in
+    on_error c.from_residual.result e (λ e. HaltsAtDump g.J.Input.reader (asked c.args.scl) (asked c.args.sda) c.args.vcd.now e c.decode.new.vcd) c.from_residual.ensures.1
+    (only_the_dump _ c.args.least (asked c.args.scl) (asked c.args.sda) g.J.Input.reader c.args.vcd.now c.decode.new.vcd e c.decode.new.sink c.in_err-decode.ensures.stops)
 
-pub returns-in_err-capture-clause-stops : goal.returns-in_err-capture-clause-stops
-returns-in_err-capture-clause-stops g c =
-    on_error c.from_residual-in_err-capture.result error.NoMemory (λ e. HaltsAtDump g.J.Input.reader (asked c.args.scl) (asked c.args.sda) c.args.vcd.now e c.args.vcd.now) c.from_residual-in_err-capture.ensures.1 (no_memory {reads = 0} {text = []} (omega arith) (record { given = no_read; passes = tt }))
+pub returns-in_err-report-clause-stops : goal.returns-in_err-report-clause-stops
+returns-in_err-report-clause-stops g c =
+    let all = c.in_ok-decode.ensures.all in
+    on_error c.from_residual-in_err-report.result error.NoMemory (λ e. HaltsAtDump g.J.Input.reader (asked c.args.scl) (asked c.args.sda) c.args.vcd.now e c.decode.new.vcd) c.from_residual-in_err-report.ensures.1
+    (refused_at_end {error = error.NoMemory} all.read all.passes tt)
 
 pub returns-clause-all : goal.returns-clause-all
-returns-clause-all g c = c.read_blocks.ensures.all c.args.least (asked c.args.scl) (asked c.args.sda) (c.in_ok-capture.ensures (plan_contents c.args.plan.now))
-
-pub returns-clause-stops : goal.returns-clause-stops
-returns-clause-stops g c = c.read_blocks.ensures.stops c.args.least (asked c.args.scl) (asked c.args.sda) (c.in_ok-capture.ensures (plan_contents c.args.plan.now))
+returns-clause-all g c =
+    let all = c.in_ok-decode.ensures.all in
+    (all.dump, all.read, report_of _ c.args.least (asked c.args.scl) (asked c.args.sda) all.dump _ c.status-status.result c.decode.new.sink all.decodes (c.new.ensures (plan_contents c.args.plan.now)) c.in_ok-report.ensures c.status-status.ensures)
