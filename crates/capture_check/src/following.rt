@@ -79,7 +79,7 @@ impl Follower {
         Ok(all)
     }
 
-    /// How many bits have come on the free bus since the last transaction.
+    /// How many bits have followed the STOP of the last transaction, as long as both levels were known.
     pub fn idle(&self) -> u64 {
         self.listener.idle()
     }

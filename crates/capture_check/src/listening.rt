@@ -36,7 +36,7 @@ pub struct Transaction {
     pub from: u64,
     pub until: Until,
     pub marks: Vec<Mark>,
-    /// How many bits came on the free bus before it.
+    /// How many bits followed the STOP of the one before it, as long as both levels were known.
     pub idle: u64,
 }
 
@@ -53,7 +53,8 @@ pub(crate) enum Heard {
 #[derive(Debug, Drop)]
 pub struct Listener {
     pub(crate) heard: Heard,
-    // how many bits have come on the free bus since the last transaction
+    // whether the bus is free since a transaction ended with a STOP, and how many bits have followed the last one
+    pub(crate) follows: bool,
     pub(crate) idle: u64,
 }
 
@@ -69,6 +70,7 @@ impl Listener {
     {
         Listener {
             heard: Heard::Unknown,
+            follows: false,
             idle: 0,
         }
     }
@@ -84,6 +86,7 @@ impl Listener {
             (Heard::Busy(_, marks), What::Bit(level)) => marks.push(Mark::Level(level))?,
             (Heard::Busy(_, marks), What::Stop) => {
                 marks.push(Mark::Stop)?;
+                self.follows = true;
                 return Ok(self.finish(Heard::Free, Until::Stopped(event.time)));
             }
             (Heard::Busy(..), What::Unknown) => {
@@ -91,8 +94,11 @@ impl Listener {
             }
             (Heard::Busy(..), What::Known(_)) => {}
             (Heard::Free, What::Start) => self.heard = Heard::Busy(event.time, Vec::new(alloc)),
-            (Heard::Free, What::Known(false) | What::Unknown) => self.heard = Heard::Unknown,
-            (Heard::Free, What::Bit(_)) => self.idle = self.idle.saturating_add(1),
+            (Heard::Free, What::Known(false) | What::Unknown) => {
+                self.heard = Heard::Unknown;
+                self.follows = false;
+            }
+            (Heard::Free, What::Bit(_)) if self.follows => self.idle = self.idle.saturating_add(1),
             (Heard::Unknown, What::Known(true) | What::Stop) => self.heard = Heard::Free,
             _ => {}
         }
@@ -122,7 +128,7 @@ impl Listener {
         self.finish(Heard::Unknown, Until::Unfinished)
     }
 
-    /// How many bits have come on the free bus since the last transaction.
+    /// How many bits have followed the STOP of the last transaction, as long as both levels were known.
     pub fn idle(&self) -> u64 {
         self.idle
     }

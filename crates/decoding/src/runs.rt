@@ -18,7 +18,7 @@ use vcd_read::Probe;
 pub struct Ending {
     /// How many levels were too short, and left out.
     pub short: u64,
-    /// How many bits came on the free bus after the last transaction.
+    /// How many bits followed the STOP of the last transaction, as long as both levels were known.
     pub idle: u64,
 }
 

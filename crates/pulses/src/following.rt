@@ -84,7 +84,7 @@ impl QuietFollower {
         }
     }
 
-    /// How many bits have come on the free bus since the last transaction.
+    /// How many bits have followed the STOP of the last transaction, as long as both levels were known.
     pub fn idle(&self) -> u64 {
         self.follower.idle()
     }
