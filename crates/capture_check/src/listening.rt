@@ -93,7 +93,10 @@ impl Listener {
                 return Ok(self.finish(Heard::Unknown, Until::Cut(event.time)));
             }
             (Heard::Busy(..), What::Known(_)) => {}
-            (Heard::Free, What::Start) => self.heard = Heard::Busy(event.time, Vec::new(alloc)),
+            (Heard::Free, What::Start) => {
+                self.heard = Heard::Busy(event.time, Vec::new(alloc));
+                self.follows = false;
+            }
             (Heard::Free, What::Known(false) | What::Unknown) => {
                 self.heard = Heard::Unknown;
                 self.follows = false;
