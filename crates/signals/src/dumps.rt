@@ -53,6 +53,14 @@ impl<'a, 'l, J: Input> Dump<'a, 'l, J> {
         }
     }
 
+    /// Whether the definitions were read, have both lines, and do not say what the numbers of the dump count.
+    pub fn lacks_scale(&self) -> bool {
+        match &self.picked {
+            Some(picked) => picked.has_both() && picked.scale.is_none(),
+            None => false,
+        }
+    }
+
     /// How long a level has to last.
     pub fn quiet(&self) -> Quiet {
         Quiet::of(self.lines.min_pulse, self.scale())

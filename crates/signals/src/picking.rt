@@ -25,6 +25,11 @@ impl Picked {
     pub fn sda(&self) -> Probe<'_> {
         probe_of(&self.sda)
     }
+
+    /// Whether both were found.
+    pub(crate) fn has_both(&self) -> bool {
+        self.scl.is_some() && self.sda.is_some()
+    }
 }
 
 // No signal has an empty code.

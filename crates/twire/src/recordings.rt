@@ -40,14 +40,14 @@ impl Capture<'_> {
     }
 }
 
-/// The dump, where it says what its numbers count or nobody needs to know.
+/// The dump. Where a time has a unit it has to say what its numbers count; that it has no such line is for its reader to say.
 pub fn open<'v, 'a, J: Input>(
     alloc: Global,
     vcd: &'v mut J,
     bus: Bus<'a>,
 ) -> Result<Dump<'v, 'a, J>, Halt> {
     let dump = Dump::open(alloc, vcd, bus)?;
-    if bus.has_unit() && dump.scale().is_none() {
+    if bus.has_unit() && dump.lacks_scale() {
         return Err(Halt::NoTimescale);
     }
     Ok(dump)
