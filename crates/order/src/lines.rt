@@ -20,7 +20,8 @@ pub fn order_report(alloc: Global, plan: &Plan, order: &Order) -> Result<String,
             first: label_at(&labels, both.0),
             second: label_at(&labels, both.1),
         };
-        push_counted(&mut report, "pair ", pair as u64);
+        report.push("pair ");
+        push_number(&mut report, pair as u64);
         push_pair(&mut report, names, outcomes);
     }
     push_totals(&mut report, &labels, &order.totals);
@@ -53,8 +54,7 @@ struct Names<'a> {
 }
 
 // (there are so many numbers that they are not left to `write!`, which takes three times as long)
-fn push_counted(report: &mut Text, before: &str, number: u64) {
-    report.push(before);
+fn push_number(report: &mut Text, number: u64) {
     report.push(itoa::Buffer::new().format(number));
 }
 
@@ -69,35 +69,35 @@ fn push_pair(report: &mut Text, names: Names<'_>, outcomes: &Option<Outcomes>) {
 
 // In which slots both end, the first wins, the second wins, where they can.
 fn push_outcomes(report: &mut Text, names: Names<'_>, outcomes: &Outcomes) {
-    let before = push_way(report, ":", " both", outcomes.both);
-    let before = push_way(report, before, names.first, outcomes.first);
-    push_way(report, before, names.second, outcomes.second);
-    report.push("\n");
+    report.push_char(':');
+    let is_first = push_way(report, true, " both", outcomes.both);
+    let is_first = push_way(report, is_first, names.first, outcomes.first);
+    push_way(report, is_first, names.second, outcomes.second);
+    report.push_char('\n');
 }
 
-// One way, where it can happen, after what stands before it. Answers what stands before the next one.
-fn push_way(
-    report: &mut Text,
-    before: &'static str,
-    who: &str,
-    slots: Option<Slots>,
-) -> &'static str {
+// One way, where it can happen, with a comma before it unless it is the first. Answers whether the next one is the first.
+fn push_way(report: &mut Text, is_first: bool, who: &str, slots: Option<Slots>) -> bool {
     match slots {
         Some(slots) => {
-            report.push(before);
+            if !is_first {
+                report.push_char(',');
+            }
             report.push(who);
             push_slots(report, slots);
-            ","
+            false
         }
-        None => before,
+        None => is_first,
     }
 }
 
 fn push_slots(report: &mut Text, slots: Slots) {
     let Slots { earliest, latest } = slots;
-    push_counted(report, " ", earliest as u64);
+    report.push_char(' ');
+    push_number(report, earliest as u64);
     if earliest != latest {
-        push_counted(report, "..", latest as u64);
+        report.push("..");
+        push_number(report, latest as u64);
     }
 }
 
@@ -112,8 +112,11 @@ fn push_totals(report: &mut Text, labels: &[String], totals: &[Total]) {
 }
 
 fn push_total(report: &mut Text, total: &Total) {
-    push_counted(report, ": wins ", total.wins as u64);
-    push_counted(report, ", may win ", total.may_win as u64);
-    push_counted(report, ", loses ", total.loses as u64);
-    report.push("\n");
+    report.push(": wins ");
+    push_number(report, total.wins as u64);
+    report.push(", may win ");
+    push_number(report, total.may_win as u64);
+    report.push(", loses ");
+    push_number(report, total.loses as u64);
+    report.push_char('\n');
 }
