@@ -127,11 +127,13 @@ cat >agrees.js <<'SCRIPT'
     .map(one => data.messages[one.message].name), ';'].join(' ')));
   for (const { name, address } of data.interrupts) plan.push('interrupt ' + name + ' ' + address + ' ;');
   for (const two of data.nevers) plan.push('never ' + two.map(k => data.controllers[k]).join(' ') + ' ;');
+  const all = [];
+  for (const [x, y, count, way] of data.pairs) for (let k = 0; k < count; k++) all.push({ x, y: y + k, way });
   const { safe, pairs, unsafe_pairs } = data.verdict;
-  const check = data.faults.map(({ pair, kinds, wire }) => 'pair ' + pair + ' ' + data.pairs[pair].map(label).join(' ') + ': '
+  const check = data.faults.map(({ pair, kinds, wire }) => 'pair ' + pair + ' ' + label(all[pair].x) + ' ' + label(all[pair].y) + ': '
     + kinds.join(' against ') + ' after ' + wire);
   check.push(safe ? 'safe: ' + pairs + ' pairs' : 'unsafe: ' + unsafe_pairs + ' of ' + pairs + ' pairs');
-  const order = data.pairs.map(([x, y, way], number) => {
+  const order = all.map(({ x, y, way }, number) => {
     const names = { both: 'both', first: label(x), second: label(y) };
     return 'pair ' + number + ' ' + label(x) + ' ' + label(y) + ': ' + (way === undefined ? 'unsafe'
       : Object.entries(data.ways[way]).map(([who, slots]) => names[who] + ' ' + range(slots)).join(', '));

@@ -1,5 +1,5 @@
 -- The `never` items of the first faults of a plan, and what those of all faults bring.
-use Rattle.std.proofs.Common.{◌≡◌, ℕ, ◌+◌, ◌<◌, ◌==◌, ◌||◌, Bool, true, false, Option, Some, None, List, [], ◌∷◌, ◌++◌, length, slice_get, append-nil, append_assoc, refl, ap, sym, ◌∙◌, subst, arith, inl, inr, ◌⊎◌}
+use Rattle.std.proofs.Common.{◌≡◌, ℕ, ◌+◌, ◌<◌, ◌==◌, ◌||◌, Bool, true, false, Option, Some, None, List, [], ◌∷◌, ◌++◌, length, reverse, slice_get, append-nil, append_assoc, refl, ap, sym, ◌∙◌, subst, arith, inl, inr, ◌⊎◌}
 use Rattle.std.specs.Prelude.{All, if◌then◌else◌}
 use Rattle.std.specs.List.{list_any}
 use Rattle.std.proofs.lemmas.Bool.{or_parts, cases_lt}
@@ -7,6 +7,7 @@ use Rattle.std.proofs.lemmas.Bool.Decides.{nat_tests}
 use Rattle.std.proofs.lemmas.Option.{slice_get_within}
 use Rattle.std.proofs.lemmas.List.Elements.{All-nil, All-cons, All-append}
 use Rattle.std.proofs.lemmas.List.Folds.{list_any-append}
+use Rattle.std.proofs.lemmas.List.Sorted.{list_any-IsPermutation, IsPermutation-reverse}
 use Rattle.message_tree.specs.declared.items.Item.{Item}
 use Rattle.message_tree.specs.declared.items.Kind.{Kind}
 use Rattle.certificate.specs.declared.values.Fault.{Fault}
@@ -25,6 +26,9 @@ use Rattle.mending.specs.Mended.{with_nevers, NoControllersClash, HaveUnsafePair
 use Rattle.mending.proofs.FaultPlaces.{pair_of_fault, fault_of_unsafe}
 
 -- ---- lists of items
+
+pub any_reversed : {X : Type 0} (p : X → Bool) (xs : List X) → list_any p (reverse xs) ≡ list_any p xs
+any_reversed p xs = sym (list_any-IsPermutation p xs (reverse xs) (IsPermutation-reverse xs))
 
 pub new_push : (before nevers : List (ℕ × ℕ)) (never : ℕ × ℕ) → AreNew before nevers → list_any (names_both never.0 never.1) (before ++ nevers) ≡ false → AreNew before (nevers ++ never ∷ [])
 new_push before [] never a h =

@@ -1,6 +1,6 @@
 // The `never` items that keep apart all controllers that clash.
 
-ghost use Rattle.std.specs.Prelude.{◌≡◌, ◌<◌, ℕ, All, IfOk, OnOk, Some, length, slice_get};
+ghost use Rattle.std.specs.Prelude.{◌≡◌, ◌<◌, ℕ, All, IfOk, OnOk, Some, length, reverse, slice_get};
 ghost use Rattle.std.specs.List.{list_any};
 ghost use Rattle.plan_core.specs.PlanContents.{plan_contents};
 ghost use Rattle.plan_core.specs.Pairs.{pairs_of};
@@ -51,6 +51,7 @@ fn keep_apart(plan: &Plan, nevers: &mut Vec<(u32, u32)>, pair: u32) -> Result<()
     }
 }
 
+#[tactic(auto, using(crate::proofs::MendingLemmas::any_reversed))]
 fn push_both(nevers: &mut Vec<(u32, u32)>, c: u32, d: u32) -> Result<(), AllocError>
     ensures { OnOk result (nevers.new.items ≡ with_both nevers.old.items c d) }
 {
@@ -60,11 +61,12 @@ fn push_both(nevers: &mut Vec<(u32, u32)>, c: u32, d: u32) -> Result<(), AllocEr
     Ok(())
 }
 
-// Whether an item names these two, in either order.
+// Whether an item names these two, in either order. Faults come in the order of their pairs, so the items of the controller
+// at hand are the last ones: looked for from the end, these two are found within as many items as there are controllers.
 fn is_named(nevers: &[(u32, u32)], c: u32, d: u32) -> bool
-    ensures { result ≡ list_any (names_both c d) nevers.now }
+    ensures { result ≡ list_any (names_both c d) (reverse nevers.now) }
 {
-    nevers.iter().any(|never| names_both(c, d, *never))
+    nevers.iter().rev().any(|never| names_both(c, d, *never))
 }
 
 fn names_both(c: u32, d: u32, never: (u32, u32)) -> bool

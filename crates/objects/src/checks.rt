@@ -1,26 +1,15 @@
 // Objects of a check.
 
 use crate::writing::ObjectLines;
-use certificate::{Fault, push_wire};
+use certificate::Fault;
 use explain::{Labels, Meeting, Mends, Reasons, Rule, Safety, labels_of, meeting_of};
+use growing_text::Text;
 use plan_core::Plan;
 use report::{Checked, Output, RunError};
 use serde::Serialize;
 use std::alloc::{AllocError, Global};
 
-// An unsafe pair.
-#[derive(Drop, Serialize)]
-struct Pair<'l, 'w, 'm> {
-    kind: &'static str,
-    pair: u32,
-    participants: [&'l str; 2],
-    meet: [&'static str; 2],
-    after: &'w str,
-    #[serde(skip_serializing_if = "Option::is_none")]
-    explain: Option<Met<'m>>,
-}
-
-// Where its two meet.
+// Where the two of an unsafe pair meet.
 #[derive(Drop, Serialize)]
 struct Met<'a> {
     slot: usize,
@@ -98,11 +87,11 @@ pub fn write_check<O: Output>(
         let (pair, fault) = faults.get(k);
         if pair < plan.pair_count() {
             let both = plan.pair(pair);
+            add_pair(&mut lines.text, &labels, (pair, both), fault);
             if k < explained {
-                add_met(&mut lines, plan, &labels, (pair, both), fault)?;
-            } else {
-                add_pair(&mut lines, &labels, (pair, both), fault, None)?;
+                add_met(&mut lines, plan, both, fault)?;
             }
+            lines.text.push("}\n");
         }
         lines.write_block(out)?;
     }
@@ -110,36 +99,42 @@ pub fn write_check<O: Output>(
     lines.write_rest(out)
 }
 
-// A pair, by its number and its participants, with where they meet.
+// The fields of an unsafe pair, by its number and its participants. Names, words and wires have nothing that JSON escapes.
+// They are pushed word by word, since serde's events for all pairs cost more than the check itself.
+fn add_pair(text: &mut Text, labels: &Labels, pair: (u32, (u32, u32)), fault: &Fault) {
+    let (pair, (x, y)) = pair;
+    text.push("{\"kind\":\"pair\",\"pair\":");
+    text.push_number(pair as u64);
+    add_two(text, "participants", labels.of(x), labels.of(y));
+    add_two(text, "meet", fault.first.word(), fault.second.word());
+    text.push(",\"after\":\"");
+    for item in &fault.wire {
+        text.push_char(item.symbol());
+    }
+    text.push("\"");
+}
+
+// A field with two words.
+fn add_two(text: &mut Text, name: &str, first: &str, second: &str) {
+    text.push(",\"");
+    text.push(name);
+    text.push("\":[\"");
+    text.push(first);
+    text.push("\",\"");
+    text.push(second);
+    text.push("\"]");
+}
+
+// The field that says where these two participants meet.
 fn add_met(
     lines: &mut ObjectLines,
     plan: &Plan,
-    labels: &Labels,
-    pair: (u32, (u32, u32)),
+    both: (u32, u32),
     fault: &Fault,
 ) -> Result<(), AllocError> {
-    let meeting = meeting_of(lines.alloc, plan, pair.1, fault.wire.as_slice())?;
-    add_pair(lines, labels, pair, fault, Some(met_of(&meeting)))
-}
-
-fn add_pair(
-    lines: &mut ObjectLines,
-    labels: &Labels,
-    pair: (u32, (u32, u32)),
-    fault: &Fault,
-    explain: Option<Met<'_>>,
-) -> Result<(), AllocError> {
-    let (pair, (x, y)) = pair;
-    let mut after = String::new(lines.alloc);
-    push_wire(&mut after, &fault.wire)?;
-    lines.add(&Pair {
-        kind: "pair",
-        pair,
-        participants: [labels.of(x), labels.of(y)],
-        meet: [fault.first.word(), fault.second.word()],
-        after: after.as_str(),
-        explain,
-    });
+    let meeting = meeting_of(lines.alloc, plan, both, fault.wire.as_slice())?;
+    lines.text.push(",\"explain\":");
+    lines.value(&met_of(&meeting));
     Ok(())
 }
 

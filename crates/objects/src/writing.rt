@@ -1,4 +1,4 @@
-// Objects of values. How they are written is left to `serde_json`.
+// Objects of values. How they are written is left to `serde_json`, but for those of pairs, of which there may be very many.
 
 use growing_text::Text;
 use run_parts::{Output, RunError, write_report};
@@ -13,7 +13,8 @@ const BLOCK: usize = 65_536;
 #[derive(Drop)]
 pub(crate) struct ObjectLines {
     pub(crate) alloc: Global,
-    text: Text,
+    /// What was gathered. An object whose fields are pushed word by word is pushed to it.
+    pub(crate) text: Text,
 }
 
 impl ObjectLines {
@@ -27,12 +28,17 @@ impl ObjectLines {
 
     /// One more object.
     pub(crate) fn add<T: Serialize>(&mut self, object: &T) {
+        self.value(object);
+        self.text.push("\n");
+    }
+
+    /// A field's value, in an object whose fields are pushed.
+    pub(crate) fn value<T: Serialize>(&mut self, value: &T) {
         // these values have no text that JSON refuses, so an error is out of memory
-        match serde_json::to_string(self.alloc, object) {
-            Ok(line) => self.text.push(line.as_str()),
+        match serde_json::to_string(self.alloc, value) {
+            Ok(value) => self.text.push(value.as_str()),
             Err(_) => self.text.cut(),
         }
-        self.text.push("\n");
     }
 
     /// An allocation failed for what would come next.

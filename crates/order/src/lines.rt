@@ -3,6 +3,7 @@
 use crate::orders::Order;
 use crate::totals::Total;
 use arbitration::{Outcomes, Slots};
+use growing_text::Text;
 use plan_core::Plan;
 use std::alloc::{AllocError, Global};
 
@@ -13,115 +14,109 @@ use std::alloc::{AllocError, Global};
 /// Where an allocation fails.
 pub fn order_report(alloc: Global, plan: &Plan, order: &Order) -> Result<String, AllocError> {
     let labels = labels_of(alloc, plan)?;
-    let mut report = String::new(alloc);
-    for pair in 0..plan.pair_count() {
-        if let Some(outcomes) = order.ways.get(pair as usize) {
-            let (x, y) = plan.pair(pair);
-            let names = Names {
-                pair,
-                first: label_at(&labels, x),
-                second: label_at(&labels, y),
-            };
-            push_pair(&mut report, names, outcomes)?;
-        }
+    let mut report = Text::new(alloc);
+    for (pair, (both, outcomes)) in order.pairs.iter().zip(&order.ways).enumerate() {
+        let names = Names {
+            first: label_at(&labels, both.0),
+            second: label_at(&labels, both.1),
+        };
+        report.push("pair ");
+        push_number(&mut report, pair as u64);
+        push_pair(&mut report, names, outcomes);
     }
-    push_totals(&mut report, &labels, &order.totals)?;
-    Ok(report)
+    push_totals(&mut report, &labels, &order.totals);
+    report.finish()
 }
 
+// The labels of all participants, each after a blank, as it stands in a line.
 fn labels_of(alloc: Global, plan: &Plan) -> Result<Vec<String>, AllocError> {
-    let mut labels = Vec::new(alloc);
+    let mut labels = Vec::with_capacity(alloc, plan.participants() as usize)?;
     for p in 0..plan.participants() {
-        labels.push(plan.label(alloc, p)?)?;
+        let mut label = plan.label(alloc, p)?;
+        label.insert(0, ' ')?;
+        labels.push(label)?;
     }
     Ok(labels)
 }
 
 fn label_at(labels: &[String], p: u32) -> &str {
-    labels.get(p as usize).map_or("", |label| label.as_str())
+    match labels.get(p as usize) {
+        Some(label) => label.as_str(),
+        None => "",
+    }
 }
 
-// A pair with the labels of its two participants.
+// The labels of the two participants of a pair.
 #[derive(Clone, Copy)]
 struct Names<'a> {
-    pair: u32,
     first: &'a str,
     second: &'a str,
 }
 
-fn push_names(report: &mut String, names: Names<'_>) -> Result<(), AllocError> {
-    let Names {
-        pair,
-        first,
-        second,
-    } = names;
-    write!(report, "pair {pair} {first} {second}:")
+// (there are so many numbers that they are not left to `write!`, which takes three times as long)
+fn push_number(report: &mut Text, number: u64) {
+    report.push(itoa::Buffer::new().format(number));
 }
 
-fn push_pair(
-    report: &mut String,
-    names: Names<'_>,
-    outcomes: &Option<Outcomes>,
-) -> Result<(), AllocError> {
-    push_names(report, names)?;
+fn push_pair(report: &mut Text, names: Names<'_>, outcomes: &Option<Outcomes>) {
+    report.push(names.first);
+    report.push(names.second);
     match outcomes {
         Some(outcomes) => push_outcomes(report, names, outcomes),
-        None => report.push_str(" unsafe\n"),
+        None => report.push(": unsafe\n"),
     }
 }
 
 // In which slots both end, the first wins, the second wins, where they can.
-fn push_outcomes(
-    report: &mut String,
-    names: Names<'_>,
-    outcomes: &Outcomes,
-) -> Result<(), AllocError> {
-    let before = push_way(report, " ", "both", outcomes.both)?;
-    let before = push_way(report, before, names.first, outcomes.first)?;
-    push_way(report, before, names.second, outcomes.second)?;
-    report.push('\n')
+fn push_outcomes(report: &mut Text, names: Names<'_>, outcomes: &Outcomes) {
+    report.push_char(':');
+    let is_first = push_way(report, true, " both", outcomes.both);
+    let is_first = push_way(report, is_first, names.first, outcomes.first);
+    push_way(report, is_first, names.second, outcomes.second);
+    report.push_char('\n');
 }
 
-// One way, where it can happen, after what stands before it. Answers what stands before the next one.
-fn push_way(
-    report: &mut String,
-    before: &'static str,
-    who: &str,
-    slots: Option<Slots>,
-) -> Result<&'static str, AllocError> {
+// One way, where it can happen, with a comma before it unless it is the first. Answers whether the next one is the first.
+fn push_way(report: &mut Text, is_first: bool, who: &str, slots: Option<Slots>) -> bool {
     match slots {
         Some(slots) => {
-            write!(report, "{before}{who} ")?;
-            push_slots(report, slots)?;
-            Ok(", ")
+            if !is_first {
+                report.push_char(',');
+            }
+            report.push(who);
+            push_slots(report, slots);
+            false
         }
-        None => Ok(before),
+        None => is_first,
     }
 }
 
-fn push_slots(report: &mut String, slots: Slots) -> Result<(), AllocError> {
+fn push_slots(report: &mut Text, slots: Slots) {
     let Slots { earliest, latest } = slots;
-    if earliest == latest {
-        write!(report, "{earliest}")
-    } else {
-        write!(report, "{earliest}..{latest}")
+    report.push_char(' ');
+    push_number(report, earliest as u64);
+    if earliest != latest {
+        report.push("..");
+        push_number(report, latest as u64);
     }
 }
 
-fn push_totals(report: &mut String, labels: &[String], totals: &[Total]) -> Result<(), AllocError> {
+fn push_totals(report: &mut Text, labels: &[String], totals: &[Total]) {
     for (label, total) in labels.iter().zip(totals) {
-        let label = label.as_str();
-        let Total {
-            wins,
-            may_win,
-            loses,
-        } = *total;
         if !total.is_empty() {
-            writeln!(
-                report,
-                "total {label}: wins {wins}, may win {may_win}, loses {loses}"
-            )?;
+            report.push("total");
+            report.push(label.as_str());
+            push_total(report, total);
         }
     }
-    Ok(())
+}
+
+fn push_total(report: &mut Text, total: &Total) {
+    report.push(": wins ");
+    push_number(report, total.wins as u64);
+    report.push(", may win ");
+    push_number(report, total.may_win as u64);
+    report.push(", loses ");
+    push_number(report, total.loses as u64);
+    report.push_char('\n');
 }

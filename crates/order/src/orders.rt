@@ -10,6 +10,8 @@ use verdicts::Faults;
 /// Who wins arbitration in each pair of a plan (UM10204, 3.1.8).
 #[derive(Drop)]
 pub struct Order {
+    /// By the number of the pair: its two participants, the lower number first.
+    pub pairs: Vec<(u32, u32)>,
     /// By the number of the pair: in which slots both may end together, in which the first may go on while the second has
     /// lost, and in which the second may; the earliest and the latest of each. `None` where the pair has a fault.
     pub ways: Vec<Option<Outcomes>>,
@@ -27,10 +29,12 @@ pub fn order_of(alloc: Global, plan: &Plan, faults: &Faults) -> Result<Order, Al
     let laid = laid_out(alloc, plan)?;
     let mut known = Known::new(alloc, plan)?;
     let mut totals = Totals::new(alloc, plan.participants())?;
+    let mut pairs = Vec::with_capacity(alloc, plan.pair_count() as usize)?;
     let mut ways = Vec::with_capacity(alloc, plan.pair_count() as usize)?;
     let mut met = 0usize;
     for i in 0..plan.pair_count() {
         let (x, y) = plan.pair(i);
+        pairs.push((x, y))?;
         if is_next(faults, met, i) {
             met = met.saturating_add(1);
             ways.push(None)?;
@@ -41,6 +45,7 @@ pub fn order_of(alloc: Global, plan: &Plan, faults: &Faults) -> Result<Order, Al
         }
     }
     Ok(Order {
+        pairs,
         ways,
         totals: totals.into_all(),
     })

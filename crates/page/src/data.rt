@@ -69,10 +69,7 @@ fn all_of<'a>(alloc: Global, checked: &'a Checked, order: &'a Order, ways: &'a W
         nevers: Nevers(plan),
         participants: Participants { alloc, plan, order },
         ways: ways.different.as_slice(),
-        pairs: Pairs {
-            plan,
-            ways: ways.of_pairs.as_slice(),
-        },
+        pairs: Pairs(ways.runs.as_slice()),
         faults: Unsafe { alloc, faults },
         capture: None,
     }

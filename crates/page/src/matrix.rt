@@ -23,11 +23,16 @@ function wayOf(fault, wins) {
   return decided[1] < 8 ? 'header' : 'later';
 }
 
-// In the order of the participants.
-const pairs = data.pairs.map(([one, other, end], number) => {
-  const { both, first, second } = data.ways[end] || {}, wins = [first, second], fault = faults.get(number);
-  return { number, first: participants[one], second: participants[other], way: wayOf(fault, wins), both, wins, fault };
-});
+// In the order of the participants. The data has them in runs: a participant, the first of those that it meets, how many
+// it meets from there on, and the way in which these pairs end.
+const pairs = [];
+for (const [one, other, count, end] of data.pairs) {
+  const { both, first, second } = data.ways[end] || {}, wins = [first, second];
+  for (let k = 0; k < count; k++) {
+    const number = pairs.length, fault = faults.get(number), way = wayOf(fault, wins);
+    pairs.push({ number, first: participants[one], second: participants[other + k], way, both, wins, fault });
+  }
+}
 
 const slotsText = ([earliest, latest]) =>
   earliest === latest ? 'slot ' + earliest : 'slots ' + earliest + '..' + latest;

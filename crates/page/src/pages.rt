@@ -7,6 +7,7 @@ use crate::recording::Recording;
 use crate::senders::SENDERS;
 use crate::style::STYLE;
 use crate::times::TIMES;
+use memchr::{memchr, memchr3};
 use order::Order;
 use report::Checked;
 use std::alloc::{AllocError, Global};
@@ -49,7 +50,7 @@ pub fn page_of(alloc: Global, page: &Page<'_>) -> Result<String, AllocError> {
     push_head(&mut html, page.title)?;
     push_texts(&mut html, &page.texts)?;
     let data = data_of(alloc, page.checked, page.order, page.recording)?;
-    push_data(&mut html, data.replace(alloc, '<', "\\u003c")?.as_str())?;
+    push_data(alloc, &mut html, data.as_str())?;
     push_script(&mut html)?;
     Ok(html)
 }
@@ -103,10 +104,13 @@ fn push_text(page: &mut String, id: &str, summary: &str, text: &str) -> Result<(
     page.push_str("</pre></details>\n")
 }
 
-// JSON that the script reads. No `<` stands in it, with which markup could begin.
-fn push_data(page: &mut String, data: &str) -> Result<(), AllocError> {
+// JSON that the script reads. No `<` is left in it, with which markup could begin.
+fn push_data(alloc: Global, page: &mut String, data: &str) -> Result<(), AllocError> {
     page.push_str("<script type=\"application/json\" id=\"data\">")?;
-    page.push_str(data)?;
+    match memchr(b'<', data.as_bytes()) {
+        Some(_) => page.push_str(data.replace(alloc, '<', "\\u003c")?.as_str())?,
+        None => page.push_str(data)?,
+    }
     page.push_str("</script>\n")
 }
 
@@ -136,10 +140,5 @@ fn push_escaped(page: &mut String, text: &str) -> Result<(), AllocError> {
 }
 
 fn has_markup(text: &[u8]) -> bool {
-    for byte in text {
-        if let b'&' | b'<' | b'>' | b'"' = byte {
-            return true;
-        }
-    }
-    false
+    memchr3(b'&', b'<', b'>', text).is_some() || memchr(b'"', text).is_some()
 }

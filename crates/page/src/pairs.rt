@@ -1,18 +1,16 @@
 // The pairs, as the page has them: their participants with the way in which they end, and their faults.
 
+use crate::ways::Run;
 use certificate::{Fault, push_wire};
-use plan_core::Plan;
 use serde::{Described, Serialize, Serializer};
 use std::alloc::{AllocError, Global};
 use verdicts::Faults;
 
-/// The pairs of a plan, in the order of their numbers: the numbers of the two participants, and that of the way in which
-/// the pair ends, which is left out where it has a fault.
+/// The pairs of a plan, in the order of their numbers, by runs: the number of a participant and that of the first that it
+/// meets, how many it meets from there on, and the number of the way in which these pairs end, which is left out where
+/// they have faults.
 #[derive(Clone, Copy)]
-pub(crate) struct Pairs<'a> {
-    pub(crate) plan: &'a Plan,
-    pub(crate) ways: &'a [Option<usize>],
-}
+pub(crate) struct Pairs<'a>(pub(crate) &'a [Run]);
 
 /// The faults of a plan, one after the other.
 #[derive(Clone, Copy)]
@@ -34,11 +32,11 @@ impl Described for Pairs<'_> {}
 impl Serialize for Pairs<'_> {
     fn serialize<S: Serializer>(&self, out: &mut S) -> Result<(), S::Error> {
         out.begin_seq(None)?;
-        for pair in 0..self.plan.pair_count() {
-            let (x, y) = self.plan.pair(pair);
-            match self.ways.get(pair as usize) {
-                Some(Some(way)) => (x, y, *way).serialize(out)?,
-                _ => (x, y).serialize(out)?,
+        for run in self.0 {
+            let (x, y) = run.pair;
+            match run.way {
+                Some(way) => (x, y, run.len, way).serialize(out)?,
+                None => (x, y, run.len).serialize(out)?,
             }
         }
         out.end_seq()

@@ -1,4 +1,4 @@
-// How pairs end, each different way once, since many pairs end alike.
+// How pairs end: each different way once, and pairs that end alike in runs, since many do.
 
 use indexmap::IndexSet;
 use order::{Order, Outcomes, Slots};
@@ -21,29 +21,79 @@ pub(crate) struct Way {
 pub(crate) struct Ways {
     /// Each different one, in the order in which it is met.
     pub(crate) different: Vec<Way>,
-    /// By the number of the pair, which of these it is. `None` where the pair has a fault.
-    pub(crate) of_pairs: Vec<Option<usize>>,
+    /// The pairs, in the order of their numbers.
+    pub(crate) runs: Vec<Run>,
+}
+
+/// Pairs of one participant with others whose numbers follow one another, which all end alike.
+#[derive(Clone, Copy)]
+pub(crate) struct Run {
+    /// The participant, and the first of the others.
+    pub(crate) pair: (u32, u32),
+    /// How many pairs they are.
+    pub(crate) len: u32,
+    /// Which of the different ways they end in. `None` where they have faults.
+    pub(crate) way: Option<usize>,
+    outcomes: Option<Outcomes>,
 }
 
 impl Ways {
     /// Those of a plan in which this is who wins.
     pub(crate) fn new(alloc: Global, order: &Order) -> Result<Ways, AllocError> {
         let mut known = IndexSet::new(alloc);
-        let mut different = Vec::new(alloc);
-        let mut of_pairs = Vec::with_capacity(alloc, order.ways.len())?;
-        for outcomes in order.ways.iter() {
-            match outcomes {
-                Some(outcomes) => {
-                    let number = number_of(&mut known, &mut different, way_of(outcomes))?;
-                    of_pairs.push(Some(number))?;
-                }
-                None => of_pairs.push(None)?,
+        let mut ways = Ways {
+            different: Vec::new(alloc),
+            runs: Vec::new(alloc),
+        };
+        for (pair, outcomes) in order.pairs.iter().zip(&order.ways) {
+            if !ways.goes_on(*pair, outcomes) {
+                ways.begin(&mut known, *pair, *outcomes)?;
             }
         }
-        Ok(Ways {
-            different,
-            of_pairs,
-        })
+        Ok(ways)
+    }
+
+    // Whether the last run goes on with this pair, which then counts to it.
+    fn goes_on(&mut self, pair: (u32, u32), outcomes: &Option<Outcomes>) -> bool {
+        match self.runs.last_mut() {
+            Some(run) => run.goes_on(pair, outcomes),
+            None => false,
+        }
+    }
+
+    // Begins a run with this pair.
+    fn begin(
+        &mut self,
+        known: &mut IndexSet<Way>,
+        pair: (u32, u32),
+        outcomes: Option<Outcomes>,
+    ) -> Result<(), AllocError> {
+        let way = match &outcomes {
+            Some(outcomes) => Some(number_of(known, &mut self.different, way_of(outcomes))?),
+            None => None,
+        };
+        self.runs.push(Run {
+            pair,
+            len: 1,
+            way,
+            outcomes,
+        })?;
+        Ok(())
+    }
+}
+
+impl Run {
+    fn goes_on(&mut self, pair: (u32, u32), outcomes: &Option<Outcomes>) -> bool {
+        let goes_on = self.next() == pair && self.outcomes == *outcomes;
+        if goes_on {
+            self.len = self.len.saturating_add(1);
+        }
+        goes_on
+    }
+
+    // The pair that comes after these.
+    fn next(&self) -> (u32, u32) {
+        (self.pair.0, self.pair.1.saturating_add(self.len))
     }
 }
 
