@@ -8,7 +8,7 @@ ghost use Rattle.vcd_read.specs.Probes.{by_name};
 ghost use Rattle.vcd_read.specs.Views.{asked};
 ghost use Rattle.run_parts.specs.Runs.{ReadsText, ReadsBoth, Reports, Stops};
 
-use crate::telling::{Captured, Telling};
+use crate::telling::{CaptureReport, Telling};
 use decoding::{Explaining, decode};
 use plan_core::Plan;
 use plan_text::read_plan;
@@ -85,8 +85,8 @@ pub fn run_capture_of<I: Input, J: Input, O: Output>(
 {
     let text = read_within(alloc, plan, READS)?;
     let plan = read_plan(alloc, text.as_slice())?;
-    let Captured { report, status, .. } = read_capture(rt, alloc, &plan, vcd, scl, sda, least)?;
-    write_lines(out, report.as_bytes(), status)
+    let captured = read_capture(rt, alloc, &plan, vcd, scl, sda, least)?;
+    write_lines(out, captured.report.as_bytes(), captured.status)
 }
 
 // The report of the dump that a reader gives, and the status of a run with that report.
@@ -98,7 +98,7 @@ fn read_capture<J: Input>(
     scl: Probe<'_>,
     sda: Probe<'_>,
     least: u64,
-) -> Result<Captured, RunError>
+) -> Result<CaptureReport, RunError>
     ensures all { IfOk result (λ it. (dump : List ℕ) × ReadsText J.reader vcd.old dump vcd.new
         × CaptureOf least (asked scl.entry) (asked sda.entry) (plan_contents plan.now) dump (string_bytes it.report) it.status) }
     ensures stops { IfErr result (λ error. HaltsAtDump J.reader (asked scl.entry) (asked sda.entry) vcd.old error vcd.new) }

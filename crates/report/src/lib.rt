@@ -28,6 +28,6 @@ pub use found::Checked;
 pub use lines::{check_report, push_count, push_fault};
 pub use run_parts::{Input, Opened, Output, RunError, Status, Watched, read_within, write_report};
 pub use spellings::{run_brief, run_expand, run_print};
-pub use telling::{Captured, Telling};
+pub use telling::{CaptureReport, Telling};
 pub use vcd_read::Probe;
 pub use verdicts::{Gate, NoGate};

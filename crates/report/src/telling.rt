@@ -14,7 +14,7 @@ use std::alloc::{AllocError, Global};
 
 /// What a run says of a capture.
 #[derive(Drop)]
-pub struct Captured {
+pub struct CaptureReport {
     /// A line for each transaction, and one that counts them.
     pub report: String,
     /// The status of a run with this report.
@@ -97,7 +97,7 @@ impl Telling {
     /// # Errors
     ///
     /// Where an allocation fails.
-    pub fn finish(self) -> Result<Captured, AllocError>
+    pub fn finish(self) -> Result<CaptureReport, AllocError>
         ensures report { IfOk result (λ it. string_bytes it.report ≡ capture_report (tally_of self)) }
         ensures status { IfOk result (λ it. Explained it.status (tally_of self)) }
     {
@@ -109,7 +109,7 @@ impl Telling {
             unexplained,
         } = self;
         writeln!(lines, "{stopped} transactions, {unexplained} unexplained")?;
-        Ok(Captured {
+        Ok(CaptureReport {
             report: lines,
             status,
             transactions,

@@ -7,7 +7,7 @@ use dump_tokens::Bus;
 use explain::{CaptureLines, DecodeLines, Layout, Paint, Seen, Selection};
 use objects::{CaptureObjects, DecodeObjects, write_signals};
 use plan_core::Plan;
-use report::{Captured, Input, Output, RunError, Status, Telling, find_plan};
+use report::{CaptureReport, Input, Output, RunError, Status, Telling, find_plan};
 use run_parts::write_lines;
 use signals::{Dump, Learned, Listed, Sights, brief_of, find_signals};
 use std::alloc::Global;
@@ -108,7 +108,7 @@ fn exact_capture<R: AllocGlobal + Threads + Sync, J: Input, O: Output>(
     };
     dump.decode(alloc, &mut explaining)?;
     let Explaining { sink, .. } = explaining;
-    let Captured {
+    let CaptureReport {
         report,
         status,
         transactions,
