@@ -77,14 +77,23 @@ impl<'a, 'l, J: Input> Dump<'a, 'l, J> {
         sink: &mut S,
     ) -> Result<Ending, RunError> {
         let least = self.quiet().least;
-        let Dump {
-            again,
-            lines,
-            picked,
-        } = self;
-        match picked {
-            Some(picked) => decode(alloc, again, picked.scl(), picked.sda(), least, sink),
-            None => decode(alloc, again, lines.scl, lines.sda, least, sink),
+        match &self.picked {
+            Some(picked) => decode(
+                alloc,
+                &mut self.again,
+                picked.scl(),
+                picked.sda(),
+                least,
+                sink,
+            ),
+            None => decode(
+                alloc,
+                &mut self.again,
+                self.lines.scl,
+                self.lines.sda,
+                least,
+                sink,
+            ),
         }
     }
 }
