@@ -75,7 +75,9 @@ impl<'a, 'l, J: Input> Dump<'a, 'l, J> {
         &mut self,
         alloc: Global,
         sink: &mut S,
-    ) -> Result<Ending, RunError> {
+    ) -> Result<Ending, RunError>
+        requires { S.needs }
+    {
         let least = self.quiet().least;
         match &self.picked {
             Some(picked) => decode(
