@@ -3,7 +3,7 @@
 use crate::below::begin;
 use crate::glitches::{Cut, Cuts};
 use crate::labels::Labels;
-use crate::nearest::{Leaves, does, nearest, shown};
+use crate::leaving::{Leaves, does, nearest, shown};
 use crate::words::bytes_of;
 use capture_check::{Mark, Transaction, Until};
 use growing_text::Lines;

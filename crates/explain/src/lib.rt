@@ -8,7 +8,7 @@
 //!
 //! What a dump shows goes to sinks: `capture_lines` writes its transactions with who explains each, and `decode_lines` without
 //! a plan, as they end. `selecting` has which of them are told, `moments` their times, `captures` what people read below them
-//! (`nearest` participants, `glitches`), and `tallies` and `addresses` count.
+//! (`leaving` has who goes along with one, `glitches`), and `tallies` and `addresses` count.
 //!
 //! Bytes are written as the Linux kernel's documents of the bus write them: `S 48 Wr A 01 A Sr 48 Rd A d4 NA P`. `S` is
 //! START, `Sr` a repeated START, `P` a STOP, `A` an acknowledge and `NA` none; an address has seven bits, `Wr` and `Rd` are
@@ -27,11 +27,11 @@ mod decode_lines;
 mod faults;
 mod glitches;
 mod labels;
+mod leaving;
 mod meetings;
 mod mends;
 mod mistakes;
 mod moments;
-mod nearest;
 mod paints;
 mod plans;
 mod pulse_lines;
@@ -51,10 +51,10 @@ pub use capture_lines::{CaptureLines, Layout};
 pub use decode_lines::DecodeLines;
 pub use glitches::{Cut, Cuts};
 pub use labels::{Labels, label_of, labels_of};
+pub use leaving::{Leaves, does, nearest, shown};
 pub use meetings::{Meeting, Rule, Side, meeting_of};
 pub use mends::Mends;
 pub use mistakes::{Mistake, mistake_of};
-pub use nearest::{Leaves, does, nearest, shown};
 pub use paints::Paint;
 pub use reasons::{Reasons, reasons_of};
 pub use reports::{explain_answer, explain_check, explain_rehearsal};
