@@ -5,7 +5,7 @@ use crate::labels::{Labels, labels_of};
 use crate::moments::push_times;
 use crate::paints::Paint;
 use crate::pulse_lines::pulse_line;
-use crate::selecting::{Seen, Selection};
+use crate::selecting::Selection;
 use crate::tallies::{Tallies, push_stopped};
 use crate::written::Written;
 use capture_check::{Transaction, Until};
@@ -79,22 +79,22 @@ impl<'a, O: Output> CaptureLines<'a, O> {
         }
         self.line(transaction, participants);
         if self.layout.explain {
-            self.written.text.push_made(below_transaction(
+            let below = below_transaction(
                 self.written.alloc,
                 plan,
                 &self.labels,
                 transaction,
                 !participants.is_empty(),
-            ));
+            );
+            self.written.text.push_made(below);
         }
     }
 
     // So many bits came on the free bus after the last transaction.
     fn follow(&mut self, idle: u64) {
         if idle != 0 && self.was_told && self.layout.explain {
-            self.written
-                .text
-                .push_made(after_transaction(self.written.alloc, idle));
+            let after = after_transaction(self.written.alloc, idle);
+            self.written.text.push_made(after);
         }
     }
 
@@ -132,6 +132,12 @@ impl<'a, O: Output> CaptureLines<'a, O> {
     ///
     /// `Write` where the writer failed or took no bytes, and `NoMemory`.
     pub fn finish(mut self, quiet: Quiet, ending: Ending) -> Result<Selection, RunError> {
+        self.push_rest(quiet, ending);
+        self.end()
+    }
+
+    // What is known only now.
+    fn push_rest(&mut self, quiet: Quiet, ending: Ending) {
         self.follow(ending.idle);
         if let Some(tallies) = &self.tallies {
             tallies.push_to(&mut self.written.text, &self.labels);
@@ -140,7 +146,6 @@ impl<'a, O: Output> CaptureLines<'a, O> {
             let line = pulse_line(self.written.alloc, quiet, ending.short);
             self.written.text.push_made(line);
         }
-        self.end()
     }
 
     /// Writes the last lines of a capture of which nothing more is read, where it stopped by itself: none else.
@@ -156,13 +161,15 @@ impl<'a, O: Output> CaptureLines<'a, O> {
         }
     }
 
-    fn end(mut self) -> Result<Selection, RunError> {
-        push_last(&mut self.written.text, self.selection.seen);
-        if let Some(least) = self.selection.missed() {
-            push_too_few(&mut self.written.text, self.selection.seen.stopped, least);
-        }
-        self.written.write()?;
-        Ok(self.selection)
+    fn end(self) -> Result<Selection, RunError> {
+        let CaptureLines {
+            mut written,
+            selection,
+            ..
+        } = self;
+        push_last(&mut written.text, selection);
+        written.write()?;
+        Ok(selection)
     }
 }
 
@@ -190,18 +197,17 @@ impl<O: Output> ExplainedSink for CaptureLines<'_, O> {
     }
 }
 
-fn push_last(text: &mut Text, seen: Seen) {
-    push_stopped(text, seen);
+// How many there are, and whether these are too few.
+fn push_last(text: &mut Text, selection: Selection) {
+    push_stopped(text, selection.seen);
     text.push(", ");
-    text.push_number(seen.unexplained);
+    text.push_number(selection.seen.unexplained);
     text.push(" unexplained\n");
-}
-
-// The line of fewer transactions than there were to be.
-fn push_too_few(text: &mut Text, stopped: u64, least: u64) {
-    text.push("too few: ");
-    text.push_number(stopped);
-    text.push(" of ");
-    text.push_number(least);
-    text.push("\n");
+    if let Some(least) = selection.missed() {
+        text.push("too few: ");
+        text.push_number(selection.seen.stopped);
+        text.push(" of ");
+        text.push_number(least);
+        text.push("\n");
+    }
 }

@@ -60,7 +60,8 @@ impl<'a, O: Output> DecodeLines<'a, O> {
             Until::Cut(_) => " cut ",
             Until::Unfinished => " unfinished ",
         });
-        let text = mem::replace(&mut self.written.text, Text::new(self.written.alloc));
+        let empty = Text::new(self.written.alloc);
+        let text = mem::replace(&mut self.written.text, empty);
         self.written.text = with_bytes(text, transaction.marks.as_slice());
         self.written.text.push("\n");
     }
@@ -71,13 +72,22 @@ impl<'a, O: Output> DecodeLines<'a, O> {
     ///
     /// `Write` where the writer failed or took no bytes, and `NoMemory`.
     pub fn finish(mut self) -> Result<Selection, RunError> {
+        self.push_rest();
+        let DecodeLines {
+            mut written,
+            selection,
+            ..
+        } = self;
+        written.write()?;
+        Ok(selection)
+    }
+
+    fn push_rest(&mut self) {
         if let Some(addresses) = &self.addresses {
             addresses.push_to(&mut self.written.text);
         }
         push_stopped(&mut self.written.text, self.selection.seen);
         self.written.text.push("\n");
-        self.written.write()?;
-        Ok(self.selection)
     }
 }
 
