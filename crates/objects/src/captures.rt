@@ -120,14 +120,15 @@ impl<'a, O: Output> CaptureObjects<'a, O> {
         } else {
             None
         };
-        self.written.add_made(explained_of(
+        let object = explained_of(
             alloc,
             &self.labels,
             transaction,
             participants,
             scale,
             explain,
-        ));
+        );
+        self.written.add_made(object);
     }
 
     /// Writes the last objects of a capture that ended so, and answers what those that were told come to.
@@ -136,9 +137,7 @@ impl<'a, O: Output> CaptureObjects<'a, O> {
     ///
     /// `Write` where the writer failed or took no bytes, and `NoMemory`.
     pub fn finish(mut self, ending: Ending) -> Result<Selection, RunError> {
-        if let Some(tallies) = &self.tallies {
-            add_tallies(&mut self.written, tallies, &self.labels);
-        }
+        self.add_tallies();
         let explain = if self.layout.explain {
             Some(Rest {
                 idle: ending.idle,
@@ -148,6 +147,12 @@ impl<'a, O: Output> CaptureObjects<'a, O> {
             None
         };
         self.end(explain)
+    }
+
+    fn add_tallies(&mut self) {
+        if let Some(tallies) = &self.tallies {
+            add_tallies(&mut self.written, tallies, &self.labels);
+        }
     }
 
     /// Writes the last objects of a capture of which nothing more is read, where it stopped by itself.
@@ -163,18 +168,21 @@ impl<'a, O: Output> CaptureObjects<'a, O> {
         }
     }
 
-    fn end(mut self, explain: Option<Rest>) -> Result<Selection, RunError> {
-        let selection = self.selection;
-        self.written.add(&Transactions {
+    fn end(self, explain: Option<Rest>) -> Result<Selection, RunError> {
+        let CaptureObjects {
+            mut written,
+            selection,
+            ..
+        } = self;
+        written.add(&Transactions {
             kind: "transactions",
             transactions: selection.seen.stopped,
             unexplained: selection.seen.unexplained,
             explain,
         });
         if let Some(too_few) = too_few_of(&selection) {
-            self.written.add(&too_few);
+            written.add(&too_few);
         }
-        let CaptureObjects { written, .. } = self;
         written.finish()?;
         Ok(selection)
     }

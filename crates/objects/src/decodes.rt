@@ -83,16 +83,19 @@ impl<'a, O: Output> DecodeObjects<'a, O> {
     /// # Errors
     ///
     /// `Write` where the writer failed or took no bytes, and `NoMemory`.
-    pub fn finish(mut self) -> Result<Selection, RunError> {
-        let selection = self.selection;
-        if let Some(addresses) = &self.addresses {
-            add_addresses(&mut self.written, addresses);
+    pub fn finish(self) -> Result<Selection, RunError> {
+        let DecodeObjects {
+            mut written,
+            selection,
+            addresses,
+        } = self;
+        if let Some(addresses) = &addresses {
+            add_addresses(&mut written, addresses);
         }
-        self.written.add(&Transactions {
+        written.add(&Transactions {
             kind: "transactions",
             transactions: selection.seen.stopped,
         });
-        let DecodeObjects { written, .. } = self;
         written.finish()?;
         Ok(selection)
     }
