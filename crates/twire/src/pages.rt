@@ -71,12 +71,13 @@ fn recording_of<R: AllocGlobal + Threads + Sync, J: Input, O: Output>(
     let alloc = rt.alloc();
     let mut dump = open(alloc, vcd, bus)?;
     let selection = Selection::new(bus.view, dump.scale());
+    let lines = CaptureLines::new(alloc, plan, selection, LAYOUT, report)?;
     let mut explaining = Explaining {
         rt,
         alloc,
         plan,
         sink: Both {
-            lines: CaptureLines::new(alloc, plan, selection, LAYOUT, report)?,
+            lines,
             recording: Recording::new(alloc, selection),
         },
     };

@@ -158,12 +158,12 @@ fn capture_objects<R: AllocGlobal + Threads + Sync, J: Input, O: Output>(
 ) -> Result<Selection, RunError> {
     let alloc = rt.alloc();
     let selection = Selection::new(capture.bus.view, dump.scale());
-    let layout = capture.layout(Paint::Plain);
+    let objects = CaptureObjects::new(alloc, plan, selection, capture.layout(Paint::Plain), out)?;
     let mut explaining = Explaining {
         rt,
         alloc,
         plan,
-        sink: CaptureObjects::new(alloc, plan, selection, layout, out)?,
+        sink: objects,
     };
     let ended = dump.decode(alloc, &mut explaining);
     let Explaining { sink, .. } = explaining;
