@@ -132,23 +132,15 @@ impl<'a, O: Output> CaptureLines<'a, O> {
     ///
     /// `Write` where the writer failed or took no bytes, and `NoMemory`.
     pub fn finish(mut self, quiet: Quiet, ending: Ending) -> Result<Selection, RunError> {
-        self.push_rest(quiet, ending);
-        self.end()
-    }
-
-    // What is known only now.
-    fn push_rest(&mut self, quiet: Quiet, ending: Ending) {
         self.follow(ending.idle);
-        if let Some(tallies) = &self.tallies {
-            tallies.push_to(&mut self.written.text, &self.labels);
-        }
         if self.layout.explain {
             let line = pulse_line(self.written.alloc, quiet, ending.short);
             self.written.text.push_made(line);
         }
+        self.end()
     }
 
-    /// Writes the last lines of a capture of which nothing more is read, where it stopped by itself: none else.
+    /// Writes the last lines of a capture of which nothing more is read, where it stopped by itself.
     ///
     /// # Errors
     ///
@@ -165,8 +157,13 @@ impl<'a, O: Output> CaptureLines<'a, O> {
         let CaptureLines {
             mut written,
             selection,
+            labels,
+            tallies,
             ..
         } = self;
+        if let Some(tallies) = &tallies {
+            tallies.push_to(&mut written.text, &labels);
+        }
         push_last(&mut written.text, selection);
         written.write()?;
         Ok(selection)

@@ -136,8 +136,7 @@ impl<'a, O: Output> CaptureObjects<'a, O> {
     /// # Errors
     ///
     /// `Write` where the writer failed or took no bytes, and `NoMemory`.
-    pub fn finish(mut self, ending: Ending) -> Result<Selection, RunError> {
-        self.add_tallies();
+    pub fn finish(self, ending: Ending) -> Result<Selection, RunError> {
         let explain = if self.layout.explain {
             Some(Rest {
                 idle: ending.idle,
@@ -147,12 +146,6 @@ impl<'a, O: Output> CaptureObjects<'a, O> {
             None
         };
         self.end(explain)
-    }
-
-    fn add_tallies(&mut self) {
-        if let Some(tallies) = &self.tallies {
-            add_tallies(&mut self.written, tallies, &self.labels);
-        }
     }
 
     /// Writes the last objects of a capture of which nothing more is read, where it stopped by itself.
@@ -172,8 +165,13 @@ impl<'a, O: Output> CaptureObjects<'a, O> {
         let CaptureObjects {
             mut written,
             selection,
+            labels,
+            tallies,
             ..
         } = self;
+        if let Some(tallies) = &tallies {
+            add_tallies(&mut written, tallies, &labels);
+        }
         written.add(&Transactions {
             kind: "transactions",
             transactions: selection.seen.stopped,
