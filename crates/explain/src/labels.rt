@@ -18,9 +18,9 @@ impl Labels {
         }
     }
 
-    /// How many there are.
-    pub(crate) fn len(&self) -> usize {
-        self.labels.len()
+    /// All of them, in the order of the participants' numbers.
+    pub fn all(&self) -> &[String] {
+        self.labels.as_slice()
     }
 }
 

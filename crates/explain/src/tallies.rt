@@ -88,8 +88,8 @@ impl Tallies {
 
     /// The lines of the summary: the participants in the order of their numbers, and then the rest.
     pub(crate) fn push_to(&self, text: &mut Text, labels: &Labels) {
-        for (p, count) in self.senders.iter().enumerate() {
-            text.push(labels.of(p as u32));
+        for (label, count) in labels.all().iter().zip(self.senders.as_slice()) {
+            text.push(label.as_str());
             push_count(text, " ", count.alone);
             push_count(text, " alone, ", count.with_others);
             text.push(" with others\n");

@@ -211,10 +211,10 @@ impl<O: Output> ExplainedSink for CaptureObjects<'_, O> {
 }
 
 fn add_tallies<O: Output>(written: &mut Written<'_, O>, tallies: &Tallies, labels: &Labels) {
-    for (p, count) in tallies.senders.iter().enumerate() {
+    for (label, count) in labels.all().iter().zip(tallies.senders.as_slice()) {
         written.add(&Counted {
             kind: "participant",
-            participant: labels.of(p as u32),
+            participant: label.as_str(),
             alone: count.alone,
             with_others: count.with_others,
         });
