@@ -90,7 +90,7 @@ pub const HINTS: Argument = Argument::Choice {
     value_name: "WHEN",
     default: "auto",
     values: &["auto", "always", "never"],
-    help: "Hints for people: auto (on a terminal), always, never",
+    help: "Hints: auto (on a terminal), always, never",
 };
 
 /// An option of all commands.
@@ -99,7 +99,7 @@ pub const COLOR: Argument = Argument::Choice {
     value_name: "WHEN",
     default: "auto",
     values: &["auto", "always", "never"],
-    help: "Colours for people: auto (on a terminal), always, never",
+    help: "Colours: auto (on a terminal), always, never",
 };
 
 /// An option of all commands.
@@ -387,13 +387,13 @@ const TIMES: Argument = Argument::Choice {
 
 const SUMMARY: Argument = Argument::Flag {
     id: "summary",
-    help: "Count for each participant, and list no transactions",
+    help: "Count for each participant, list no transactions",
 };
 
 // Where nobody is named who may have sent something.
 const ADDRESSES: Argument = Argument::Flag {
     id: "summary",
-    help: "Count for each address, and list no transactions",
+    help: "Count for each address, list no transactions",
 };
 
 const LIVE: Argument = Argument::Flag {
@@ -403,7 +403,7 @@ const LIVE: Argument = Argument::Flag {
 
 const STOPS: Argument = Argument::Flag {
     id: "stop-at-unexplained",
-    help: "End with status 1 at the first one that is unexplained",
+    help: "End with status 1 at the first unexplained one",
 };
 
 const FILL: Argument = Argument::Choice {

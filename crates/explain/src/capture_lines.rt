@@ -133,9 +133,6 @@ impl<'a, O: Output> CaptureLines<'a, O> {
     /// `Write` where the writer failed or took no bytes, and `NoMemory`.
     pub fn finish(mut self, quiet: Quiet, ending: Ending) -> Result<Selection, RunError> {
         self.follow(ending.idle);
-        if let Some(tallies) = &self.tallies {
-            tallies.push_to(&mut self.written.text, &self.labels);
-        }
         if self.layout.explain {
             let line = pulse_line(self.written.alloc, quiet, ending.short);
             self.written.text.push_made(line);
@@ -143,7 +140,7 @@ impl<'a, O: Output> CaptureLines<'a, O> {
         self.end()
     }
 
-    /// Writes the last lines of a capture of which nothing more is read, where it stopped by itself: none else.
+    /// Writes the last lines of a capture of which nothing more is read, where it stopped by itself.
     ///
     /// # Errors
     ///
@@ -157,6 +154,9 @@ impl<'a, O: Output> CaptureLines<'a, O> {
     }
 
     fn end(mut self) -> Result<Selection, RunError> {
+        if let Some(tallies) = &self.tallies {
+            tallies.push_to(&mut self.written.text, &self.labels);
+        }
         push_last(&mut self.written.text, self.selection.seen);
         if let Some(least) = self.selection.missed() {
             push_too_few(&mut self.written.text, self.selection.seen.stopped, least);

@@ -135,10 +135,7 @@ impl<'a, O: Output> CaptureObjects<'a, O> {
     /// # Errors
     ///
     /// `Write` where the writer failed or took no bytes, and `NoMemory`.
-    pub fn finish(mut self, ending: Ending) -> Result<Selection, RunError> {
-        if let Some(tallies) = &self.tallies {
-            add_tallies(&mut self.written, tallies, &self.labels);
-        }
+    pub fn finish(self, ending: Ending) -> Result<Selection, RunError> {
         let explain = if self.layout.explain {
             Some(Rest {
                 idle: ending.idle,
@@ -165,6 +162,9 @@ impl<'a, O: Output> CaptureObjects<'a, O> {
 
     fn end(mut self, explain: Option<Rest>) -> Result<Selection, RunError> {
         let selection = self.selection;
+        if let Some(tallies) = &self.tallies {
+            add_tallies(&mut self.written, tallies, &self.labels);
+        }
         self.written.add(&Transactions {
             kind: "transactions",
             transactions: selection.seen.stopped,
