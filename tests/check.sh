@@ -292,6 +292,8 @@ want 0 "$(cat "$tests/expected/print_help.txt")" ""
 run "help on print" print --help
 want 0 "$(cat "$tests/expected/capture_help.txt")" ""
 run "help on capture" capture --help
+want 0 "$(cat "$tests/expected/decode_help.txt")" ""
+run "help on decode" decode --help
 want 0 "$(cat "$tests/expected/signals_help.txt")" ""
 run "help on signals" signals --help
 want 0 "$(cat "$tests/expected/learn_help.txt")" ""

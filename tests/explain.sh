@@ -377,10 +377,10 @@ run "a repeated START and a read" capture --explain p.plan d.vcd
 } >d.vcd
 want 1 "10-11 unexplained
     S P
-    2 bits follow on a free bus: is the STOP a glitch?
     a/m leaves at slot 0: it sends 1 there, the wire has a STOP
     b/n leaves at slot 0: it sends 0 there, the wire has a STOP
     b/o leaves at slot 0: it sends 0 there, the wire has a STOP
+    2 bits follow on a free bus: is the STOP a glitch?
 1 transactions, 1 unexplained" ""
 run "a glitch" capture --explain p.plan d.vcd
 

@@ -1,8 +1,8 @@
 #!/usr/bin/env bash
 # Runs twire with --format json. Other suites, which compare lines, are run over a program that asks twire for objects and
 # writes the lines that they stand for (tests/objects); then some objects are compared as they are written. Lines for people
-# below those of a plan are in no object: what is explained there is compared here, and by the trials. The last line is
-# 'N passed, M failed', and the exit status is 1 where a case fails.
+# are in no object: what is explained is compared here, and by the trials. The last line is 'N passed, M failed', and the exit
+# status is 1 where a case fails.
 #
 # It runs the launcher at the top of the repository, or the program that TWIRE names.
 set -u
@@ -29,9 +29,9 @@ rustc -O --edition 2021 -D warnings -o objects "$tests/objects/main.rs" >log 2>&
 
 # ---- Objects as lines.
 
-# Cases of streams that are closed, full, broken or a terminal are left out: the program between takes twire's and hands on its
-# own. twire itself has some of them below.
-streams='^FAILED: .*(closed standard (in|out)put|full device|broken pipe|first part is taken|on a terminal)'
+# Cases of streams that are closed, full, broken or a terminal are left out, and those of what is written while a dump is read:
+# the program between takes twire's and hands on its own, at the end. twire itself has some of them below.
+streams='^FAILED: .*(closed standard (in|out)put|full device|broken pipe|first part is taken|on a terminal|nobody reads|slowly)'
 
 # suite NAME: all cases of a suite.
 suite() {
@@ -49,7 +49,7 @@ suite() {
     failed=$((failed + bad))
 }
 
-for name in check certificates briefs captures signals bench explain; do
+for name in check certificates briefs captures decode signals bench explain; do
     suite "$name"
 done
 
@@ -82,11 +82,15 @@ for plan in "$examples"/*.plan; do
         alike capture "$plan" "$dump" --summary --at-least 2
     done
 done
+for dump in "$examples"/*.vcd; do
+    alike decode "$dump" --times si
+    alike decode "$dump" --summary
+done
 
 # Each kind of object has been met, and with --explain each that holds more then.
 sort -u kinds >met
-printf '%s\n' bus certificate "certificate explained" count hint line order pair "pair explained" participant plan "plan explained" \
-    refusal signal signals too_few total transaction "transaction explained" transactions wire "wire explained" won >wanted
+printf '%s\n' address bus certificate "certificate explained" count hint order pair "pair explained" participant plan "plan explained" \
+    refusal signal signals too_few total transaction "transaction explained" transactions "transactions explained" wire "wire explained" won >wanted
 if diff -u --label wanted --label met wanted met; then
     passed=$((passed + 1))
 else
@@ -179,8 +183,22 @@ run "who wins" 0 '{"kind":"order","pair":0,"participants":["main/write_settings"
 {"kind":"total","participant":"main/write_settings","wins":0,"may_win":1,"loses":0}
 {"kind":"total","participant":"main/write_limit","wins":0,"may_win":0,"loses":1}
 {"kind":"total","participant":"guard/write_alarm","wins":1,"may_win":1,"loses":0}' "" order --format json "$two"
-run "a transaction" 0 '{"kind":"transaction","from":5,"to":160,"end":"stop","participants":["service/probe_10"],"explain":{"bytes":"S 10 Wr A P","nearest":[],"notes":["S 10 Wr A P"]}}
-{"kind":"transactions","transactions":1,"unexplained":0}' "" capture --format json --explain "$stop" "$dump"
+run "a transaction" 0 '{"kind":"transaction","from":5,"to":160,"end":"stop","participants":["service/probe_10"],"explain":{"bytes":"S 10 Wr A P","idle":0,"cuts":[],"nearest":[]}}
+{"kind":"transactions","transactions":1,"unexplained":0,"explain":{"idle":0,"short":0}}' "" \
+    capture --format json --explain "$stop" "$dump"
+# A START and a STOP by a short pulse, a bit on the free bus, and then a repeated START and a STOP within bytes.
+printf '%s\n' '$timescale 1 us $end $var wire 1 ! scl $end $var wire 1 " sda $end $enddefinitions $end' '#0 1! 1"' \
+    '#10 0"' '#11 1"' '#20 0!' '#30 1!' '#40 0!' '#50 1! #60 0" #70 0!' '#80 1! #90 0! #100 1" #110 1! #120 0" #130 0!' \
+    '#140 1! #150 0! #160 1! #170 0! #180 1! #190 1"' '#200 0! #210 1! #220 0! #230 1! #240 0!' >d.vcd
+run "what is explained of transactions" 1 '{"kind":"transaction","from":10,"to":11,"end":"stop","participants":[],"explain":{"bytes":"S P","idle":0,"cuts":[],"nearest":[{"participant":"main/write_output","slot":0,"does":"0","wire":"stop"},{"participant":"service/probe_10","slot":0,"does":"0","wire":"stop"},{"participant":"service/probe_11","slot":0,"does":"0","wire":"stop"}]}}
+{"kind":"transaction","from":60,"to":190,"end":"stop","participants":[],"explain":{"bytes":"S 0b0(cut) Sr 0b00(cut) P","idle":1,"cuts":[{"by":"restart","bits":1},{"by":"stop","bits":2}],"nearest":[{"participant":"main/write_output","slot":1,"does":"0","wire":"restart"},{"participant":"service/probe_10","slot":1,"does":"0","wire":"restart"},{"participant":"service/probe_11","slot":1,"does":"0","wire":"restart"}]}}
+{"kind":"transactions","transactions":2,"unexplained":2,"explain":{"idle":2,"short":0}}' "" \
+    capture --format json --explain "$stop" d.vcd
+run "a level that was left out" 1 '{"kind":"transaction","from":60,"to":190,"end":"stop","participants":[],"explain":{"bytes":"S 0b0(cut) Sr 0b00(cut) P","idle":0,"cuts":[{"by":"restart","bits":1},{"by":"stop","bits":2}],"nearest":[{"participant":"main/write_output","slot":1,"does":"0","wire":"restart"},{"participant":"service/probe_10","slot":1,"does":"0","wire":"restart"},{"participant":"service/probe_11","slot":1,"does":"0","wire":"restart"}]}}
+{"kind":"transactions","transactions":1,"unexplained":1,"explain":{"idle":2,"short":1}}' "" \
+    capture --format json --explain --min-pulse 2us "$stop" d.vcd
+run "what a transaction was, at the end of a run that stops" 1 '{"kind":"transaction","from":10,"to":11,"end":"stop","participants":[]}
+{"kind":"transactions","transactions":1,"unexplained":1}' "" capture --format json --stop-at-unexplained "$stop" d.vcd
 run "a transaction that nobody explains, and too few" 1 '{"kind":"transaction","from":5,"to":160,"end":"stop","participants":[]}
 {"kind":"transactions","transactions":1,"unexplained":1}
 {"kind":"too_few","transactions":1,"at_least":2}' "" capture --format json --at-least 2 "$two" "$dump"

@@ -494,13 +494,13 @@ expect "nothing to leave out" 0 "$first" "" capture plan two --min-pulse 5
 expect "pulses in one of two scopes" 0 "$first" "" capture plan glitch --min-pulse 2us --scope top.i2c0
 expect "pulses and times" 0 $'5 us-160 us a/m\n1 transactions, 0 unexplained' "" \
     capture plan glitch --min-pulse 2us --times si
-expect "a pulse is counted" 0 '    1 pulse shorter than 2 us was left out
-5-160 a/m
+expect "a pulse is counted" 0 '5-160 a/m
     S 48 Wr A P
+    1 pulse shorter than 2 us was left out
 1 transactions, 0 unexplained' "" capture plan glitch --min-pulse 2us --explain
-expect "pulses are counted" 0 '    3 pulses shorter than 2 were left out
-5-160 a/m
+expect "pulses are counted" 0 '5-160 a/m
     S 48 Wr A P
+    3 pulses shorter than 2 were left out
 1 transactions, 0 unexplained' "" capture plan chatter --min-pulse 2 --explain
 # SCL is HIGH before the first START, and for 5 in each bit.
 lost_clock='hint: --min-pulse leaves out the clock: SCL is HIGH 10 times, and 9 of these are

@@ -1,8 +1,8 @@
 //! Stands in the place of twire: runs the program that TWIRE_OF_OBJECTS names with `--format json`, and writes the lines that
 //! its objects stand for. So a suite that compares lines compares objects too. tests/json.sh builds it and uses it.
 //!
-//! The lines for people below those of a plan are in no object. They are taken from a run without objects, whose other lines
-//! have to be those that the objects stand for.
+//! The lines for people are in no object. They are taken from a run without objects, whose other lines have to be those that
+//! the objects stand for.
 
 #[path = "../trials/json.rs"]
 mod json;
@@ -17,10 +17,10 @@ use std::io::{self, Write};
 use std::process::{Command, ExitCode, Output, Stdio};
 
 // The commands that write reports, and no plans, briefs and certificates.
-const REPORTING: [&str; 6] = ["check", "verify", "order", "capture", "signals", "bench"];
+const REPORTING: [&str; 7] = ["check", "verify", "order", "capture", "decode", "signals", "bench"];
 
-// Those of them whose objects have no lines for people.
-const OVER_PLANS: [&str; 3] = ["check", "verify", "bench"];
+// Those of them that have lines for people.
+const EXPLAINED: [&str; 4] = ["check", "verify", "capture", "bench"];
 
 fn main() -> ExitCode {
     match run() {
@@ -41,7 +41,7 @@ fn run() -> Result<u8, Box<dyn Error>> {
     let (mut out, err) = in_lines(&output, reports)?;
     log(&output)?;
     let is_explained = words.iter().any(|word| word == "--explain");
-    if is_explained && command.is_some_and(|name| OVER_PLANS.contains(&name)) {
+    if is_explained && command.is_some_and(|name| EXPLAINED.contains(&name)) {
         out = with_people(&ask(&words, false)?, &output, &out, &err)?;
     }
     // (as twire writes them: hints come after the report)

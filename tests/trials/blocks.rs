@@ -115,11 +115,12 @@ impl<'a> Block<'a> {
     }
 
     fn asked(&self, word: &str) -> Result<Asked, Unreadable> {
-        Ok(Asked {
-            command: Command::of_line(&words_of(self.command, word)?)?,
-            first: file_of(self.first, word)?,
-            second: file_of(self.second, word)?,
-        })
+        let command = Command::of_line(&words_of(self.command, word)?)?;
+        let (first, second) = match command {
+            Command::Decode { .. } => (self.second, None),
+            _ => (self.first, self.second),
+        };
+        Ok(Asked { command, first: file_of(first, word)?, second: file_of(second, word)? })
     }
 }
 

@@ -10,7 +10,7 @@ use std::path::Path;
 #[derive(Clone, Debug)]
 pub struct Asked {
     pub command: Command,
-    /// The plan, or the brief.
+    /// The plan, or the brief, or the dump where there is no plan.
     pub first: Vec<u8>,
     /// The certificate, the capture or the script.
     pub second: Vec<u8>,
@@ -34,6 +34,11 @@ impl Case {
         self.wanted.refusal == "workers"
     }
 
+    /// Whether the first file is a dump, and may be left before its end: its refusal may come before that.
+    pub fn leaves_first(&self) -> bool {
+        matches!(self.asked.command, Command::Decode { .. }) && self.wanted.refusal.starts_with('V')
+    }
+
     /// Whether the second file may be left before its end, or not be read at all: the refusal of a plan comes before it, and
     /// that of a dump may come before the dump's end.
     pub fn leaves_second(&self) -> bool {
@@ -42,12 +47,13 @@ impl Case {
 }
 
 /// The case files, in the order in which they are run.
-pub const FILES: [&str; 15] = [
+pub const FILES: [&str; 16] = [
     "plans",
     "checks",
     "certificates",
     "orders",
     "captures",
+    "decodes",
     "rehearsals",
     "seats",
     "refusals",

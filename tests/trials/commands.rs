@@ -9,6 +9,8 @@ pub enum Command {
     Certify,
     Verify,
     Capture { scl: String, sda: String },
+    /// Its dump is the first file, since there is no plan.
+    Decode { scl: String, sda: String, summary: bool },
     Bench { starters: String, fill: bool, answers: String },
     Order,
     Print,
@@ -24,6 +26,7 @@ impl Command {
             Command::Certify => "certify",
             Command::Verify => "verify",
             Command::Capture { .. } => "capture",
+            Command::Decode { .. } => "decode",
             Command::Bench { .. } => "bench",
             Command::Order => "order",
             Command::Print => "print",
@@ -72,6 +75,11 @@ impl Command {
             "expand" => Ok(Command::Expand),
             "brief" => Ok(Command::Brief),
             "capture" => Ok(Command::Capture { scl: options.scl.to_owned(), sda: options.sda.to_owned() }),
+            "decode" => Ok(Command::Decode {
+                scl: options.scl.to_owned(),
+                sda: options.sda.to_owned(),
+                summary: options.summary,
+            }),
             _ => Err(Unreadable("there is no such command")),
         }
     }
@@ -84,13 +92,18 @@ struct Options<'a> {
     sda: &'a str,
     fill: &'a str,
     answers: &'a str,
+    summary: bool,
 }
 
 impl<'a> Options<'a> {
     fn of_line(line: &'a str) -> Result<Options<'a>, Unreadable> {
-        let mut options = Options { workers: "1", scl: "scl", sda: "sda", fill: "0", answers: "" };
+        let mut options = Options { workers: "1", scl: "scl", sda: "sda", fill: "0", answers: "", summary: false };
         let mut words = line.split_whitespace();
         while let Some(name) = words.next() {
+            if name == "--summary" {
+                options.summary = true;
+                continue;
+            }
             let value = words.next().ok_or(Unreadable("an option has no value"))?;
             options.put(name, unquoted(value))?;
         }

@@ -12,6 +12,8 @@ pub enum Deed {
     Hinted,
     /// Its command, with objects in place of lines, and with or without hints and what `--explain` says.
     Objects { hints: bool, explain: bool },
+    /// Its command, which reads a dump, so that what has ended is written before more is read, in lines or objects.
+    Live { objects: bool },
     /// Its command, a check, by so many workers.
     By(u32),
     /// A call in place of its command.
@@ -108,6 +110,7 @@ pub fn line_of(deed: Deed, asked: &Asked) -> Line {
         Deed::Command => command_line(&asked.command),
         Deed::Hinted => hinted_line(&asked.command),
         Deed::Objects { hints, explain } => objects_line(&asked.command, hints, explain),
+        Deed::Live { objects } => live_line(&asked.command, objects),
         Deed::By(workers) => twire_line("check", vec![format!("--workers={workers}")], 1),
         Deed::Call(call) => call_line(call),
         Deed::Lists => calls_line("lists", 2, words_of(&asked.command)),
@@ -120,6 +123,11 @@ fn command_line(command: &Command) -> Line {
         Command::Check { workers: 1 } => twire_line("check", vec![], 1),
         Command::Check { workers } => twire_line("check", vec![format!("--workers={workers}")], 1),
         Command::Capture { scl, sda } => twire_line("capture", vec![format!("--scl={scl}"), format!("--sda={sda}")], 2),
+        Command::Decode { scl, sda, summary } => {
+            let mut options = vec![format!("--scl={scl}"), format!("--sda={sda}")];
+            options.extend(summary.then(|| "--summary".to_owned()));
+            twire_line("decode", options, 1)
+        }
         Command::Bench { starters, fill, answers } => {
             let options = vec![format!("--fill={}", u8::from(*fill)), format!("--answers={answers}")];
             Line { after: vec![starters.clone()], ..twire_line("bench", options, 2) }
@@ -141,6 +149,12 @@ fn objects_line(command: &Command, hints: bool, explain: bool) -> Line {
     if explain {
         line.before.insert(1, "--explain".to_owned());
     }
+    line
+}
+
+fn live_line(command: &Command, objects: bool) -> Line {
+    let mut line = if objects { objects_line(command, false, false) } else { command_line(command) };
+    line.before.insert(1, "--live".to_owned());
     line
 }
 

@@ -1,7 +1,9 @@
-//! What the field `explain` holds of a command over a plan, by the schema in docs/COMMAND_LINE.md.
+//! What the field `explain` holds, by the schema in docs/COMMAND_LINE.md.
 
 use crate::json::Value;
 use crate::plain::bytes::{bytes_along, bytes_on, open_slots};
+use crate::plain::captures::{Mark, Transaction, Until};
+use crate::plain::decoded::{self, cuts_of, nearest};
 use crate::plain::explained::{decided, kept_apart, mends, unsent, Decided};
 use crate::plain::found::{Checked, Fault, Played};
 use crate::plain::{break_of, read_certificate, Certificate, Item, Kind, Participants, Wrong};
@@ -106,5 +108,53 @@ fn shown(item: Item) -> char {
     match item {
         Item::Heard(_) => '.',
         _ => item.symbol(),
+    }
+}
+
+/// Of a transaction, which perhaps nobody explains, and of the bits that follow the STOP of the one before it.
+pub fn of_transaction(plan: &Participants, transaction: &Transaction, is_odd: bool, idle: usize) -> Value {
+    let marks = transaction.marks.as_slice();
+    let cuts = cuts_of(marks).into_iter().map(|cut| {
+        let by = if cut.is_stop { "stop" } else { "restart" };
+        object(vec![("by", Value::text(by)), ("bits", Value::of(cut.bits))])
+    });
+    let is_told = is_odd && matches!(transaction.until, Until::Stopped(_));
+    let near = if is_told { nearest(plan, marks) } else { Vec::new() };
+    let near = near.iter().map(|leaves| {
+        object(vec![
+            ("participant", Value::text(&leaves.participant.label)),
+            ("slot", Value::of(leaves.slot)),
+            ("does", Value::text(does(leaves.offers))),
+            ("wire", Value::text(shows(marks.get(leaves.slot)))),
+        ])
+    });
+    object(vec![
+        ("bytes", Value::text(decoded::bytes_of(marks))),
+        ("idle", Value::of(idle)),
+        ("cuts", Value::Array(cuts.collect())),
+        ("nearest", Value::Array(near.collect())),
+    ])
+}
+
+fn does(offers: &[Item]) -> &'static str {
+    match offers {
+        [] => "nothing",
+        [Item::Sent(_), _, ..] => "bit",
+        [Item::Sent(false)] => "0",
+        [Item::Sent(true)] => "1",
+        [Item::Heard(_), ..] => "answer",
+        [Item::Again, ..] => "restart",
+        [Item::Stop, ..] => "stop",
+        [Item::Claim, ..] => "claim",
+    }
+}
+
+fn shows(mark: Option<&Mark>) -> &'static str {
+    match mark {
+        Some(Mark::Level(false)) => "0",
+        Some(Mark::Level(true)) => "1",
+        Some(Mark::Again) => "restart",
+        Some(Mark::Stop) => "stop",
+        None => "nothing",
     }
 }

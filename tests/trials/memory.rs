@@ -51,7 +51,7 @@ fn deeds_of(command: &Command) -> Vec<Deed> {
         Command::Bench { starters, .. } if starters.split(',').count() > MOST_STARTERS => return Vec::new(),
         Command::Check { workers: 1 } => vec![Deed::Command, Deed::By(2)],
         Command::Capture { .. } => vec![Deed::Command, OBJECTS, Deed::Lists],
-        Command::Order | Command::Verify => vec![Deed::Command, OBJECTS],
+        Command::Order | Command::Verify | Command::Decode { .. } => vec![Deed::Command, OBJECTS],
         _ => vec![Deed::Command],
     };
     deeds.extend(calls_of(command).iter().map(|call| Deed::Call(*call)));
@@ -148,7 +148,7 @@ fn told(task: &Task<'_>, is_right: bool, why: &'static str) -> Option<Disagreeme
 // The number of workers is judged first, and a call may refuse a text before it takes memory.
 fn asks_for_none(task: &Task<'_>) -> bool {
     match task.deed {
-        Deed::Command | Deed::Hinted | Deed::Objects { .. } | Deed::By(_) => task.case.is_unread(),
+        Deed::Command | Deed::Hinted | Deed::Objects { .. } | Deed::Live { .. } | Deed::By(_) => task.case.is_unread(),
         Deed::Call(_) | Deed::Lists | Deed::Quiet(_) => !task.case.wanted.refusal.is_empty(),
     }
 }

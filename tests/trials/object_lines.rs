@@ -1,6 +1,5 @@
 //! The lines that the objects of `--format json` stand for, by the schema in docs/COMMAND_LINE.md: each field in its place, and
-//! none besides. Below a transaction stand its notes, with which its other fields are compared. What is explained of a plan, of
-//! a certificate and of a rehearsal has no lines: there its fields have to be in their places.
+//! none besides. What is explained has no lines: there its fields have to be in their places.
 
 use crate::json::{read, Value};
 
@@ -45,9 +44,8 @@ fn told(fields: &mut Fields) -> Result<String, String> {
             fields.number("may_win")?,
             fields.number("loses")?
         ),
-        "transactions" => {
-            format!("{} transactions, {} unexplained", fields.number("transactions")?, fields.number("unexplained")?)
-        }
+        "transactions" => transactions(fields)?,
+        "address" => address(fields)?,
         "too_few" => format!("too few: {} of {}", fields.number("transactions")?, fields.number("at_least")?),
         "participant" => format!(
             "{} {} alone, {} with others",
@@ -73,7 +71,6 @@ fn told(fields: &mut Fields) -> Result<String, String> {
         "won" => format!("won {}", fields.texts("participants")?.join(" ")),
         "refusal" => refusal(fields)?,
         "hint" => hint(&fields.text("form")?, &fields.text("text")?)?,
-        "line" => fields.text("text")?,
         _ => return Err(format!("there is no kind {kind}")),
     })
 }
@@ -244,10 +241,20 @@ fn explained_certificate(explain: &mut Fields, code: &str) -> Result<(), String>
     only_if(is_known && word.is_some() <= why.is_some(), "there is no such reason")
 }
 
+// Of a plan with who explains it, and else with its bytes.
 fn transaction(fields: &mut Fields) -> Result<String, String> {
     let from = time(fields.take("from")?)?;
-    let to = fields.maybe("to", time)?.unwrap_or_default();
+    let to = fields.maybe("to", time)?;
     let end = fields.text("end")?;
+    only_if(to.is_some() == (end != "unfinished"), "it is unfinished and ends, or neither")?;
+    let times = format!("{from}-{}", to.unwrap_or_default());
+    if let Some(bytes) = fields.maybe("bytes", Value::into_text)? {
+        return match end.as_str() {
+            "stop" => Ok(format!("{times}  {bytes}")),
+            "cut" | "unfinished" => Ok(format!("{times} {end} {bytes}")),
+            _ => Err(format!("there is no end {end}")),
+        };
+    }
     let labels = fields.texts("participants")?.join(" ");
     let words = match end.as_str() {
         "stop" if labels.is_empty() => "unexplained",
@@ -255,37 +262,66 @@ fn transaction(fields: &mut Fields) -> Result<String, String> {
         "cut" | "unfinished" if labels.is_empty() => end.as_str(),
         _ => return Err(format!("there is no end {end}, or somebody explains it")),
     };
-    let mut line = format!("{from}-{to} {words}");
-    let Some(mut explain) = fields.explain()? else {
-        return Ok(line);
-    };
-    let bytes = explain.text("bytes")?;
-    let mut nearest = String::new();
-    for item in explain.take("nearest")?.into_items()? {
-        nearest.push_str(&near(item)?);
+    if let Some(mut explain) = fields.explain()? {
+        explained_transaction(&mut explain)?;
+        explain.end()?;
     }
-    let notes = explain.notes()?;
-    let words = words_of(&notes);
-    let has_all = words.matches(" leaves at slot ").count() == nearest.matches(" leaves at slot ").count();
-    agree(&notes, has_all && words.starts_with(&bytes) && words.ends_with(&nearest))?;
-    let rest = words[bytes.len()..words.len() - nearest.len()].trim_start();
-    let is_said =
-        ["the STOP comes after ", "the repeated START comes after ", "1", "2", "3", "4", "5", "6", "7", "8", "9"];
-    agree(&notes, rest.is_empty() || is_said.iter().any(|begin| rest.starts_with(begin)) && rest.ends_with('?'))?;
-    for note in notes {
-        line.push_str(&format!("\n    {note}"));
-    }
-    Ok(line)
+    Ok(format!("{times} {words}"))
 }
 
-fn near(value: Value) -> Result<String, String> {
+fn explained_transaction(explain: &mut Fields) -> Result<(), String> {
+    only_if(explain.text("bytes")?.starts_with('S'), "the bytes begin with no START")?;
+    explain.number("idle")?;
+    for cut in explain.take("cuts")?.into_items()? {
+        let mut cut = Fields::of(cut)?;
+        let by = cut.text("by")?;
+        let bits = cut.number("bits")?;
+        cut.end()?;
+        let is_cut = ["restart", "stop"].contains(&by.as_str()) && ("1"..="8").contains(&bits.as_str());
+        only_if(is_cut && bits.len() == 1, "nothing is cut so")?;
+    }
+    explain.take("nearest")?.into_items()?.into_iter().try_for_each(near)
+}
+
+// What a participant does, and what a wire shows.
+const DEEDS: [&str; 8] = ["0", "1", "bit", "answer", "restart", "stop", "claim", "nothing"];
+
+const SHOWN: [&str; 5] = ["0", "1", "restart", "stop", "nothing"];
+
+fn near(value: Value) -> Result<(), String> {
     let mut fields = Fields::of(value)?;
-    let participant = fields.text("participant")?;
-    let slot = fields.number("slot")?;
+    fields.text("participant")?;
+    fields.number("slot")?;
     let does = fields.text("does")?;
     let wire = fields.text("wire")?;
     fields.end()?;
-    Ok(format!(" {participant} leaves at slot {slot}: {does} there, the wire has {wire}"))
+    only_if(DEEDS.contains(&does.as_str()) && SHOWN.contains(&wire.as_str()), "there is no such deed, or no such wire")
+}
+
+// Of a plan with how many nobody explains.
+fn transactions(fields: &mut Fields) -> Result<String, String> {
+    let count = fields.number("transactions")?;
+    let Some(unexplained) = fields.maybe("unexplained", Value::into_number)? else {
+        return Ok(format!("{count} transactions"));
+    };
+    if let Some(mut explain) = fields.explain()? {
+        explain.number("idle")?;
+        explain.number("short")?;
+        explain.end()?;
+    }
+    Ok(format!("{count} transactions, {unexplained} unexplained"))
+}
+
+fn address(fields: &mut Fields) -> Result<String, String> {
+    let address = fields.text("address")?;
+    let direction = match fields.text("direction")?.as_str() {
+        "write" => "Wr",
+        "read" => "Rd",
+        other => return Err(format!("there is no direction {other}")),
+    };
+    let times = fields.number("times")?;
+    let nacks = fields.number("nacks")?;
+    Ok(format!("{address} {direction} {times} times, {nacks} not acknowledged"))
 }
 
 // A number, or a text with a unit.
@@ -317,14 +353,6 @@ fn explained_starter(mut starter: Fields, wire: &str) -> Result<(), String> {
     starter.end()?;
     let played = lost.map_or(Ok(wire.len()), |slot| slot.parse().map(|slot: usize| slot + 1));
     only_if(played == Ok(puts.len()), "so many slots were not played")
-}
-
-fn words_of(notes: &[String]) -> String {
-    notes.join(" ").split_whitespace().collect::<Vec<&str>>().join(" ")
-}
-
-fn agree(notes: &[String], is_so: bool) -> Result<(), String> {
-    only_if(is_so, &format!("the fields beside the notes say something else than {notes:?}"))
 }
 
 fn only_if(is_so: bool, why: &str) -> Result<(), String> {
@@ -395,16 +423,6 @@ impl Fields {
 
     fn explain(&mut self) -> Result<Option<Fields>, String> {
         self.maybe("explain", Fields::of)
-    }
-
-    // The last field of what explains a line.
-    fn notes(&mut self) -> Result<Vec<String>, String> {
-        let notes = self.texts("notes")?;
-        self.end()?;
-        if notes.is_empty() {
-            return Err("there are no notes".to_owned());
-        }
-        Ok(notes)
     }
 }
 

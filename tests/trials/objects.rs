@@ -1,17 +1,19 @@
-//! The objects that are due of a command over a plan: made of the values that the plain programs find, by the schema in
+//! The objects that are due of a command: made of the values that the plain programs find, by the schema in
 //! docs/COMMAND_LINE.md, each field in its place and none besides. What `explain` holds stands in `explains`.
 
 use crate::cases::Asked;
 use crate::commands::Command;
 use crate::explains;
 use crate::json::Value;
-use crate::plain::found::{checked, ordered, played, verified, Fault, Ordered};
+use crate::plain::captures::{Transaction, Until};
+use crate::plain::decoded::{bits_behind, bytes_of, calls_of};
+use crate::plain::found::{checked, decoded, decoded_so_far, explainers, ordered, played, verified};
+use crate::plain::found::{Decoded, Fault, Ordered};
 use crate::plain::{symbols, with_plan, Participant, Participants, Ways, Wrong};
 use crate::values::object;
 
-/// What is due of a command with `--format json`, and with `--explain` or without. None of a command whose objects are
-/// compared by the lines that they stand for, and of one whose report is no objects. Nothing is due of a plan, or of starters,
-/// that are refused.
+/// What is due of a command with `--format json`, and with `--explain` or without. None of a command whose report is no
+/// objects. Nothing is due of a plan, of a dump, or of starters, that are refused.
 pub fn due_of(asked: &Asked, explain: bool) -> Option<Vec<Value>> {
     let cert = String::from_utf8_lossy(&asked.second);
     let of_plan = |plan: &Participants| match &asked.command {
@@ -22,13 +24,38 @@ pub fn due_of(asked: &Asked, explain: bool) -> Option<Vec<Value>> {
             Ok(true) => of_bench(plan, starters, *fill, answers, explain),
             _ => vec![of_certificate(plan, &cert, explain)],
         },
+        Command::Capture { scl, sda } => match decoded(&asked.second, scl, sda) {
+            Ok(decoded) => of_capture(plan, &decoded, explain),
+            Err(_) => Vec::new(),
+        },
         _ => Vec::new(),
     };
-    match asked.command {
-        Command::Check { .. } | Command::Order | Command::Verify | Command::Bench { .. } => {
-            Some(with_plan(&asked.first, of_plan).unwrap_or_default())
+    match &asked.command {
+        Command::Check { .. }
+        | Command::Order
+        | Command::Verify
+        | Command::Bench { .. }
+        | Command::Capture { .. } => Some(with_plan(&asked.first, of_plan).unwrap_or_default()),
+        Command::Decode { scl, sda, summary } => {
+            let decoded = decoded(&asked.first, scl, sda);
+            Some(decoded.map(|it| of_decode(&it, *summary)).unwrap_or_default())
         }
         _ => None,
+    }
+}
+
+/// The objects of a dump, byte by byte, before it is refused: of a summary none.
+pub fn so_far_of(asked: &Asked) -> Vec<Value> {
+    match &asked.command {
+        Command::Capture { scl, sda } => {
+            let transactions = decoded_so_far(&asked.second, scl, sda);
+            let of_plan = |plan: &Participants| transactions.iter().map(|it| of_explained(plan, it, None)).collect();
+            with_plan(&asked.first, of_plan).unwrap_or_default()
+        }
+        Command::Decode { scl, sda, summary: false } => {
+            decoded_so_far(&asked.first, scl, sda).iter().map(of_decoded).collect()
+        }
+        _ => Vec::new(),
     }
 }
 
@@ -124,6 +151,81 @@ fn of_bench(plan: &Participants, starters: &str, fill: bool, answers: &str, expl
     }
     let won = Value::list(played.winners().map(|one| one.label.as_str()));
     vec![of_kind("wire", fields), of_kind("won", vec![("participants", won)])]
+}
+
+fn of_capture(plan: &Participants, decoded: &Decoded, explain: bool) -> Vec<Value> {
+    let behind: Vec<usize> = decoded.transactions.iter().map(|it| bits_behind(it, &decoded.events)).collect();
+    let mut objects = Vec::new();
+    let mut unexplained = 0;
+    for (k, transaction) in decoded.transactions.iter().enumerate() {
+        let idle = k.checked_sub(1).map_or(0, |before| behind[before]);
+        objects.push(of_explained(plan, transaction, explain.then_some(idle)));
+        let is_stopped = matches!(transaction.until, Until::Stopped(_));
+        unexplained += usize::from(is_stopped && explainers(plan, transaction).is_empty());
+    }
+    let mut fields = vec![("transactions", Value::of(decoded.stopped())), ("unexplained", Value::of(unexplained))];
+    if explain {
+        let idle = behind.last().copied().unwrap_or(0);
+        // (no command of the cases leaves levels out)
+        fields.push(("explain", object(vec![("idle", Value::of(idle)), ("short", Value::of(0))])));
+    }
+    objects.push(of_kind("transactions", fields));
+    objects
+}
+
+// With `--explain` so many bits follow the STOP of the transaction before.
+fn of_explained(plan: &Participants, transaction: &Transaction, idle: Option<usize>) -> Value {
+    let who = explainers(plan, transaction);
+    let mut fields = times_of(transaction);
+    fields.push(("participants", Value::list(who.iter().map(|one| one.label.as_str()))));
+    fields.extend(idle.map(|idle| ("explain", explains::of_transaction(plan, transaction, who.is_empty(), idle))));
+    of_kind("transaction", fields)
+}
+
+fn of_decode(decoded: &Decoded, summary: bool) -> Vec<Value> {
+    let mut objects = Vec::new();
+    if summary {
+        for ((address, is_read), calls) in calls_of(&decoded.transactions) {
+            let fields = vec![
+                ("address", Value::text(format!("{address:02x}"))),
+                ("direction", Value::text(if is_read { "read" } else { "write" })),
+                ("times", Value::of(calls.times)),
+                ("nacks", Value::of(calls.nacks)),
+            ];
+            objects.push(of_kind("address", fields));
+        }
+        let is_cut = |it: &&Transaction| matches!(it.until, Until::Cut(_));
+        let cut = decoded.transactions.iter().filter(is_cut).count();
+        let others = [("cut", cut), ("unfinished", decoded.transactions.len() - decoded.stopped() - cut)];
+        objects.extend(
+            others.map(|(what, count)| {
+                of_kind("count", vec![("what", Value::text(what)), ("transactions", Value::of(count))])
+            }),
+        );
+    } else {
+        objects.extend(decoded.transactions.iter().map(of_decoded));
+    }
+    objects.push(of_kind("transactions", vec![("transactions", Value::of(decoded.stopped()))]));
+    objects
+}
+
+fn of_decoded(transaction: &Transaction) -> Value {
+    let mut fields = times_of(transaction);
+    fields.push(("bytes", Value::text(bytes_of(&transaction.marks))));
+    of_kind("transaction", fields)
+}
+
+fn times_of(transaction: &Transaction) -> Vec<(&'static str, Value)> {
+    let number = |time: u64| Value::Number(time.to_string());
+    let (to, end) = match transaction.until {
+        Until::Stopped(time) => (Some(time), "stop"),
+        Until::Cut(time) => (Some(time), "cut"),
+        Until::Unfinished => (None, "unfinished"),
+    };
+    let mut fields = vec![("from", number(transaction.from))];
+    fields.extend(to.map(|time| ("to", number(time))));
+    fields.push(("end", Value::text(end)));
+    fields
 }
 
 fn both(x: &Participant, y: &Participant) -> Value {

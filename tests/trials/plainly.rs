@@ -25,12 +25,24 @@ pub fn said_plainly(asked: &Asked) -> Answer {
         Command::Certify => plain::certify(first),
         Command::Verify => plain::verify(first, second),
         Command::Capture { scl, sda } => plain::capture(first, second, scl, sda),
+        Command::Decode { scl, sda, summary: false } => plain::decode(first, scl, sda),
+        Command::Decode { scl, sda, summary: true } => plain::decode_summary(first, scl, sda),
         Command::Bench { starters, fill, answers } => plain::bench(first, second, starters, *fill, answers),
         Command::Order => plain::order(first),
         Command::Print => spelt_plainly(first),
         Command::Expand => plain::expand(first),
         Command::Brief => plain::brief(first),
         Command::Seats { starters, answers } => plain::seats(first, second, starters, answers),
+    }
+}
+
+/// What the plain program says of a dump, byte by byte, before it is refused: of a summary nothing.
+pub fn said_so_far(asked: &Asked) -> String {
+    let (first, second) = (asked.first.as_slice(), asked.second.as_slice());
+    match &asked.command {
+        Command::Capture { scl, sda } => plain::captured_so_far(first, second, scl, sda),
+        Command::Decode { scl, sda, summary: false } => plain::decoded_lines_so_far(first, scl, sda),
+        _ => String::new(),
     }
 }
 

@@ -8,6 +8,7 @@ use crate::json::{self, Value};
 use crate::object_lines;
 use crate::objects;
 use crate::plain::Answer;
+use crate::plainly::said_so_far;
 use crate::setups::Setup;
 
 /// A run of a case.
@@ -27,6 +28,9 @@ pub enum Due {
     Hints,
     /// The same as `Wanted`, or as `Hints`, in objects, and with what `--explain` says or without.
     Objects { hints: bool, explain: bool },
+    /// The same, in lines or objects. Before a refusal of the dump stands what has ended so far, where a byte of it was read
+    /// at a time, and nothing where all of it was.
+    Live { objects: bool, so_far: bool },
     /// The same, where reads give so many bytes.
     Pieces(usize),
     /// The same, where each call was interrupted so often.
@@ -47,6 +51,12 @@ pub fn judge(case: &Case, way: &str, run: &Run, said: &Said) -> Option<Disagreem
             let (wanted, found) = by_objects(case, wanted, &said.answer, explain);
             Disagreement::of(case, way, wanted, &found, fault)
         }
+        Due::Live { objects, so_far } => {
+            let (wanted, found) =
+                if objects { by_objects(case, wanted, &said.answer, false) } else { (wanted, said.answer.clone()) };
+            let out = if so_far && is_refused_dump(case) { so_far_of(case, objects) } else { wanted.out };
+            Disagreement::of(case, way, Answer { out, ..wanted }, &found, fault)
+        }
         _ => Disagreement::of(case, way, wanted, &said.answer, fault),
     }
 }
@@ -56,7 +66,9 @@ fn due_of(case: &Case, run: &Run, said: &Said) -> (Answer, Option<&'static str>)
     let told = &said.told;
     let wanted = case.wanted.clone();
     match run.due {
-        Due::Wanted | Due::Objects { hints: false, .. } => (wanted, fault(told.is_sound(), "a device failed")),
+        Due::Wanted | Due::Objects { hints: false, .. } | Due::Live { .. } => {
+            (wanted, fault(told.is_sound(), "a device failed"))
+        }
         Due::Hints | Due::Objects { hints: true, .. } => (hinted(case), fault(told.is_sound(), "a device failed")),
         Due::Pieces(piece) => {
             let is_right = told.is_sound() && came_in_pieces(case, piece, said);
@@ -71,10 +83,23 @@ fn due_of(case: &Case, run: &Run, said: &Said) -> (Answer, Option<&'static str>)
         Due::NoFirst if told.first.failed => {
             (refused("read", ""), fault(!told.second.failed, "the second file was read"))
         }
-        Due::NoFirst => (wanted, fault(case.is_unread(), "the read that is to fail did not")),
+        Due::NoFirst => (wanted, fault(case.is_unread() || case.leaves_first(), "the read that is to fail did not")),
         Due::NoSecond if told.second.failed => (refused("read", ""), None),
         Due::NoSecond => (wanted, fault(case.leaves_second(), "the read that is to fail did not")),
         Due::Cut => due_of_cut(case, &run.setup, said),
+    }
+}
+
+fn is_refused_dump(case: &Case) -> bool {
+    case.wanted.refusal.starts_with('V')
+}
+
+// What was written before a refusal of the dump.
+fn so_far_of(case: &Case, objects: bool) -> String {
+    if objects {
+        shown(&objects::so_far_of(&case.asked))
+    } else {
+        said_so_far(&case.asked)
     }
 }
 
@@ -154,7 +179,7 @@ pub fn calls_of(text: &[u8], piece: usize) -> usize {
 // Each file that is read to its end took as many calls as it has pieces.
 fn came_in_pieces(case: &Case, piece: usize, said: &Said) -> bool {
     let asked = &case.asked;
-    let first = case.is_unread() || said.told.first.calls == calls_of(&asked.first, piece);
+    let first = case.is_unread() || case.leaves_first() || said.told.first.calls == calls_of(&asked.first, piece);
     let second =
         !asked.command.reads_two() || case.leaves_second() || said.told.second.calls == calls_of(&asked.second, piece);
     first && second

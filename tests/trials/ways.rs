@@ -28,12 +28,14 @@ pub enum Way {
     Hints,
     /// The command with objects in place of lines, and with hints, where the case says which there are.
     Objects,
-    /// The same with `--explain`, of a command over a plan that takes it.
+    /// The same with `--explain`, of a command that takes it.
     Explained,
+    /// What has ended is written before more of a dump is read: all of it at once, or a byte a read.
+    Live,
 }
 
 impl Way {
-    pub const ALL: [Way; 10] = [
+    pub const ALL: [Way; 11] = [
         Way::Whole,
         Way::InPieces,
         Way::FailingReads,
@@ -44,6 +46,7 @@ impl Way {
         Way::Hints,
         Way::Objects,
         Way::Explained,
+        Way::Live,
     ];
 
     pub fn name(self) -> &'static str {
@@ -58,6 +61,7 @@ impl Way {
             Way::Hints => "hints",
             Way::Objects => "objects",
             Way::Explained => "explained",
+            Way::Live => "live",
         }
     }
 
@@ -74,6 +78,7 @@ impl Way {
             Way::Hints => with_hints(case),
             Way::Objects => with_objects(case),
             Way::Explained => explained(&case.asked.command),
+            Way::Live => live(&case.asked.command),
         }
     }
 }
@@ -171,9 +176,28 @@ fn with_objects(case: &Case) -> Vec<Run> {
 
 fn explained(command: &Command) -> Vec<Run> {
     match command {
-        Command::Check { .. } | Command::Verify | Command::Bench { .. } => vec![objects(false, true)],
+        Command::Check { .. } | Command::Verify | Command::Bench { .. } | Command::Capture { .. } => {
+            vec![objects(false, true)]
+        }
         _ => Vec::new(),
     }
+}
+
+fn live(command: &Command) -> Vec<Run> {
+    if !matches!(command, Command::Capture { .. } | Command::Decode { .. }) {
+        return Vec::new();
+    }
+    [false, true].into_iter().flat_map(live_runs).collect()
+}
+
+/// A dump that comes at once, and one that comes a byte a read.
+pub fn live_runs(objects: bool) -> [Run; 2] {
+    let deed = Deed::Live { objects };
+    let by_bytes = Setup { pieces: [Some(1); 2], ..Setup::WHOLE };
+    [
+        Run { deed, setup: Setup::WHOLE, due: Due::Live { objects, so_far: false } },
+        Run { deed, setup: by_bytes, due: Due::Live { objects, so_far: true } },
+    ]
 }
 
 fn objects(hints: bool, explain: bool) -> Run {

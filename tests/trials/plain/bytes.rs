@@ -124,14 +124,14 @@ fn character(slot: &Slot) -> Option<char> {
     }
 }
 
-// An address and the direction.
-fn header(bits: &str) -> String {
+/// An address and the direction, behind a blank.
+pub fn header(bits: &str) -> String {
     let (address, direction) = bits.split_at(7);
     format!(" {} {}", in_digits(address), if direction == "1" { "Rd" } else { "Wr" })
 }
 
-// Two hexadecimal digits, where all bits are known.
-fn in_digits(bits: &str) -> String {
+/// Two hexadecimal digits, where all bits are known.
+pub fn in_digits(bits: &str) -> String {
     match u8::from_str_radix(bits, 2) {
         Ok(value) => format!("{value:02x}"),
         Err(_) => bits.to_owned(),

@@ -3,9 +3,10 @@
 
 use super::benches::Answers;
 use super::briefs::{expansion, has_brief_word};
-use super::captures::{events_of, explains, samples_of, transactions_of, Transaction, Until};
-use super::dumps::changes_of;
-use super::found::{checked, ordered, played, verified, Checked, Fault, Order, Ordered};
+use super::captures::{Transaction, Until};
+use super::decoded::{bytes_of, calls_of};
+use super::found::{checked, decoded, decoded_so_far, explainers, ordered, played, verified};
+use super::found::{Checked, Decoded, Fault, Order, Ordered};
 use super::order::{Span, Totals};
 use super::pairs::{first_clash, proof_of};
 use super::participants::{Participant, Participants};
@@ -122,38 +123,82 @@ pub fn verify(plan: &[u8], cert: &[u8]) -> Answer {
 
 /// `twire capture PLAN VCD`, with these names of the two lines.
 pub fn capture(plan: &[u8], dump: &[u8], scl: &str, sda: &str) -> Answer {
-    of_plan(plan, |plan| match changes_of(dump, scl, sda) {
-        Ok(changes) => explained(plan, &transactions_of(&events_of(&samples_of(&changes)))),
+    of_plan(plan, |plan| match decoded(dump, scl, sda) {
+        Ok(decoded) => {
+            let lines: String = decoded.transactions.iter().map(|it| explained_line(plan, it)).collect();
+            let is_odd = |it: &&Transaction| matches!(it.until, Until::Stopped(_)) && explainers(plan, it).is_empty();
+            let (stopped, unexplained) = (decoded.stopped(), decoded.transactions.iter().filter(is_odd).count());
+            let last = format!("{stopped} transactions, {unexplained} unexplained\n");
+            Answer::written(u8::from(unexplained > 0), lines + &last)
+        }
         Err(refusal) => Answer::refused(refusal),
     })
 }
 
-fn explained(plan: &Participants, transactions: &[Transaction]) -> Answer {
-    let mut out = String::new();
-    let (mut stopped, mut unexplained) = (0, 0);
-    for transaction in transactions {
-        let who = match transaction.until {
-            Until::Stopped(_) => who_explains(plan, transaction),
-            Until::Cut(_) => " cut".into(),
-            Until::Unfinished => " unfinished".into(),
-        };
-        stopped += u32::from(matches!(transaction.until, Until::Stopped(_)));
-        unexplained += u32::from(who.is_empty());
-        let who = if who.is_empty() { " unexplained" } else { &who };
-        out += &format!("{transaction}{who}\n");
-    }
-    out += &format!("{stopped} transactions, {unexplained} unexplained\n");
-    Answer::written(u8::from(unexplained > 0), out)
+/// The lines of `twire capture --live PLAN VCD` before the last one, where the dump comes byte by byte and is
+/// refused. Nothing is read of it where the plan is refused.
+pub fn captured_so_far(plan: &[u8], dump: &[u8], scl: &str, sda: &str) -> String {
+    let lines = |plan: &Participants| {
+        decoded_so_far(dump, scl, sda).iter().map(|it| explained_line(plan, it)).collect::<String>()
+    };
+    with_plan(plan, lines).unwrap_or_default()
 }
 
-fn who_explains(plan: &Participants, transaction: &Transaction) -> String {
-    let all = plan.all.iter();
-    listed(all.filter(|one| explains(one.sender, &transaction.marks)))
+fn explained_line(plan: &Participants, transaction: &Transaction) -> String {
+    let who = match (transaction.until, listed(explainers(plan, transaction).into_iter())) {
+        (Until::Stopped(_), labels) if labels.is_empty() => " unexplained".into(),
+        (Until::Stopped(_), labels) => labels,
+        (Until::Cut(_), _) => " cut".into(),
+        (Until::Unfinished, _) => " unfinished".into(),
+    };
+    format!("{transaction}{who}\n")
 }
 
 // Their labels, each behind a blank.
 fn listed<'a>(participants: impl Iterator<Item = &'a Participant<'a>>) -> String {
     participants.map(|one| format!(" {}", one.label)).collect()
+}
+
+/// `twire decode VCD`, with these names of the two lines.
+pub fn decode(dump: &[u8], scl: &str, sda: &str) -> Answer {
+    of_dump(dump, scl, sda, |decoded| decoded.transactions.iter().map(decoded_line).collect())
+}
+
+/// `twire decode --summary VCD`.
+pub fn decode_summary(dump: &[u8], scl: &str, sda: &str) -> Answer {
+    of_dump(dump, scl, sda, |decoded| {
+        let calls = calls_of(&decoded.transactions);
+        let called = calls.iter().map(|((address, is_read), calls)| {
+            let direction = if *is_read { "Rd" } else { "Wr" };
+            format!("{address:02x} {direction} {} times, {} not acknowledged\n", calls.times, calls.nacks)
+        });
+        let all = decoded.transactions.len();
+        let unfinished = decoded.transactions.iter().filter(|it| it.until == Until::Unfinished).count();
+        let cut = all - decoded.stopped() - unfinished;
+        called.collect::<String>() + &format!("cut {cut}\nunfinished {unfinished}\n")
+    })
+}
+
+/// The lines of `twire decode --live VCD` before the last one, where the dump comes byte by byte and is refused.
+pub fn decoded_lines_so_far(dump: &[u8], scl: &str, sda: &str) -> String {
+    decoded_so_far(dump, scl, sda).iter().map(decoded_line).collect()
+}
+
+fn decoded_line(transaction: &Transaction) -> String {
+    let end = match transaction.until {
+        Until::Stopped(_) => "",
+        Until::Cut(_) => "cut",
+        Until::Unfinished => "unfinished",
+    };
+    format!("{transaction} {end} {}\n", bytes_of(&transaction.marks))
+}
+
+// What is written of a dump before the last line, and that line.
+fn of_dump(dump: &[u8], scl: &str, sda: &str, lines: impl FnOnce(&Decoded) -> String) -> Answer {
+    match decoded(dump, scl, sda) {
+        Ok(decoded) => Answer::written(0, lines(&decoded) + &format!("{} transactions\n", decoded.stopped())),
+        Err(refusal) => Answer::refused(refusal),
+    }
 }
 
 /// `twire bench PLAN CERT STARTERS`: each starter sends `fill` wherever it may choose, and the

@@ -123,17 +123,44 @@ impl Codes<'_> {
 
 /// What happens in a dump, in which the two lines have these names; or its first refusal.
 pub fn changes_of(dump: &[u8], scl: &str, sda: &str) -> Result<Vec<Change>, DumpRefusal> {
+    match changes_until(dump, scl, sda) {
+        (changes, None) => Ok(changes),
+        (_, Some(refusal)) => Err(refusal),
+    }
+}
+
+/// What happens in a dump up to its end or its first refusal.
+pub fn changes_until(dump: &[u8], scl: &str, sda: &str) -> (Vec<Change>, Option<DumpRefusal>) {
     let tokens = tokens_of(dump);
     let mut rest = Rest(&tokens);
-    let codes = read_definitions(&mut rest, scl, sda)?;
-    let mut changes = Changes { codes, found: Vec::new(), block: None };
+    let mut changes = match read_definitions(&mut rest, scl, sda) {
+        Ok(codes) => Changes { codes, found: Vec::new(), block: None },
+        Err(refusal) => return (Vec::new(), Some(refusal)),
+    };
     while let Some(first) = rest.next() {
-        changes.read(first, &mut rest)?;
+        if let Err(refusal) = changes.read(first, &mut rest) {
+            return (changes.found, Some(refusal));
+        }
     }
-    match changes.block {
-        Some(line) => Err(Unended(line)),
-        None => Ok(changes.found),
+    (changes.found, changes.block.map(Unended))
+}
+
+/// Of a dump that comes byte by byte: what happens up to the last time stamp that has ended by a later
+/// one, before the dump is refused or its last token may go on.
+pub fn changes_so_far(dump: &[u8], scl: &str, sda: &str) -> Vec<Change> {
+    let whole = dump.iter().rposition(is_white).map_or(0, |last| last + 1);
+    let (mut changes, _) = changes_until(&dump[..whole], scl, sda);
+    let mut latest = 0;
+    let mut end = 0;
+    for (k, change) in changes.iter().enumerate() {
+        if let Change::At(time) = change {
+            if *time > latest {
+                (latest, end) = (*time, k);
+            }
+        }
     }
+    changes.truncate(end);
+    changes
 }
 
 // Reads the definitions, up to the end of the text where they have none.

@@ -1,8 +1,10 @@
-//! What the commands over plans and certificates find, as values (docs/COMMAND_LINE.md, "Reports").
-//! Their lines and their objects are made of these.
+//! What the commands find, as values (docs/COMMAND_LINE.md, "Reports"). Their lines and their objects
+//! are made of these.
 
 use super::benches::{play_on, Answers, Player};
+use super::captures::{events_of, explains, samples_of, transactions_of, Event, Transaction, Until};
 use super::certificates::{read_certificate, Certificate, Wrong};
+use super::dumps::{changes_of, changes_so_far, Change, DumpRefusal};
 use super::order::{ways, Totals, Ways};
 use super::pairs::{clashes_so, first_clash, is_proved, Clash};
 use super::participants::{Participant, Participants, StarterRefusal};
@@ -108,4 +110,44 @@ pub fn played<'a>(
     let mut players: Vec<Player> = starters.iter().map(|one| Player::new(one.sender)).collect();
     let wire = play_on(&mut players, fill, Answers(answers));
     Ok(Played { wire, starters: starters.into_iter().zip(players).collect() })
+}
+
+/// What a dump shows: what happens, and the transactions that this makes.
+#[derive(Clone, Debug)]
+pub struct Decoded {
+    pub events: Vec<Event>,
+    pub transactions: Vec<Transaction>,
+}
+
+impl Decoded {
+    fn of(changes: &[Change]) -> Decoded {
+        let events = events_of(&samples_of(changes));
+        Decoded { transactions: transactions_of(&events), events }
+    }
+
+    /// How many a STOP ended.
+    pub fn stopped(&self) -> usize {
+        self.transactions.iter().filter(|transaction| matches!(transaction.until, Until::Stopped(_))).count()
+    }
+}
+
+/// What a dump shows in which the two lines have these names.
+pub fn decoded(dump: &[u8], scl: &str, sda: &str) -> Result<Decoded, DumpRefusal> {
+    Ok(Decoded::of(&changes_of(dump, scl, sda)?))
+}
+
+/// The transactions that have ended before the dump, of which a byte is read at a time, is refused or at
+/// its end.
+pub fn decoded_so_far(dump: &[u8], scl: &str, sda: &str) -> Vec<Transaction> {
+    let mut decoded = Decoded::of(&changes_so_far(dump, scl, sda));
+    decoded.transactions.retain(|transaction| transaction.until != Until::Unfinished);
+    decoded.transactions
+}
+
+/// Who explains a transaction: nobody, where no STOP ended it.
+pub fn explainers<'a>(plan: &'a Participants<'a>, transaction: &Transaction) -> Vec<&'a Participant<'a>> {
+    match transaction.until {
+        Until::Stopped(_) => plan.all.iter().filter(|one| explains(one.sender, &transaction.marks)).collect(),
+        Until::Cut(_) | Until::Unfinished => Vec::new(),
+    }
 }

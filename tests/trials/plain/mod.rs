@@ -7,9 +7,10 @@
 mod benches;
 mod briefs;
 pub mod bytes;
-mod captures;
+pub mod captures;
 mod certificates;
 mod commands;
+pub mod decoded;
 mod dumps;
 pub mod explained;
 pub mod found;
@@ -31,7 +32,8 @@ mod words;
 
 pub use certificates::{read_certificate, Certificate, Wrong};
 pub use commands::{
-    bench, brief, capture, certify, check, expand, labels, order, seats, spelling, verify, with_plan, Answer,
+    bench, brief, capture, captured_so_far, certify, check, decode, decode_summary, decoded_lines_so_far, expand, labels,
+    order, seats, spelling, verify, with_plan, Answer,
 };
 pub use order::Ways;
 pub use pairs::break_of;
