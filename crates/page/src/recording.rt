@@ -25,7 +25,7 @@ pub(crate) struct Shown {
     to: Option<String>,
     // both times in parts of a second, where they are told so
     #[serde(skip_serializing_if = "Option::is_none")]
-    times: Option<String>,
+    times: Option<(String, Option<String>)>,
     end: &'static str,
     by: Vec<u32>,
     bytes: String,
@@ -149,16 +149,15 @@ fn told_times(
     from: u64,
     to: Option<u64>,
     scale: Option<Scale>,
-) -> Result<Option<String>, AllocError> {
+) -> Result<Option<(String, Option<String>)>, AllocError> {
     let Some(scale) = scale else {
         return Ok(None);
     };
-    let mut text = scale.told(alloc, from)?;
-    text.push('-')?;
-    if let Some(to) = to {
-        text.push_str(scale.told(alloc, to)?.as_str())?;
+    let from = scale.told(alloc, from)?;
+    match to {
+        Some(to) => Ok(Some((from, Some(scale.told(alloc, to)?)))),
+        None => Ok(Some((from, None))),
     }
-    Ok(Some(text))
 }
 
 fn nearest_of(alloc: Global, plan: &Plan, marks: &[Mark]) -> Result<Vec<Near>, AllocError> {

@@ -7,7 +7,7 @@ const shownTransactions = list => list.map(one => ({ ...one, from: BigInt(one.fr
 
 const fateOf = one => one.end !== 'stop' ? 'cut' : one.by.length === 0 ? 'odd' : 'seen';
 
-const timesOf = one => one.times ?? one.from + '-' + (one.to ?? '');
+const timesOf = one => (one.times ?? [one.from, one.to]).map(time => time ?? '').join('-');
 
 const whoOf = one => one.end !== 'stop' ? one.end : one.by.length === 0 ? 'unexplained'
   : one.by.map(number => participants[number].label).join(' ');
@@ -40,8 +40,9 @@ function timeLineOf(list) {
     }
   }
   svg.append(element('svg:line', { x1: 20, x2: width - 20, y1: 58, y2: 58, class: 'grid' }),
-    element('svg:text', { x: 20, y: 74, class: 'faint' }, String(first)),
-    element('svg:text', { x: width - 20, y: 74, 'text-anchor': 'end', class: 'faint' }, String(last)));
+    element('svg:text', { x: 20, y: 74, class: 'faint' }, list[0].times?.[0] ?? String(first)),
+    element('svg:text', { x: width - 20, y: 74, 'text-anchor': 'end', class: 'faint' },
+      list.find(one => one.to === last)?.times?.[1] ?? String(last)));
   return element('div', { class: 'times wide' }, svg);
 }
 
