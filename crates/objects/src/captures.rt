@@ -113,20 +113,14 @@ impl<'a, O: Output> CaptureObjects<'a, O> {
         if let Some(tallies) = &mut self.tallies {
             return tallies.count(transaction, participants);
         }
-        let alloc = self.written.alloc;
-        let scale = self.selection.told_scale();
-        let explain = if self.layout.explain {
-            Some(seen_of(alloc, plan, &self.labels, transaction, participants))
-        } else {
-            None
-        };
         let object = explained_of(
-            alloc,
+            self.written.alloc,
+            plan,
             &self.labels,
             transaction,
             participants,
-            scale,
-            explain,
+            self.selection.told_scale(),
+            self.layout.explain,
         );
         self.written.add_made(object);
     }
@@ -229,28 +223,31 @@ fn add_tallies<O: Output>(written: &mut Written<'_, O>, tallies: &Tallies, label
     written.add(&Count::new("unfinished", unfinished));
 }
 
+// A transaction, which is explained where that is wanted.
 fn explained_of<'a>(
     alloc: Global,
+    plan: &Plan,
     labels: &'a Labels,
     transaction: &Transaction,
     participants: &[u32],
     scale: Option<Scale>,
-    explain: Option<Result<Seen<'a>, AllocError>>,
+    is_wanted: bool,
 ) -> Result<Explained<'a>, AllocError> {
     let Times { from, to, end } = times_of(alloc, transaction, scale)?;
     let mut names = Vec::new(alloc);
     for p in participants {
         names.push(labels.of(*p))?;
     }
-    Ok(Explained {
+    let mut object = Explained {
         kind: "transaction",
         from,
         to,
         end,
         participants: names,
-        explain: match explain {
-            Some(seen) => Some(seen?),
-            None => None,
-        },
-    })
+        explain: None,
+    };
+    if is_wanted {
+        object.explain = Some(seen_of(alloc, plan, labels, transaction, participants)?);
+    }
+    Ok(object)
 }

@@ -66,14 +66,18 @@ fn add_signal(
             kind: "signal",
             code: signal.code.as_str(),
             changes: signal.changes,
-            scope: match &signal.scope {
-                Some(scope) => Some(scope.as_str()),
-                None => None,
-            },
+            scope: text_of(&signal.scope),
             name: signal.name.as_str(),
         });
     }
     Ok(())
+}
+
+fn text_of(text: &Option<String>) -> Option<&str> {
+    match text {
+        Some(text) => Some(text.as_str()),
+        None => None,
+    }
 }
 
 fn add_bus(
