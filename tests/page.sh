@@ -61,11 +61,32 @@ want "a capture: its explained report" \
 "$twire" page examples/two_writers.plan --capture examples/two_buses.vcd --scope board.i2c1 -o page.html
 want "a capture that the plan does not explain" 1 $?
 
+# A part of it, of which the data has the times as they are and as they are told.
+"$tests/../tools/dump" 100100000 2 | sed 's/^#20 .*/&\n#21 0"\n#22 1"/' >part.vcd
+printf '%s\n' 'plan 1' 'message m write 1001000 stop else stop ;' 'controller a m ;' >part.plan
+part=(part.vcd --min-pulse 2us --from 6us --to 165 --times si)
+"$twire" page part.plan --capture "${part[@]}" -o page.html
+want "a part of a capture: its explained report" "$("$twire" capture part.plan "${part[@]}" --explain)" "$(text capture page.html)"
+want "a part of a capture: its data" \
+    '"capture":{"stopped":1,"unexplained":0,"transactions":[{"from":"165","to":"320","times":"165 us-320 us","end":"stop","by":[0],"bytes":"S 48 Wr A P"}]}}' \
+    "$(grep -o '"capture":{.*}' page.html | sed 's/<.*//')"
+"$twire" page examples/two_writers.plan -o page.html
+want "no capture: no data of one" "" "$(grep -o '"capture":.*' page.html)"
+for vcd in examples/{write_ghdl,probe_icarus,two_buses}.vcd; do
+    "$twire" page examples/stop_meets_data.plan --capture "$vcd" -o page.html
+    want "${vcd##*/}: its explained report" "$("$twire" capture examples/stop_meets_data.plan "$vcd" --explain)" "$(text capture page.html)"
+done
+
 # ---- refusals: nothing is written, and the old file stays
 
 echo old >old.html
 refusal=$("$twire" page "${probe[@]}" -o old.html --hints never 2>&1)
 want "no such signal" "2 refused V1 scl old" "$? $refusal $(<old.html)"
+refusal=$("$twire" page "${probe[@]}" --scl D0 --sda D1 --from 1.5us -o old.html 2>&1 | head -n 1)
+want "a time that is none" "error: the value for '--from <TIME>' is no time as 15 or 15us old" "$refusal $(<old.html)"
+sed '/timescale/,/\$end/d' part.vcd >no_scale.vcd
+refusal=$("$twire" page part.plan --capture no_scale.vcd --to 5us -o old.html --hints never 2>&1)
+want "a unit without a scale" "2 refused timescale old" "$? $refusal $(<old.html)"
 echo "plan 3" >no.plan
 refusal=$("$twire" page no.plan --capture nothing -o old.html --hints never 2>&1)
 want "a capture that is not there" "2 refused read old" "$? $refusal $(<old.html)"

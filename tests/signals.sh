@@ -511,8 +511,6 @@ expect "the same by a unit" 1 "$no_clock" "$lost_clock" capture plan two --min-p
 expect "no hint on one that is not" 0 "$first" "" capture plan two --min-pulse 5 --scope top.i2c0 --hints always
 refuses "a pulse of no time" "the value for '--min-pulse <T>' is no time as 15 or 15us" capture plan two --min-pulse 1.5us
 
-# ---- command lines
-
 # ---- lines that are exchanged
 
 sed 's/ ! scl / ! sda /; s/ " sda / " scl /' <("$tests/../tools/dump" 100100000) >swapped
@@ -619,6 +617,51 @@ expect "from the file" 0 "plan 1
 message write_48 write 1001000 stop else stop ;
 controller seen write_48 ;" "" expand learned
 expect "a refused dump" 2 "" "refused V2 line $(wc -l <stray)" learn stray
+
+# A part of a dump: one message, which is acknowledged at 5 and not at 1000 and 2000.
+{
+    one_bus
+    transaction ! '"' 100100000 5
+    transaction ! '"' 100100001 1000
+    transaction ! '"' 100100001 2000
+} | sed 's/1 us/100 ns/' >parts
+part() {
+    printf '%s\n' 'brief 1' "# seen: $1 transactions, 1 messages" "" "${@:2}" 'message write_48 write 0x48 ;' "" 'controller seen write_48 ;'
+}
+expect "learned from a time on" 0 "$(part 2 '# 2 times, first at 1000: S 48 Wr NA P' '# never seen: 48 Wr A,')" "" learn parts --from 6
+expect "learned between two times" 0 "$(part 1 '# 1 times, first at 1000: S 48 Wr NA P' '# never seen: 48 Wr A,')" "" \
+    learn parts --from 100us --to 199999ns
+expect "learned up to a time" 0 "$(part 1 '# 1 times, first at 5: S 48 Wr A P' '# never seen: 48 Wr NA,')" "" learn parts --to 999
+expect "nothing is learned at that time" 0 $'brief 1\n# seen: 0 transactions, 0 messages\n\ncontroller seen ;' "" learn parts --from 2001
+expect "learned with times in parts of a second" 0 \
+    "$(part 2 '# 2 times, first at 100 us: S 48 Wr NA P' '# never seen: 48 Wr A,')" "" learn parts --from 6 --times si
+expect "a small part of a second" 0 "$(part 1 '# 1 times, first at 500 ns: S 48 Wr A P' '# never seen: 48 Wr NA,')" "" \
+    learn parts --to 5 --times si
+sed 's/ 100 ns / /; s/\$timescale/$comment/' parts >parts_no_scale
+expect "no parts of a second to learn with" 0 "$("$twire" learn parts)" "" learn parts_no_scale --times si
+expect "a unit without a scale to learn with" 2 "" "refused timescale" learn parts_no_scale --from 5us
+# A pulse of one step in the first bit, in which SCL is HIGH from 20 on.
+sed 's/^#20 1!$/&\n#21 0"\n#22 1"/' parts >parts_glitch
+expect "a lesson with a pulse" 1 'brief 1
+# seen: 3 transactions, 1 messages
+# in no message: 1, first at 5: a START or STOP stands in the midst of a byte,
+#   or no byte between two
+
+# 2 times, first at 1000: S 48 Wr NA P
+# never seen: 48 Wr A,
+message write_48 write 0x48 ;
+
+controller seen write_48 ;' "" learn parts_glitch
+expect "a lesson without it" 0 "$(part 1 '# 1 times, first at 5: S 48 Wr A P' '# never seen: 48 Wr NA,')" "" \
+    learn parts_glitch --min-pulse 101ns --to 5
+expect "odd times in parts of a second" 1 'brief 1
+# seen: 1 transactions, 0 messages
+# in no message: 1, first at 500 ns: a START or STOP stands in the midst of a
+#   byte, or no byte between two
+
+controller seen ;' "" learn parts_glitch --to 5 --times si
+refuses "a time to learn from that is none" "the value for '--from <TIME>' is no time as 15 or 15us" learn parts --from x
+refuses "a summary of what is learned" "unexpected argument '--summary' found" learn parts --summary
 expect "a signal that is not there" 2 "" "refused V1 scl" learn blanks
 
 # A read whose header is not acknowledged has one byte in a brief, for which 256 bytes leave no room.

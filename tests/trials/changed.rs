@@ -2,6 +2,7 @@
 
 use crate::cases::{Asked, Case};
 use crate::crew::Crew;
+use crate::decodings::decoding_fault;
 use crate::desks::Desk;
 use crate::disagreements::{Disagreement, Score};
 use crate::plain;
@@ -50,7 +51,7 @@ fn compare(desk: &mut Desk, number: u64, asked: &Asked) -> io::Result<(String, O
     let found = found_plainly(asked, desk.answer(asked)?);
     let fault = spelling_fault(desk, asked)?;
     if fault.is_none() && plain == found {
-        return Ok((kind, None));
+        return Ok((kind, decoding_fault(desk, &shown(number, asked), asked)?));
     }
     let case = Case {
         name: shown(number, asked),

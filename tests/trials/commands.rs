@@ -5,18 +5,34 @@ use crate::unreadable::Unreadable;
 /// A command without the names of its files.
 #[derive(Clone, Debug)]
 pub enum Command {
-    Check { workers: u32 },
+    Check {
+        workers: u32,
+    },
     Certify,
     Verify,
-    Capture { scl: String, sda: String },
+    Capture {
+        scl: String,
+        sda: String,
+    },
     /// Its dump is the first file, since there is no plan.
-    Decode { scl: String, sda: String, summary: bool },
-    Bench { starters: String, fill: bool, answers: String },
+    Decode {
+        scl: String,
+        sda: String,
+        summary: bool,
+    },
+    Bench {
+        starters: String,
+        fill: bool,
+        answers: String,
+    },
     Order,
     Print,
     Expand,
     Brief,
-    Seats { starters: String, answers: String },
+    Seats {
+        starters: String,
+        answers: String,
+    },
 }
 
 impl Command {

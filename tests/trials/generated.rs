@@ -3,6 +3,7 @@
 use crate::cases::{Asked, Case};
 use crate::commands::Command;
 use crate::crew::Crew;
+use crate::decodings::decoding_fault;
 use crate::desks::Desk;
 use crate::dice::Dice;
 use crate::disagreements::{Disagreement, Score};
@@ -130,7 +131,11 @@ fn compare(desk: &mut Desk, name: &str, asked: &Asked) -> io::Result<(String, Op
     };
     let case =
         Case { name: name.to_owned(), asked: asked.clone(), wanted: plain.clone(), hints: None, is_thorough: false };
-    Ok((kind, Disagreement::of(&case, "twire and the plain programs", plain, &found, None)))
+    let disagreement = Disagreement::of(&case, "twire and the plain programs", plain, &found, None);
+    match disagreement {
+        Some(disagreement) => Ok((kind, Some(disagreement))),
+        None => Ok((kind, decoding_fault(desk, name, asked)?)),
+    }
 }
 
 /// Rehearses each set of participants of the worked plans, also those that may not start together, with all open bits 0 and 1,

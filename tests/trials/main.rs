@@ -11,6 +11,7 @@ mod cases;
 mod changed;
 mod commands;
 mod crew;
+mod decodings;
 mod deeds;
 mod desks;
 mod devices;
@@ -45,6 +46,7 @@ mod words;
 use cases::{read_cases, Case, FILES};
 use changed::{try_changed, Lot};
 use crew::Crew;
+use decodings::{try_cuts, try_decodings};
 use desks::Programs;
 use disagreements::Score;
 use generated::{try_generated, try_sets};
@@ -132,6 +134,8 @@ fn try_all(orders: &Orders) -> Result<Score, Box<dyn Error>> {
     try_returns(&mut crew, &mut score, Lot { number: lot.number / EACH, ..lot })?;
     try_generated(&mut crew, &mut score, orders.seed, step)?;
     try_sets(&mut crew, &mut score, step)?;
+    try_decodings(&mut crew, &mut score, &cases, step)?;
+    try_cuts(&mut crew, &mut score, step)?;
     try_waves(&mut crew, &mut score, &cases, orders.seed, step)?;
     if takes_refusals {
         try_scarce(&mut crew, &mut score, &cases)?;

@@ -31,11 +31,9 @@ pub fn due_of(asked: &Asked, explain: bool) -> Option<Vec<Value>> {
         _ => Vec::new(),
     };
     match &asked.command {
-        Command::Check { .. }
-        | Command::Order
-        | Command::Verify
-        | Command::Bench { .. }
-        | Command::Capture { .. } => Some(with_plan(&asked.first, of_plan).unwrap_or_default()),
+        Command::Check { .. } | Command::Order | Command::Verify | Command::Bench { .. } | Command::Capture { .. } => {
+            Some(with_plan(&asked.first, of_plan).unwrap_or_default())
+        }
         Command::Decode { scl, sda, summary } => {
             let decoded = decoded(&asked.first, scl, sda);
             Some(decoded.map(|it| of_decode(&it, *summary)).unwrap_or_default())
@@ -197,11 +195,9 @@ fn of_decode(decoded: &Decoded, summary: bool) -> Vec<Value> {
         let is_cut = |it: &&Transaction| matches!(it.until, Until::Cut(_));
         let cut = decoded.transactions.iter().filter(is_cut).count();
         let others = [("cut", cut), ("unfinished", decoded.transactions.len() - decoded.stopped() - cut)];
-        objects.extend(
-            others.map(|(what, count)| {
-                of_kind("count", vec![("what", Value::text(what)), ("transactions", Value::of(count))])
-            }),
-        );
+        objects.extend(others.map(|(what, count)| {
+            of_kind("count", vec![("what", Value::text(what)), ("transactions", Value::of(count))])
+        }));
     } else {
         objects.extend(decoded.transactions.iter().map(of_decoded));
     }

@@ -32,8 +32,8 @@ mod words;
 
 pub use certificates::{read_certificate, Certificate, Wrong};
 pub use commands::{
-    bench, brief, capture, captured_so_far, certify, check, decode, decode_summary, decoded_lines_so_far, expand, labels,
-    order, seats, spelling, verify, with_plan, Answer,
+    bench, brief, capture, captured_so_far, certify, check, decode, decode_summary, decoded_lines_so_far, expand,
+    labels, order, seats, spelling, verify, with_plan, Answer,
 };
 pub use order::Ways;
 pub use pairs::break_of;
