@@ -57,7 +57,7 @@ pub fn open<'v, 'a, J: Input>(
 
 /// Explains the capture that the second reader gives by the plan that the first reader gives. The plan is read to its end and
 /// judged before the second reader is called.
-pub fn capture<R: AllocGlobal + Threads + Sync, I: Input, J: Input, O: Output>(
+pub fn explain_capture<R: AllocGlobal + Threads + Sync, I: Input, J: Input, O: Output>(
     rt: &R,
     plan: &mut I,
     vcd: &mut J,

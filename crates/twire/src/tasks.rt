@@ -7,7 +7,7 @@ use crate::endings::{Ended, Halt};
 use crate::inputs::FilesRead;
 use crate::outputs::Form;
 use crate::pages::{write_page_alone, write_page_with};
-use crate::recordings::{Capture, capture, decode, learn, list_signals};
+use crate::recordings::{Capture, decode, explain_capture, learn, list_signals};
 use crate::rehearsals::{Play, bench, bench_alone};
 use crate::rewriting::Rewriting;
 use crate::runs::Extras;
@@ -284,7 +284,14 @@ impl<'a> OverBoth<'a> {
         let alloc = rt.alloc();
         match self {
             OverBoth::Verify { explain } => verify(alloc, plan, other, out, explain, extras),
-            OverBoth::Capture(asked) => capture(rt, plan, other, out, asked, extras.style()),
+            OverBoth::Capture(asked) => explain_capture(
+                rt,
+                plan,
+                other,
+                out,
+                asked,
+                extras.style(),
+            ),
             OverBoth::Page(bus) => write_page_with(rt, path, plan, other, out, bus),
             OverBoth::Bench(play) => {
                 let canvas = canvas_of(play.wave, extras, read);
