@@ -61,9 +61,9 @@ struct Shown<'a> {
 }
 
 // What a dump shows, with its explained report, and the status of a run with that.
-fn recording_of<R: AllocGlobal + Threads + Sync, J: Input, O: Output>(
-    rt: &R,
-    plan: &Plan,
+fn recording_of<'x, R: AllocGlobal + Threads + Sync, J: Input, O: Output>(
+    rt: &'x R,
+    plan: &'x Plan,
     vcd: &mut J,
     report: &mut O,
     bus: Bus<'_>,
