@@ -13,6 +13,7 @@ use plan_core::Plan;
 use plan_text::print_plan;
 use report::{Checked, Input, NoGate, Output, RunError, Status, Watched, check_plan, check_report};
 use run_parts::write_lines;
+use signals::Dump;
 use std::alloc::Global;
 use std::str;
 use std::thread::Threads;
@@ -61,30 +62,41 @@ struct Shown<'a> {
 }
 
 // What a dump shows, with its explained report, and the status of a run with that.
-fn recording_of<'x, R: AllocGlobal + Threads + Sync, J: Input, O: Output>(
-    rt: &'x R,
-    plan: &'x Plan,
+fn recording_of<R: AllocGlobal + Threads + Sync, J: Input, O: Output>(
+    rt: &R,
+    plan: &Plan,
     vcd: &mut J,
     report: &mut O,
     bus: Bus<'_>,
 ) -> Result<(Recording, Status), Halt> {
-    let alloc = rt.alloc();
-    let mut dump = open(alloc, vcd, bus)?;
+    let mut dump = open(rt.alloc(), vcd, bus)?;
     let selection = Selection::new(bus.view, dump.scale());
+    Ok(record(rt, plan, &mut dump, report, selection)?)
+}
+
+fn record<R: AllocGlobal + Threads + Sync, J: Input, O: Output>(
+    rt: &R,
+    plan: &Plan,
+    dump: &mut Dump<'_, '_, J>,
+    report: &mut O,
+    selection: Selection,
+) -> Result<(Recording, Status), RunError> {
+    let alloc = rt.alloc();
     let lines = CaptureLines::new(alloc, plan, selection, LAYOUT, report)?;
+    let both = Both {
+        lines,
+        recording: Recording::new(alloc, selection),
+    };
     let mut explaining = Explaining {
         rt,
         alloc,
         plan,
-        sink: Both {
-            lines,
-            recording: Recording::new(alloc, selection),
-        },
+        sink: both,
     };
-    let ending = dump.decode(alloc, &mut explaining)?;
+    let ended = dump.decode(alloc, &mut explaining);
     let Explaining { sink, .. } = explaining;
     let Both { lines, recording } = sink;
-    let selection = lines.finish(dump.quiet(), ending)?;
+    let selection = lines.finish(dump.quiet(), ended?)?;
     Ok((recording, selection.status()))
 }
 
