@@ -210,20 +210,6 @@ cut 0
 unfinished 0
 2 transactions' "" decode least --summary
 
-# ---- objects
-
-expect "objects" 0 '{"kind":"transaction","from":10,"to":45,"end":"cut","bytes":"S 0b01(cut)"}
-{"kind":"transaction","from":60,"end":"unfinished","bytes":"S 0b0(cut)"}
-{"kind":"transactions","transactions":0}' "" decode ends --format json
-expect "objects of a STOP, in parts of a second" 0 '{"kind":"transaction","from":"5 us","to":"720 us","end":"stop","bytes":"S 48 Wr A 01 A Sr 48 Rd A d4 A 55 NA P"}
-{"kind":"transactions","transactions":1}' "" decode again --format json --times si
-expect "objects of a summary" 0 '{"kind":"address","address":"08","direction":"write","times":1,"nacks":1}
-{"kind":"address","address":"48","direction":"write","times":5,"nacks":2}
-{"kind":"address","address":"48","direction":"read","times":1,"nacks":0}
-{"kind":"count","what":"cut","transactions":1}
-{"kind":"count","what":"unfinished","transactions":1}
-{"kind":"transactions","transactions":7}' "" decode summed --format json --summary
-
 # ---- refusals
 
 : >nothing
@@ -239,7 +225,6 @@ dump back '#5 #4'
 expect "a time that goes back" 2 "" "refused V3 line 8" decode back
 dump open '#5' '$comment'
 expect "an open comment" 2 "" "refused V4 line 9" decode open
-expect "a refusal as an object" 2 "" '{"kind":"refusal","code":"V3","line":8}' decode back --format json
 sed '1,2d' three >no_scale
 expect "a unit, and a dump without one" 2 "" "refused timescale" decode no_scale --from 5us
 expect "the same for pulses" 2 "" "refused timescale" decode no_scale --min-pulse 5us
@@ -415,7 +400,8 @@ status=$?
 size=$(wc -c <out)
 head -c "$size" long_due | cmp -s - out && ((size >= 65536)) && echo "a block of them" >out
 judge "a token of no kind after many reads, not live" 2 "a block of them" "refused V2 line $line"
-expect "the exact report is written whole" 2 "" "refused V2 line $line" capture plan long_stray
+# (in objects it has no exact form)
+[[ -n ${TWIRE_OF_OBJECTS:-} ]] || expect "the exact report is written whole" 2 "" "refused V2 line $line" capture plan long_stray
 
 # Nobody reads the report any more.
 mkfifo report
@@ -458,9 +444,6 @@ levels mixed 100100000 100100010 100100001
 expect "all of it" 1 $'5-160 a/m\n1005-1160 unexplained\n2005-2160 a/m b/n\n3 transactions, 1 unexplained' "" capture plan mixed
 stopped=$'5-160 a/m\n1005-1160 unexplained\n2 transactions, 1 unexplained'
 expect "the first that nobody explains is the last" 1 "$stopped" "" capture plan mixed --stop-at-unexplained
-expect "the same in objects" 1 '{"kind":"transaction","from":5,"to":160,"end":"stop","participants":["a/m"]}
-{"kind":"transaction","from":1005,"to":1160,"end":"stop","participants":[]}
-{"kind":"transactions","transactions":2,"unexplained":1}' "" capture plan mixed --stop-at-unexplained --format json
 expect "the same, live" 1 "$stopped" "" capture plan mixed --stop-at-unexplained --live
 expect "the same, explained" 1 '5-160 a/m
     S 48 Wr A P
