@@ -210,20 +210,6 @@ cut 0
 unfinished 0
 2 transactions' "" decode least --summary
 
-# ---- objects
-
-expect "objects" 0 '{"kind":"transaction","from":10,"to":45,"end":"cut","bytes":"S 0b01(cut)"}
-{"kind":"transaction","from":60,"end":"unfinished","bytes":"S 0b0(cut)"}
-{"kind":"transactions","transactions":0}' "" decode ends --format json
-expect "objects of a STOP, in parts of a second" 0 '{"kind":"transaction","from":"5 us","to":"720 us","end":"stop","bytes":"S 48 Wr A 01 A Sr 48 Rd A d4 A 55 NA P"}
-{"kind":"transactions","transactions":1}' "" decode again --format json --times si
-expect "objects of a summary" 0 '{"kind":"address","address":"08","direction":"write","times":1,"nacks":1}
-{"kind":"address","address":"48","direction":"write","times":5,"nacks":2}
-{"kind":"address","address":"48","direction":"read","times":1,"nacks":0}
-{"kind":"count","what":"cut","transactions":1}
-{"kind":"count","what":"unfinished","transactions":1}
-{"kind":"transactions","transactions":7}' "" decode summed --format json --summary
-
 # ---- refusals
 
 : >nothing
@@ -239,7 +225,6 @@ dump back '#5 #4'
 expect "a time that goes back" 2 "" "refused V3 line 8" decode back
 dump open '#5' '$comment'
 expect "an open comment" 2 "" "refused V4 line 9" decode open
-expect "a refusal as an object" 2 "" '{"kind":"refusal","code":"V3","line":8}' decode back --format json
 sed '1,2d' three >no_scale
 expect "a unit, and a dump without one" 2 "" "refused timescale" decode no_scale --from 5us
 expect "the same for pulses" 2 "" "refused timescale" decode no_scale --min-pulse 5us
@@ -342,9 +327,11 @@ wait_for() {
 
 # slow NAME LINES SEEN STATUS OUT ERR ARG..: a run over a dump in the FIFO `slow`, of which so many lines are there at first. What
 # was written by then is SEEN, and the rest of the file `source` comes after that.
+# (The program that tests/json.sh puts between hands on what it takes at the end, so it has none of these.)
 mkfifo slow
 slow() {
     local name=$1 lines=$2 seen=$3 job
+    [[ -z ${TWIRE_OF_OBJECTS:-} ]] || return 0
     : >out
     "$twire" "${@:7}" >out 2>err &
     job=$!
@@ -364,17 +351,17 @@ slow() {
 cp three source
 first=$(grep -n '^#1005' three | cut -d: -f1)
 one='5-160  S 48 Wr A P'
-slow "slowly: what has ended is there before more comes" "$first" "$one" 0 "$("$twire" decode three)" "" decode slow --live
-slow "slowly: the same in objects" "$first" '{"kind":"transaction","from":5,"to":160,"end":"stop","bytes":"S 48 Wr A P"}' 0 \
+slow "what has ended is there before more comes" "$first" "$one" 0 "$("$twire" decode three)" "" decode slow --live
+slow "the same in objects" "$first" '{"kind":"transaction","from":5,"to":160,"end":"stop","bytes":"S 48 Wr A P"}' 0 \
     "$("$twire" decode three --format json)" "" decode slow --live --format json
-slow "slowly: the same in parts of a second, of lines in a scope" "$first" '500 ns-16 us  S 48 Wr A P' 0 \
+slow "the same in parts of a second, of lines in a scope" "$first" '500 ns-16 us  S 48 Wr A P' 0 \
     "$("$twire" decode three --times si)" "" decode slow --live --times si --scope top
-slow "slowly: the same where short pulses are left out" "$((first + 5))" "$one" 0 "$("$twire" decode three)" "" \
+slow "the same where short pulses are left out" "$((first + 5))" "$one" 0 "$("$twire" decode three)" "" \
     decode slow --live --min-pulse 2
-slow "slowly: who explains it" "$first" '5-160 a/m' 1 "$("$twire" capture plan three)" "" capture plan slow --live
-slow "slowly: who explains it in objects" "$first" '{"kind":"transaction","from":5,"to":160,"end":"stop","participants":["a/m"]}' 1 \
+slow "who explains it" "$first" '5-160 a/m' 1 "$("$twire" capture plan three)" "" capture plan slow --live
+slow "who explains it in objects" "$first" '{"kind":"transaction","from":5,"to":160,"end":"stop","participants":["a/m"]}' 1 \
     "$("$twire" capture plan three --format json)" "" capture plan slow --live --format json
-slow "slowly: explained" "$first" $'5-160 a/m\n    S 48 Wr A P' 1 "$("$twire" capture plan three --explain)" "" \
+slow "explained" "$first" $'5-160 a/m\n    S 48 Wr A P' 1 "$("$twire" capture plan three --explain)" "" \
     capture plan slow --live --explain
 
 # What is refused later: the lines so far stay.
@@ -382,19 +369,19 @@ slow "slowly: explained" "$first" $'5-160 a/m\n    S 48 Wr A P' 1 "$("$twire" ca
 line=$(wc -l <source)
 last=$((line - 1))
 all=$("$twire" decode three | sed '$d')
-slow "slowly: a token of no kind after what has ended" "$last" "$all" 2 "$all" "refused V2 line $line" decode slow --live
-slow "slowly: the same in objects" "$last" "$("$twire" decode three --format json | sed '$d')" 2 \
+slow "a token of no kind after what has ended" "$last" "$all" 2 "$all" "refused V2 line $line" decode slow --live
+slow "the same in objects" "$last" "$("$twire" decode three --format json | sed '$d')" 2 \
     "$("$twire" decode three --format json | sed '$d')" "{\"kind\":\"refusal\",\"code\":\"V2\",\"line\":$line}" \
     decode slow --live --format json
-slow "slowly: the same of who explains it" "$last" "$("$twire" capture plan three | sed '$d')" 2 \
+slow "the same of who explains it" "$last" "$("$twire" capture plan three | sed '$d')" 2 \
     "$("$twire" capture plan three | sed '$d')" "refused V2 line $line" capture plan slow --live
-slow "slowly: a summary has no line before the end" "$last" "" 2 "" "refused V2 line $line" decode slow --live --summary
-slow "slowly: the hint on it comes behind" "$last" "$all" 2 "$all" "refused V2 line $line
+slow "a summary has no line before the end" "$last" "" 2 "" "refused V2 line $line" decode slow --live --summary
+slow "the hint on it comes behind" "$last" "$all" 2 "$all" "refused V2 line $line
 hint: on line $line of the capture something stands that cannot stand in its place" decode slow --live --hints always
 { cat three; printf '#4000 1!\n$comment\n'; } >source
-slow "slowly: an open comment after what has ended" "$last" "$all" 2 "$all" "refused V4 line $line" decode slow --live
+slow "an open comment after what has ended" "$last" "$all" 2 "$all" "refused V4 line $line" decode slow --live
 { cat three; printf '#4000 1!\n#3 1!\n'; } >source
-slow "slowly: a time that goes back after what has ended" "$last" "$all" 2 "$all" "refused V3 line $line" decode slow --live
+slow "a time that goes back after what has ended" "$last" "$all" 2 "$all" "refused V3 line $line" decode slow --live
 # Of a file as much is read at a time as 64 KiB; what ended in the read that is refused is not told.
 { cat long; echo '?'; } >long_stray
 line=$(wc -l <long_stray)
@@ -413,7 +400,8 @@ status=$?
 size=$(wc -c <out)
 head -c "$size" long_due | cmp -s - out && ((size >= 65536)) && echo "a block of them" >out
 judge "a token of no kind after many reads, not live" 2 "a block of them" "refused V2 line $line"
-expect "the exact report is written whole" 2 "" "refused V2 line $line" capture plan long_stray
+# (in objects it has no exact form)
+[[ -n ${TWIRE_OF_OBJECTS:-} ]] || expect "the exact report is written whole" 2 "" "refused V2 line $line" capture plan long_stray
 
 # Nobody reads the report any more.
 mkfifo report
@@ -432,7 +420,23 @@ if [[ -c /dev/full ]]; then
 fi
 # The producer ends in the midst of a transaction.
 head -n "$((first + 2))" three >source
-slow "slowly: a producer that ends early" "$first" "$one" 0 $'5-160  S 48 Wr A P\n1005- unfinished S\n1 transactions' "" decode slow --live
+slow "a producer that ends early" "$first" "$one" 0 $'5-160  S 48 Wr A P\n1005- unfinished S\n1 transactions' "" decode slow --live
+
+# Ctrl-C, which a terminal gives to all programs of a pipe, ends the producer alone, where twire is to ignore it.
+if [[ -z ${TWIRE_OF_OBJECTS:-} ]]; then
+    : >out
+    : >err
+    set -m
+    { (cat three; exec sleep 60) | (trap '' INT; exec "$twire" decode --live -) >out 2>err; } &
+    job=$!
+    set +m
+    wait_for 2 out
+    kill -INT -- "-$job"
+    wait "$job" 2>/dev/null
+    wait_for 4 out
+    status=0
+    judge "a producer that Ctrl-C ends" 0 "$("$twire" decode three)" ""
+fi
 
 # ---- an end at what nobody explains
 
@@ -440,9 +444,6 @@ levels mixed 100100000 100100010 100100001
 expect "all of it" 1 $'5-160 a/m\n1005-1160 unexplained\n2005-2160 a/m b/n\n3 transactions, 1 unexplained' "" capture plan mixed
 stopped=$'5-160 a/m\n1005-1160 unexplained\n2 transactions, 1 unexplained'
 expect "the first that nobody explains is the last" 1 "$stopped" "" capture plan mixed --stop-at-unexplained
-expect "the same in objects" 1 '{"kind":"transaction","from":5,"to":160,"end":"stop","participants":["a/m"]}
-{"kind":"transaction","from":1005,"to":1160,"end":"stop","participants":[]}
-{"kind":"transactions","transactions":2,"unexplained":1}' "" capture plan mixed --stop-at-unexplained --format json
 expect "the same, live" 1 "$stopped" "" capture plan mixed --stop-at-unexplained --live
 expect "the same, explained" 1 '5-160 a/m
     S 48 Wr A P

@@ -29,9 +29,9 @@ rustc -O --edition 2021 -D warnings -o objects "$tests/objects/main.rs" >log 2>&
 
 # ---- Objects as lines.
 
-# Cases of streams that are closed, full, broken or a terminal are left out, and those of what is written while a dump is read:
-# the program between takes twire's and hands on its own, at the end. twire itself has some of them below.
-streams='^FAILED: .*(closed standard (in|out)put|full device|broken pipe|first part is taken|on a terminal|nobody reads|slowly)'
+# Cases of streams that are closed, full, broken or a terminal are left out: the program between takes twire's and hands on its
+# own. twire itself has some of them below.
+streams='^FAILED: .*(closed standard (in|out)put|full device|broken pipe|first part is taken|on a terminal|nobody reads)'
 
 # suite NAME: all cases of a suite.
 suite() {
@@ -211,6 +211,35 @@ run "participants, counted" 0 '{"kind":"participant","participant":"main/write_o
 {"kind":"count","what":"cut","transactions":0}
 {"kind":"count","what":"unfinished","transactions":0}
 {"kind":"transactions","transactions":1,"unexplained":0}' "" capture --format json --summary "$stop" "$dump"
+# Two bits and a level that is not known, and a START; then a repeated START between two, and headers that are not acknowledged.
+lines='$timescale 1 us $end $var wire 1 ! scl $end $var wire 1 " sda $end $enddefinitions $end'
+printf '%s\n' "$lines" '#0 1! 1"' '#10 0" #15 0!' '#20 1! #25 0!' '#30 1" #35 1! #40 0!' '#45 x!' '#50 1!' '#60 0" #65 0! #70 1! #75 0!' >ends.vcd
+run "bytes" 0 '{"kind":"transaction","from":10,"to":45,"end":"cut","bytes":"S 0b01(cut)"}
+{"kind":"transaction","from":60,"end":"unfinished","bytes":"S 0b0(cut)"}
+{"kind":"transactions","transactions":0}' "" decode --format json ends.vcd
+"$tests/../tools/dump" 100100000000000010r100100010110101000010101011 >again.vcd
+again='{"kind":"transaction","from":"5 us","to":"720 us","end":"stop","bytes":"S 48 Wr A 01 A Sr 48 Rd A d4 A 55 NA P"}
+{"kind":"transactions","transactions":1}'
+run "bytes, in parts of a second" 0 "$again" "" decode --format json --times si again.vcd
+run "bytes while they are recorded" 0 "$again" "" decode --format json --times si --live again.vcd
+"$tests/../tools/dump" 000100001r100100000r100100001r100100011 >called.vcd
+run "addresses, counted" 0 '{"kind":"address","address":"08","direction":"write","times":1,"nacks":1}
+{"kind":"address","address":"48","direction":"write","times":2,"nacks":1}
+{"kind":"address","address":"48","direction":"read","times":1,"nacks":1}
+{"kind":"count","what":"cut","transactions":0}
+{"kind":"count","what":"unfinished","transactions":0}
+{"kind":"transactions","transactions":1}' "" decode --format json --summary called.vcd
+"$tests/../tools/dump" 001000001 2 >odd.vcd
+run "no transaction behind one that nobody explains" 1 '{"kind":"transaction","from":5,"to":160,"end":"stop","participants":[]}
+{"kind":"transactions","transactions":1,"unexplained":1}' "" capture --format json --stop-at-unexplained "$two" odd.vcd
+run "no transaction behind it is counted" 1 '{"kind":"participant","participant":"main/write_settings","alone":0,"with_others":0}
+{"kind":"participant","participant":"main/write_limit","alone":0,"with_others":0}
+{"kind":"participant","participant":"guard/write_alarm","alone":0,"with_others":0}
+{"kind":"count","what":"unexplained","transactions":1}
+{"kind":"count","what":"cut","transactions":0}
+{"kind":"count","what":"unfinished","transactions":0}
+{"kind":"transactions","transactions":1,"unexplained":1}' "" capture --format json --stop-at-unexplained --summary "$two" odd.vcd
+run "a refused dump" 2 "" '{"kind":"refusal","code":"V3","line":2}' decode --format json - <<<"$lines"$'\n#5 #4'
 run "a rehearsal" 0 '{"kind":"wire","wire":"10010000l00000001l00100000ls"}
 {"kind":"won","participants":["guard/write_alarm"]}' "" \
     bench --format json --certify "$two" main/write_limit,guard/write_alarm --rest 0

@@ -1,4 +1,5 @@
-//! The dumps of captures, decoded without a plan, and told while they are read: in lines and objects, at once and byte by byte.
+//! The dumps of captures, decoded without a plan, explained, and told while they are read: in lines and objects, at once and byte
+//! by byte.
 
 use crate::cases::{Asked, Case};
 use crate::commands::Command;
@@ -23,8 +24,10 @@ pub fn decoding_fault(desk: &mut Desk, name: &str, asked: &Asked) -> io::Result<
         first: asked.second.clone(),
         second: Vec::new(),
     };
-    let mut tried = vec![(decode(true), told(false)), (decode(true), told(true))];
-    tried.extend([told(false), told(true)].map(|run| (decode(false), run)));
+    let mut tried = vec![(asked.clone(), in_objects(true))];
+    for summary in [false, true] {
+        tried.extend([in_lines(), in_objects(false)].map(|run| (decode(summary), run)));
+    }
     for objects in [false, true] {
         tried.extend(live_runs(objects).map(|run| (decode(false), run)));
         tried.extend(live_runs(objects).map(|run| (asked.clone(), run)));
@@ -38,15 +41,13 @@ pub fn decoding_fault(desk: &mut Desk, name: &str, asked: &Asked) -> io::Result<
     Ok(None)
 }
 
-// In lines, or in objects.
-fn told(objects: bool) -> Run {
-    let (deed, due) = if objects {
-        let (hints, explain) = (false, false);
-        (Deed::Objects { hints, explain }, Due::Objects { hints, explain })
-    } else {
-        (Deed::Command, Due::Wanted)
-    };
-    Run { deed, setup: Setup::WHOLE, due }
+fn in_lines() -> Run {
+    Run { deed: Deed::Command, setup: Setup::WHOLE, due: Due::Wanted }
+}
+
+fn in_objects(explain: bool) -> Run {
+    let hints = false;
+    Run { deed: Deed::Objects { hints, explain }, setup: Setup::WHOLE, due: Due::Objects { hints, explain } }
 }
 
 fn try_run(desk: &mut Desk, name: &str, asked: Asked, run: &Run) -> io::Result<Option<Disagreement>> {

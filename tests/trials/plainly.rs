@@ -46,6 +46,15 @@ pub fn said_so_far(asked: &Asked) -> String {
     }
 }
 
+/// Whether the dump is refused before its end.
+pub fn is_refused_within(asked: &Asked) -> bool {
+    match &asked.command {
+        Command::Capture { scl, sda } => plain::is_refused_within(&asked.second, scl, sda),
+        Command::Decode { scl, sda, .. } => plain::is_refused_within(&asked.first, scl, sda),
+        _ => false,
+    }
+}
+
 /// An answer as the plain program can say it: a brief that was written is expanded plainly.
 pub fn found_plainly(asked: &Asked, found: Answer) -> Answer {
     match asked.command {

@@ -8,7 +8,7 @@ use crate::json::{self, Value};
 use crate::object_lines;
 use crate::objects;
 use crate::plain::Answer;
-use crate::plainly::said_so_far;
+use crate::plainly::{is_refused_within, said_so_far};
 use crate::setups::Setup;
 
 /// A run of a case.
@@ -29,7 +29,7 @@ pub enum Due {
     /// The same as `Wanted`, or as `Hints`, in objects, and with what `--explain` says or without.
     Objects { hints: bool, explain: bool },
     /// The same, in lines or objects. Before a refusal of the dump stands what has ended so far, where a byte of it was read
-    /// at a time, and nothing where all of it was.
+    /// at a time. Where all of it was, that stands only before a refusal at the end.
     Live { objects: bool, so_far: bool },
     /// The same, where reads give so many bytes.
     Pieces(usize),
@@ -54,7 +54,8 @@ pub fn judge(case: &Case, way: &str, run: &Run, said: &Said) -> Option<Disagreem
         Due::Live { objects, so_far } => {
             let (wanted, found) =
                 if objects { by_objects(case, wanted, &said.answer, false) } else { (wanted, said.answer.clone()) };
-            let out = if so_far && is_refused_dump(case) { so_far_of(case, objects) } else { wanted.out };
+            let is_so_far = is_refused_dump(case) && (so_far || !is_refused_within(&case.asked));
+            let out = if is_so_far { so_far_of(case, objects) } else { wanted.out };
             Disagreement::of(case, way, Answer { out, ..wanted }, &found, fault)
         }
         _ => Disagreement::of(case, way, wanted, &said.answer, fault),

@@ -145,11 +145,21 @@ pub fn changes_until(dump: &[u8], scl: &str, sda: &str) -> (Vec<Change>, Option<
     (changes.found, changes.block.map(Unended))
 }
 
+// Up to the end of the last token behind which something stands.
+fn without_last(dump: &[u8]) -> &[u8] {
+    &dump[..dump.iter().rposition(is_white).map_or(0, |last| last + 1)]
+}
+
+/// Whether a token is refused behind which something stands. Else a dump that is refused is so at its end.
+pub fn is_refused_within(dump: &[u8], scl: &str, sda: &str) -> bool {
+    let (_, refusal) = changes_until(without_last(dump), scl, sda);
+    matches!(refusal, Some(BadToken(_) | TimeBack(_)))
+}
+
 /// Of a dump that comes byte by byte: what happens up to the last time stamp that has ended by a later
 /// one, before the dump is refused or its last token may go on.
 pub fn changes_so_far(dump: &[u8], scl: &str, sda: &str) -> Vec<Change> {
-    let whole = dump.iter().rposition(is_white).map_or(0, |last| last + 1);
-    let (mut changes, _) = changes_until(&dump[..whole], scl, sda);
+    let (mut changes, _) = changes_until(without_last(dump), scl, sda);
     let mut latest = 0;
     let mut end = 0;
     for (k, change) in changes.iter().enumerate() {
