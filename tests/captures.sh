@@ -302,8 +302,8 @@ else
     cat err
 fi
 
-# What is shown of a report is made in memory first. With less and less of it, all is shown or memory is refused, and nothing
-# is half written. A trial build cannot run below any limit.
+# A summary keeps counts alone. With less and less memory all is shown or memory is refused, and nothing is half written. A
+# trial build cannot run below any limit.
 if { (ulimit -v 32768 && exec "$twire" --version); } >/dev/null 2>&1; then
     "$twire" capture plan long --summary >due
     shown=0 refused=0 other=

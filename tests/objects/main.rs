@@ -74,7 +74,10 @@ fn with_people(told: &Output, output: &Output, out: &[u8], err: &[u8]) -> Result
 fn in_lines(output: &Output, reports: bool) -> Result<(Vec<u8>, Vec<u8>), String> {
     let is_help = contains(&output.stdout, "\nUsage: twire");
     let out = if reports && !is_help { lines(&output.stdout)? } else { output.stdout.clone() };
-    let is_plain = output.stderr.starts_with(b"error: ") || contains(&output.stderr, "\nUsage: twire");
+    // (the last one where there was no memory to read the words, of which one asks for objects)
+    let is_plain = output.stderr.starts_with(b"error: ")
+        || contains(&output.stderr, "\nUsage: twire")
+        || output.stderr == b"refused memory\n";
     let err = if is_plain { output.stderr.clone() } else { lines(&output.stderr)? };
     Ok((out, err))
 }
