@@ -68,7 +68,7 @@ part=(part.vcd --min-pulse 2us --from 6us --to 165 --times si)
 "$twire" page part.plan --capture "${part[@]}" -o page.html
 want "a part of a capture: its explained report" "$("$twire" capture part.plan "${part[@]}" --explain)" "$(text capture page.html)"
 want "a part of a capture: its data" \
-    '"capture":{"stopped":1,"unexplained":0,"transactions":[{"from":"165","to":"320","times":"165 us-320 us","end":"stop","by":[0],"bytes":"S 48 Wr A P"}]}}' \
+    '"capture":{"stopped":1,"unexplained":0,"transactions":[{"from":"165","to":"320","times":["165 us","320 us"],"end":"stop","by":[0],"bytes":"S 48 Wr A P"}]}}' \
     "$(grep -o '"capture":{.*}' page.html | sed 's/<.*//')"
 "$twire" page examples/two_writers.plan -o page.html
 want "no capture: no data of one" "" "$(grep -o '"capture":.*' page.html)"
