@@ -297,5 +297,18 @@ if [[ -w /dev/full ]]; then
     fi
 fi
 
+# Memory that is refused once the words are read is an object. A trial build cannot run below any limit.
+if { (ulimit -v 32768 && exec "$twire" --version); } >/dev/null 2>&1; then
+    (cat "$two" && head -c 67108864 /dev/zero | tr '\0' '#') >long.plan
+    echo 2 >want_status
+    : >want_out
+    echo '{"kind":"refusal","code":"memory"}' >want_err
+    (ulimit -v 32768 && exec "$twire" --format json check long.plan) >out 2>err
+    echo "$?" >status
+    compare "a plan of 64 MiB with 32 MiB of memory"
+else
+    echo "left out: a plan of 64 MiB with 32 MiB of memory (not the proved build)"
+fi
+
 echo "$passed passed, $failed failed"
 ((failed == 0))
