@@ -53,7 +53,7 @@ module _ {R : Type 0} where
         judged = judged;
       }
 
-      -- but for want of memory they stop nothing
+      -- but where memory runs out they stop nothing
       pub only_the_dump : {E : Type 0} (second : Reader E) (before now : E) (e : RunError) (told : Explaining R Telling) → HaltsAtDecoding sink start least scl sda second before e now told → HaltsAtDump second scl sda before e now
       only_the_dump second before now e told (at_dump halts begun begins taken) = halts
       only_the_dump second before now e told (at_sink {more = more} {last = last} few begun begins taken why) =
