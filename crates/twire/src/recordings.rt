@@ -3,13 +3,13 @@
 use crate::endings::{Ended, Halt, Recorded, Remark};
 use crate::outputs::Style;
 use decoding::Explaining;
-use dump_tokens::Bus;
+use dump_tokens::{Bus, BusLines, Quiet};
 use explain::{CaptureLines, DecodeLines, Layout, Paint, Seen, Selection};
 use objects::{CaptureObjects, DecodeObjects, write_signals};
 use plan_core::Plan;
 use report::{CaptureReport, Input, Output, RunError, Status, Telling, find_plan};
 use run_parts::write_lines;
-use signals::{Dump, Learned, Listed, Sights, brief_of, find_signals};
+use signals::{Dump, Learned, Listed, Sights, brief_of, find_signals, needs_picking};
 use std::alloc::Global;
 use std::thread::Threads;
 
@@ -27,6 +27,17 @@ impl Capture<'_> {
     // Whether its report is the exact one, which is written when it is whole.
     fn is_exact(self) -> bool {
         self.bus.view.is_whole() && !self.explain && !self.live && !self.stops
+    }
+
+    // Whether the definitions of the dump have to be known first.
+    fn reads_ahead(self) -> bool {
+        let BusLines {
+            scl,
+            sda,
+            scope,
+            ..
+        } = self.bus.lines;
+        self.bus.needs_scale() || needs_picking(scl, sda, scope)
     }
 
     /// How its lines are written.
@@ -81,19 +92,44 @@ fn capture_by<R: AllocGlobal + Threads + Sync, J: Input, O: Output>(
     capture: Capture<'_>,
     style: Style,
 ) -> Result<(Status, Seen), Halt> {
+    let is_exact = capture.is_exact() && matches!(style, Style::Lines(Paint::Plain));
+    if is_exact && !capture.reads_ahead() {
+        return Ok(exact_capture(rt, plan, vcd, out, capture.bus.lines)?);
+    }
     let mut dump = open(rt.alloc(), vcd, capture.bus)?;
+    if is_exact {
+        return Ok(exact_dump(rt, plan, &mut dump, out)?);
+    }
     let selection = match style {
         Style::Objects => capture_objects(rt, plan, &mut dump, out, capture)?,
-        Style::Lines(Paint::Plain) if capture.is_exact() => {
-            return Ok(exact_capture(rt, plan, &mut dump, out)?);
-        }
         Style::Lines(paint) => capture_lines(rt, plan, &mut dump, out, capture, paint)?,
     };
     Ok((selection.status(), selection.seen))
 }
 
-// The exact report, which is written when it is whole.
+// The exact report, of proved parts over the reader itself, which is written when it is whole.
 fn exact_capture<R: AllocGlobal + Threads + Sync, J: Input, O: Output>(
+    rt: &R,
+    plan: &Plan,
+    vcd: &mut J,
+    out: &mut O,
+    lines: BusLines<'_>,
+) -> Result<(Status, Seen), RunError> {
+    let alloc = rt.alloc();
+    let least = Quiet::of(lines.min_pulse, None).least;
+    let mut explaining = Explaining {
+        rt,
+        alloc,
+        plan,
+        sink: Telling::new(alloc),
+    };
+    decoding::decode(alloc, vcd, lines.scl, lines.sda, least, &mut explaining)?;
+    let Explaining { sink, .. } = explaining;
+    write_exactly(sink, out)
+}
+
+// The same of a dump whose definitions were read ahead.
+fn exact_dump<R: AllocGlobal + Threads + Sync, J: Input, O: Output>(
     rt: &R,
     plan: &Plan,
     dump: &mut Dump<'_, '_, J>,
@@ -108,13 +144,17 @@ fn exact_capture<R: AllocGlobal + Threads + Sync, J: Input, O: Output>(
     };
     dump.decode(alloc, &mut explaining)?;
     let Explaining { sink, .. } = explaining;
+    write_exactly(sink, out)
+}
+
+fn write_exactly<O: Output>(telling: Telling, out: &mut O) -> Result<(Status, Seen), RunError> {
     let CaptureReport {
         report,
         status,
         transactions,
         stopped,
         unexplained,
-    } = sink.finish()?;
+    } = telling.finish()?;
     write_lines(out, report.as_bytes(), status)?;
     let seen = Seen {
         transactions,
