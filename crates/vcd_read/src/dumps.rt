@@ -106,9 +106,12 @@ impl Dump {
                     self.end_definitions()?;
                 }
             }
-            Context::Change(_, level) => {
+            Context::Change(began, level) => {
                 self.context = Context::Nothing;
-                self.change_of_code(level, token, line)?;
+                if let Err(refusal) = self.change_of_code(level, token, line) {
+                    self.context = Context::Change(began, level);
+                    return Err(refusal);
+                }
             }
         }
         Ok(None)

@@ -4,6 +4,7 @@ ghost use Rattle.std.specs.Prelude.{◌≡◌};
 ghost use Rattle.vcd_read.specs.declared.errors.VcdError.TheVariants.{NoMemory};
 ghost use Rattle.vcd_read.specs.Refusals.{error_of};
 
+use crate::places::Wrong;
 use crate::samples::Signal;
 use std::alloc::AllocError;
 use thiserror::Error;
@@ -39,6 +40,13 @@ pub enum VcdError {
     /// V5: an allocation failed. The reader is as before the call, and may be fed the same piece again.
     #[error("V5")]
     NoMemory,
+}
+
+/// Why a dump has no samples at its end, and where.
+#[derive(Debug, Drop)]
+pub struct EndError {
+    pub error: VcdError,
+    pub wrong: Option<Wrong>,
 }
 
 impl From<Refusal> for VcdError {

@@ -2,7 +2,8 @@
 
 ghost use Rattle.vcd_read.specs.Pieces.{RoomForToken, RoomForSamples};
 
-use crate::errors::{Refusal, VcdError};
+use crate::errors::{EndError, Refusal, VcdError};
+use crate::places::{OpenLine, Wrong};
 use crate::probes::Probe;
 use crate::samples::Sample;
 use crate::scanner::Scanner;
@@ -17,6 +18,9 @@ use std::alloc::{AllocError, Global};
 pub struct Reader {
     scanner: Scanner,
     refused: Option<Refusal>,
+    // the line that was fed last, and what is wrong where the dump was refused
+    line: OpenLine,
+    wrong: Option<Wrong>,
     ghost held_fits: { RoomForToken 0 scanner },
     ghost last_samples_fit: { RoomForSamples 2 scanner },
 }
@@ -53,6 +57,8 @@ impl Reader {
         Ok(Reader {
             scanner: Scanner::new(alloc, scl, sda)?,
             refused: None,
+            line: OpenLine::new(alloc),
+            wrong: None,
         })
     }
 
@@ -81,8 +87,13 @@ impl Reader {
         }
         self.scanner.reserve(piece.len())?;
         match self.scanner.read(piece) {
-            Ok(()) => Ok(()),
+            Ok(()) => {
+                self.line.go_on(piece);
+                Ok(())
+            }
             Err(refusal) => {
+                let wrong = self.scanner.wrong(refusal, piece, &self.line);
+                self.wrong = wrong;
                 self.refused = Some(refusal);
                 Err(VcdError::from(refusal))
             }
@@ -110,21 +121,46 @@ impl Reader {
         self.scanner.samples.clear();
     }
 
-    /// The end of the dump: its samples, without those that were cleared. This takes no memory.
+    /// What is wrong with the dump, beside the refusal that a call has answered: the first time that it is asked for, and
+    /// where there was memory to keep it.
+    pub fn take_wrong(&mut self) -> Option<Wrong>
+        ensures { reading_of self.new ≡ reading_of self.old }
+    {
+        self.wrong.take()
+    }
+
+    /// The end of the dump: its samples, without those that were cleared. This takes no memory, but to say what is wrong.
     ///
     /// # Errors
     ///
     /// V1 to V4.
-    pub fn end(self) -> Result<Vec<Sample>, VcdError>
+    pub fn end(self) -> Result<Vec<Sample>, EndError>
         ensures { (scl sda : Finder) (text : List ℕ) (cleared : List Sample) →
             Fed scl sda text cleared (reading_of self) →
             MatchResult result (λ samples. samples_of scl sda text ≡ Ok (cleared ++ samples.items))
-            (λ e. IsRefusal (samples_of scl sda text) e) }
+            (λ e. IsRefusal (samples_of scl sda text) e.error) }
     {
-        if let Some(refusal) = self.refused {
-            return Err(VcdError::from(refusal));
+        let Reader {
+            mut scanner,
+            refused,
+            line,
+            wrong,
+            ..
+        } = self;
+        if let Some(refusal) = refused {
+            let error = VcdError::from(refusal);
+            return Err(EndError { error, wrong });
         }
-        let samples = self.scanner.end()?;
-        Ok(samples)
+        match scanner.end() {
+            Ok(()) => {
+                let Scanner { samples, .. } = scanner;
+                Ok(samples)
+            }
+            Err(refusal) => {
+                let wrong = scanner.wrong(refusal, &[], &line);
+                let error = VcdError::from(refusal);
+                Err(EndError { error, wrong })
+            }
+        }
     }
 }

@@ -9,6 +9,7 @@ ghost use Rattle.vcd_read.specs.Views.{asked};
 use crate::bytes::{is_white, line_after, whites};
 use crate::dumps::Dump;
 use crate::errors::Refusal;
+use crate::places::{OpenLine, Wrong};
 use crate::probes::Probe;
 use crate::samples::Sample;
 use std::alloc::{AllocError, Global};
@@ -23,6 +24,8 @@ pub(crate) struct Scanner {
     // the token that has not ended
     held: Vec<u8>,
     pub(crate) samples: Vec<Sample>,
+    // where in the piece at hand a token ended that was refused; it is held then
+    refused_at: usize,
 }
 
 impl Scanner {
@@ -39,6 +42,7 @@ impl Scanner {
             line: 1,
             held: Vec::new(alloc),
             samples,
+            refused_at: 0,
         })
     }
 
@@ -72,18 +76,18 @@ impl Scanner {
             let mut rest = whites(u8x64::from_slice(&piece[at..]));
             while rest != 0 {
                 let white = at + rest.trailing_zeros() as usize;
-                self.end_token(&piece[start..white])?;
+                self.end_token(&piece[start..white], white)?;
                 self.line = line_after(self.line, piece[white]);
                 start = white + 1;
                 rest &= rest - 1;
             }
             at += 64;
         }
-        self.read_bytes(&piece[start..])
+        self.read_bytes(&piece[start..], start)
     }
 
-    // The same, byte by byte.
-    fn read_bytes(&mut self, piece: &[u8]) -> Result<(), Refusal>
+    // The same of what stands from here on in the piece, byte by byte.
+    fn read_bytes(&mut self, piece: &[u8], from: usize) -> Result<(), Refusal>
         requires token_room { RoomForToken (length piece.now) self.old }
         requires samples_room { RoomForSamples (length piece.now + 2) self.old }
         ensures kept { Scans result (bytes_read (kept_of self.old) piece.now) (kept_of self.new) }
@@ -93,7 +97,7 @@ impl Scanner {
         let mut start = 0;
         for (at, byte) in piece.iter().enumerate() {
             if is_white(*byte) {
-                self.end_token(&piece[start..at])?;
+                self.end_token(&piece[start..at], from.saturating_add(at))?;
                 self.line = line_after(self.line, *byte);
                 start = at + 1;
             }
@@ -102,9 +106,9 @@ impl Scanner {
         Ok(())
     }
 
-    // What is held, with this after it, has come to its end.
+    // What is held, with this after it, has come to its end, here in the piece.
     #[inline(always)]
-    fn end_token(&mut self, rest: &[u8]) -> Result<(), Refusal>
+    fn end_token(&mut self, rest: &[u8], at: usize) -> Result<(), Refusal>
         requires token_room { RoomForToken (length rest.now) self.old }
         requires samples_room { RoomForSamples 1 self.old }
         ensures kept { Scans result (token_ended (with_held rest.now (kept_of self.old))) (kept_of self.new) }
@@ -113,19 +117,27 @@ impl Scanner {
         ensures samples_room { (n : ℕ) → RoomForSamples (n + 1) self.old → RoomForSamples n self.new }
     {
         if !self.held.is_empty() {
-            return self.end_held(rest);
+            return self.end_held(rest, at);
         }
         if rest.is_empty() || self.dump.change_short(rest) {
             return Ok(());
         }
-        let sample = self.dump.read(rest, self.line)?;
-        keep(&mut self.samples, sample);
-        Ok(())
+        match self.dump.read(rest, self.line) {
+            Ok(sample) => {
+                keep(&mut self.samples, sample);
+                Ok(())
+            }
+            Err(refusal) => {
+                let _ = self.held.extend_from_slice(rest);
+                self.refused_at = at;
+                Err(refusal)
+            }
+        }
     }
 
     // The same where something is held.
     #[inline(never)]
-    fn end_held(&mut self, rest: &[u8]) -> Result<(), Refusal>
+    fn end_held(&mut self, rest: &[u8], at: usize) -> Result<(), Refusal>
         requires token_room { RoomForToken (length rest.now) self.old }
         requires samples_room { RoomForSamples 1 self.old }
         requires some_held { 0 < vec_len self.old.held }
@@ -135,25 +147,39 @@ impl Scanner {
         ensures samples_room { (n : ℕ) → RoomForSamples (n + 1) self.old → RoomForSamples n self.new }
     {
         let _ = self.held.extend_from_slice(rest);
+        self.refused_at = at;
         let sample = self.dump.read(self.held.as_slice(), self.line)?;
         self.held.clear();
         keep(&mut self.samples, sample);
         Ok(())
     }
 
-    /// The end of the dump: its samples.
-    pub(crate) fn end(mut self) -> Result<Vec<Sample>, Refusal>
-        requires token_room { RoomForToken 0 self }
-        requires samples_room { RoomForSamples 2 self }
-        ensures { MatchResult result (λ samples. samples_at_end (kept_of self) ≡ Ok samples.items)
-            (λ refusal. samples_at_end (kept_of self) ≡ Err refusal) }
+    /// The end of the dump: its last samples.
+    pub(crate) fn end(&mut self) -> Result<(), Refusal>
+        requires token_room { RoomForToken 0 self.old }
+        requires samples_room { RoomForSamples 2 self.old }
+        ensures { MatchResult result (λ _. samples_at_end (kept_of self.old) ≡ Ok self.new.samples.items)
+            (λ refusal. samples_at_end (kept_of self.old) ≡ Err refusal) }
     {
-        self.end_token(&[])?;
+        self.end_token(&[], 0)?;
         if let Some(sample) = self.dump.end()? {
             self.samples.push_reserved(sample);
         }
-        let Scanner { samples, .. } = self;
-        Ok(samples)
+        Ok(())
+    }
+
+    /// What is wrong, where the dump was refused so in this piece of it, and goes on in this line.
+    pub(crate) fn wrong(&self, refusal: Refusal, piece: &[u8], line: &OpenLine) -> Option<Wrong> {
+        match refusal {
+            Refusal::NoSignal(_) => None,
+            Refusal::Unended(_) => Some(Wrong::Unended(self.dump.opened()?)),
+            Refusal::BadToken(_) | Refusal::TimeBack(_) => {
+                let token = self.held.as_slice();
+                let expected = self.dump.expected();
+                let place = line.place(token, piece, self.refused_at, expected);
+                Some(Wrong::Token(place.ok()?))
+            }
+        }
     }
 }
 

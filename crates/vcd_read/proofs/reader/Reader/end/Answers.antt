@@ -6,14 +6,13 @@ use Rattle.vcd_read.proofs.reader.Reader.end.Goals as goal
 
 pub returns-in-Some : goal.returns-in-Some
 returns-in-Some c = λ scl sda text cleared fed.
-    is_refusal _ c.in-Some.refusal _ (samples_refused scl sda text _ (scan_of_refused scl sda text cleared (reading_of c.args.self) c.in-Some.refusal c.in-Some.is fed)) c.from.ensures
+    is_refusal _ c.in-Some.refusal _ (samples_refused scl sda text _ (scan_of_refused scl sda text cleared (reading_of c.args.self) c.in-Some.refusal c.in-Some.is fed)) c.from-error.ensures
 
-pub returns-in_err-samples : goal.returns-in_err-samples
-returns-in_err-samples c = λ scl sda text cleared fed.
-    let p = err_from_is_err_and c.from_residual.result c.from_residual.ensures.1 in
-    rw p.1 (is_refusal _ c.in_err-samples.field-0.0 _
-    (samples_refused_at_end scl sda text cleared (kept_of c.args.self.scanner) c.in_err-samples.field-0.0 (scan_of_going scl sda text cleared (reading_of c.args.self) c.in_default.is fed) c.in_err-samples.ensures) p.2)
+pub returns-in-Err : goal.returns-in-Err
+returns-in-Err c = λ scl sda text cleared fed.
+    is_refusal _ c.in-Err.refusal _
+    (samples_refused_at_end scl sda text cleared (kept_of c.args.self.scanner) c.in-Err.refusal (scan_of_going scl sda text cleared (reading_of c.args.self) c.in_default.is fed) c.in-Err.ensures) c.from-error-in-Err.ensures
 
-pub returns : goal.returns
-returns c = λ scl sda text cleared fed.
-    samples_going scl sda text cleared (kept_of c.args.self.scanner) c.in_ok-samples.samples.items (scan_of_going scl sda text cleared (reading_of c.args.self) c.in_default.is fed) c.in_ok-samples.ensures
+pub returns-in-Ok : goal.returns-in-Ok
+returns-in-Ok c = λ scl sda text cleared fed.
+    samples_going scl sda text cleared (kept_of c.args.self.scanner) _ (scan_of_going scl sda text cleared (reading_of c.args.self) c.in_default.is fed) c.in-Ok.ensures
