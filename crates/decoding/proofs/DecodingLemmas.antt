@@ -1,14 +1,14 @@
 -- What the loop over a dump keeps.
-use Rattle.std.proofs.Common.{◌≡◌, ℕ, ◌+◌, ◌<◌, ◌≤◌, false, List, [], ◌++◌, length, take, Some, Result, Ok, Err, IfOk, IfErr, suc, ap, ◌∙◌, subst, append-nil, length-take, refl, arith}
+use Rattle.std.proofs.Common.{◌≡◌, ◌⊎◌, inl, inr, sym, ℕ, ◌+◌, ◌<◌, ◌≤◌, false, List, [], ◌++◌, length, take, Some, Result, Ok, Err, IfOk, IfErr, suc, ap, ◌∙◌, subst, append-nil, length-take, refl, arith}
 use Rattle.std.proofs.KnownBytes.{Consumes-trans}
 use Rattle.std.specs.Io.KnownBytes.{Consumes, IsAtEnd}
-use Rattle.decoding.specs.Decoding.{DecodesDump, DecodesAll, HaltsAtDecoding, at_dump, at_sink}
+use Rattle.decoding.specs.Decoding.{DecodesDump, DecodesAll, HaltsAtDecoding, at_dump, at_both, at_sink}
 use Rattle.decoding.specs.Decoding.{at_end as sink_stops_at_end}
-use Rattle.decoding.specs.DecoderViews.{IsNew, Follows, StopsAtPiece, StopsAtEnd, refused, within, at_end}
+use Rattle.decoding.specs.DecoderViews.{IsNew, Follows, StopsAtPiece, StopsAtEnd, refused, both, within, at_end}
 use Rattle.decoding.specs.Dumps.{PassesSoFar, HasBegun, HaltsAtDump, refused_within, refused_at_end}
 use Rattle.decoding.specs.Sinks.{Sink, no_call}
 use Rattle.decoding.specs.declared.following.Decoder.{Decoder}
-use Rattle.run_parts.specs.Devices.{Reader, next_read}
+use Rattle.run_parts.specs.Devices.{Reader, HasGiven, next_read}
 use Rattle.run_parts.specs.Reading.{ReadsAll}
 use Rattle.run_parts.specs.Runs.{most_reads}
 use Rattle.run_parts.specs.declared.errors.RunError.{RunError}
@@ -57,7 +57,7 @@ module _ {D : Type 0} (reader : Reader D) (start : D) where
 
     ended : (reads : ℕ) (last now : D) (decoder : Decoder) (told end : S) (e : RunError) → (on : ReadsOn reader start sink silent begun reads last decoder told) → ReadsAll reader most_reads start on.text now → (least : ℕ) (scl sda : Finder) → IsNew least scl sda begun → StopsAtEnd sink silent least scl sda on.text e end → HaltsAtDecoding sink silent least scl sda reader start e now end
     ended reads last now decoder told end e on all least scl sda new (refused refuses begins taken) =
-        at_dump (refused_at_end all (on.passes least scl sda new) refuses) (record { given = on.reading.read; passes = on.passes least scl sda new }) begins taken
+        at_dump (refused_at_end all (on.passes least scl sda new) refuses) on.reading.read begins taken
     ended reads last now decoder told end e on all least scl sda new (at_end given split taken why) =
         sink_stops_at_end all (on.passes least scl sda new) given split taken why
 
@@ -75,12 +75,22 @@ module _ {D : Type 0} (reader : Reader D) (start : D) where
       passes = λ least scl sda new. passes silent least scl sda on.text (on.follows least scl sda new);
     }
 
+    given_there : (reads : ℕ) (before after : D) (text piece read : List ℕ) → HasGiven reader start reads text before → HasGiven reader start (suc reads) (text ++ piece) after → (read ≡ text) ⊎ (read ≡ text ++ piece) → (n : ℕ) × (last : D) × HasGiven reader start n read last
+    given_there reads before after text piece read first second (inl same) = (reads, before, subst (λ (t : List ℕ). HasGiven reader start reads t before) (sym same) first)
+    given_there reads before after text piece read first second (inr same) = (suc reads, after, subst (λ (t : List ℕ). HasGiven reader start (suc reads) t after) (sym same) second)
+
     -- a read that gave a piece, at which the dump is refused or the sink stops
     pub feed_halts : (reads n : ℕ) (buf : List ℕ) (before after : D) (decoder : Decoder) (told end : S) (e : RunError) → (on : ReadsOn reader start sink silent begun reads before decoder told) → reads < most_reads → reader.gives before (length buf) (Some (take n buf)) after → 0 < n → n ≤ length buf → reader.has_failed after ≡ false → (least : ℕ) (scl sda : Finder) → IsNew least scl sda begun → StopsAtPiece sink silent least scl sda on.text (take n buf) e end → HaltsAtDecoding sink silent least scl sda reader start e after end
-    feed_halts reads n buf before after decoder told end e on few call some most sound least scl sda new (refused refuses begins taken) =
+    feed_halts reads n buf before after decoder told end e on few call some most sound least scl sda new (refused refuses which begins taken) =
         let long : 0 < length (take n buf) = omega (arith, length-take n buf) in
         let begun : HasBegun reader scl sda start reads on.text before = record { given = on.reading.read; passes = on.passes least scl sda new } in
-        at_dump (refused_within few begun call long sound refuses) begun begins taken
+        let g = given_there reads before after on.text (take n buf) _ on.reading.read (next_read on.reading.read call long sound) which in
+        at_dump (refused_within few begun call long sound refuses) g.2 begins taken
+    feed_halts reads n buf before after decoder told end e on few call some most sound least scl sda new (both refuses which begins taken why) =
+        let long : 0 < length (take n buf) = omega (arith, length-take n buf) in
+        let begun : HasBegun reader scl sda start reads on.text before = record { given = on.reading.read; passes = on.passes least scl sda new } in
+        let g = given_there reads before after on.text (take n buf) _ on.reading.read (next_read on.reading.read call long sound) which in
+        at_both (refused_within few begun call long sound refuses) g.2 begins taken why
     feed_halts reads n buf before after decoder told end e on few call some most sound least scl sda new (within passes begins taken why) =
         let long : 0 < length (take n buf) = omega (arith, length-take n buf) in
         at_sink {reads = suc reads} (omega (arith, few)) (record { given = next_read on.reading.read call long sound; passes = passes }) begins taken why
@@ -90,4 +100,4 @@ module _ {D : Type 0} (reader : Reader D) (start : D) where
     reads_halt reads last now decoder told e on least scl sda new halts =
         let begun : HasBegun reader scl sda start reads on.text last = record { given = on.reading.read; passes = on.passes least scl sda new } in
         let follows = on.follows least scl sda new in
-        at_dump (halts begun) begun (begins sink silent least scl sda on.text decoder told follows) follows.taken
+        at_dump (halts begun) begun.given (begins sink silent least scl sda on.text decoder told follows) follows.taken

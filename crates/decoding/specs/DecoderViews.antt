@@ -1,5 +1,5 @@
 -- What a dump that is being decoded stands for. Only private contracts and proofs use this.
-use Rattle.std.specs.Prelude.{◌≡◌, ℕ, List, [], ◌++◌, Ok}
+use Rattle.std.specs.Prelude.{◌≡◌, ◌⊎◌, ℕ, List, [], ◌++◌, Ok}
 use Rattle.vcd_read.specs.declared.samples.Sample.{Sample}
 use Rattle.vcd_read.specs.Dumps.{samples_of}
 use Rattle.vcd_read.specs.Probes.{Finder}
@@ -7,6 +7,7 @@ use Rattle.vcd_read.specs.Readers.{Fed, reading_of}
 use Rattle.pulses.specs.Following.{quiet_behind, quiet_transactions}
 use Rattle.capture_check.specs.Transactions.{Recorded}
 use Rattle.run_parts.specs.declared.errors.RunError.{RunError}
+use Rattle.run_parts.specs.declared.errors.RunError.TheVariants.{NoMemory}
 use Rattle.decoding.specs.Decoding.{BeginsWith}
 use Rattle.decoding.specs.Dumps.{PassesSoFar, RefusesBeginning, RefusesDump}
 use Rattle.decoding.specs.Sinks.{Sink, HasTaken}
@@ -27,12 +28,30 @@ module _ {S : Type 0} (sink : Sink S) (start : S) (least : ℕ) (scl sda : Finde
     pub left : (more : List Sample) →
         done ++ quiet_behind d.follower more ≡ quiet_transactions least (cleared ++ more)
 
-  -- the piece behind this text is refused, or it passes and the sink stops
-  pub data StopsAtPiece (text piece : List ℕ) : RunError → S → Type 0 where
-    refused : {error : RunError} {ts : List Recorded} {told : S} →
-        RefusesBeginning scl sda (text ++ piece) error →
-        BeginsWith least scl sda text ts →
+  -- the sink stops at what comes next in this text, or memory runs out before it is called
+  pub data StopsAt (text : List ℕ) (told : S) : RunError → S → Type 0 where
+    no_memory : StopsAt text told NoMemory told
+    stops_at : {error : RunError} {ts more : List Recorded} {end : S} →
+        BeginsWith least scl sda text (ts ++ more) →
         HasTaken sink start ts told →
+        sink.stops told more error end →
+        StopsAt text told error end
+
+  -- the piece behind this text is refused, and the sink has taken what ended before, or stops there; or the piece passes and
+  -- the sink stops
+  pub data StopsAtPiece (text piece : List ℕ) : RunError → S → Type 0 where
+    refused : {error : RunError} {read : List ℕ} {ts : List Recorded} {told : S} →
+        RefusesBeginning scl sda (text ++ piece) error →
+        (read ≡ text) ⊎ (read ≡ text ++ piece) →
+        BeginsWith least scl sda read ts →
+        HasTaken sink start ts told →
+        StopsAtPiece text piece error told
+    both : {error second_error : RunError} {read : List ℕ} {ts more : List Recorded} {last told : S} →
+        RefusesBeginning scl sda (text ++ piece) error →
+        (read ≡ text) ⊎ (read ≡ text ++ piece) →
+        BeginsWith least scl sda read (ts ++ more) →
+        HasTaken sink start ts last →
+        sink.stops last more second_error told →
         StopsAtPiece text piece error told
     within : {error : RunError} {ts more : List Recorded} {last told : S} →
         PassesSoFar scl sda (text ++ piece) →

@@ -5,7 +5,7 @@ use Rattle.vcd_read.specs.Dumps.{samples_of, given_so_far}
 use Rattle.vcd_read.specs.Probes.{Finder}
 use Rattle.capture_check.specs.Transactions.{Recorded}
 use Rattle.pulses.specs.Following.{quiet_transactions}
-use Rattle.run_parts.specs.Devices.{Reader}
+use Rattle.run_parts.specs.Devices.{Reader, HasGiven}
 use Rattle.run_parts.specs.Runs.{ReadsText, most_reads}
 use Rattle.run_parts.specs.declared.errors.RunError.{RunError}
 use Rattle.decoding.specs.Dumps.{PassesSoFar, HasBegun, HaltsAtDump}
@@ -33,13 +33,21 @@ module _ {S : Type 0} (sink : Sink S) (start : S) (least : ℕ) (scl sda : Finde
       pub decodes : DecodesDump dump told
 
     -- Why the decoding of a dump goes no further. The reading halted, and the sink has taken the first transactions in what
-    -- was read. Or the sink stopped at those that came next, within the dump or at its end.
+    -- was given; or there it stopped too, at those that ended before the refusal. Or the sink stopped at those that came next,
+    -- within the dump or at its end.
     pub data HaltsAtDecoding : RunError → E → S → Type 0 where
       at_dump : {error : RunError} {reads : ℕ} {text : List ℕ} {last now : E} {ts : List Recorded} {told : S} →
           HaltsAtDump second scl sda before error now →
-          HasBegun second scl sda before reads text last →
+          HasGiven second before reads text last →
           BeginsWith least scl sda text ts →
           HasTaken sink start ts told →
+          HaltsAtDecoding error now told
+      at_both : {error second_error : RunError} {reads : ℕ} {text : List ℕ} {last_read now : E} {ts more : List Recorded} {last told : S} →
+          HaltsAtDump second scl sda before error now →
+          HasGiven second before reads text last_read →
+          BeginsWith least scl sda text (ts ++ more) →
+          HasTaken sink start ts last →
+          sink.stops last more second_error told →
           HaltsAtDecoding error now told
       at_sink : {error : RunError} {reads : ℕ} {text : List ℕ} {now : E} {ts more : List Recorded} {last told : S} →
           reads ≤ most_reads →

@@ -5,7 +5,7 @@ use crate::sinks::TransactionSink;
 use pulses::QuietFollower;
 use run_parts::RunError;
 use std::alloc::{AllocError, Global};
-use vcd_read::{Probe, Reader};
+use vcd_read::{Probe, Reader, Wrong};
 
 /// What is read of a dump, and what is known of the bus.
 #[derive(Drop)]
@@ -20,7 +20,7 @@ impl Decoder {
     ghost use Rattle.vcd_read.specs.Views.{asked};
     ghost use Rattle.decoding.specs.Decoding.{DecodesDump};
     ghost use Rattle.decoding.specs.Dumps.{PassesSoFar};
-    ghost use Rattle.decoding.specs.DecoderViews.{IsNew, Follows, StopsAtPiece, StopsAtEnd};
+    ghost use Rattle.decoding.specs.DecoderViews.{IsNew, Follows, StopsAt, StopsAtPiece, StopsAtEnd};
 
     /// Nothing of the dump has been read. Levels that last less than this time are left out.
     pub(crate) fn new(
@@ -37,12 +37,14 @@ impl Decoder {
         })
     }
 
-    /// The next piece of the dump. The sink takes the transactions that end in it.
+    /// The next piece of the dump. The sink takes the transactions that end in it, before a refusal too. What is wrong with the
+    /// dump then is told beside the refusal.
     pub(crate) fn feed<S: TransactionSink>(
         &mut self,
         alloc: Global,
         piece: &[u8],
         sink: &mut S,
+        wrong: &mut Option<Wrong>,
     ) -> Result<(), RunError>
         requires { S.needs }
         ensures fed { OnOk result ((start : S) (least : ℕ) (scl sda : Finder) (text : List ℕ) →
@@ -54,7 +56,26 @@ impl Decoder {
             Follows S.sink start least scl sda text self.old sink.old →
             StopsAtPiece S.sink start least scl sda text piece.now error sink.new) }
     {
-        self.reader.feed(piece)?;
+        match self.reader.feed(piece) {
+            Ok(()) => self.hand_on(alloc, sink),
+            Err(error) => {
+                *wrong = self.reader.take_wrong();
+                let _ = self.hand_on(alloc, sink);
+                Err(RunError::from(error))
+            }
+        }
+    }
+
+    // The sink takes the transactions that end in what was read since.
+    fn hand_on<S: TransactionSink>(&mut self, alloc: Global, sink: &mut S) -> Result<(), RunError>
+        requires { S.needs }
+        ensures handed { OnOk result ((start : S) (least : ℕ) (scl sda : Finder) (text : List ℕ) →
+            Follows S.sink start least scl sda text self.old sink.old →
+            Follows S.sink start least scl sda text self.new sink.new) }
+        ensures stops { IfErr result (λ error. (start : S) (least : ℕ) (scl sda : Finder) (text : List ℕ) →
+            Follows S.sink start least scl sda text self.old sink.old →
+            StopsAt S.sink start least scl sda text sink.old error sink.new) }
+    {
         let found = self.follower.follow(alloc, self.reader.samples())?;
         sink.take(found.as_slice())?;
         self.reader.clear_samples();
@@ -66,6 +87,7 @@ impl Decoder {
         self,
         alloc: Global,
         sink: &mut S,
+        wrong: &mut Option<Wrong>,
     ) -> Result<Ending, RunError>
         requires { S.needs }
         ensures read { IfOk result (λ ending. (start : S) (least : ℕ) (scl sda : Finder) (text : List ℕ) →
@@ -79,7 +101,13 @@ impl Decoder {
             reader,
             mut follower,
         } = self;
-        let samples = reader.end()?;
+        let samples = match reader.end() {
+            Ok(samples) => samples,
+            Err(refused) => {
+                *wrong = refused.wrong;
+                return Err(RunError::from(refused.error));
+            }
+        };
         let found = follower.follow_to_end(alloc, samples.as_slice())?;
         sink.take(found.as_slice())?;
         Ok(Ending {

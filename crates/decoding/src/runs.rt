@@ -11,7 +11,7 @@ use crate::sinks::TransactionSink;
 use run_parts::devices::reading::{BLOCK, READS};
 use run_parts::{Input, RunError};
 use std::alloc::Global;
-use vcd_read::Probe;
+use vcd_read::{Probe, Wrong};
 
 /// What is known only at the end of a dump.
 #[derive(Clone, Copy)]
@@ -24,7 +24,9 @@ pub struct Ending {
 
 /// Hands the transactions in the dump that the reader gives on to a sink, as they end: one call for each block, and one
 /// at the end. `scl` and `sda` find the two lines in the dump, and a level that a line has for less than `least`, in the
-/// unit of the dump, is ignored. The dump is read block by block, and no more of it is kept than what is open.
+/// unit of the dump, is ignored. The dump is read block by block, and no more of it is kept than what is open. Of a block in
+/// which the dump is refused the sink takes what ended before; `wrong` then has what is wrong, beside the refusal, as far as
+/// there was memory for it.
 ///
 /// # Errors
 ///
@@ -37,6 +39,7 @@ pub fn decode<J: Input, S: TransactionSink>(
     sda: Probe<'_>,
     least: u64,
     sink: &mut S,
+    wrong: &mut Option<Wrong>,
 ) -> Result<Ending, RunError>
     requires { S.needs }
     ensures all { IfOk result (λ ending. DecodesAll S.sink sink.old least (asked scl.entry) (asked sda.entry)
@@ -46,7 +49,7 @@ pub fn decode<J: Input, S: TransactionSink>(
 {
     let mut block = vec![in alloc; 0u8; BLOCK]?;
     let decoder = Decoder::new(alloc, scl, sda, least)?;
-    decode_blocks(alloc, vcd, block.as_mut_slice(), decoder, sink)
+    decode_blocks(alloc, vcd, block.as_mut_slice(), decoder, sink, wrong)
 }
 
 // The same, with a block of memory for what one call gives.
@@ -56,6 +59,7 @@ fn decode_blocks<J: Input, S: TransactionSink>(
     block: &mut [u8],
     mut decoder: Decoder,
     sink: &mut S,
+    wrong: &mut Option<Wrong>,
 ) -> Result<Ending, RunError>
     requires room { 0 < length block.old }
     requires needs { S.needs }
@@ -66,8 +70,8 @@ fn decode_blocks<J: Input, S: TransactionSink>(
 {
     for _ in 0..READS {
         match vcd.read(block) {
-            Ok(0) => return decoder.end(alloc, sink),
-            Ok(count) => decoder.feed(alloc, &block[..count], sink)?,
+            Ok(0) => return decoder.end(alloc, sink, wrong),
+            Ok(count) => decoder.feed(alloc, &block[..count], sink, wrong)?,
             Err(_) => return Err(RunError::Read),
         }
     }

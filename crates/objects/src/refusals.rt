@@ -7,7 +7,7 @@ use plays::OpenError;
 use run_parts::RunError;
 use serde::Serialize;
 use std::alloc::{AllocError, Global};
-use vcd_read::{Signal, VcdError};
+use vcd_read::{Expected, Opened, Signal, VcdError, Wrong};
 
 #[derive(Clone, Copy, Serialize)]
 struct Refusal {
@@ -17,6 +17,16 @@ struct Refusal {
     line: Option<u64>,
     #[serde(skip_serializing_if = "Option::is_none")]
     signal: Option<&'static str>,
+    // of a token of a dump: how many bytes stand before it, and in its line and one, and what could stand there
+    #[serde(skip_serializing_if = "Option::is_none")]
+    byte: Option<u64>,
+    #[serde(skip_serializing_if = "Option::is_none")]
+    column: Option<u64>,
+    #[serde(skip_serializing_if = "Option::is_none")]
+    expected: Option<&'static str>,
+    // what the end of a dump leaves open
+    #[serde(skip_serializing_if = "Option::is_none")]
+    open: Option<&'static str>,
 }
 
 #[derive(Drop, Serialize)]
@@ -26,13 +36,58 @@ struct Hinted<'a> {
     text: &'a str,
 }
 
-/// The object of a refusal: its code, and its place where it has one.
+/// The object of a refusal: its code, and its place where it has one. Of a dump it also has what is wrong.
 ///
 /// # Errors
 ///
 /// Where an allocation fails.
-pub fn refusal_object(alloc: Global, error: RunError) -> Result<String, AllocError> {
-    object_of(alloc, refusal_of(error))
+pub fn refusal_object(
+    alloc: Global,
+    error: RunError,
+    wrong: Option<&Wrong>,
+) -> Result<String, AllocError> {
+    let refusal = refusal_of(error);
+    object_of(
+        alloc,
+        match wrong {
+            Some(wrong) => with_wrong(refusal, wrong),
+            None => refusal,
+        },
+    )
+}
+
+fn with_wrong(refusal: Refusal, wrong: &Wrong) -> Refusal {
+    match wrong {
+        Wrong::Token(place) => Refusal {
+            byte: Some(place.offset),
+            column: Some(place.column),
+            expected: Some(expected_word(place.expected)),
+            ..refusal
+        },
+        Wrong::Unended(opened) => Refusal {
+            open: Some(opened_word(*opened)),
+            ..refusal
+        },
+    }
+}
+
+fn expected_word(expected: Expected) -> &'static str {
+    match expected {
+        Expected::Command => "command",
+        Expected::VarToken => "var token",
+        Expected::Code => "code",
+        Expected::Change { .. } => "change",
+    }
+}
+
+fn opened_word(opened: Opened) -> &'static str {
+    match opened {
+        Opened::Command => "command",
+        Opened::Var => "var",
+        Opened::EndDefinitions => "enddefinitions",
+        Opened::Block => "block",
+        Opened::Change => "change",
+    }
 }
 
 /// The object of the refusal of a time with a unit, of which a dump does not say what it counts.
@@ -109,6 +164,10 @@ fn coded(code: &'static str) -> Refusal {
         code,
         line: None,
         signal: None,
+        byte: None,
+        column: None,
+        expected: None,
+        open: None,
     }
 }
 

@@ -6,6 +6,7 @@ use decoding::{Ending, TransactionSink, decode};
 use dump_tokens::{Bus, BusLines, Quiet, Scale};
 use run_parts::{Input, RunError, Watched};
 use std::alloc::Global;
+use vcd_read::Wrong;
 
 /// A dump, and what its definitions say, where that has to be known ahead.
 #[derive(Drop)]
@@ -13,6 +14,8 @@ pub struct Dump<'a, 'l, J> {
     again: Watched<Again<'a, J>>,
     lines: BusLines<'l>,
     picked: Option<Picked>,
+    // what is wrong with it, where it was refused
+    wrong: Option<Wrong>,
 }
 
 impl<'a, 'l, J: Input> Dump<'a, 'l, J> {
@@ -35,6 +38,7 @@ impl<'a, 'l, J: Input> Dump<'a, 'l, J> {
                 again: Watched::new(Again::unread(alloc, vcd)),
                 lines,
                 picked: None,
+                wrong: None,
             });
         }
         let (again, picked) = pick(alloc, vcd, scl, sda, scope)?;
@@ -42,6 +46,7 @@ impl<'a, 'l, J: Input> Dump<'a, 'l, J> {
             again: Watched::new(again),
             lines,
             picked: Some(picked),
+            wrong: None,
         })
     }
 
@@ -66,6 +71,11 @@ impl<'a, 'l, J: Input> Dump<'a, 'l, J> {
         Quiet::of(self.lines.min_pulse, self.scale())
     }
 
+    /// What is wrong with the dump, where it was refused: the first time that it is asked for.
+    pub fn take_wrong(&mut self) -> Option<Wrong> {
+        self.wrong.take()
+    }
+
     /// Hands the transactions of the dump on.
     ///
     /// # Errors
@@ -87,6 +97,7 @@ impl<'a, 'l, J: Input> Dump<'a, 'l, J> {
                 picked.sda(),
                 least,
                 sink,
+                &mut self.wrong,
             ),
             None => decode(
                 alloc,
@@ -95,6 +106,7 @@ impl<'a, 'l, J: Input> Dump<'a, 'l, J> {
                 self.lines.sda,
                 least,
                 sink,
+                &mut self.wrong,
             ),
         }
     }

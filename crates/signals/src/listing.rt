@@ -275,7 +275,9 @@ impl Changes {
     // The levels of a dump that its reader does not refuse.
     fn finish(self) -> Result<Levels, RunError> {
         let Changes { reader, cutter } = self;
-        reader.end()?;
+        if let Err(ended) = reader.end() {
+            return Err(RunError::from(ended.error));
+        }
         let (mut levels, _) = cutter.finish()?;
         levels.settle()?;
         Ok(levels)

@@ -203,7 +203,7 @@ fn on_refusal<F: Read + Seek + Drop>(
         RunError::Plan(refusal) if last.what == "brief" => on_brief(alloc, plan, refusal),
         RunError::Plan(refusal) => on_plan(alloc, plan, refusal),
         RunError::Brief(_) => on_no_brief(alloc, plan),
-        RunError::Vcd(refusal) => on_dump(alloc, other, names, refusal),
+        RunError::Vcd(refusal) => on_dump(alloc, other, names, refusal, closing.remark.wrong()),
         RunError::Bench(refusal) => on_starters(alloc, plan, closing.about.starters, refusal),
         RunError::Read => on_reading(alloc, last, error.as_ref()),
         RunError::Write => on_writing(alloc, closing.output, closing.error.as_ref()),
@@ -221,7 +221,7 @@ fn on_report<F: Read + Seek + Drop>(
 ) -> Result<Hints, AllocError> {
     let Closing { remark, output, .. } = closing;
     match remark {
-        Remark::Nothing => Ok(Hints::new(alloc)),
+        Remark::Nothing | Remark::Refused(_) => Ok(Hints::new(alloc)),
         Remark::Hints(hints) => Ok(hints),
         Remark::Certificate(fault) => on_certificate(alloc, read.other, fault),
         Remark::Fault => on_fault(alloc, output),

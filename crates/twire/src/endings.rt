@@ -7,6 +7,7 @@ use hints::Hints;
 use report::{RunError, Status};
 use std::alloc::AllocError;
 use std::io;
+use vcd_read::Wrong;
 
 /// A run that has ended with its report: its status, and what is to be said to people.
 #[derive(Drop)]
@@ -36,6 +37,8 @@ pub enum Remark {
     Fault,
     /// What can be said of a dump.
     Recording(Recorded),
+    /// What is wrong with a dump that is refused.
+    Refused(Wrong),
 }
 
 /// What is made of a dump.
@@ -57,12 +60,30 @@ impl Remark {
             Err(_) => Remark::Nothing,
         }
     }
+
+    /// What is wrong with a dump, where that is known.
+    pub fn refused(wrong: Option<Wrong>) -> Remark {
+        match wrong {
+            Some(wrong) => Remark::Refused(wrong),
+            None => Remark::Nothing,
+        }
+    }
+
+    /// What is wrong with the dump.
+    pub fn wrong(&self) -> Option<&Wrong> {
+        match self {
+            Remark::Refused(wrong) => Some(wrong),
+            _ => None,
+        }
+    }
 }
 
 /// Why a run ends without its report, or without its waves.
 #[derive(Drop)]
 pub enum Halt {
     Run(RunError),
+    /// The same of a run over a dump, with what is wrong where that is refused.
+    Dump(RunError, Option<Wrong>),
     /// A time was given with a unit, and the dump does not say what its numbers count.
     NoTimescale,
     /// The report was written, and the file for waves was not, for this reason of the system.

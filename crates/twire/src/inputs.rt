@@ -61,10 +61,10 @@ pub fn open<'a, R: Files + Input + Eprint + Clock + AllocGlobal>(
 fn unopened<R: Eprint + AllocGlobal>(rt: &R, file: Named<'_>, error: &io::Error, extras: Extras) {
     let voice = extras.voice();
     if error.kind() == io::ErrorKind::OutOfMemory {
-        refused(rt, RunError::NoMemory, voice);
+        refused(rt, RunError::NoMemory, None, voice);
         return;
     }
-    refused(rt, RunError::Read, voice);
+    refused(rt, RunError::Read, None, voice);
     if !extras.hints {
         return;
     }

@@ -2,7 +2,7 @@
 
 use crate::checking::status_of;
 use crate::endings::{Ended, Halt, Recorded, Remark};
-use crate::recordings::open;
+use crate::recordings::{halted, open};
 use capture_check::Transaction;
 use decoding::{ExplainedSink, Explaining};
 use dump_tokens::Bus;
@@ -71,7 +71,10 @@ fn recording_of<R: AllocGlobal + Threads + Sync, J: Input, O: Output>(
 ) -> Result<(Recording, Status), Halt> {
     let mut dump = open(rt.alloc(), vcd, bus)?;
     let selection = Selection::new(bus.view, dump.scale());
-    Ok(record(rt, plan, &mut dump, report, selection)?)
+    match record(rt, plan, &mut dump, report, selection) {
+        Ok(recorded) => Ok(recorded),
+        Err(error) => Err(halted(dump, error)),
+    }
 }
 
 fn record<R: AllocGlobal + Threads + Sync, J: Input, O: Output>(

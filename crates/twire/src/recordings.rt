@@ -64,6 +64,11 @@ pub fn open<'v, 'a, J: Input>(
     Ok(dump)
 }
 
+/// Why a run over this dump ends without its report.
+pub fn halted<J>(mut dump: Dump<'_, '_, J>, error: RunError) -> Halt {
+    Halt::Dump(error, dump.take_wrong())
+}
+
 // ---- capture
 
 /// Explains the capture that the second reader gives by the plan that the first reader gives. The plan is read to its end and
@@ -94,17 +99,18 @@ fn capture_by<R: AllocGlobal + Threads + Sync, J: Input, O: Output>(
 ) -> Result<(Status, Seen), Halt> {
     let is_exact = capture.is_exact() && matches!(style, Style::Lines(Paint::Plain));
     if is_exact && !capture.reads_ahead() {
-        return Ok(exact_capture(rt, plan, vcd, out, capture.bus.lines)?);
+        return exact_capture(rt, plan, vcd, out, capture.bus.lines);
     }
     let mut dump = open(rt.alloc(), vcd, capture.bus)?;
-    if is_exact {
-        return Ok(exact_dump(rt, plan, &mut dump, out)?);
-    }
-    let selection = match style {
-        Style::Objects => capture_objects(rt, plan, &mut dump, out, capture)?,
-        Style::Lines(paint) => capture_lines(rt, plan, &mut dump, out, capture, paint)?,
+    let told = if is_exact {
+        exact_dump(rt, plan, &mut dump, out)
+    } else {
+        capture_dump(rt, plan, &mut dump, out, capture, style)
     };
-    Ok((selection.status(), selection.seen))
+    match told {
+        Ok(told) => Ok(told),
+        Err(error) => Err(halted(dump, error)),
+    }
 }
 
 // The exact report, of proved parts over the reader itself, which is written when it is whole.
@@ -114,18 +120,30 @@ fn exact_capture<R: AllocGlobal + Threads + Sync, J: Input, O: Output>(
     vcd: &mut J,
     out: &mut O,
     lines: BusLines<'_>,
-) -> Result<(Status, Seen), RunError> {
+) -> Result<(Status, Seen), Halt> {
     let alloc = rt.alloc();
     let least = Quiet::of(lines.min_pulse, None).least;
+    let mut wrong = None;
     let mut explaining = Explaining {
         rt,
         alloc,
         plan,
         sink: Telling::new(alloc),
     };
-    decoding::decode(alloc, vcd, lines.scl, lines.sda, least, &mut explaining)?;
+    let ended = decoding::decode(
+        alloc,
+        vcd,
+        lines.scl,
+        lines.sda,
+        least,
+        &mut explaining,
+        &mut wrong,
+    );
+    if let Err(error) = ended {
+        return Err(Halt::Dump(error, wrong));
+    }
     let Explaining { sink, .. } = explaining;
-    write_exactly(sink, out)
+    Ok(write_exactly(sink, out)?)
 }
 
 // The same of a dump whose definitions were read ahead.
@@ -162,6 +180,22 @@ fn write_exactly<O: Output>(telling: Telling, out: &mut O) -> Result<(Status, Se
         unexplained,
     };
     Ok((status, seen))
+}
+
+// The report in another form.
+fn capture_dump<R: AllocGlobal + Threads + Sync, J: Input, O: Output>(
+    rt: &R,
+    plan: &Plan,
+    dump: &mut Dump<'_, '_, J>,
+    out: &mut O,
+    capture: Capture<'_>,
+    style: Style,
+) -> Result<(Status, Seen), RunError> {
+    let selection = match style {
+        Style::Objects => capture_objects(rt, plan, dump, out, capture)?,
+        Style::Lines(paint) => capture_lines(rt, plan, dump, out, capture, paint)?,
+    };
+    Ok((selection.status(), selection.seen))
 }
 
 fn capture_lines<R: AllocGlobal + Threads + Sync, J: Input, O: Output>(
@@ -226,14 +260,17 @@ pub fn decode<J: Input, O: Output>(
 ) -> Result<Ended, Halt> {
     let mut dump = open(alloc, vcd, bus)?;
     let selection = Selection::new(bus.view, dump.scale());
-    let selection = match style {
-        Style::Objects => decode_objects(alloc, &mut dump, out, selection, live)?,
-        Style::Lines(_) => decode_lines(alloc, &mut dump, out, selection, live)?,
+    let told = match style {
+        Style::Objects => decode_objects(alloc, &mut dump, out, selection, live),
+        Style::Lines(_) => decode_lines(alloc, &mut dump, out, selection, live),
     };
-    Ok(Ended {
-        status: selection.status(),
-        remark: Remark::Recording(Recorded::Bus(bus.view.window, selection.seen)),
-    })
+    match told {
+        Ok(selection) => Ok(Ended {
+            status: selection.status(),
+            remark: Remark::Recording(Recorded::Bus(bus.view.window, selection.seen)),
+        }),
+        Err(error) => Err(halted(dump, error)),
+    }
 }
 
 fn decode_lines<J: Input, O: Output>(
@@ -272,7 +309,9 @@ pub fn learn<J: Input, O: Output>(
 ) -> Result<Ended, Halt> {
     let mut dump = open(alloc, vcd, bus)?;
     let mut seen = Sights::new(alloc, bus.view, dump.scale());
-    dump.decode(alloc, &mut seen)?;
+    if let Err(error) = dump.decode(alloc, &mut seen) {
+        return Err(halted(dump, error));
+    }
     let Learned { brief, status } = brief_of(alloc, seen, merge)?;
     write_lines(out, brief.as_bytes(), status)?;
     Ok(Ended {

@@ -18,6 +18,7 @@ use std::rt::{Env, Files};
 use std::sync::Wait;
 use std::thread::Threads;
 use std::time::Clock;
+use vcd_read::Wrong;
 
 /// What people get beside the exact report: hints, colours in the report and in hints, and how far a long run is; or that
 /// reports, refusals and hints are objects, for programs.
@@ -71,7 +72,7 @@ pub fn run<R: Files + Env + Input + Print + Eprint + AllocGlobal + Threads + Wai
     match run_words(rt, terminals) {
         Ok(status) => status,
         // (before it is known whether objects are wanted)
-        Err(error) => refused(rt, error, Voice::Plain),
+        Err(error) => refused(rt, error, None, Voice::Plain),
     }
 }
 
@@ -266,11 +267,14 @@ fn finish<R: Files + Print + Eprint + Clock + AllocGlobal>(
     let (ended, remark, output, reason) = match ended {
         Ok(Ended { status, remark }) => (Ok(status), remark, files.output, None),
         Err(Halt::Run(error)) => (Err(error), Remark::Nothing, files.output, None),
+        Err(Halt::Dump(error, wrong)) => {
+            (Err(error), Remark::refused(wrong), files.output, None)
+        }
         Err(Halt::Undrawn(error, reason)) => (Err(error), Remark::Nothing, files.wave, reason),
         Err(Halt::NoTimescale) => return no_timescale(rt, extras),
     };
     let ended = out.settle(ended);
-    let status = exit_code_of(rt, ended, extras);
+    let status = exit_code_of(rt, ended, remark.wrong(), extras);
     if extras.hints {
         let closing = Closing {
             ended,
@@ -289,6 +293,7 @@ fn finish<R: Files + Print + Eprint + Clock + AllocGlobal>(
 fn exit_code_of<R: Clock + Eprint + AllocGlobal>(
     rt: &R,
     ended: Result<Status, RunError>,
+    wrong: Option<&Wrong>,
     extras: Extras,
 ) -> u8 {
     extras.watcher.clear(rt);
@@ -296,7 +301,7 @@ fn exit_code_of<R: Clock + Eprint + AllocGlobal>(
         Ok(Status::Good) => 0,
         Ok(Status::Bad) => 1,
         Ok(Status::Refused) => 2,
-        Err(error) => refused(rt, error, extras.voice()),
+        Err(error) => refused(rt, error, wrong, extras.voice()),
     }
 }
 

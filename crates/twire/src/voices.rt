@@ -4,6 +4,7 @@ use hints::Hints;
 use objects::{hint_objects, refusal_object, timescale_object};
 use report::RunError;
 use std::alloc::{AllocError, Global};
+use vcd_read::Wrong;
 
 /// How refusals and hints are written.
 #[derive(Clone, Copy)]
@@ -25,10 +26,15 @@ impl Voice {
     }
 }
 
-/// Writes the line of a refusal, and answers its status.
-pub fn refused<R: Eprint + AllocGlobal>(rt: &R, error: RunError, voice: Voice) -> u8 {
+/// Writes the line of a refusal, and answers its status. An object also has what is wrong with a dump.
+pub fn refused<R: Eprint + AllocGlobal>(
+    rt: &R,
+    error: RunError,
+    wrong: Option<&Wrong>,
+    voice: Voice,
+) -> u8 {
     match voice {
-        Voice::Objects => say_refusal(rt, refusal_object(rt.alloc(), error)),
+        Voice::Objects => say_refusal(rt, refusal_object(rt.alloc(), error, wrong)),
         // Where standard error takes nothing the status is all that is left.
         _ => {
             let _ = eprintln!(rt; "refused {error}");

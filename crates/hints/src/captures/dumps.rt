@@ -1,24 +1,24 @@
 // After the refusal of a dump.
 
-use crate::captures::judging::{Judge, Said, Wrong};
 use crate::captures::naming::{Names, push_names};
-use crate::captures::wording::{push_dump, push_token};
+use crate::captures::opening::find_opened;
+use crate::captures::wording::{push_dump, push_token, push_unended};
 use crate::kinds::{Kind, is_binary, kind_of_file, push_kind};
 use crate::lines::Lines;
-use crate::marking::{MARGIN, first_line, last_line, push_marked};
+use crate::marking::push_marked;
 use crate::values::Hints;
-use dump_tokens::reading::{part, read_again};
-use dump_tokens::tokens::{Cutter, Place, Sink, is_white};
 use std::alloc::{AllocError, Global};
 use std::io::{Read, Seek};
-use vcd_read::VcdError;
+use vcd_read::{Opened, Place, VcdError, Wrong};
 
-/// What to say after the refusal of a dump. The file is the one that was refused, where it can be read once more.
+/// What to say after the refusal of a dump, and of what is wrong with it, where that is known. The file is the one that was
+/// refused, where it can be read once more.
 pub fn on_dump<F: Read + Seek + Drop>(
     alloc: Global,
     mut file: Option<F>,
     names: Names<'_>,
     refusal: VcdError,
+    wrong: Option<&Wrong>,
 ) -> Result<Hints, AllocError> {
     let mut lines = Lines::new(alloc);
     let kind = kind_of_file(alloc, &mut file);
@@ -27,8 +27,9 @@ pub fn on_dump<F: Read + Seek + Drop>(
     } else if let VcdError::NoSignal(signal) = refusal {
         push_names(alloc, &mut lines, file, names, signal);
     } else {
-        match find(alloc, file, refusal) {
-            Some(found) => push_found(&mut lines, &found),
+        match wrong {
+            Some(Wrong::Token(place)) => push_place(&mut lines, refusal, place),
+            Some(Wrong::Unended(opened)) => push_opened(alloc, &mut lines, file, refusal, *opened),
             None => push_dump(&mut lines, refusal),
         }
     }
@@ -36,98 +37,36 @@ pub fn on_dump<F: Read + Seek + Drop>(
     lines.finish()
 }
 
-// A token that is wrong, and the part of the file in which it stands.
-#[derive(Drop)]
-struct Found {
-    wrong: Wrong,
-    place: Place,
-    // so many bytes of the part stand before the token
-    before: usize,
-    part: Vec<u8>,
-}
-
 // The token, marked in its line, and what is wrong with it.
-fn push_found(lines: &mut Lines, found: &Found) {
-    let line = found.place.line;
-    lines.say(format_args!("line {line} of the capture:"));
-    let part = found.part.as_slice();
-    let (before, rest) = part.split_at(found.before.min(part.len()));
-    let rest = first_line(rest);
-    let (token, after) = rest.split_at(word_length(rest).min(rest.len()));
-    push_marked(lines, last_line(before), token, after);
-    push_token(lines, found.wrong);
+fn push_place(lines: &mut Lines, refusal: VcdError, place: &Place) {
+    push_line(lines, refusal);
+    push_marked(lines, place.before(), place.token(), place.after());
+    push_token(lines, refusal, place);
 }
 
-// How many bytes stand before the first white one.
-fn word_length(bytes: &[u8]) -> usize {
-    let mut length = 0usize;
-    for byte in bytes {
-        if is_white(*byte) {
-            break;
-        }
-        length = length.saturating_add(1);
-    }
-    length
-}
-
-// The first token that is wrong, if it is the one that was refused and the file can be read once more.
-fn find<F: Read + Seek + Drop>(alloc: Global, file: Option<F>, refusal: VcdError) -> Option<Found> {
-    let mut file = file?;
-    let (wrong, place) = trace(alloc, &mut file)?;
-    if !is_of(wrong, place, refusal) {
-        return None;
-    }
-    let from = place.offset.saturating_sub(MARGIN as u64);
-    let before = place.offset.min(MARGIN as u64);
-    match part(alloc, &mut file, from, MARGIN.saturating_mul(2)) {
-        Ok(part) => Some(Found {
-            wrong,
-            place,
-            before: before as usize,
-            part,
-        }),
-        Err(_) => None,
+fn push_line(lines: &mut Lines, refusal: VcdError) {
+    if let VcdError::BadToken(line) | VcdError::TimeBack(line) | VcdError::Unended(line) = refusal {
+        lines.say(format_args!("line {line} of the capture:"));
     }
 }
 
-// Whether a token that is wrong in this way on its line is refused so.
-fn is_of(wrong: Wrong, place: Place, refusal: VcdError) -> bool {
-    match (wrong, refusal) {
-        (Wrong::TimeBack(_), VcdError::TimeBack(line)) => place.line == line,
-        (Wrong::Unended(_), VcdError::Unended(line)) => place.line == line,
-        (Wrong::TimeBack(_) | Wrong::Unended(_), _) => false,
-        (_, VcdError::BadToken(line)) => place.line == line,
-        _ => false,
-    }
-}
-
-// Looks for the first token that is wrong.
-#[derive(Drop)]
-struct Tracer {
-    judge: Judge,
-    found: Option<(Wrong, Place)>,
-}
-
-impl Sink for Tracer {
-    fn token(&mut self, token: &[u8], place: Place) -> Result<bool, AllocError> {
-        if let Said::Wrong(wrong) = self.judge.token(token, place) {
-            self.found = Some((wrong, place));
-        }
-        Ok(self.found.is_none())
-    }
-}
-
-fn trace<F: Read + Seek>(alloc: Global, file: &mut F) -> Option<(Wrong, Place)> {
-    let tracer = Tracer {
-        judge: Judge::new(),
-        found: None,
+// The token that opened what has no end, marked in its line where the file can be read once more.
+fn push_opened<F: Read + Seek + Drop>(
+    alloc: Global,
+    lines: &mut Lines,
+    file: Option<F>,
+    refusal: VcdError,
+    opened: Opened,
+) {
+    let found = match refusal {
+        VcdError::Unended(line) => find_opened(alloc, file, line, opened),
+        _ => None,
     };
-    let mut cutter = Cutter::new(alloc, tracer);
-    let at_end = read_again(alloc, file, &mut cutter).ok()?;
-    let (tracer, _) = cutter.finish().ok()?;
-    if tracer.found.is_some() || !at_end {
-        return tracer.found;
-    }
-    let (opened, place) = tracer.judge.open()?;
-    Some((Wrong::Unended(opened), place))
+    let Some(found) = found else {
+        return push_dump(lines, refusal);
+    };
+    push_line(lines, refusal);
+    let (before, token, after) = found.parts();
+    push_marked(lines, before, token, after);
+    push_unended(lines, opened);
 }

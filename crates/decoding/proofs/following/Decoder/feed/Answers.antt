@@ -1,36 +1,48 @@
-use Rattle.std.proofs.Common.{List, ℕ, ◌++◌}
+use Rattle.std.proofs.Common.{List, ℕ, ◌++◌, Err, ap, sym, subst, refl, ◌∙◌}
 use Rattle.vcd_read.specs.Probes.{Finder}
 use Rattle.vcd_read.specs.Readers.{reading_of}
-use Rattle.decoding.specs.DecoderViews.{Follows, StopsAtPiece, refused}
-use Rattle.run_parts.specs.RunErrors.{vcd_error}
-use Rattle.run_parts.specs.declared.errors.RunError.TheVariants as error
+use Rattle.decoding.specs.DecoderViews.{Follows, StopsAt, StopsAtPiece}
+use Rattle.decoding.specs.declared.following.Decoder.{Decoder}
 use Rattle.decoding.proofs.DumpLemmas.{refuses_beginning}
-use Rattle.decoding.proofs.TakingLemmas.{begins, goes_on, piece_stops}
-use Rattle.run_parts.proofs.RunLemmas.{on_error}
+use Rattle.decoding.proofs.TakingLemmas.{on_ok, if_err, read_on, piece_stops, piece_refused}
 use Rattle.decoding.proofs.following.Decoder.feed.Goals as goal
 
-pub returns-in_err-feed-clause-stops : goal.returns-in_err-feed-clause-stops
-returns-in_err-feed-clause-stops g c =
+pub returns-in-Err-clause-stops : goal.returns-in-Err-clause-stops
+returns-in-Err-clause-stops g c = λ start least scl sda text f.
     let sink = g.S.TransactionSink.sink in
     let piece = c.args.piece.now in
-    on_error c.from_residual.result (vcd_error c.in_err-feed.field-0.0) (λ e. (start : _) (least : ℕ) (scl sda : Finder) (text : List ℕ) → Follows sink start least scl sda text c.args.self.now c.args.sink.now → StopsAtPiece sink start least scl sda text piece e c.args.sink.now) c.from_residual.ensures.1
-    (λ start least scl sda text f. refused (refuses_beginning scl sda (text ++ piece) c.in_err-feed.field-0.0 (c.in_err-feed.ensures.told scl sda text f.cleared f.fed)) (begins sink start least scl sda text c.args.self.now c.args.sink.now f) f.taken)
+    let told = c.args.sink.now in
+    let end = c.hand_on-in-Err.new.sink in
+    let mid : Decoder = record { reader = c.take_wrong.new.self; follower = c.args.self.now.follower } in
+    let grown : Decoder = c.hand_on-in-Err.new.self in
+    let r = c.hand_on-in-Err.result in
+    subst (λ e. StopsAtPiece sink start least scl sda text piece e end) (sym c.from.ensures)
+    (piece_refused sink start least scl sda text piece c.args.self.now mid grown (reading_of c.feed.new.self) told end c.in-Err.error r f refl c.take_wrong.ensures (c.in-Err.ensures.fed scl sda text f.cleared f.fed) (λ none. c.in-Err.ensures.memory (ap Err none))
+    (refuses_beginning scl sda (text ++ piece) c.in-Err.error (c.in-Err.ensures.told scl sda text f.cleared f.fed))
+    (on_ok r (λ h t. h start least scl sda t) c.hand_on-in-Err.ensures.handed)
+    (if_err r (λ other. (start : _) (least : ℕ) (scl sda : Finder) (text : List ℕ) → Follows sink start least scl sda text mid told → StopsAt sink start least scl sda text told other end) (λ other. (t : List ℕ) → Follows sink start least scl sda t mid told → StopsAt sink start least scl sda t told other end) (λ other h t. h start least scl sda t) c.hand_on-in-Err.ensures.stops))
 
-pub returns-in_err-found-clause-stops : goal.returns-in_err-found-clause-stops
-returns-in_err-found-clause-stops g c =
+pub returns-in-Ok-clause-stops : goal.returns-in-Ok-clause-stops
+returns-in-Ok-clause-stops g c =
     let sink = g.S.TransactionSink.sink in
-    on_error c.from_residual-in_err-found.result error.NoMemory (λ e. (start : _) (least : ℕ) (scl sda : Finder) (text : List ℕ) → Follows sink start least scl sda text c.args.self.now c.args.sink.now → StopsAtPiece sink start least scl sda text c.args.piece.now e c.args.sink.now) c.from_residual-in_err-found.ensures.1
-    (λ start least scl sda text f. refused {error = error.NoMemory} tt (begins sink start least scl sda text c.args.self.now c.args.sink.now f) f.taken)
+    let piece = c.args.piece.now in
+    let told = c.args.sink.now in
+    let end = c.hand_on.new.sink in
+    let d : Decoder = c.args.self.now in
+    let mid : Decoder = record { reader = c.feed.new.self; follower = c.args.self.now.follower } in
+    if_err c.hand_on.result (λ e. (start : _) (least : ℕ) (scl sda : Finder) (text : List ℕ) → Follows sink start least scl sda text mid told → StopsAt sink start least scl sda text told e end) (λ e. (start : _) (least : ℕ) (scl sda : Finder) (text : List ℕ) → Follows sink start least scl sda text d told → StopsAtPiece sink start least scl sda text piece e end)
+    (λ e h start least scl sda text f.
+        let on = read_on sink start least scl sda text (text ++ piece) d mid told f (c.in-Ok.ensures.fed scl sda text f.cleared f.fed) refl in
+        piece_stops sink start least scl sda text piece mid told end e on (c.in-Ok.ensures.told scl sda text f.cleared f.fed) (h start least scl sda (text ++ piece) on))
+    c.hand_on.ensures.stops
 
-pub returns-in_err-take-clause-stops : goal.returns-in_err-take-clause-stops
-returns-in_err-take-clause-stops g c =
+pub returns-in-Ok-clause-fed : goal.returns-in-Ok-clause-fed
+returns-in-Ok-clause-fed g c =
     let sink = g.S.TransactionSink.sink in
-    let e = c.in_err-take.field-0.0 in
-    on_error c.from_residual-in_err-take.result e (λ e. (start : _) (least : ℕ) (scl sda : Finder) (text : List ℕ) → Follows sink start least scl sda text c.args.self.now c.args.sink.now → StopsAtPiece sink start least scl sda text c.args.piece.now e c.take.new.self) c.from_residual-in_err-take.ensures.1
-    (λ start least scl sda text f. piece_stops sink start least scl sda text c.args.piece.now c.args.self.now (reading_of c.feed.new.self) c.follow.new.self c.samples.result.now c.in_ok-found.found.items c.as_slice.result.now c.args.sink.now c.take.new.self e f (c.in_ok-feed.ensures.fed scl sda text f.cleared f.fed) (c.in_ok-feed.ensures.told scl sda text f.cleared f.fed) c.samples.ensures.samples c.as_slice.ensures.value c.in_ok-found.ensures c.in_err-take.ensures.stops)
-
-pub returns-clause-fed : goal.returns-clause-fed
-returns-clause-fed g c = λ start least scl sda text f.
-    let read = reading_of c.feed.new.self in
-    let fed = c.in_ok-feed.ensures.fed scl sda text f.cleared f.fed in
-    goes_on g.S.TransactionSink.sink start least scl sda text c.args.piece.now c.args.self.now (record { reader = c.clear_samples.new.self; follower = c.follow.new.self }) read c.samples.result.now c.in_ok-found.found.items c.as_slice.result.now c.args.sink.now c.take.new.self f (c.clear_samples.ensures scl sda (text ++ c.args.piece.now) f.cleared fed) c.samples.ensures.samples c.as_slice.ensures.value c.in_ok-found.ensures c.in_ok-take.ensures.taken
+    let piece = c.args.piece.now in
+    let told = c.args.sink.now in
+    let d : Decoder = c.args.self.now in
+    let mid : Decoder = record { reader = c.feed.new.self; follower = c.args.self.now.follower } in
+    on_ok c.hand_on.result
+    (λ h start least scl sda text f. h start least scl sda (text ++ piece) (read_on sink start least scl sda text (text ++ piece) d mid told f (c.in-Ok.ensures.fed scl sda text f.cleared f.fed) refl))
+    c.hand_on.ensures.handed
