@@ -32,8 +32,8 @@ returns-in-Ok-clause-stops g c =
     let mid : Decoder = record { reader = c.feed.new.self; follower = c.args.self.now.follower } in
     if_err c.hand_on.result (λ e. (start : _) (least : ℕ) (scl sda : Finder) (text : List ℕ) → Follows sink start least scl sda text mid told → StopsAt sink start least scl sda text told e end) (λ e. (start : _) (least : ℕ) (scl sda : Finder) (text : List ℕ) → Follows sink start least scl sda text d told → StopsAtPiece sink start least scl sda text piece e end)
     (λ e h start least scl sda text f.
-        let on = read_on sink start least scl sda text (text ++ piece) d mid told f (c.in-Ok.ensures.fed scl sda text f.cleared f.fed) refl in
-        piece_stops sink start least scl sda text piece mid told end e on (c.in-Ok.ensures.told scl sda text f.cleared f.fed) (h start least scl sda (text ++ piece) on))
+    let on = read_on sink start least scl sda text (text ++ piece) d mid told f (c.in-Ok.ensures.fed scl sda text f.cleared f.fed) refl in
+    piece_stops sink start least scl sda text piece mid told end e on (c.in-Ok.ensures.told scl sda text f.cleared f.fed) (h start least scl sda (text ++ piece) on))
     c.hand_on.ensures.stops
 
 pub returns-in-Ok-clause-fed : goal.returns-in-Ok-clause-fed
