@@ -79,7 +79,32 @@ fn refusal(fields: &mut Fields) -> Result<String, String> {
     let code = fields.text("code")?;
     let line = fields.maybe("line", Value::into_number)?.map(|line| format!(" line {line}"));
     let signal = fields.maybe("signal", Value::into_text)?.map(|signal| format!(" {signal}"));
-    Ok(format!("refused {code}{}{}", line.unwrap_or_default(), signal.unwrap_or_default()))
+    let place = place(fields, &code)?;
+    Ok(format!("refused {code}{}{}{place}", line.unwrap_or_default(), signal.unwrap_or_default()))
+}
+
+// What can stand in the place of a token of a dump that is refused, and what the end of a dump leaves open.
+const EXPECTED: [&str; 4] = ["command", "var token", "code", "change"];
+const OPEN: [&str; 5] = ["command", "var", "enddefinitions", "block", "change"];
+
+// The place in a dump that a refusal has besides its line: a token has one, and the end of a dump leaves something open.
+fn place(fields: &mut Fields, code: &str) -> Result<String, String> {
+    match code {
+        "V2" | "V3" => {
+            let place = format!(" byte {} column {}", fields.number("byte")?, fields.number("column")?);
+            one_of(&EXPECTED, &fields.text("expected")?).map(|()| place)
+        }
+        "V4" => one_of(&OPEN, &fields.text("open")?).map(|()| String::new()),
+        _ => Ok(String::new()),
+    }
+}
+
+fn one_of(words: &[&str], word: &str) -> Result<(), String> {
+    if words.contains(&word) {
+        Ok(())
+    } else {
+        Err(format!("no such word: {word}"))
+    }
 }
 
 // How many columns a line of hints has at most, where it is not one word.

@@ -46,12 +46,12 @@ pub fn said_so_far(asked: &Asked) -> String {
     }
 }
 
-/// Whether the dump is refused before its end.
-pub fn is_refused_within(asked: &Asked) -> bool {
+/// Where a token of the dump is refused: how many bytes stand before it, and in its line and one.
+pub fn place_of(asked: &Asked) -> Option<(usize, usize)> {
     match &asked.command {
-        Command::Capture { scl, sda } => plain::is_refused_within(&asked.second, scl, sda),
-        Command::Decode { scl, sda, .. } => plain::is_refused_within(&asked.first, scl, sda),
-        _ => false,
+        Command::Capture { scl, sda } => plain::place_of_refusal(&asked.second, scl, sda),
+        Command::Decode { scl, sda, .. } => plain::place_of_refusal(&asked.first, scl, sda),
+        _ => None,
     }
 }
 

@@ -8,7 +8,7 @@ use crate::json::{self, Value};
 use crate::object_lines;
 use crate::objects;
 use crate::plain::Answer;
-use crate::plainly::{is_refused_within, said_so_far};
+use crate::plainly::{place_of, said_so_far};
 use crate::setups::Setup;
 
 /// A run of a case.
@@ -28,9 +28,8 @@ pub enum Due {
     Hints,
     /// The same as `Wanted`, or as `Hints`, in objects, and with what `--explain` says or without.
     Objects { hints: bool, explain: bool },
-    /// The same, in lines or objects. Before a refusal of the dump stands what has ended so far, where a byte of it was read
-    /// at a time. Where all of it was, that stands only before a refusal at the end.
-    Live { objects: bool, so_far: bool },
+    /// The same, in lines or objects. Before a refusal of the dump stands what has ended so far.
+    Live { objects: bool },
     /// The same, where reads give so many bytes.
     Pieces(usize),
     /// The same, where each call was interrupted so often.
@@ -51,11 +50,10 @@ pub fn judge(case: &Case, way: &str, run: &Run, said: &Said) -> Option<Disagreem
             let (wanted, found) = by_objects(case, wanted, &said.answer, explain);
             Disagreement::of(case, way, wanted, &found, fault)
         }
-        Due::Live { objects, so_far } => {
+        Due::Live { objects } => {
             let (wanted, found) =
                 if objects { by_objects(case, wanted, &said.answer, false) } else { (wanted, said.answer.clone()) };
-            let is_so_far = is_refused_dump(case) && (so_far || !is_refused_within(&case.asked));
-            let out = if is_so_far { so_far_of(case, objects) } else { wanted.out };
+            let out = if is_refused_dump(case) { so_far_of(case, objects) } else { wanted.out };
             Disagreement::of(case, way, Answer { out, ..wanted }, &found, fault)
         }
         _ => Disagreement::of(case, way, wanted, &said.answer, fault),
@@ -123,7 +121,20 @@ fn by_objects(case: &Case, wanted: Answer, found: &Answer, explain: bool) -> (An
         None if case.asked.command.reports() => (wanted.out.clone(), in_lines(&found.out)),
         None => (wanted.out.clone(), found.out.clone()),
     };
-    (Answer { out: due, ..wanted }, Answer { status: found.status, out, refusal })
+    let placed = with_place(case, wanted.refusal);
+    (Answer { out: due, refusal: placed, ..wanted }, Answer { status: found.status, out, refusal })
+}
+
+// A refusal as its object tells it: of a token of a dump also how many bytes stand before it, and in its line.
+fn with_place(case: &Case, refusal: String) -> String {
+    let (line, hints) = refusal.split_once('\n').unwrap_or((&refusal, ""));
+    match place_of(&case.asked) {
+        Some((byte, column)) if line.starts_with("V2 ") || line.starts_with("V3 ") => {
+            let rest = if hints.is_empty() { String::new() } else { format!("\n{hints}") };
+            format!("{line} byte {byte} column {column}{rest}")
+        }
+        _ => refusal,
+    }
 }
 
 fn shown(objects: &[Value]) -> String {

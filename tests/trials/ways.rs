@@ -195,8 +195,8 @@ pub fn live_runs(objects: bool) -> [Run; 2] {
     let deed = Deed::Live { objects };
     let by_bytes = Setup { pieces: [Some(1); 2], ..Setup::WHOLE };
     [
-        Run { deed, setup: Setup::WHOLE, due: Due::Live { objects, so_far: false } },
-        Run { deed, setup: by_bytes, due: Due::Live { objects, so_far: true } },
+        Run { deed, setup: Setup::WHOLE, due: Due::Live { objects } },
+        Run { deed, setup: by_bytes, due: Due::Live { objects } },
     ]
 }
 

@@ -109,7 +109,7 @@ fn read_capture<J: Input>(
         plan,
         sink: Telling::new(alloc),
     };
-    decode(alloc, vcd, scl, sda, least, &mut explaining)?;
+    decode(alloc, vcd, scl, sda, least, &mut explaining, &mut None)?;
     let telling = explaining.sink;
     let captured = telling.finish()?;
     Ok(captured)

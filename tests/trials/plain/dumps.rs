@@ -150,10 +150,18 @@ fn without_last(dump: &[u8]) -> &[u8] {
     &dump[..dump.iter().rposition(is_white).map_or(0, |last| last + 1)]
 }
 
-/// Whether a token is refused behind which something stands. Else a dump that is refused is so at its end.
-pub fn is_refused_within(dump: &[u8], scl: &str, sda: &str) -> bool {
-    let (_, refusal) = changes_until(without_last(dump), scl, sda);
-    matches!(refusal, Some(BadToken(_) | TimeBack(_)))
+/// Where a token of a dump is refused: how many bytes of the dump stand before it, and of its line and one. It is the last token
+/// of the shortest part of the dump that is refused so, with white space behind it.
+pub fn place_of_refusal(dump: &[u8], scl: &str, sda: &str) -> Option<(usize, usize)> {
+    let is_refused = |end: usize| {
+        let (_, refusal) = changes_until(&[&dump[..end], b" "].concat(), scl, sda);
+        matches!(refusal, Some(BadToken(_) | TimeBack(_)))
+    };
+    let ends: Vec<usize> = (1..=dump.len()).filter(|end| dump[*end..].first().is_none_or(is_white)).collect();
+    let end = *ends.get(ends.partition_point(|end| !is_refused(*end)))?;
+    let start = dump[..end].iter().rposition(is_white).map_or(0, |last| last + 1);
+    let line = dump[..start].iter().rposition(|byte| *byte == b'\n').map_or(0, |last| last + 1);
+    Some((start, start - line + 1))
 }
 
 /// Of a dump that comes byte by byte: what happens up to the last time stamp that has ended by a later

@@ -35,7 +35,7 @@ pub use commands::{
     bench, brief, capture, captured_so_far, certify, check, decode, decode_summary, decoded_lines_so_far, expand,
     labels, order, seats, spelling, verify, with_plan, Answer,
 };
-pub use dumps::is_refused_within;
+pub use dumps::place_of_refusal;
 pub use order::Ways;
 pub use pairs::break_of;
 pub use participants::{Participant, Participants};

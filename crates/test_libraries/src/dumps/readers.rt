@@ -62,12 +62,19 @@ fn ended(
     fed: Result<(), VcdError>,
 ) -> Result<String, AllocError> {
     let is_same = fed.is_ok() || reader.feed(b"\n#0 $end ") == fed;
-    match fed.and(reader.end()) {
+    match fed.and(end_of(reader)) {
         Ok(samples) => push_samples(&mut line, samples.as_slice()),
         Err(refusal) if is_same => return format!(in alloc; "{refusal}"),
         Err(_) => line.push("another answer"),
     }
     line.finish()
+}
+
+fn end_of(reader: Reader) -> Result<Vec<Sample>, VcdError> {
+    match reader.end() {
+        Ok(samples) => Ok(samples),
+        Err(refused) => Err(refused.error),
+    }
 }
 
 fn push_samples(line: &mut Text, samples: &[Sample]) {

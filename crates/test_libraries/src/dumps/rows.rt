@@ -73,8 +73,10 @@ fn is_refused_behind(reader: &mut Reader) -> bool {
 fn refused_behind(alloc: Global) -> Result<Option<VcdError>, AllocError> {
     let mut reader = Reader::new(alloc, "scl", "sda")?;
     let is_refused = is_refused_behind(&mut reader);
-    let refusal = reader.end().err();
-    Ok(if is_refused { refusal } else { None })
+    Ok(match reader.end() {
+        Err(refused) if is_refused => Some(refused.error),
+        _ => None,
+    })
 }
 
 #[test]
