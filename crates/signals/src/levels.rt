@@ -4,20 +4,9 @@ use crate::buses::{Bus, Buses, Change};
 use crate::candidates::Candidates;
 use crate::codes::Codes;
 use dump_tokens::tokens::{Place, Sink};
+use dump_tokens::{Part, Parts};
 use std::alloc::{AllocError, Global};
-use std::str;
 use vcd_read::Level;
-
-// What the next token belongs to.
-#[derive(Clone, Copy)]
-enum Doing {
-    // the definitions, and whether `$enddefinitions` has come
-    Defining(bool),
-    Nothing,
-    Skipping,
-    // the code of a change, with its level where it is one of a vector
-    Code(Option<Level>),
-}
 
 // One signal.
 #[derive(Clone, Copy)]
@@ -43,7 +32,7 @@ const UNSEEN: One = One {
 pub(crate) struct Levels {
     codes: Codes,
     candidates: Candidates,
-    doing: Doing,
+    parts: Parts,
     // that of the changes that have not been settled
     time: u64,
     ones: Vec<One>,
@@ -64,8 +53,8 @@ impl Levels {
         Ok(Levels {
             codes,
             candidates,
+            parts: Parts::new(),
             time: 0,
-            doing: Doing::Defining(false),
             ones: vec![in alloc; UNSEEN; count]?,
             touched: Vec::new(alloc),
             changed: Vec::new(alloc),
@@ -134,91 +123,18 @@ impl Levels {
         self.changed.clear();
         Ok(())
     }
-
-    // A time. One that comes again goes on with its time stamp.
-    fn reach(&mut self, digits: &[u8]) -> Result<(), AllocError> {
-        match time_of(digits) {
-            Some(time) if time == self.time => return Ok(()),
-            Some(time) => self.time = time,
-            None => {}
-        }
-        self.settle()
-    }
-
-    // A token among the changes, outside commands.
-    fn outside(&mut self, token: &[u8]) -> Result<(), AllocError> {
-        let Some((first, rest)) = token.split_first() else {
-            return Ok(());
-        };
-        match *first {
-            b'#' => self.reach(rest)?,
-            b'$' => {
-                if !is_mark(token) {
-                    self.doing = Doing::Skipping;
-                }
-            }
-            b'b' | b'B' => self.doing = Doing::Code(last_level(rest)),
-            b'r' | b'R' | b's' | b'S' => self.doing = Doing::Code(None),
-            value => {
-                if let Some(level) = level_of(value) {
-                    self.change(level, rest)?;
-                }
-            }
-        }
-        Ok(())
-    }
-}
-
-fn is_mark(token: &[u8]) -> bool {
-    token == b"$end".as_slice()
-        || token == b"$dumpvars".as_slice()
-        || token == b"$dumpall".as_slice()
-        || token == b"$dumpoff".as_slice()
-        || token == b"$dumpon".as_slice()
-}
-
-// The number that digits make.
-fn time_of(digits: &[u8]) -> Option<u64> {
-    str::from_utf8(digits).ok()?.parse::<u64>().ok()
-}
-
-// The level of the last digit of a vector.
-fn last_level(digits: &[u8]) -> Option<Level> {
-    level_of(*digits.last()?)
-}
-
-fn level_of(value: u8) -> Option<Level> {
-    match value {
-        b'0' => Some(Level::Low),
-        b'1' | b'z' | b'Z' => Some(Level::High),
-        b'x' | b'X' => Some(Level::Unknown),
-        _ => None,
-    }
 }
 
 impl Sink for Levels {
     fn token(&mut self, token: &[u8], _place: Place) -> Result<bool, AllocError> {
-        match self.doing {
-            Doing::Defining(false) => {
-                self.doing = Doing::Defining(token == b"$enddefinitions".as_slice());
+        match self.parts.next(token) {
+            // one that comes again goes on with its time stamp
+            Some(Part::Time(time)) if time != self.time => {
+                self.time = time;
+                self.settle()?;
             }
-            Doing::Defining(true) => {
-                if token == b"$end".as_slice() {
-                    self.doing = Doing::Nothing;
-                }
-            }
-            Doing::Nothing => self.outside(token)?,
-            Doing::Skipping => {
-                if token == b"$end".as_slice() {
-                    self.doing = Doing::Nothing;
-                }
-            }
-            Doing::Code(level) => {
-                self.doing = Doing::Nothing;
-                if let Some(level) = level {
-                    self.change(level, token)?;
-                }
-            }
+            Some(Part::Change(level, code)) => self.change(level, code)?,
+            _ => {}
         }
         Ok(true)
     }

@@ -68,6 +68,9 @@ impl Entries {
 
 impl Listing for Entries {
     fn signal(&mut self, found: Found<'_>) -> Result<(), AllocError> {
+        if !found.can_be_line() {
+            return Ok(());
+        }
         let number = self.codes.add(self.alloc, found.code)?;
         self.declared.enter(self.alloc, found.scope)?;
         self.declared.add(self.alloc, number, found)

@@ -52,7 +52,7 @@ struct Codes {
 
 impl Listing for Codes {
     fn signal(&mut self, found: Found<'_>) -> Result<(), AllocError> {
-        if self.codes.contains(found.code) {
+        if !found.can_be_line() || self.codes.contains(found.code) {
             return Ok(());
         }
         match self.codes.insert(found.code.to_vec(self.alloc)?) {
