@@ -23,4 +23,4 @@ pub use quiet::Quiet;
 pub use scales::Scale;
 pub use times::Time;
 pub use units::Unit;
-pub use windows::{View, Window, has_unit, steps};
+pub use windows::{Limits, View, Window, has_unit, steps};

@@ -1,44 +1,23 @@
-// The changes of a dump, counted signal by signal. Whether the dump is right is for its reader to say.
+// The levels of all signals of one bit, time stamp by time stamp. Whether the dump is right is for its reader to say.
 
-use crate::buses::{Bus, Buses, Change};
 use crate::candidates::Candidates;
 use crate::codes::Codes;
+use crate::lasting::Lasting;
 use dump_tokens::tokens::{Place, Sink};
-use dump_tokens::{Part, Parts};
+use dump_tokens::{Limits, Part, Parts, Scale};
 use std::alloc::{AllocError, Global};
 use vcd_read::Level;
 
-// One signal.
-#[derive(Clone, Copy)]
-struct One {
-    before: Level,
-    now: Level,
-    // whether it has been given a level, and one in this time stamp
-    has_level: bool,
-    is_touched: bool,
-    changes: u64,
-}
-
-const UNSEEN: One = One {
-    before: Level::Unknown,
-    now: Level::Unknown,
-    has_level: false,
-    is_touched: false,
-    changes: 0,
-};
-
-/// The levels of all signals of one bit.
+/// Follows the changes of a dump.
 #[derive(Drop)]
 pub(crate) struct Levels {
-    codes: Codes,
-    candidates: Candidates,
     parts: Parts,
-    // that of the changes that have not been settled
+    codes: Codes,
+    // the time of the stamp that goes on, the levels that were given in it, and of which signals these are
     time: u64,
-    ones: Vec<One>,
-    touched: Vec<usize>,
-    changed: Vec<Change>,
-    buses: Buses,
+    given: Vec<Option<Level>>,
+    touched: Vec<u32>,
+    lasting: Lasting,
 }
 
 impl Levels {
@@ -47,80 +26,54 @@ impl Levels {
         alloc: Global,
         codes: Codes,
         candidates: Candidates,
+        limits: Limits,
+        scale: Option<Scale>,
     ) -> Result<Levels, AllocError> {
         let count = codes.count() as usize;
-        let buses = Buses::new(alloc, candidates.count())?;
+        let lasting = Lasting::new(alloc, count, candidates, limits, scale)?;
         Ok(Levels {
-            codes,
-            candidates,
             parts: Parts::new(),
+            codes,
             time: 0,
-            ones: vec![in alloc; UNSEEN; count]?,
+            given: vec![in alloc; None; count]?,
             touched: Vec::new(alloc),
-            changed: Vec::new(alloc),
-            buses,
+            lasting,
         })
     }
 
-    /// How often the signal with this number changed.
-    pub(crate) fn changes(&self, number: u32) -> u64 {
-        match self.ones.get(number as usize) {
-            Some(one) => one.changes,
-            None => 0,
-        }
-    }
-
-    /// The pairs that look like buses, by the numbers of their signals.
-    pub(crate) fn found(&self, alloc: Global) -> Result<Vec<Bus>, AllocError> {
-        let mut found = self.buses.found(alloc)?;
-        for bus in found.iter_mut() {
-            bus.scl = self.candidates.number(bus.scl);
-            bus.sda = self.candidates.number(bus.sda);
-        }
-        Ok(found)
+    /// What the signals have shown at the end of the dump.
+    pub(crate) fn finish(self) -> Result<Lasting, AllocError> {
+        let mut levels = self;
+        levels.settle()?;
+        let Levels { mut lasting, .. } = levels;
+        lasting.finish()?;
+        Ok(lasting)
     }
 
     fn change(&mut self, level: Level, code: &[u8]) -> Result<(), AllocError> {
         let Some(number) = self.codes.number(code) else {
             return Ok(());
         };
-        let number = number as usize;
-        if let Some(one) = self.ones.get_mut(number) {
-            one.now = level;
-            if !one.is_touched {
-                one.is_touched = true;
+        if let Some(given) = self.given.get_mut(number as usize) {
+            if given.is_none() {
                 self.touched.push(number)?;
             }
+            *given = Some(level);
         }
         Ok(())
     }
 
-    /// The end of a time stamp.
-    pub(crate) fn settle(&mut self) -> Result<(), AllocError> {
+    // The end of a time stamp.
+    fn settle(&mut self) -> Result<(), AllocError> {
+        self.lasting.reach(self.time)?;
         for number in self.touched.iter() {
-            let Some(one) = self.ones.get_mut(*number) else {
-                continue;
-            };
-            one.is_touched = false;
-            let One { before, now, .. } = *one;
-            if one.has_level && before != now {
-                one.changes = one.changes.saturating_add(1);
-            }
-            one.has_level = true;
-            one.before = now;
-            if before != now
-                && let Some(signal) = self.candidates.place(*number)
+            if let Some(given) = self.given.get_mut(*number as usize)
+                && let Some(level) = given.take()
             {
-                self.changed.push(Change {
-                    signal,
-                    before,
-                    now,
-                })?;
+                self.lasting.hear(*number, level)?;
             }
         }
         self.touched.clear();
-        self.buses.stamp(self.changed.as_slice());
-        self.changed.clear();
         Ok(())
     }
 }
@@ -130,8 +83,8 @@ impl Sink for Levels {
         match self.parts.next(token) {
             // one that comes again goes on with its time stamp
             Some(Part::Time(time)) if time != self.time => {
-                self.time = time;
                 self.settle()?;
+                self.time = time;
             }
             Some(Part::Change(level, code)) => self.change(level, code)?,
             _ => {}

@@ -327,12 +327,17 @@ fn push_command<F: Read + Seek + Drop>(
     mut file: F,
     names: Names<'_>,
 ) {
-    let Names { command, vcd, .. } = names;
+    let Names {
+        command,
+        vcd,
+        min_pulse,
+        ..
+    } = names;
     if command.is_empty() {
         return;
     }
     if file.seek(SeekFrom::Start(0)).is_ok() {
-        if let Ok(Some(options)) = bus_options(alloc, &mut Watched::new(file)) {
+        if let Ok(Some(options)) = bus_options(alloc, &mut Watched::new(file), min_pulse) {
             lines.say("two signals look like a bus; try");
             lines.detail(format_args!("{command} {options}"));
             return;

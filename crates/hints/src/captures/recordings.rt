@@ -1,7 +1,7 @@
 // After a list of signals, and after a brief or a page of a capture.
 
 use crate::captures::naming::Names;
-use crate::captures::silence::push_exchanged;
+use crate::captures::silence::{push_exchanged, push_lost_clock};
 use crate::lines::Lines;
 use crate::values::Hints;
 use run_parts::Watched;
@@ -24,7 +24,8 @@ pub fn on_recording<F: Read + Seek + Drop>(
     lines.finish()
 }
 
-/// What to say after a list of signals: of those with the usual names, and of signals that were not looked at.
+/// What to say after a list of signals: of those with the usual names, and of signals that were not looked at. Of the names
+/// only the least time of a level counts.
 pub fn on_signals<F: Read + Seek + Drop>(
     alloc: Global,
     file: Option<F>,
@@ -37,6 +38,7 @@ pub fn on_signals<F: Read + Seek + Drop>(
     };
     let mut lines = Lines::new(alloc);
     if let Some(mut file) = file {
+        push_lost_clock(alloc, &mut lines, &mut file, usual);
         push_exchanged(alloc, &mut lines, &mut file, usual);
         push_candidates(alloc, &mut lines, &mut file);
     }
