@@ -232,7 +232,7 @@ pub fn decode<J: Input, O: Output>(
     };
     Ok(Ended {
         status: selection.status(),
-        remark: Remark::Recording(Recorded::Bus(bus.view.window, selection.seen)),
+        remark: Remark::Recording(Recorded::Bytes(bus.view.window, selection.seen)),
     })
 }
 

@@ -1,7 +1,8 @@
-// After a list of signals, and after a brief or a page of a capture.
+// After a list of signals, after a capture in bytes, and after a brief or a page of it.
 
+use crate::captures::choosing::push_twins;
 use crate::captures::naming::Names;
-use crate::captures::silence::{push_exchanged, push_lost_clock};
+use crate::captures::silence::{push_exchanged, push_lost_clock, push_passed};
 use crate::lines::Lines;
 use crate::values::Hints;
 use run_parts::Watched;
@@ -20,6 +21,21 @@ pub fn on_recording<F: Read + Seek + Drop>(
     let mut lines = Lines::new(alloc);
     if let Some(mut file) = file {
         push_exchanged(alloc, &mut lines, &mut file, names);
+    }
+    lines.finish()
+}
+
+/// What to say after the transactions of a capture in bytes, of which nobody is asked who explains them.
+pub fn on_bytes<F: Read + Seek + Drop>(
+    alloc: Global,
+    file: Option<F>,
+    names: Names<'_>,
+) -> Result<Hints, AllocError> {
+    let mut lines = Lines::new(alloc);
+    if let Some(mut file) = file {
+        push_exchanged(alloc, &mut lines, &mut file, names);
+        push_passed(alloc, &mut lines, &mut file, names);
+        push_twins(alloc, &mut lines, &mut file, names);
     }
     lines.finish()
 }
