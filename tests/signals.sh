@@ -511,15 +511,89 @@ expect "the same by a unit" 1 "$no_clock" "$lost_clock" capture plan two --min-p
 expect "no hint on one that is not" 0 "$first" "" capture plan two --min-pulse 5 --scope top.i2c0 --hints always
 refuses "a pulse of no time" "the value for '--min-pulse <T>' is no time as 15 or 15us" capture plan two --min-pulse 1.5us
 
+# ---- signals without short pulses, and within times: SCL of the first bus rises at 20, 35 and so on to 140, and at 155, and
+# falls at 10, 25 and so on to 145; SDA changes at 5, 15, 30, 60, 75 and 160. Those of the second bus change at 200 to 355.
+
+# shown CHANGES CHANGES CHANGES CHANGES BUSES..: the four signals of the two buses, and these of them.
+shown() {
+    printf '%s\n' "signal ! $1 top.i2c0 scl" "signal \" $2 top.i2c0 sda" "signal # $3 top.i2c1 scl" "signal \$ $4 top.i2c1 sda"
+    (($# == 4)) || printf 'bus %s\n' "${@:5}"
+    echo "4 signals, $(($# - 4)) buses"
+}
+bus_0="1 transactions --scl-code '!' --sda-code '\"'"
+bus_1="1 transactions --scl-code '#' --sda-code '\$'"
+all_of_two=$(shown 20 6 20 4 "$bus_0" "$bus_1")
+expect "signals with a glitch" 0 "$(shown 20 8 20 4 "$bus_1")" "" signals glitch
+expect "signals without it" 0 "$all_of_two" "" signals glitch --min-pulse 2
+expect "signals with one that lasts just so long" 0 "$(shown 20 8 20 4 "$bus_1")" "" signals glitch --min-pulse 1
+expect "signals without a glitch, by a unit" 0 "$all_of_two" "" signals glitch --min-pulse 1001ns
+expect "signals without one that chatters" 0 "$all_of_two" "" signals chatter --min-pulse 2us
+expect "signals without a level that is not known" 0 "$all_of_two" "" signals lost --min-pulse 2
+expect "signals with nothing to leave out" 0 "$all_of_two" "" signals two --min-pulse 5
+expect "signals without a clock" 0 "$(shown 2 6 2 4)" "$lost_clock" signals two --min-pulse 6 --hints always
+expect "no level of a signal lasts so long" 0 "$(shown 0 0 0 0)" "" signals two --min-pulse 1ms
+expect "signals without a glitch, through a pipe" 0 "$all_of_two" "" signals - --min-pulse 2us < <(cat glitch)
+one_bus | sed '$d' >first_runs
+printf '#0 1! 1"\n#2 0"\n#20 1"\n' | cat first_runs - >short_first
+expect "a first run that is short" 0 $'signal ! 0 - scl\nsignal " 2 - sda\n2 signals, 0 buses' "" signals short_first --min-pulse 5
+printf '#0 1! x"\n#100 1"\n#102 0"\n#120 1"\n' | cat first_runs - >short_second
+expect "a second run that is short" 0 $'signal ! 0 - scl\nsignal " 2 - sda\n2 signals, 0 buses' "" signals short_second --min-pulse 5
+printf '#0 1! 1"\n#10 0"\n#12 0!\n#14 1"\n#18 0"\n#20 1!\n#30 1"\n#33 0"' | cat first_runs - >short_last
+expect "a last run that is short" 0 $'signal ! 2 - scl\nsignal " 3 - sda\n2 signals, 0 buses' "" signals short_last --min-pulse 5
+expect "signals from a time on" 0 "$(shown 8 1 20 4 "$bus_1")" "" signals two --from 100
+expect "signals up to a time" 0 "$(shown 13 5 0 0 "$bus_0")" "" signals two --to 100
+expect "signals at the time of a START" 0 "$(shown 0 1 0 0 "$bus_0")" "" signals two --from 5 --to 5us
+expect "signals between two transactions' beginnings" 0 "$(shown 20 5 0 0)" "" signals two --from 5001ns --to 199999ns
+expect "signals within times, and levels that last" 0 "$(shown 0 1 0 0)" "" signals two --min-pulse 6 --from 11 --to 16
+expect "objects within times" 0 '{"kind":"signal","code":"!","changes":8,"scope":"top.i2c0","name":"scl"}
+{"kind":"signal","code":"\"","changes":1,"scope":"top.i2c0","name":"sda"}
+{"kind":"signal","code":"#","changes":20,"scope":"top.i2c1","name":"scl"}
+{"kind":"signal","code":"$","changes":4,"scope":"top.i2c1","name":"sda"}
+{"kind":"bus","transactions":1,"scl_code":"#","sda_code":"$"}
+{"kind":"signals","signals":4,"buses":1}' "" signals two --from 100 --format json
+buses "only parts within times count" "${the_bus/1/9}
+2 signals, 1 buses" broken_half --from 10000
+buses "parts that are all broken" "2 signals, 0 buses" broken_first --to 9999
+busy_time() { transaction ! '"' 100100000 "$1" | awk '{ print } NR == 1 { print "0%" } END { print "1%" }'; }
+{ one_bus '$var wire 1 % busy_n $end'; echo '1%'; busy_time 5; busy_time 505; } >busy_twice
+buses "a signal that is LOW while the bus is busy, from a time on" "$the_bus
+bus 1 transactions --scl-code '!' --sda-code '%'
+3 signals, 2 buses" busy_twice --from 500
+sed '/timescale/d' two >two_no_scale
+expect "a unit without a scale, for signals" 2 "" "refused timescale" signals two_no_scale --from 5us
+expect "a hint on it, for signals" 2 "" "refused timescale
+hint: the capture does not say what its times count: it has no \$timescale
+hint: give times as plain numbers, as they stand in the file" signals two_no_scale --min-pulse 5us --hints always
+expect "plain times without a scale, for signals" 0 "$(shown 8 1 20 4 "$bus_1")" "" signals two_no_scale --from 100
+expect "a unit without a scale, and no signals" 2 "" "refused V1 scl" signals empty --to 5us
+sed '/timescale/d' stray >stray_no_scale
+expect "a unit without a scale, and a token of no kind" 2 "" "refused timescale" signals stray_no_scale --to 5us
+expect "times, and a token of no kind" 2 "" "refused V2 line $(wc -l <stray_no_scale)" signals stray_no_scale --to 5
+expect "a bus that shows without short pulses, in a hint" 2 "" "refused V1 scl
+hint: no signal of one bit has the name 'sck'
+hint: these signals have one bit, the nearest names first:
+hint:   scl
+hint:   sda
+hint: give the name that the line has in the file with --scl NAME
+hint: two signals look like a bus; try
+hint:   twire decode glitch --scl-code '!' --sda-code '\"'" decode glitch --scl sck --min-pulse 2 --hints always
+refuses "a pulse of signals of no time" "the value for '--min-pulse <T>' is no time as 15 or 15us" signals two --min-pulse us
+refuses "a time of signals that is none" "the value for '--from <TIME>' is no time as 15 or 15us" signals two --from 1.5us
+refuses "another time of signals that is none" "the value for '--to <TIME>' is no time as 15 or 15us" signals two --to -1us
+refuses "how times of signals are written" "unexpected argument '--times' found" signals two --times si
+
 # ---- lines that are exchanged
 
 sed 's/ ! scl / ! sda /; s/ " sda / " scl /' <("$tests/../tools/dump" 100100000) >swapped
 swapped_hint="hint: 0 of the transactions have whole bytes; with the two lines exchanged 1
 hint: would: are SCL and SDA exchanged?"
 expect "a hint on exchanged lines, of signals" 0 "$("$twire" signals swapped)" "$swapped_hint" signals swapped --hints always
+expect "a hint on exchanged lines, of bytes" 0 "$("$twire" decode swapped)" "$swapped_hint" decode swapped --hints always
+expect "the same from a time on" 0 "0 transactions" "$swapped_hint" decode swapped --from 200 --hints always
 expect "a hint on exchanged lines, of a lesson" 1 "$("$twire" learn swapped)" "$swapped_hint" learn swapped --hints always
 expect "a hint on exchanged lines, of a page" 1 "$("$twire" page plan --capture swapped)" "$swapped_hint" \
     page plan --capture swapped --hints always
+expect "no hint on lines that are not, of bytes" 0 "$("$twire" decode twice)" "" decode twice --hints always
 expect "no hint on lines that are not" 0 "$("$twire" learn twice)" "" learn twice --hints always
 expect "no hint on signals of other names" 0 "$("$twire" signals blanks)" "" signals blanks --hints always
 

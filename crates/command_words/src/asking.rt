@@ -4,7 +4,7 @@ use crate::building::program;
 use crate::capturing::Options;
 use clap::error::ErrorKind;
 use clap::{ArgMatches, Error};
-use dump_tokens::Bus;
+use dump_tokens::{Bus, Limits};
 use std::alloc::{AllocError, Global};
 
 /// What a command line comes to.
@@ -79,6 +79,7 @@ pub enum Request<'a> {
     /// The signals of a dump.
     Signals {
         vcd: &'a str,
+        limits: Limits,
     },
     /// A brief of what was recorded, where bytes of messages of one shape are put together if `merge` says so.
     Learn {
@@ -216,10 +217,7 @@ fn request_of<'a>(name: &str, matches: &ArgMatches<'a>) -> Result<Request<'a>, F
         "order" => Ok(Request::Order {
             plan: word(matches, "PLAN"),
         }),
-        "signals" => Ok(Request::Signals {
-            vcd: word(matches, "VCD"),
-        }),
-        "capture" | "decode" | "learn" | "page" => recorded_of(name, matches),
+        "capture" | "decode" | "signals" | "learn" | "page" => recorded_of(name, matches),
         "bench" => bench_of(matches),
         _ => Ok(written_of(name, matches)),
     }
@@ -290,7 +288,7 @@ fn written_of<'a>(name: &str, matches: &ArgMatches<'a>) -> Request<'a> {
     }
 }
 
-// What reads a recorded bus.
+// What reads a capture.
 fn recorded_of<'a>(name: &str, matches: &ArgMatches<'a>) -> Result<Request<'a>, Fault> {
     let options = Options::found_in(matches);
     if let Some(fault) = options.fault() {
@@ -302,6 +300,10 @@ fn recorded_of<'a>(name: &str, matches: &ArgMatches<'a>) -> Result<Request<'a>, 
             vcd: word(matches, "VCD"),
             bus: options.bus(),
             live: matches.get_flag("live"),
+        }),
+        "signals" => Ok(Request::Signals {
+            vcd: word(matches, "VCD"),
+            limits: options.limits(),
         }),
         "learn" => Ok(learn_of(matches, options.bus())),
         _ => page_of(matches, options.bus()),

@@ -1,7 +1,7 @@
 // What the options of a capture ask for.
 
 use clap::ArgMatches;
-use dump_tokens::{Bus, BusLines, Time, View, Window};
+use dump_tokens::{Bus, BusLines, Limits, Time, View, Window};
 use vcd_read::Probe;
 
 /// The options of a capture, as they were given.
@@ -48,6 +48,14 @@ impl<'a> Options<'a> {
         }
     }
 
+    /// The limits that they ask for.
+    pub(crate) fn limits(&self) -> Limits {
+        Limits {
+            window: self.window(),
+            min_pulse: time_of(self.min_pulse),
+        }
+    }
+
     fn lines(&self) -> BusLines<'a> {
         BusLines {
             scl: probe_of(self.scl, self.scl_code, "scl"),
@@ -60,12 +68,16 @@ impl<'a> Options<'a> {
     fn view(&self) -> View {
         View {
             at_least: self.at_least,
-            window: Window {
-                from: time_of(self.from),
-                to: time_of(self.to),
-            },
+            window: self.window(),
             si: self.times == Some("si"),
             summary: self.summary,
+        }
+    }
+
+    fn window(&self) -> Window {
+        Window {
+            from: time_of(self.from),
+            to: time_of(self.to),
         }
     }
 

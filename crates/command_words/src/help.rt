@@ -228,6 +228,10 @@ so many transactions, and most have whole bytes. Its options choose the two for
 'twire capture'; so do '--scope top.i2c1', and '--scl' and '--sda' with names.
 Pairs are looked for among 256 codes, names with scl or sda first.
 
+With '--min-pulse' a level that a signal has for less than T is ignored, so that
+a glitch is no START. With '--from' and '--to' changes count that happen then,
+and transactions that begin then, as with 'twire capture'.
+
 Refusals are those of 'twire capture'; V1 says that no signal has one bit.
 Exit status: 0 listed, 2 refused.";
 

@@ -175,7 +175,7 @@ const SIGNALS: Entry = Entry {
     about: "List the signals of a capture, and those that look like a bus",
     usage: None,
     after_help: AFTER_SIGNALS_HELP,
-    arguments: &[VCD],
+    arguments: &[VCD, MIN_PULSE, SINCE, UNTIL],
 };
 
 const LEARN: Entry = Entry {
@@ -369,6 +369,19 @@ const TO: Argument = Argument::Option {
     id: "to",
     value_name: "TIME",
     help: "Transactions that begin at TIME or before",
+};
+
+// Where signals count, and transactions as far as they have some.
+const SINCE: Argument = Argument::Option {
+    id: "from",
+    value_name: "TIME",
+    help: "What changes or begins at TIME or later, as 15us",
+};
+
+const UNTIL: Argument = Argument::Option {
+    id: "to",
+    value_name: "TIME",
+    help: "What changes or begins at TIME or before",
 };
 
 const AT_LEAST: Argument = Argument::Count {

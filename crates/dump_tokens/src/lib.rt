@@ -1,5 +1,5 @@
-//! A dump that is read for people: block by block (`reading`), cut into `tokens`, each with its place. The reader of
-//! `vcd_read` decides what a dump says; here its tokens are shown, named and counted.
+//! A dump that is read for people: block by block (`reading`), cut into `tokens`, each with its place; `parts` has what each
+//! says there. The reader of `vcd_read` decides what a dump says; here its tokens are shown, named and counted.
 //!
 //! Times of a dump (IEEE 1364-2005, 18.2.3.6) are numbers in the unit that its `$timescale` names; people also write them
 //! with a unit of their own. `units` has the parts of a second, `times` reads what people write, and `scales` what stands in
@@ -8,6 +8,7 @@
 #![tactic(auto)]
 
 mod buses;
+mod parts;
 mod quiet;
 pub mod reading;
 mod scales;
@@ -17,8 +18,9 @@ mod units;
 mod windows;
 
 pub use buses::{Bus, BusLines};
+pub use parts::{Part, Parts};
 pub use quiet::Quiet;
 pub use scales::Scale;
 pub use times::Time;
 pub use units::Unit;
-pub use windows::{View, Window, has_unit, steps};
+pub use windows::{Limits, View, Window, has_unit, steps};

@@ -75,6 +75,30 @@ impl View {
     }
 }
 
+/// What counts of what the signals of a dump do.
+#[derive(Clone, Copy)]
+pub struct Limits {
+    /// When a change counts, and when a transaction may begin.
+    pub window: Window,
+    /// A level that lasts less is ignored.
+    pub min_pulse: Option<Time>,
+}
+
+impl Limits {
+    /// All counts.
+    pub fn none() -> Limits {
+        Limits {
+            window: Window::whole(),
+            min_pulse: None,
+        }
+    }
+
+    /// Whether a time has a unit.
+    pub fn has_unit(self) -> bool {
+        self.window.has_unit() || has_unit(self.min_pulse)
+    }
+}
+
 /// Whether it has a unit.
 pub fn has_unit(time: Option<Time>) -> bool {
     match time {

@@ -20,5 +20,5 @@ mod wording;
 pub use choosing::on_choice;
 pub use dumps::on_dump;
 pub use naming::Names;
-pub use recordings::{on_recording, on_signals};
+pub use recordings::{on_bytes, on_recording, on_signals};
 pub use silence::{on_silence, on_unexplained};

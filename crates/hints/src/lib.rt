@@ -35,7 +35,7 @@ mod wording;
 mod words;
 
 pub use captures::{
-    Names, on_choice, on_dump, on_recording, on_signals, on_silence, on_unexplained,
+    Names, on_bytes, on_choice, on_dump, on_recording, on_signals, on_silence, on_unexplained,
 };
 pub use certs::on_certificate;
 pub use devices::{

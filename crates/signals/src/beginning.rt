@@ -1,8 +1,7 @@
 // The definitions of a dump, read ahead of it.
 
 use crate::blocks::{Blocks, read_blocks};
-use crate::definitions::{Definitions, Listing};
-use dump_tokens::Scale;
+use crate::definitions::{Definitions, Header, Listing};
 use dump_tokens::reading::Reading;
 use dump_tokens::tokens::Cutter;
 use run_parts::{Input, RunError};
@@ -60,7 +59,7 @@ pub fn read_beginning<'a, J: Input, L: Listing + Drop>(
     alloc: Global,
     vcd: &'a mut J,
     listing: L,
-) -> Result<(Again<'a, J>, L, Option<Scale>), RunError> {
+) -> Result<(Again<'a, J>, L, Header), RunError> {
     let mut beginning = Beginning {
         text: Vec::new(alloc),
         cutter: Cutter::new(alloc, Definitions::new(alloc, listing)),
@@ -75,8 +74,8 @@ pub fn read_beginning<'a, J: Input, L: Listing + Drop>(
     };
     match cutter.finish() {
         Ok((definitions, _)) => {
-            let scale = definitions.scale();
-            Ok((again, definitions.into_listing(), scale))
+            let (listing, header) = definitions.finish();
+            Ok((again, listing, header))
         }
         Err(_) => Err(RunError::NoMemory),
     }

@@ -14,7 +14,7 @@ pub(crate) struct Change {
     pub(crate) now: Level,
 }
 
-/// Two signals that look like the two lines of a bus, and how many of its transactions a STOP ended.
+/// Two signals that look like the two lines of a bus, and how many of its transactions that count a STOP ended.
 #[derive(Clone, Copy)]
 pub(crate) struct Bus {
     pub(crate) scl: usize,
@@ -27,25 +27,30 @@ pub(crate) struct Bus {
 struct Pair {
     // how often SCL had risen at the last START or repeated START
     rises: u64,
+    // how many transactions a STOP ended, and how many of these count
+    ended: u32,
     stopped: u32,
-    // from START or repeated START to the next of these or to STOP: those of whole bytes, and others
+    // of those that count, from START or repeated START to the next of these or to STOP: those of whole bytes, and others
     whole: u32,
     broken: u32,
 }
 
 const UNSEEN: Pair = Pair {
     rises: 0,
+    ended: 0,
     stopped: 0,
     whole: 0,
     broken: 0,
 };
 
-// One signal: as SDA, those that may be its SCL, and those with which the bus is free, and busy.
+// One signal: as SDA, those that may be its SCL, those with which the bus is free, and busy, and those with which its last
+// transaction counts.
 #[derive(Clone, Copy)]
 struct Signal {
     likely: Mask,
     free: Mask,
     busy: Mask,
+    counted: Mask,
     // those that were LOW whenever this one came to LOW, and those that were not LOW whenever this one left it
     low_with: Mask,
     left_with: Mask,
@@ -80,6 +85,7 @@ impl Buses {
             likely: all,
             free: Mask::empty(),
             busy: Mask::empty(),
+            counted: Mask::empty(),
             low_with: all,
             left_with: all,
             rises: 0,
@@ -93,8 +99,8 @@ impl Buses {
         })
     }
 
-    /// The changes of a time stamp, each of another signal.
-    pub(crate) fn stamp(&mut self, changes: &[Change]) {
+    /// The changes of a time stamp, each of another signal, and whether transactions count that begin then.
+    pub(crate) fn stamp(&mut self, changes: &[Change], counts: bool) {
         let was_high = self.high;
         for change in changes {
             self.known.set(change.signal, change.now != Level::Unknown);
@@ -104,7 +110,7 @@ impl Buses {
         let low = self.known.without(&self.high);
         for change in changes {
             self.compare(change, &low);
-            self.change(change, &stays_high);
+            self.change(change, &stays_high, counts);
         }
     }
 
@@ -119,10 +125,10 @@ impl Buses {
         }
     }
 
-    fn change(&mut self, change: &Change, stays_high: &Mask) {
+    fn change(&mut self, change: &Change, stays_high: &Mask, counts: bool) {
         let signal = change.signal;
         match (change.before, change.now) {
-            (Level::High, Level::Low) => self.falls(signal, stays_high),
+            (Level::High, Level::Low) => self.falls(signal, stays_high, counts),
             (Level::Low, Level::High) => {
                 self.stops(signal, stays_high);
                 if let Some(own) = self.signals.get_mut(signal) {
@@ -136,23 +142,28 @@ impl Buses {
     }
 
     // SDA falls: a START on a free bus, and a repeated START on a busy one.
-    fn falls(&mut self, sda: usize, stays_high: &Mask) {
+    fn falls(&mut self, sda: usize, stays_high: &Mask, counts: bool) {
         let Some(own) = self.signals.get_mut(sda) else {
             return;
         };
         let Signal { free, busy, .. } = *own;
         let scls = stays_high.and(&own.likely);
-        let mut again = scls.and(&busy);
         let begun = scls.and(&free);
         own.free = free.without(&begun);
         own.busy = busy.or(&begun);
+        own.counted = if counts {
+            own.counted.or(&begun)
+        } else {
+            own.counted.without(&begun)
+        };
+        let mut again = scls.and(&busy).and(&own.counted);
+        let mut started = scls.and(&own.busy).and(&own.counted);
         for _ in 0..MOST {
             let Some(scl) = again.take_least() else {
                 break;
             };
             self.part_ends(scl, sda);
         }
-        let mut started = scls.and(&busy.or(&free));
         for _ in 0..MOST {
             let Some(scl) = started.take_least() else {
                 break;
@@ -166,7 +177,12 @@ impl Buses {
         let Some(own) = self.signals.get_mut(sda) else {
             return;
         };
-        let Signal { free, busy, .. } = *own;
+        let Signal {
+            free,
+            busy,
+            counted,
+            ..
+        } = *own;
         let scls = stays_high.and(&own.likely);
         own.free = free.or(&scls);
         own.busy = busy.without(&scls);
@@ -175,10 +191,14 @@ impl Buses {
             let Some(scl) = ended.take_least() else {
                 break;
             };
+            let is_counted = counted.has(scl);
             if let Some(pair) = self.pair(scl, sda) {
-                pair.stopped = pair.stopped.saturating_add(1);
+                pair.ended = pair.ended.saturating_add(1);
+                pair.stopped = pair.stopped.saturating_add(u32::from(is_counted));
             }
-            self.part_ends(scl, sda);
+            if is_counted {
+                self.part_ends(scl, sda);
+            }
         }
     }
 
@@ -211,6 +231,12 @@ impl Buses {
     fn pair(&mut self, scl: usize, sda: usize) -> Option<&mut Pair> {
         self.pairs
             .get_mut(sda.saturating_mul(self.count).saturating_add(scl))
+    }
+
+    // What the two have shown.
+    fn shown(&self, scl: usize, sda: usize) -> Option<&Pair> {
+        self.pairs
+            .get(sda.saturating_mul(self.count).saturating_add(scl))
     }
 
     // As SDA it is on no bus, free or busy, with any other signal.
@@ -248,8 +274,8 @@ impl Buses {
         }
     }
 
-    /// The pairs that look like a bus: some transaction was ended by a STOP, more parts have whole bytes than not, SDA
-    /// rises no more often than SCL, and they are no other pair's lines, in whole or in what one device pulls.
+    /// The pairs that look like a bus: some transaction that counts was ended by a STOP, more parts of these have whole bytes
+    /// than not, SDA rises no more often than SCL, and they are no other pair's lines, in whole or in what one device pulls.
     pub(crate) fn found(&self, alloc: Global) -> Result<Vec<Bus>, AllocError> {
         let alike = self.alike(alloc)?;
         let mut found = Vec::new(alloc);
@@ -276,15 +302,13 @@ impl Buses {
 }
 
 impl Buses {
-    // How many transactions of the two were ended by a STOP, where they look like a bus. For each bit SCL rises once, and
-    // SDA once at most.
+    // How many transactions of the two that count were ended by a STOP, where they look like a bus. For each bit SCL rises
+    // once, and SDA once at most.
     fn stopped(&self, scl: usize, sda: usize) -> Option<u32> {
         if self.rises(sda)? > self.rises(scl)? {
             return None;
         }
-        let pair = self
-            .pairs
-            .get(sda.saturating_mul(self.count).saturating_add(scl))?;
+        let pair = self.shown(scl, sda)?;
         (pair.stopped > 0 && pair.whole > pair.broken).then_some(pair.stopped)
     }
 
@@ -307,9 +331,9 @@ impl Buses {
 
     // Whether SDA rises at other times than STOPs. A signal that does not may say that a bus is busy, and have no bytes.
     fn sends_ones(&self, bus: &Bus) -> bool {
-        match self.rises(bus.sda) {
-            Some(rises) => rises > u64::from(bus.stopped),
-            None => false,
+        match (self.rises(bus.sda), self.shown(bus.scl, bus.sda)) {
+            (Some(rises), Some(pair)) => rises > u64::from(pair.ended),
+            _ => false,
         }
     }
 

@@ -1,10 +1,10 @@
 //! The signals of a dump, as people see them: in their scopes, by the whole of their names, with what they show.
 //!
-//! `blocks` reads a dump block by block. `definitions` follows the definitions of a dump token by token, and `beginning` reads
-//! them ahead of the dump and gives them back before the rest. `picking` finds the codes of the two lines of a bus there, by
+//! `blocks` reads a dump block by block. `definitions` finds the signals that its definitions declare, and `beginning` reads
+//! these ahead of the dump and gives them back before the rest. `picking` finds the codes of the two lines of a bus there, by
 //! names and a scope. `listing` has what `twire signals` finds: the signals (`codes` finds them again by their codes), their
-//! changes (`levels`), and the pairs that are the two lines of a bus (`buses`, among `candidates`, with `masks` for sets of
-//! signals). What a dump says, and why it is refused, is decided by the reader of `vcd_read` alone. `lessons` is what `twire
+//! levels by time stamps (`levels`), what these show that last (`lasting`, with `waiting` for those that have still to), and the
+//! pairs that are the two lines of a bus (`buses`, among `candidates`, with `masks` for sets of signals). What a dump says, and why it is refused, is decided by the reader of `vcd_read` alone. `lessons` is what `twire
 //! learn` makes of the transactions of a dump: a brief.
 #![tactic(auto)]
 
@@ -15,16 +15,18 @@ mod candidates;
 mod codes;
 mod definitions;
 mod dumps;
+mod lasting;
 mod lessons;
 mod levels;
 mod listing;
 mod masks;
 mod picking;
+mod waiting;
 
 pub use beginning::{Again, read_beginning};
-pub use definitions::{Found, Listing};
+pub use definitions::{Found, Header, Listing};
 pub use dumps::Dump;
 pub use lessons::{Learned, Sights, brief_of};
-pub use listing::{Listed, Pair, Signal, bus_options, find_signals};
+pub use listing::{Listed, Pair, Signal, SignalDump, bus_options};
 pub use masks::MOST as CANDIDATES;
 pub use picking::{Picked, needs_picking, pick};

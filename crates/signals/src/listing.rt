@@ -1,19 +1,21 @@
 // The signals of a dump, and the pairs of them that look like a bus.
 
-use crate::beginning::read_beginning;
+use crate::beginning::{Again, read_beginning};
 use crate::blocks::{Blocks, read_all};
 use crate::buses::Bus;
 use crate::candidates::{Candidates, Choosing, is_like_line};
 use crate::codes::Codes;
 use crate::definitions::{Found, Listing};
+use crate::lasting::Lasting;
 use crate::levels::Levels;
 use dump_tokens::reading::Reading;
 use dump_tokens::tokens::Cutter;
+use dump_tokens::{Limits, Scale, Time, Window};
 use growing_text::Text;
 use run_parts::{Input, RunError, Watched};
 use std::alloc::{AllocError, Global};
 use std::str;
-use vcd_read::{Probe, Reader};
+use vcd_read::{Probe, Reader, Wrong};
 
 // How many bytes of a scope are shown: the last ones, from a point on where there is one.
 const SHOWN: usize = 200;
@@ -68,6 +70,9 @@ impl Entries {
 
 impl Listing for Entries {
     fn signal(&mut self, found: Found<'_>) -> Result<(), AllocError> {
+        if !found.can_be_line() {
+            return Ok(());
+        }
         let number = self.codes.add(self.alloc, found.code)?;
         self.declared.enter(self.alloc, found.scope)?;
         self.declared.add(self.alloc, number, found)
@@ -184,7 +189,7 @@ fn is_point(byte: &u8) -> bool {
 #[derive(Drop)]
 pub struct Listed {
     declared: Declared,
-    levels: Levels,
+    shown: Lasting,
     buses: Vec<Bus>,
 }
 
@@ -192,7 +197,7 @@ pub struct Listed {
 #[derive(Drop)]
 pub struct Signal {
     pub code: String,
-    /// How often the level after a time stamp differs from before.
+    /// How often the level after a time stamp differs from before, as far as that counts.
     pub changes: u64,
     /// The names of the scopes around it, joined by points; of a long path the end, after `..`.
     pub scope: Option<String>,
@@ -202,54 +207,81 @@ pub struct Signal {
 /// Two signals that look like the two lines of a bus.
 #[derive(Drop)]
 pub struct Pair {
-    /// How many transactions a STOP ended.
+    /// How many transactions that count a STOP ended.
     pub transactions: u32,
     /// The codes of the two.
     pub scl: String,
     pub sda: String,
 }
 
-/// Reads a dump to its end, and finds its signals.
-///
-/// # Errors
-///
-/// `Read` where the reader failed or gave no end, `Vcd` with the first refusal of the dump, where V1 says that it has
-/// no signal of one bit. `NoMemory` where an allocation fails.
-pub fn find_signals<J: Input>(alloc: Global, vcd: &mut J) -> Result<Listed, RunError> {
-    let entries = Entries::new(alloc)?;
-    let (again, entries, _) = read_beginning(alloc, vcd, entries)?;
-    let Entries {
-        codes,
-        declared,
-        ..
-    } = entries;
-    match levels_of(alloc, &mut Watched::new(again), codes, &declared) {
-        Ok(levels) => listed_of(alloc, declared, levels),
-        Err(error) => Err(error),
-    }
-}
-
-fn listed_of(alloc: Global, declared: Declared, levels: Levels) -> Result<Listed, RunError> {
-    match levels.found(alloc) {
-        Ok(buses) => Ok(Listed {
-            declared,
-            levels,
-            buses,
-        }),
-        Err(error) => Err(RunError::from(error)),
-    }
-}
-
-// The levels of these signals, which have these codes.
-fn levels_of<J: Input>(
-    alloc: Global,
-    vcd: &mut J,
+/// A dump whose definitions have been read.
+#[derive(Drop)]
+pub struct SignalDump<'a, J> {
+    again: Again<'a, J>,
     codes: Codes,
-    declared: &Declared,
-) -> Result<Levels, RunError> {
-    let mut changes = Changes::new(alloc, codes, declared)?;
-    read_all(alloc, vcd, &mut changes)?;
-    changes.finish()
+    declared: Declared,
+    scale: Option<Scale>,
+}
+
+impl<'a, J: Input> SignalDump<'a, J> {
+    /// Reads the definitions of a dump.
+    ///
+    /// # Errors
+    ///
+    /// `Read` where the reader fails, and `NoMemory`.
+    pub fn open(alloc: Global, vcd: &'a mut J) -> Result<SignalDump<'a, J>, RunError> {
+        let entries = Entries::new(alloc)?;
+        let (again, entries, header) = read_beginning(alloc, vcd, entries)?;
+        let Entries {
+            codes,
+            declared,
+            ..
+        } = entries;
+        Ok(SignalDump {
+            again,
+            codes,
+            declared,
+            scale: header.scale,
+        })
+    }
+
+    /// Whether the definitions have a signal of one bit, and do not say what the numbers of the dump count.
+    pub fn lacks_scale(&self) -> bool {
+        !self.declared.entries.is_empty() && self.scale.is_none()
+    }
+
+    /// Reads the dump to its end, and finds its signals, within these limits. What is wrong with a dump that is refused is told
+    /// beside the refusal.
+    ///
+    /// # Errors
+    ///
+    /// `Read` where the reader failed or gave no end, `Vcd` with the first refusal of the dump, where V1 says that it has
+    /// no signal of one bit. `NoMemory` where an allocation fails.
+    pub fn find(
+        self,
+        alloc: Global,
+        limits: Limits,
+        wrong: &mut Option<Wrong>,
+    ) -> Result<Listed, RunError> {
+        let SignalDump {
+            again,
+            codes,
+            declared,
+            scale,
+        } = self;
+        let mut changes = Changes::new(alloc, codes, &declared, limits, scale)?;
+        if let Err(error) = read_all(alloc, &mut Watched::new(again), &mut changes) {
+            *wrong = changes.reader.take_wrong();
+            return Err(error);
+        }
+        let shown = changes.finish(wrong)?;
+        let buses = shown.found(alloc)?;
+        Ok(Listed {
+            declared,
+            shown,
+            buses,
+        })
+    }
 }
 
 // A dump that is read, and its levels.
@@ -261,26 +293,32 @@ struct Changes {
 
 impl Changes {
     // The reader of two lines, for which one signal is both, refuses what it refuses.
-    fn new(alloc: Global, codes: Codes, declared: &Declared) -> Result<Changes, AllocError> {
+    fn new(
+        alloc: Global,
+        codes: Codes,
+        declared: &Declared,
+        limits: Limits,
+        scale: Option<Scale>,
+    ) -> Result<Changes, AllocError> {
         let probe = declared.probe();
         let reader = Reader::of(alloc, probe, probe)?;
         let candidates = declared.candidates(alloc)?;
-        let levels = Levels::new(alloc, codes, candidates)?;
+        let levels = Levels::new(alloc, codes, candidates, limits, scale)?;
         Ok(Changes {
             reader,
             cutter: Cutter::new(alloc, levels),
         })
     }
 
-    // The levels of a dump that its reader does not refuse.
-    fn finish(self) -> Result<Levels, RunError> {
+    // What the signals of a dump have shown that its reader does not refuse.
+    fn finish(self, wrong: &mut Option<Wrong>) -> Result<Lasting, RunError> {
         let Changes { reader, cutter } = self;
-        if let Err(ended) = reader.end() {
-            return Err(RunError::from(ended.error));
+        if let Err(refused) = reader.end() {
+            *wrong = refused.wrong;
+            return Err(RunError::from(refused.error));
         }
-        let (mut levels, _) = cutter.finish()?;
-        levels.settle()?;
-        Ok(levels)
+        let (levels, _) = cutter.finish()?;
+        Ok(levels.finish()?)
     }
 }
 
@@ -295,14 +333,22 @@ impl Blocks for Changes {
     }
 }
 
-/// The options that choose the first pair of signals of a dump that looks like a bus: by names where these are plain and no
-/// other signal of one bit has them, and else by codes.
+/// The options that choose the first pair of signals of a dump that looks like a bus, without levels that last less than this
+/// time: by names where these are plain and no other signal of one bit has them, and else by codes.
 ///
 /// # Errors
 ///
-/// Those of `find_signals`.
-pub fn bus_options<J: Input>(alloc: Global, vcd: &mut J) -> Result<Option<String>, RunError> {
-    let listed = find_signals(alloc, vcd)?;
+/// Those of `SignalDump`.
+pub fn bus_options<J: Input>(
+    alloc: Global,
+    vcd: &mut J,
+    min_pulse: Option<Time>,
+) -> Result<Option<String>, RunError> {
+    let limits = Limits {
+        window: Window::whole(),
+        min_pulse,
+    };
+    let listed = SignalDump::open(alloc, vcd)?.find(alloc, limits, &mut None)?;
     match listed.options(alloc) {
         Ok(options) => Ok(options),
         Err(error) => Err(RunError::from(error)),
@@ -335,7 +381,7 @@ impl Listed {
     fn signal_of(&self, alloc: Global, entry: &Entry) -> Result<Signal, AllocError> {
         Ok(Signal {
             code: shown(alloc, entry.code.as_slice())?,
-            changes: self.levels.changes(entry.number),
+            changes: self.shown.changes(entry.number),
             scope: self.scope_of(alloc, entry)?,
             name: shown(alloc, entry.name.as_slice())?,
         })
@@ -431,7 +477,7 @@ impl Listed {
         text.push("signal ");
         push_bytes(text, entry.code.as_slice());
         text.push(" ");
-        text.push_number(self.levels.changes(entry.number));
+        text.push_number(self.shown.changes(entry.number));
         text.push(" ");
         match self.declared.scopes.get(entry.scope) {
             Some(scope) if !scope.end.is_empty() => push_scope(text, scope),

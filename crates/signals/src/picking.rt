@@ -76,8 +76,8 @@ pub fn pick<'a, J: Input>(
         sda: Sought::new(sda),
         scope,
     };
-    let (again, picker, scale) = read_beginning(alloc, vcd, picker)?;
-    Ok((again, picker.into_picked(scale)))
+    let (again, picker, header) = read_beginning(alloc, vcd, picker)?;
+    Ok((again, picker.into_picked(header.scale)))
 }
 
 // What is looked for among the signals.
@@ -118,7 +118,7 @@ impl<'a> Sought<'a> {
             Probe::Named(name) => in_scope && found.is_called(name),
             Probe::Coded(code) => found.code == code.as_bytes(),
         };
-        if is_it && self.code.is_none() {
+        if is_it && found.can_be_line() && self.code.is_none() {
             self.code = Some(found.code.to_vec(alloc)?);
         }
         Ok(())

@@ -8,8 +8,8 @@ use dump_tokens::BusLines;
 use explain::Seen;
 use growing_text::Text;
 use hints::{
-    Hints, Named, Names, file_word, on_brief, on_certificate, on_choice, on_closed_input, on_dump,
-    on_fault, on_memory, on_no_brief, on_no_timescale, on_opening, on_plan, on_reading,
+    Hints, Named, Names, file_word, on_brief, on_bytes, on_certificate, on_choice, on_closed_input,
+    on_dump, on_fault, on_memory, on_no_brief, on_no_timescale, on_opening, on_plan, on_reading,
     on_recording, on_signals, on_silence, on_starters, on_unexplained, on_workers, on_writing,
 };
 use report::{Probe, RunError, Status};
@@ -242,6 +242,10 @@ fn on_recorded<F: Read + Seek + Drop>(
         }
         // what was left out by its time says nothing of the lines
         Recorded::Bus(..) => on_choice(alloc, vcd, names),
+        Recorded::Bytes(window, seen) if window.is_whole() && seen.stopped == 0 => {
+            on_bus(alloc, vcd, names, status, seen)
+        }
+        Recorded::Bytes(..) => on_bytes(alloc, vcd, names),
         Recorded::Signals => on_signals(alloc, vcd, names),
         Recorded::Other => on_recording(alloc, vcd, names),
     }

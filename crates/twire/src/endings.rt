@@ -44,8 +44,10 @@ pub enum Remark {
 /// What is made of a dump.
 #[derive(Clone, Copy)]
 pub enum Recorded {
-    /// These are its transactions that begin within these times.
+    /// These are its transactions that begin within these times, and who explains them was asked.
     Bus(Window, Seen),
+    /// The same in bytes.
+    Bytes(Window, Seen),
     /// Its signals were listed.
     Signals,
     /// It was made into a brief or a page.

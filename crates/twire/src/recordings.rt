@@ -3,13 +3,13 @@
 use crate::endings::{Ended, Halt, Recorded, Remark};
 use crate::outputs::Style;
 use decoding::Explaining;
-use dump_tokens::{Bus, BusLines, Quiet};
+use dump_tokens::{Bus, BusLines, Limits, Quiet};
 use explain::{CaptureLines, DecodeLines, Layout, Paint, Seen, Selection};
 use objects::{CaptureObjects, DecodeObjects, write_signals};
 use plan_core::Plan;
 use report::{CaptureReport, Input, Output, RunError, Status, Telling, find_plan};
 use run_parts::write_lines;
-use signals::{Dump, Learned, Listed, Sights, brief_of, find_signals, needs_picking};
+use signals::{Dump, Learned, Listed, Sights, SignalDump, brief_of, needs_picking};
 use std::alloc::Global;
 use std::thread::Threads;
 
@@ -267,7 +267,7 @@ pub fn decode<J: Input, O: Output>(
     match told {
         Ok(selection) => Ok(Ended {
             status: selection.status(),
-            remark: Remark::Recording(Recorded::Bus(bus.view.window, selection.seen)),
+            remark: Remark::Recording(Recorded::Bytes(bus.view.window, selection.seen)),
         }),
         Err(error) => Err(halted(dump, error)),
     }
@@ -320,14 +320,24 @@ pub fn learn<J: Input, O: Output>(
     })
 }
 
-/// Lists the signals of the dump that the reader gives.
+/// Lists the signals of the dump that the reader gives, within these limits. Where a time has a unit it has to say what its
+/// numbers count; that it has no signals is for its reader to say.
 pub fn list_signals<J: Input, O: Output>(
     alloc: Global,
     vcd: &mut J,
     out: &mut O,
+    limits: Limits,
     style: Style,
 ) -> Result<Ended, Halt> {
-    let listed = find_signals(alloc, vcd)?;
+    let dump = SignalDump::open(alloc, vcd)?;
+    if limits.has_unit() && dump.lacks_scale() {
+        return Err(Halt::NoTimescale);
+    }
+    let mut wrong = None;
+    let listed = match dump.find(alloc, limits, &mut wrong) {
+        Ok(listed) => listed,
+        Err(error) => return Err(Halt::Dump(error, wrong)),
+    };
     write_listed(alloc, &listed, out, style)?;
     Ok(Ended {
         status: Status::Good,

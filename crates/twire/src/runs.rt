@@ -133,7 +133,7 @@ fn files_of(request: Request<'_>) -> Option<(&str, &str)> {
         Request::Check { plan, .. } | Request::Certify { plan, .. } => Some((plan, plan)),
         Request::Verify { plan, cert, .. } => Some((plan, cert)),
         Request::Capture { plan, vcd, .. } => Some((plan, vcd)),
-        Request::Decode { vcd, .. } | Request::Signals { vcd } | Request::Learn { vcd, .. } => {
+        Request::Decode { vcd, .. } | Request::Signals { vcd, .. } | Request::Learn { vcd, .. } => {
             Some((vcd, vcd))
         }
         Request::Page { plan, capture, .. } => Some((plan, capture.unwrap_or(plan))),

@@ -12,7 +12,7 @@ use crate::rehearsals::{Play, bench, bench_alone};
 use crate::rewriting::Rewriting;
 use crate::runs::Extras;
 use command_words::Request;
-use dump_tokens::Bus;
+use dump_tokens::{Bus, BusLines, Limits};
 use hints::Named;
 use report::{Input, Output};
 use std::rt::Files;
@@ -36,7 +36,7 @@ pub enum Over<'a> {
     Rewrite(Rewriting),
     Bench(Play<'a>),
     Decode { bus: Bus<'a>, live: bool },
-    Signals,
+    Signals(Limits),
     Learn { bus: Bus<'a>, merge: bool },
 }
 
@@ -124,7 +124,9 @@ pub fn task_of<'a>(request: Request<'a>) -> Task<'a> {
             bench_of(the_plan(plan), cert, play)
         }
         Request::Order { plan } => Task::One(the_plan(plan), Over::Order, Form::Plain),
-        Request::Signals { vcd } => Task::One(the_capture(vcd), Over::Signals, Form::Plain),
+        Request::Signals { vcd, limits } => {
+            Task::One(the_capture(vcd), Over::Signals(limits), Form::Plain)
+        }
         Request::Learn {
             vcd,
             bus,
@@ -226,7 +228,7 @@ impl<'a> Over<'a> {
             Over::Rewrite(rewriting) => rewriting.run(rt.alloc(), text, out),
             Over::Bench(play) => bench_alone(rt, text, out, play, extras, canvas),
             Over::Decode { bus, live } => decode(rt.alloc(), text, out, bus, live, extras.style()),
-            Over::Signals => list_signals(rt.alloc(), text, out, extras.style()),
+            Over::Signals(limits) => list_signals(rt.alloc(), text, out, limits, extras.style()),
             Over::Learn { bus, merge } => learn(rt.alloc(), text, out, bus, merge),
         }
     }
@@ -254,7 +256,13 @@ impl<'a> Over<'a> {
             Over::Decode { bus, .. } => {
                 About::recording(names_of(bus.lines, path), ["twire decode", path, "", ""])
             }
-            Over::Signals => About::recording(names_of(no_lines(), path), ["", "", "", ""]),
+            Over::Signals(limits) => {
+                let lines = BusLines {
+                    min_pulse: limits.min_pulse,
+                    ..no_lines()
+                };
+                About::recording(names_of(lines, path), ["", "", "", ""])
+            }
             Over::Learn { bus, .. } => {
                 About::recording(names_of(bus.lines, path), ["twire learn", path, "", ""])
             }

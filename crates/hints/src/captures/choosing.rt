@@ -97,7 +97,7 @@ impl<'a> Twin<'a> {
     }
 
     fn see(&mut self, alloc: Global, found: Found<'_>) -> Result<(), AllocError> {
-        if !is_named(found, self.probe) || self.codes.contains(found.code) {
+        if !found.can_be_line() || !is_named(found, self.probe) || self.codes.contains(found.code) {
             return Ok(());
         }
         if self.codes.insert(found.code.to_vec(alloc)?).is_err() {

@@ -1,15 +1,12 @@
 // The names of the signals of a dump, for those who gave one that is not there.
 
-use crate::captures::judging::{Judge, Said};
 use crate::captures::scoping::push_scopes;
 use crate::likeness::Nearest;
 use crate::lines::Lines;
 use crate::marking::push_name;
-use dump_tokens::reading::read_again;
-use dump_tokens::tokens::{Cutter, KEPT, Place, Sink};
 use dump_tokens::{Scale, Time};
 use run_parts::Watched;
-use signals::{Found, Picked, bus_options, needs_picking, pick};
+use signals::{Found, Listing, Picked, bus_options, needs_picking, pick, read_beginning};
 use std::alloc::{AllocError, Global};
 use std::io::{Read, Seek, SeekFrom};
 use vcd_read::{Probe, Reader, Signal};
@@ -119,10 +116,10 @@ impl<'a> Wanted<'a> {
         }
     }
 
-    fn see(&mut self, found: Found<'_>, one_bit: bool) {
+    fn see(&mut self, found: Found<'_>) {
         if is_named(found, self.probe) {
-            self.is_there = self.is_there || one_bit;
-            self.is_wide = self.is_wide || !one_bit;
+            self.is_there = self.is_there || found.one_bit;
+            self.is_wide = self.is_wide || !found.one_bit;
         }
     }
 }
@@ -135,18 +132,14 @@ pub(crate) fn is_named(found: Found<'_>, probe: Probe<'_>) -> bool {
     }
 }
 
-// The signals of one bit that a dump declares.
+// The signals that a dump declares.
 #[derive(Drop)]
 struct Declared<'a> {
     alloc: Global,
-    judge: Judge,
     scl: Wanted<'a>,
     sda: Wanted<'a>,
+    // among the names of those of one bit
     nearest: Nearest<'a>,
-    // the name that goes on, how much of it is the reference, and whether the signal has one bit
-    name: Vec<u8>,
-    reference: usize,
-    one_bit: bool,
     // whether the definitions come to their end
     have_ended: bool,
 }
@@ -155,46 +148,11 @@ impl<'a> Declared<'a> {
     fn new(alloc: Global, names: Names<'a>, signal: Signal) -> Declared<'a> {
         Declared {
             alloc,
-            judge: Judge::new(),
             scl: Wanted::new(names.scl),
             sda: Wanted::new(names.sda),
             nearest: Nearest::new(alloc, word_of(names.of(signal)).as_bytes()),
-            name: Vec::new(alloc),
-            reference: 0,
-            one_bit: false,
             have_ended: false,
         }
-    }
-
-    fn begin_name(&mut self, token: &[u8], one_bit: bool) -> Result<(), AllocError> {
-        self.reference = token.len();
-        self.one_bit = one_bit;
-        self.name.clear();
-        self.name.extend_from_slice(token)
-    }
-
-    fn go_on(&mut self, token: &[u8]) -> Result<(), AllocError> {
-        if self.name.len().saturating_add(token.len()) < KEPT {
-            self.name.push(b' ')?;
-            self.name.extend_from_slice(token)?;
-        }
-        Ok(())
-    }
-
-    fn end_name(&mut self) -> Result<(), AllocError> {
-        let name = self.name.as_slice();
-        let found = Found {
-            scope: &[],
-            code: &[],
-            reference: name.get(..self.reference).unwrap_or(name),
-            name,
-        };
-        self.scl.see(found, self.one_bit);
-        self.sda.see(found, self.one_bit);
-        if self.one_bit {
-            self.nearest.add(self.alloc, name)?;
-        }
-        Ok(())
     }
 
     fn is_wide(&self, signal: Signal) -> bool {
@@ -205,20 +163,14 @@ impl<'a> Declared<'a> {
     }
 }
 
-impl Sink for Declared<'_> {
-    fn token(&mut self, token: &[u8], place: Place) -> Result<bool, AllocError> {
-        match self.judge.token(token, place) {
-            Said::Nothing => {}
-            Said::Name { one_bit } => self.begin_name(token, one_bit)?,
-            Said::More => self.go_on(token)?,
-            Said::Named => self.end_name()?,
-            Said::Defined => {
-                self.have_ended = true;
-                return Ok(false);
-            }
-            Said::Wrong(_) => return Ok(false),
+impl Listing for Declared<'_> {
+    fn signal(&mut self, found: Found<'_>) -> Result<(), AllocError> {
+        self.scl.see(found);
+        self.sda.see(found);
+        if found.one_bit {
+            self.nearest.add(self.alloc, found.name)?;
         }
-        Ok(true)
+        Ok(())
     }
 }
 
@@ -274,12 +226,15 @@ fn read_declared<'a, F: Read + Seek + Drop>(
     names: Names<'a>,
     signal: Signal,
 ) -> Option<Declared<'a>> {
-    let mut cutter = Cutter::new(alloc, Declared::new(alloc, names, signal));
-    if read_again(alloc, file, &mut cutter).is_err() {
+    if file.seek(SeekFrom::Start(0)).is_err() {
         return None;
     }
-    match cutter.finish() {
-        Ok((declared, _)) => Some(declared),
+    let declared = Declared::new(alloc, names, signal);
+    match read_beginning(alloc, &mut Watched::new(file), declared) {
+        Ok((_, mut declared, header)) => {
+            declared.have_ended = header.is_whole;
+            Some(declared)
+        }
         Err(_) => None,
     }
 }
@@ -372,12 +327,17 @@ fn push_command<F: Read + Seek + Drop>(
     mut file: F,
     names: Names<'_>,
 ) {
-    let Names { command, vcd, .. } = names;
+    let Names {
+        command,
+        vcd,
+        min_pulse,
+        ..
+    } = names;
     if command.is_empty() {
         return;
     }
     if file.seek(SeekFrom::Start(0)).is_ok() {
-        if let Ok(Some(options)) = bus_options(alloc, &mut Watched::new(file)) {
+        if let Ok(Some(options)) = bus_options(alloc, &mut Watched::new(file), min_pulse) {
             lines.say("two signals look like a bus; try");
             lines.detail(format_args!("{command} {options}"));
             return;

@@ -1,7 +1,8 @@
-// After a list of signals, and after a brief or a page of a capture.
+// After a list of signals, after a capture in bytes, and after a brief or a page of it.
 
+use crate::captures::choosing::push_twins;
 use crate::captures::naming::Names;
-use crate::captures::silence::push_exchanged;
+use crate::captures::silence::{push_exchanged, push_lost_clock, push_passed};
 use crate::lines::Lines;
 use crate::values::Hints;
 use run_parts::Watched;
@@ -24,7 +25,23 @@ pub fn on_recording<F: Read + Seek + Drop>(
     lines.finish()
 }
 
-/// What to say after a list of signals: of those with the usual names, and of signals that were not looked at.
+/// What to say after the transactions of a capture in bytes, of which nobody is asked who explains them.
+pub fn on_bytes<F: Read + Seek + Drop>(
+    alloc: Global,
+    file: Option<F>,
+    names: Names<'_>,
+) -> Result<Hints, AllocError> {
+    let mut lines = Lines::new(alloc);
+    if let Some(mut file) = file {
+        push_exchanged(alloc, &mut lines, &mut file, names);
+        push_passed(alloc, &mut lines, &mut file, names);
+        push_twins(alloc, &mut lines, &mut file, names);
+    }
+    lines.finish()
+}
+
+/// What to say after a list of signals: of those with the usual names, and of signals that were not looked at. Of the names
+/// only the least time of a level counts.
 pub fn on_signals<F: Read + Seek + Drop>(
     alloc: Global,
     file: Option<F>,
@@ -37,6 +54,7 @@ pub fn on_signals<F: Read + Seek + Drop>(
     };
     let mut lines = Lines::new(alloc);
     if let Some(mut file) = file {
+        push_lost_clock(alloc, &mut lines, &mut file, usual);
         push_exchanged(alloc, &mut lines, &mut file, usual);
         push_candidates(alloc, &mut lines, &mut file);
     }
@@ -52,7 +70,7 @@ struct Codes {
 
 impl Listing for Codes {
     fn signal(&mut self, found: Found<'_>) -> Result<(), AllocError> {
-        if self.codes.contains(found.code) {
+        if !found.can_be_line() || self.codes.contains(found.code) {
             return Ok(());
         }
         match self.codes.insert(found.code.to_vec(self.alloc)?) {

@@ -96,7 +96,7 @@ impl Scopes<'_> {
 
 impl Listing for Scopes<'_> {
     fn signal(&mut self, found: Found<'_>) -> Result<(), AllocError> {
-        if !is_named(found, self.probe) {
+        if !found.can_be_line() || !is_named(found, self.probe) {
             return Ok(());
         }
         if found.scope.is_empty() {

@@ -52,8 +52,8 @@ pub(crate) fn push_passed<F: Read + Seek>(
     }
 }
 
-// Says where most levels of SCL are so short that they were left out, and whether it is so.
-fn push_lost_clock<F: Read + Seek + Drop>(
+/// Says where most levels of SCL are so short that they were left out, and whether it is so.
+pub(crate) fn push_lost_clock<F: Read + Seek + Drop>(
     alloc: Global,
     lines: &mut Lines,
     file: &mut F,
