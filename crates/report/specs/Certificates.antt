@@ -10,6 +10,9 @@ use Rattle.plan_text.specs.Grammar.{Spells}
 use Rattle.verdicts.specs.Certificates.{certificate_for}
 use Rattle.verdicts.specs.Verdicts.{AreVerdicts}
 use Rattle.report.specs.Checks.{Judges}
+use Rattle.run_parts.specs.Devices.{Writer, by_parts}
+use Rattle.run_parts.specs.Writing.{WritesAll, WritingStops}
+use Rattle.run_parts.specs.declared.errors.RunError.{RunError}
 use Rattle.run_parts.specs.declared.runs.Status.{Status}
 use Rattle.report.specs.Answers.{answer_status, verify_line}
 
@@ -23,6 +26,20 @@ pub record Certified (text report : List ℕ) (status : Status) : Type 0 where
   pub right : AreVerdicts plan verdicts
   pub written : report ≡ cert_text (certificate_for verdicts)
   pub judged : Judges status plan
+
+module _ {D : Type 0} (plan : Contents) (writer : Writer D) (before : D) where
+  -- the writer took the text of the certificate for the verdicts of the plan, in parts, and the status judges of the plan
+  pub record Certifies (status : Status) (now : D) : Type 0 where
+    pub verdicts : List Verdict
+    pub right : AreVerdicts plan verdicts
+    pub written : WritesAll (by_parts writer) before (cert_text (certificate_for verdicts)) now
+    pub judged : Judges status plan
+
+  -- the writer stopped within that text
+  pub record StopsCertifying (error : RunError) (now : D) : Type 0 where
+    pub verdicts : List Verdict
+    pub right : AreVerdicts plan verdicts
+    pub stopped : WritingStops (by_parts writer) before (cert_text (certificate_for verdicts)) error now
 
 -- the report is the line of the answer that the texts of the plan and of the certificate have, and the status is its own
 pub record Verified (texts : List ℕ × List ℕ) (report : List ℕ) (status : Status) : Type 0 where

@@ -1,12 +1,16 @@
 // The runs that write a certificate and that check one.
 
-ghost use Rattle.std.specs.Prelude.{◌≡◌, IfOk, IfErr, string_bytes};
-ghost use Rattle.report.specs.Certificates.{Certified, Verified};
+ghost use Rattle.std.specs.Prelude.{◌≡◌, ◌⊎◌, ℕ, List, IfOk, IfErr, string_bytes};
+ghost use Rattle.cert_check.specs.Accepts.{IsAnswer};
+ghost use Rattle.plan_core.specs.PlanContents.{plan_contents};
+ghost use Rattle.report.specs.Answering.{HaltsAtAnswer};
+ghost use Rattle.report.specs.Certificates.{Certified, Certifies, StopsCertifying, Verified};
 ghost use Rattle.report.specs.Found.{Finds, AnswerOf};
 ghost use Rattle.report.specs.Answers.{verify_line, answer_status};
 ghost use Rattle.run_parts.specs.Devices.{by_parts};
 ghost use Rattle.run_parts.specs.PlanTexts.{RefusesPlan, SpellsPlan};
 ghost use Rattle.run_parts.specs.Runs.{ReadsText, HaltsAtText, ReadsBoth, HaltsAtBoth, Reports, Stops};
+ghost use Rattle.run_parts.specs.declared.errors.RunError.TheVariants.{NoMemory};
 
 use crate::answering::read_answer;
 use crate::answers::{answer_line, status_of_answer};
@@ -14,6 +18,7 @@ use crate::blocks::{BLOCK, write_in_blocks};
 use crate::checks::status_of;
 use crate::finding::find_plan;
 use cert_check::Answered;
+use plan_core::Plan;
 use plan_text::read_plan;
 use run_parts::devices::reading::READS;
 use run_parts::{Input, Output, RunError, Status, read_within, write_lines};
@@ -44,6 +49,25 @@ pub fn run_certify<I: Input, O: Output>(
     let plan = read_plan(alloc, text.as_slice())?;
     let faults = faults(alloc, &plan)?;
     let report = certificate_lines(alloc, &plan, &faults)?;
+    let status = status_of(faults.is_safe());
+    let mut block = Vec::with_capacity(alloc, BLOCK)?;
+    write_in_blocks(out, &mut block, &report)?;
+    Ok(status)
+}
+
+/// The same of a plan that was found.
+///
+/// # Errors
+///
+/// `Write` where the writer failed or took no bytes, and `NoMemory` where an allocation fails. Only after `Write` has a part
+/// of the certificate been written: its first bytes.
+pub fn certify_found<O: Output>(alloc: Global, plan: &Plan, out: &mut O) -> Result<Status, RunError>
+    ensures report { IfOk result (λ status. Certifies (plan_contents plan.now) O.writer out.old status out.new) }
+    ensures stops { IfErr result (λ error. ((error ≡ NoMemory) × (out.new ≡ out.old))
+        ⊎ StopsCertifying (plan_contents plan.now) O.writer out.old error out.new) }
+{
+    let faults = faults(alloc, plan)?;
+    let report = certificate_lines(alloc, plan, &faults)?;
     let status = status_of(faults.is_safe());
     let mut block = Vec::with_capacity(alloc, BLOCK)?;
     write_in_blocks(out, &mut block, &report)?;
@@ -97,6 +121,21 @@ pub fn verify_plan<I: Input, J: Input>(
         HaltsAtBoth I.reader J.reader RefusesPlan SpellsPlan (plan.old, cert.old) error (plan.new, cert.new)) }
 {
     let plan = find_plan(alloc, plan)?;
+    let answer = read_answer(alloc, &plan, cert)?;
+    Ok(Answered { plan, answer })
+}
+
+/// The same of a plan that was found.
+///
+/// # Errors
+///
+/// `Read` where the reader failed or gave no end. `NoMemory` where an allocation fails.
+pub fn verify_found<J: Input>(alloc: Global, plan: Plan, cert: &mut J) -> Result<Answered, RunError>
+    ensures plan { IfOk result (λ it. plan_contents it.plan ≡ plan_contents plan) }
+    ensures answer { IfOk result (λ it. (text : List ℕ) × ReadsText J.reader cert.old text cert.new
+        × IsAnswer (plan_contents plan) text it.answer) }
+    ensures stops { IfErr result (λ error. HaltsAtAnswer J.reader cert.old error cert.new) }
+{
     let answer = read_answer(alloc, &plan, cert)?;
     Ok(Answered { plan, answer })
 }

@@ -46,6 +46,30 @@ pub fn check_plan<R: Threads + Sync, I: Input, G: Gate + Sync>(
     Ok(Checked { plan, faults })
 }
 
+/// The same of a plan that was found.
+///
+/// # Errors
+///
+/// `Workers` for 0 and for more than 8 workers, and `NoMemory` where an allocation fails.
+pub fn check_found<R: Threads + Sync, G: Gate + Sync>(
+    rt: &R,
+    alloc: Global,
+    plan: Plan,
+    workers: u32,
+    gate: &G,
+) -> Result<Checked, RunError>
+    ensures plan { IfOk result (λ it. plan_contents it.plan ≡ plan_contents plan) }
+    ensures right { IfOk result (λ it. AreFaults (plan_contents it.plan) (fault_list it.faults)) }
+    ensures stops { (1 ≤ workers) × (workers ≤ MOST_WORKERS) → IfErr result (λ error. error ≡ RunError.NoMemory) }
+    ensures workers { result ≡ Err RunError.Workers ↔ ((workers < 1) ⊎ (MOST_WORKERS < workers)) }
+{
+    if workers < 1 || MOST_WORKERS < workers {
+        return Err(RunError::Workers);
+    }
+    let faults = faults_by(rt, alloc, &plan, workers, gate)?;
+    Ok(Checked { plan, faults })
+}
+
 // The faults of the plan, found by so many workers, where these are not too few and not too many.
 fn faults_by<R: Threads + Sync, G: Gate + Sync>(
     rt: &R,

@@ -1,11 +1,17 @@
 // The runs that write a plan or a brief in another spelling.
 
-ghost use Rattle.std.specs.Prelude.{◌≡◌, IfOk, IfErr};
+ghost use Rattle.std.specs.Prelude.{◌≡◌, ◌⊎◌, IfOk, OnOk, IfErr};
+ghost use Rattle.plan_core.specs.PlanContents.{plan_contents};
+ghost use Rattle.plan_text.specs.Canonical.{plan_text};
 ghost use Rattle.report.specs.Spellings.{Printed, Expanded, Abbreviated, RefusesBrief, GivesNoBrief};
 ghost use Rattle.run_parts.specs.PlanTexts.{RefusesPlan};
 ghost use Rattle.run_parts.specs.Runs.{ReadsText, HaltsAtText, Reports, Stops};
+ghost use Rattle.run_parts.specs.Writing.{WritesAll, WritingStops};
+ghost use Rattle.run_parts.specs.declared.errors.RunError.TheVariants.{NoMemory};
+ghost use Rattle.run_parts.specs.declared.runs.Status.TheVariants.{Good};
 
 use brief_text::{brief_of, expand_brief};
+use plan_core::Plan;
 use plan_text::{print_plan, read_plan};
 use run_parts::devices::reading::READS;
 use run_parts::{Input, Output, RunError, Status, read_within, write_lines};
@@ -33,6 +39,22 @@ pub fn run_print<I: Input, O: Output>(
     let text = read_within(alloc, plan, READS)?;
     let plan = read_plan(alloc, text.as_slice())?;
     let report = print_plan(alloc, &plan)?;
+    write_lines(out, report.as_slice(), Status::Good)
+}
+
+/// The same of a plan that was found.
+///
+/// # Errors
+///
+/// `Write` where the writer failed or took no bytes, and `NoMemory` where an allocation fails. Only after `Write` has a part
+/// of the spelling been written: its first bytes.
+pub fn print_found<O: Output>(alloc: Global, plan: &Plan, out: &mut O) -> Result<Status, RunError>
+    ensures status { IfOk result (λ status. status ≡ Good) }
+    ensures written { OnOk result (WritesAll O.writer out.old (plan_text (plan_contents plan.now)) out.new) }
+    ensures stops { IfErr result (λ error. ((error ≡ NoMemory) × (out.new ≡ out.old))
+        ⊎ WritingStops O.writer out.old (plan_text (plan_contents plan.now)) error out.new) }
+{
+    let report = print_plan(alloc, plan)?;
     write_lines(out, report.as_slice(), Status::Good)
 }
 

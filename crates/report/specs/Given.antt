@@ -1,0 +1,35 @@
+-- A plan that is given as a plan text, or as a brief.
+use Rattle.std.specs.Prelude.{◌≡◌, ◌⊎◌, ℕ, Bool, true, false, List}
+use Rattle.plan_core.specs.Contents.{Contents}
+use Rattle.plan_text.specs.Grammar.{Spells}
+use Rattle.plan_text.specs.Refusals.{First}
+use Rattle.plan_text.specs.declared.errors.PlanError.{PlanError}
+use Rattle.plan_text.specs.declared.errors.PlanError.TheVariants.{Version}
+use Rattle.brief_text.specs.Briefs.{Means, IsRefused}
+use Rattle.run_parts.specs.declared.errors.RunError.{RunError}
+use Rattle.run_parts.specs.declared.errors.RunError.TheVariants as error
+
+-- the text spells this plan, or it is a brief that means it
+abbrev pub Gives : List ℕ → Contents → Type 0
+Gives text plan = Spells text plan ⊎ Means text plan
+
+-- whether the refusal says that the text does not begin as it should
+abbrev pub is_version : PlanError → Bool
+is_version (Version line) = true
+is_version _ = false
+
+-- The first refusal of a text that is neither: that of a plan text; and where it does not begin as a plan, that of a brief,
+-- unless it does not begin as a brief either.
+pub data IsNeither (text : List ℕ) : PlanError → Type 0 where
+  no_plan : {e : PlanError} → First text e → is_version e ≡ false → IsNeither text e
+  no_brief : {line : ℕ} {e : PlanError} → First text (Version line) → IsRefused text e → is_version e ≡ false → IsNeither text e
+  no_head : {line other : ℕ} →
+      First text (Version line) →
+      IsRefused text (Version other) →
+      IsNeither text (Version line)
+
+-- the first refusal of the text is the answer, but for out of memory, which may come at any text
+abbrev pub RefusesGiven : List ℕ → RunError → Type 0
+RefusesGiven text (error.Plan e) = IsNeither text e
+RefusesGiven text error.NoMemory = Unit {0}
+RefusesGiven text _ = ⊥
