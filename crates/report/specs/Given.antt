@@ -22,11 +22,18 @@ is_version _ = false
 -- unless it does not begin as a brief either.
 pub data IsNeither (text : List ℕ) : PlanError → Type 0 where
   no_plan : {e : PlanError} → First text e → is_version e ≡ false → IsNeither text e
-  no_brief : {line : ℕ} {e : PlanError} → First text (Version line) → IsRefused text e → is_version e ≡ false → IsNeither text e
-  no_head : {line other : ℕ} →
-      First text (Version line) →
-      IsRefused text (Version other) →
-      IsNeither text (Version line)
+  no_brief : {head e : PlanError} →
+      First text head →
+      is_version head ≡ true →
+      IsRefused text e →
+      is_version e ≡ false →
+      IsNeither text e
+  no_head : {e other : PlanError} →
+      First text e →
+      is_version e ≡ true →
+      IsRefused text other →
+      is_version other ≡ true →
+      IsNeither text e
 
 -- the first refusal of the text is the answer, but for out of memory, which may come at any text
 abbrev pub RefusesGiven : List ℕ → RunError → Type 0

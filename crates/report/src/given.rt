@@ -1,9 +1,11 @@
 // A plan that is given as a plan text, or as a brief.
 
-ghost use Rattle.std.specs.Prelude.{◌≡◌, ◌⊎◌, IfOk, IfErr};
+ghost use Rattle.std.specs.Prelude.{◌≡◌, ◌⊎◌, true, IfOk, IfErr};
 ghost use Rattle.plan_core.specs.PlanContents.{plan_contents};
 ghost use Rattle.report.specs.Found.{Finds};
-ghost use Rattle.report.specs.Given.{Gives, IsNeither, RefusesGiven};
+ghost use Rattle.brief_text.specs.Briefs.{Means};
+ghost use Rattle.plan_text.specs.Refusals.{First};
+ghost use Rattle.report.specs.Given.{Gives, IsNeither, RefusesGiven, is_version};
 ghost use Rattle.run_parts.specs.Runs.{ReadsText, HaltsAtText};
 
 use brief_text::expand_brief;
@@ -33,12 +35,28 @@ fn plan_of(alloc: Global, text: &[u8]) -> Result<Plan, PlanError>
     ensures given { IfOk result (λ it. Gives text.now (plan_contents it)) }
     ensures refused { IfErr result (λ e. (e ≡ PlanError.NoMemory) ⊎ IsNeither text.now e) }
 {
-    let line = match read_plan(alloc, text) {
-        Err(PlanError::Version(line)) => line,
-        read => return read,
-    };
-    match expand_brief(alloc, text) {
-        Err(PlanError::Version(_)) => Err(PlanError::Version(line)),
-        expanded => expanded,
+    match read_plan(alloc, text) {
+        Ok(plan) => Ok(plan),
+        Err(refusal) if is_version(refusal) => meant_by(alloc, text, refusal),
+        Err(refusal) => Err(refusal),
     }
+}
+
+// The plan that the text means as a brief, where as a plan text it is refused so.
+fn meant_by(alloc: Global, text: &[u8], head: PlanError) -> Result<Plan, PlanError>
+    requires { is_version head ≡ true }
+    ensures meant { IfOk result (λ it. Means text.now (plan_contents it)) }
+    ensures refused { First text.now head → IfErr result (λ e. (e ≡ PlanError.NoMemory) ⊎ IsNeither text.now e) }
+{
+    match expand_brief(alloc, text) {
+        Ok(plan) => Ok(plan),
+        Err(refusal) if is_version(refusal) => Err(head),
+        Err(refusal) => Err(refusal),
+    }
+}
+
+fn is_version(refusal: PlanError) -> bool
+    ensures { result ≡ is_version refusal }
+{
+    matches!(refusal, PlanError::Version(_))
 }

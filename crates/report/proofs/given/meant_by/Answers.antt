@@ -1,0 +1,11 @@
+use Rattle.std.proofs.Common.{sym, ◌∙◌}
+use Rattle.report.proofs.GivenLemmas.{brief_refused, head_refused}
+use Rattle.report.proofs.given.meant_by.Goals as goal
+
+pub returns-in-Err-clause-refused : goal.returns-in-Err-clause-refused
+returns-in-Err-clause-refused c =
+    head_refused c.args.text.now c.args.head c.in-Err.refusal c.in-Err.ensures.refused (sym c.is_version.ensures ∙ c.if-is_version.true) c.requires
+
+pub returns-in-Err-2-clause-refused : goal.returns-in-Err-2-clause-refused
+returns-in-Err-2-clause-refused c =
+    brief_refused c.args.text.now c.args.head c.in-Err.refusal c.in-Err.ensures.refused (sym c.is_version.ensures ∙ c.if-is_version.false) c.requires
