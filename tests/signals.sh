@@ -538,8 +538,8 @@ printf '#0 1! 1"\n#2 0"\n#20 1"\n' | cat first_runs - >short_first
 expect "a first run that is short" 0 $'signal ! 0 - scl\nsignal " 2 - sda\n2 signals, 0 buses' "" signals short_first --min-pulse 5
 printf '#0 1! x"\n#100 1"\n#102 0"\n#120 1"\n' | cat first_runs - >short_second
 expect "a second run that is short" 0 $'signal ! 0 - scl\nsignal " 2 - sda\n2 signals, 0 buses' "" signals short_second --min-pulse 5
-printf '#0 1! 1"\n#10 0"\n#12 0!\n#14 1"\n#18 0"\n#20 1!\n#30 1"\n#33 0"' | cat first_runs - >short_last
-expect "a last run that is short" 0 $'signal ! 2 - scl\nsignal " 3 - sda\n2 signals, 0 buses' "" signals short_last --min-pulse 5
+printf '#0 1! 1"\n#10 0"\n#12 0!\n#14 1"\n#18 0"\n#20 1!\n#30 1"\n#31' | cat first_runs - >short_last
+expect "a last run that is short" 0 $'signal ! 2 - scl\nsignal " 2 - sda\n2 signals, 0 buses' "" signals short_last --min-pulse 5
 expect "signals from a time on" 0 "$(shown 8 1 20 4 "$bus_1")" "" signals two --from 100
 expect "signals up to a time" 0 "$(shown 13 5 0 0 "$bus_0")" "" signals two --to 100
 expect "signals at the time of a START" 0 "$(shown 0 1 0 0 "$bus_0")" "" signals two --from 5 --to 5us
@@ -579,7 +579,7 @@ hint: two signals look like a bus; try
 hint:   twire decode glitch --scl-code '!' --sda-code '\"'" decode glitch --scl sck --min-pulse 2 --hints always
 refuses "a pulse of signals of no time" "the value for '--min-pulse <T>' is no time as 15 or 15us" signals two --min-pulse us
 refuses "a time of signals that is none" "the value for '--from <TIME>' is no time as 15 or 15us" signals two --from 1.5us
-refuses "another time of signals that is none" "the value for '--to <TIME>' is no time as 15 or 15us" signals two --to -1us
+refuses "another time of signals that is none" "the value for '--to <TIME>' is no time as 15 or 15us" signals two --to 5min
 refuses "how times of signals are written" "unexpected argument '--times' found" signals two --times si
 
 # ---- lines that are exchanged
