@@ -867,6 +867,10 @@ quick "many signals of one name, and a scope" 2 "refused V1 scl" capture plan ma
 quick "hints on them" 0 "hint: the names of the two lines are given with --scl NAME and --sda NAME" \
     capture plan many --hints always
 quick "all of them" 0 "$((size + 2)) signals, 0 buses" signals many
+quick "all of them that last" 0 "$((size + 2)) signals, 0 buses" signals many --min-pulse 18446744073709551615
+{ echo "$tail"; awk -v size=$size 'BEGIN { for (n = 10; n < size; n++) print "#" n " " n % 2 "! " int(n / 2) % 2 "\"" }'; } >restless
+quick "two signals that never rest" 0 "2 signals, 0 buses" signals restless --min-pulse 2
+quick "two signals that never rest, and no run that lasts" 0 "2 signals, 0 buses" signals restless --min-pulse 18446744073709551615
 { echo "$tail"; awk -v size=$size 'BEGIN { for (n = 10; n < size; n++) print "#" n " 1b" n " 0b" n }'; } >strange
 quick "codes that no signal has" 1 "1 transactions, 1 unexplained" capture plan strange
 quick "codes that no signal has, and the signals" 0 "2 signals, 0 buses" signals strange
