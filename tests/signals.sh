@@ -559,6 +559,25 @@ busy_time() { transaction ! '"' 100100000 "$1" | awk '{ print } NR == 1 { print 
 buses "a signal that is LOW while the bus is busy, from a time on" "$the_bus
 bus 1 transactions --scl-code '!' --sda-code '%'
 3 signals, 2 buses" busy_twice --from 500
+# counts_as_decode DUMP OPTION..: of each bus as many transactions as decode has with its options and these.
+counts_as_decode() {
+    local line wanted found=0
+    local -a lines
+    while read -r _ wanted _ line; do
+        eval "lines=($line)"
+        [[ $("$twire" decode "$@" "${lines[@]}" | tail -n 1) == "$wanted transactions" ]] && found=$((found + 1)) && continue
+        failed=$((failed + 1))
+        echo "FAILED: decode does not count $wanted: $* $line"
+    done < <("$twire" signals "$@" | grep '^bus ')
+    ((found == 0)) || passed=$((passed + 1))
+}
+counts_as_decode glitch --min-pulse 2
+counts_as_decode chatter --min-pulse 2us --from 5 --to 199
+counts_as_decode two --from 6
+counts_as_decode two --min-pulse 5 --to 5us
+counts_as_decode broken_first --from 3000 --to 16000
+counts_as_decode broken_half --from 10000
+counts_as_decode copies --min-pulse 3
 sed '/timescale/d' two >two_no_scale
 expect "a unit without a scale, for signals" 2 "" "refused timescale" signals two_no_scale --from 5us
 expect "a hint on it, for signals" 2 "" "refused timescale
