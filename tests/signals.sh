@@ -538,8 +538,8 @@ printf '#0 1! 1"\n#2 0"\n#20 1"\n' | cat first_runs - >short_first
 expect "a first run that is short" 0 $'signal ! 0 - scl\nsignal " 2 - sda\n2 signals, 0 buses' "" signals short_first --min-pulse 5
 printf '#0 1! x"\n#100 1"\n#102 0"\n#120 1"\n' | cat first_runs - >short_second
 expect "a second run that is short" 0 $'signal ! 0 - scl\nsignal " 2 - sda\n2 signals, 0 buses' "" signals short_second --min-pulse 5
-printf '#0 1! 1"\n#10 0"\n#12 0!\n#14 1"\n#18 0"\n#20 1!\n#30 1"\n#33 0"' | cat first_runs - >short_last
-expect "a last run that is short" 0 $'signal ! 2 - scl\nsignal " 3 - sda\n2 signals, 0 buses' "" signals short_last --min-pulse 5
+printf '#0 1! 1"\n#10 0"\n#12 0!\n#14 1"\n#18 0"\n#20 1!\n#30 1"\n#31' | cat first_runs - >short_last
+expect "a last run that is short" 0 $'signal ! 2 - scl\nsignal " 2 - sda\n2 signals, 0 buses' "" signals short_last --min-pulse 5
 expect "signals from a time on" 0 "$(shown 8 1 20 4 "$bus_1")" "" signals two --from 100
 expect "signals up to a time" 0 "$(shown 13 5 0 0 "$bus_0")" "" signals two --to 100
 expect "signals at the time of a START" 0 "$(shown 0 1 0 0 "$bus_0")" "" signals two --from 5 --to 5us
@@ -559,6 +559,25 @@ busy_time() { transaction ! '"' 100100000 "$1" | awk '{ print } NR == 1 { print 
 buses "a signal that is LOW while the bus is busy, from a time on" "$the_bus
 bus 1 transactions --scl-code '!' --sda-code '%'
 3 signals, 2 buses" busy_twice --from 500
+# counts_as_decode DUMP OPTION..: of each bus as many transactions as decode has with its options and these.
+counts_as_decode() {
+    local line wanted found=0
+    local -a lines
+    while read -r _ wanted _ line; do
+        eval "lines=($line)"
+        [[ $("$twire" decode "$@" "${lines[@]}" | tail -n 1) == "$wanted transactions" ]] && found=$((found + 1)) && continue
+        failed=$((failed + 1))
+        echo "FAILED: decode does not count $wanted: $* $line"
+    done < <("$twire" signals "$@" | grep '^bus ')
+    ((found == 0)) || passed=$((passed + 1))
+}
+counts_as_decode glitch --min-pulse 2
+counts_as_decode chatter --min-pulse 2us --from 5 --to 199
+counts_as_decode two --from 6
+counts_as_decode two --min-pulse 5 --to 5us
+counts_as_decode broken_first --from 3000 --to 16000
+counts_as_decode broken_half --from 10000
+counts_as_decode copies --min-pulse 3
 sed '/timescale/d' two >two_no_scale
 expect "a unit without a scale, for signals" 2 "" "refused timescale" signals two_no_scale --from 5us
 expect "a hint on it, for signals" 2 "" "refused timescale
@@ -579,7 +598,7 @@ hint: two signals look like a bus; try
 hint:   twire decode glitch --scl-code '!' --sda-code '\"'" decode glitch --scl sck --min-pulse 2 --hints always
 refuses "a pulse of signals of no time" "the value for '--min-pulse <T>' is no time as 15 or 15us" signals two --min-pulse us
 refuses "a time of signals that is none" "the value for '--from <TIME>' is no time as 15 or 15us" signals two --from 1.5us
-refuses "another time of signals that is none" "the value for '--to <TIME>' is no time as 15 or 15us" signals two --to -1us
+refuses "another time of signals that is none" "the value for '--to <TIME>' is no time as 15 or 15us" signals two --to 5min
 refuses "how times of signals are written" "unexpected argument '--times' found" signals two --times si
 
 # ---- lines that are exchanged
@@ -867,6 +886,10 @@ quick "many signals of one name, and a scope" 2 "refused V1 scl" capture plan ma
 quick "hints on them" 0 "hint: the names of the two lines are given with --scl NAME and --sda NAME" \
     capture plan many --hints always
 quick "all of them" 0 "$((size + 2)) signals, 0 buses" signals many
+quick "all of them that last" 0 "$((size + 2)) signals, 0 buses" signals many --min-pulse 18446744073709551615
+{ echo "$tail"; awk -v size=$size 'BEGIN { for (n = 10; n < size; n++) print "#" n " " n % 2 "! " int(n / 2) % 2 "\"" }'; } >restless
+quick "two signals that never rest" 0 "2 signals, 0 buses" signals restless --min-pulse 2
+quick "two signals that never rest, and no run that lasts" 0 "2 signals, 0 buses" signals restless --min-pulse 18446744073709551615
 { echo "$tail"; awk -v size=$size 'BEGIN { for (n = 10; n < size; n++) print "#" n " 1b" n " 0b" n }'; } >strange
 quick "codes that no signal has" 1 "1 transactions, 1 unexplained" capture plan strange
 quick "codes that no signal has, and the signals" 0 "2 signals, 0 buses" signals strange

@@ -371,7 +371,7 @@ const TO: Argument = Argument::Option {
     help: "Transactions that begin at TIME or before",
 };
 
-// Where signals count, and transactions as far as they have some.
+// The same of a list of signals.
 const SINCE: Argument = Argument::Option {
     id: "from",
     value_name: "TIME",
