@@ -234,10 +234,15 @@ const BRIEF: Entry = Entry {
     about: "Write a brief of a plan: expanded, it means the same plan",
     usage: None,
     after_help: AFTER_BRIEF_HELP,
-    arguments: &[PLAN, OUTPUT],
+    arguments: &[PLAN_TEXT, OUTPUT],
 };
 
 const PLAN: Argument = Argument::Word {
+    id: "PLAN",
+    help: "The file with the plan, or with a brief of it; - is standard input",
+};
+
+const PLAN_TEXT: Argument = Argument::Word {
     id: "PLAN",
     help: "The file with the plan; - is standard input",
 };

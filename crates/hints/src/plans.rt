@@ -1,7 +1,7 @@
 // After the refusal of a plan or of a brief, and after a plan that has no brief.
 
 use crate::expecting::{Asked, push_expected};
-use crate::kinds::{is_binary, kind_of_file, push_kind};
+use crate::kinds::{Kind, LOOKED_AT, is_binary, kind_of_file, push_kind};
 use crate::languages::Language;
 use crate::lines::Lines;
 use crate::marking::{first_line, last_line, push_marked};
@@ -10,7 +10,7 @@ use crate::starters::push_starters;
 use crate::values::Hints;
 use crate::wording::of_text;
 use crate::words::push_word;
-use brief_text::brief_word;
+use brief_text::{brief_word, expand_brief};
 use dump_tokens::reading::part;
 use plan_core::Plan;
 use plan_text::{PlanError, read_plan};
@@ -21,13 +21,42 @@ use std::io::{Read, Seek};
 // The longest text that is read once more: 1 MiB.
 const MOST: usize = 1 << 20;
 
-/// What to say after the refusal of a plan. The file is the one that was refused, where it can be read once more.
+/// What to say after the refusal of a plan, or of a brief in its place. The file is the one that was refused, where it can be
+/// read once more.
 pub fn on_plan<F: Read + Seek + Drop>(
     alloc: Global,
-    file: Option<F>,
+    mut file: Option<F>,
     refusal: PlanError,
 ) -> Result<Hints, AllocError> {
-    on_text(alloc, Language::Plan, file, refusal)
+    let language = if is_refused_brief(alloc, &mut file, refusal) {
+        Language::Brief
+    } else {
+        Language::Plan
+    };
+    on_text(alloc, language, file, refusal)
+}
+
+// Whether the file is a brief that was refused as one. One whose head is right was refused since no brief is taken there.
+fn is_refused_brief<F: Read + Seek>(
+    alloc: Global,
+    file: &mut Option<F>,
+    refusal: PlanError,
+) -> bool {
+    if kind_of_file(alloc, file) != Some(Kind::Brief) {
+        return false;
+    }
+    match (refusal, file) {
+        (PlanError::Version(_), Some(file)) => has_wrong_head(alloc, file),
+        _ => true,
+    }
+}
+
+fn has_wrong_head<F: Read + Seek>(alloc: Global, file: &mut F) -> bool {
+    let Ok(head) = part(alloc, file, 0, LOOKED_AT) else {
+        return false;
+    };
+    let refusal = Language::Brief.refusal(alloc, head.as_slice());
+    matches!(refusal, Ok(Some(PlanError::Version(_))))
 }
 
 /// What to say after the refusal of a brief. The file is the one that was refused, where it can be read once more.
@@ -86,11 +115,12 @@ fn push_brief_word(lines: &mut Lines, plan: Option<&Plan>) {
     lines.say("no name in a brief is 'brief', 'device', 'byte' or 'any': these are its words");
 }
 
-// The plan of a file, where it can be read once more, is not too long and is one.
+// The plan of a file, or the one that a brief there means, where it can be read once more and is not too long.
 fn plan_of<F: Read + Seek + Drop>(alloc: Global, file: Option<F>) -> Option<Plan> {
-    match read_once_more(alloc, file) {
-        Some(text) => read_plan(alloc, text.as_slice()).ok(),
-        None => None,
+    let text = read_once_more(alloc, file)?;
+    match read_plan(alloc, text.as_slice()) {
+        Ok(plan) => Some(plan),
+        Err(_) => expand_brief(alloc, text.as_slice()).ok(),
     }
 }
 

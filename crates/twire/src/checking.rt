@@ -16,8 +16,8 @@ use objects::{write_answer, write_check, write_order};
 use order::{Order, order_of, order_report};
 use plan_core::Plan;
 use report::{
-    Answered, Checked, Input, NoGate, Output, RunError, Status, answer_line, check_plan,
-    check_report, find_plan, read_within, status_of_answer, verify_plan,
+    Answered, Checked, Input, NoGate, Output, RunError, Status, answer_line, check_found,
+    check_report, find_given, read_within, status_of_answer, verify_found,
 };
 use run_parts::devices::reading::READS;
 use run_parts::write_lines;
@@ -25,6 +25,7 @@ use std::alloc::Global;
 use std::rt::Files;
 use std::thread::Threads;
 use std::time::Clock;
+use verdicts::MOST_WORKERS;
 
 /// How a plan is looked at: by so many workers, with so many unsafe pairs explained, and with the waves of one of them in a
 /// file: of the first one, or of the one with this number.
@@ -47,8 +48,12 @@ pub fn check<R: Files + Print + Eprint + Clock + AllocGlobal + Threads + Sync, I
     extras: Extras,
     canvas: Option<Canvas<'_>>,
 ) -> Result<Ended, Halt> {
+    if !(1..=MOST_WORKERS).contains(&look.workers) {
+        return Err(Halt::Run(RunError::Workers));
+    }
     let gate = Comparing::new(rt, extras.watcher);
-    let checked = check_plan(rt, rt.alloc(), plan, look.workers, &gate)?;
+    let plan = find_given(rt.alloc(), plan)?;
+    let checked = check_found(rt, rt.alloc(), plan, look.workers, &gate)?;
     let status = tell_checked(rt.alloc(), &checked, out, look.explain, extras.style())?;
     if let Some(canvas) = canvas {
         draw_fault(rt, &checked, look.pair, status, canvas)?;
@@ -127,11 +132,11 @@ pub fn verify<I: Input, J: Input, O: Output>(
     explain: bool,
     extras: Extras,
 ) -> Result<Ended, Halt> {
+    let plan = find_given(alloc, plan)?;
     if explain {
-        let plan = find_plan(alloc, plan)?;
         return verify_kept(alloc, &plan, cert, out, extras);
     }
-    let Answered { plan, answer } = verify_plan(alloc, plan, cert)?;
+    let Answered { plan, answer } = verify_found(alloc, plan, cert)?;
     tell_answer(alloc, &plan, answer, None, out, extras)
 }
 
@@ -186,7 +191,8 @@ pub fn order<R: AllocGlobal + Threads + Sync, I: Input, O: Output>(
     style: Style,
 ) -> Result<Ended, Halt> {
     let alloc = rt.alloc();
-    let checked = check_plan(rt, alloc, plan, 1, &NoGate)?;
+    let plan = find_given(alloc, plan)?;
+    let checked = check_found(rt, alloc, plan, 1, &NoGate)?;
     let order = order_of(alloc, &checked.plan, &checked.faults)?;
     write_ordered(alloc, &checked, &order, out, style)?;
     Ok(Ended::quietly(status_of(&checked)))

@@ -11,7 +11,10 @@ use order::{order_of, order_report};
 use page::{Page, Recording, Texts, page_of};
 use plan_core::Plan;
 use plan_text::print_plan;
-use report::{Checked, Input, NoGate, Output, RunError, Status, Watched, check_plan, check_report};
+use report::{
+    Checked, Input, NoGate, Output, RunError, Status, Watched, check_found, check_report,
+    find_given,
+};
 use run_parts::write_lines;
 use signals::Dump;
 use std::alloc::Global;
@@ -25,7 +28,8 @@ pub fn write_page_alone<R: AllocGlobal + Threads + Sync, I: Input, O: Output>(
     plan: &mut I,
     out: &mut O,
 ) -> Result<Ended, Halt> {
-    let checked = check_plan(rt, rt.alloc(), plan, 1, &NoGate)?;
+    let plan = find_given(rt.alloc(), plan)?;
+    let checked = check_found(rt, rt.alloc(), plan, 1, &NoGate)?;
     write_page(rt.alloc(), title, &checked, None, out)?;
     Ok(Ended::quietly(status_of(&checked)))
 }
@@ -39,7 +43,8 @@ pub fn write_page_with<R: AllocGlobal + Threads + Sync, I: Input, J: Input, O: O
     out: &mut O,
     bus: Bus<'_>,
 ) -> Result<Ended, Halt> {
-    let checked = check_plan(rt, rt.alloc(), plan, 1, &NoGate)?;
+    let plan = find_given(rt.alloc(), plan)?;
+    let checked = check_found(rt, rt.alloc(), plan, 1, &NoGate)?;
     let mut written = Watched::new(Vec::new(rt.alloc()));
     let (recording, seen) = recording_of(rt, &checked.plan, vcd, &mut written, bus)?;
     let capture = written.into_inner();

@@ -7,7 +7,7 @@ use dump_tokens::{Bus, BusLines, Limits, Quiet};
 use explain::{CaptureLines, DecodeLines, Layout, Paint, Seen, Selection};
 use objects::{CaptureObjects, DecodeObjects, write_signals};
 use plan_core::Plan;
-use report::{CaptureReport, Input, Output, RunError, Status, Telling, find_plan};
+use report::{CaptureReport, Input, Output, RunError, Status, Telling, find_given};
 use run_parts::write_lines;
 use signals::{Dump, Learned, Listed, Sights, SignalDump, brief_of, needs_picking};
 use std::alloc::Global;
@@ -81,7 +81,7 @@ pub fn explain_capture<R: AllocGlobal + Threads + Sync, I: Input, J: Input, O: O
     capture: Capture<'_>,
     style: Style,
 ) -> Result<Ended, Halt> {
-    let plan = find_plan(rt.alloc(), plan)?;
+    let plan = find_given(rt.alloc(), plan)?;
     let (status, seen) = capture_by(rt, &plan, vcd, out, capture, style)?;
     Ok(Ended {
         status,

@@ -14,7 +14,7 @@ use hints::on_no_answers;
 use message_tree::Item;
 use objects::write_rehearsal;
 use plan_core::Plan;
-use report::{Input, Output, RunError, find_plan, read_within};
+use report::{Input, Output, RunError, find_given, read_within};
 use run_parts::devices::reading::READS;
 use run_parts::write_lines;
 use std::alloc::{AllocError, Global};
@@ -49,7 +49,7 @@ pub fn bench_alone<
     extras: Extras,
     canvas: Option<Canvas<'_>>,
 ) -> Result<Ended, Halt> {
-    let plan = find_plan(rt.alloc(), plan)?;
+    let plan = find_given(rt.alloc(), plan)?;
     let cert = certificate_of(rt.alloc(), &plan)?;
     bench_plan(rt, plan, cert.as_slice(), out, play, extras, canvas)
 }
@@ -75,7 +75,7 @@ pub fn bench<
     extras: Extras,
     canvas: Option<Canvas<'_>>,
 ) -> Result<Ended, Halt> {
-    let plan = find_plan(rt.alloc(), plan)?;
+    let plan = find_given(rt.alloc(), plan)?;
     bench_with(rt, plan, cert, out, play, extras, canvas)
 }
 

@@ -1,7 +1,9 @@
 // Runs over one text that write another one.
 
 use crate::endings::{Ended, Halt, Remark};
-use report::{Input, Output, Status, run_brief, run_certify, run_expand, run_print};
+use report::{
+    Input, Output, Status, certify_found, find_given, print_found, run_brief, run_expand,
+};
 use std::alloc::Global;
 
 /// A run over one text that writes another one.
@@ -14,11 +16,11 @@ pub enum Rewriting {
 }
 
 impl Rewriting {
-    /// The run of `report`.
+    /// The run: over a plan or a brief to certify and to print, and else over the one that it rewrites.
     ///
     /// # Errors
     ///
-    /// Those of that run, in the same order.
+    /// Those of the runs of `report`, in the same order.
     pub fn run<I: Input, O: Output>(
         self,
         alloc: Global,
@@ -26,8 +28,8 @@ impl Rewriting {
         out: &mut O,
     ) -> Result<Ended, Halt> {
         let status = match self {
-            Rewriting::Certify => run_certify(alloc, text, out),
-            Rewriting::Print => run_print(alloc, text, out),
+            Rewriting::Certify => certify_found(alloc, &find_given(alloc, text)?, out),
+            Rewriting::Print => print_found(alloc, &find_given(alloc, text)?, out),
             Rewriting::Brief => run_brief(alloc, text, out),
             Rewriting::Expand => run_expand(alloc, text, out),
         }?;
