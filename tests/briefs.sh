@@ -287,8 +287,6 @@ refused P3 3 "brief 1" "message m write 0x01" "$(printf ')%.0s' {1..100000})"
 # ---- Texts in the wrong place.
 
 want 2 "" "refused P2 line 1"
-run "a brief checked" check board.brief
-run "a brief printed" print board.brief
 run "a brief of a brief" brief board.brief
 run "a plan expanded" expand board.plan
 : >empty.brief
@@ -417,7 +415,7 @@ hint:   ^^^^^
 hint: a plan begins with 'plan 1', or with 'plan 2' where it has ranges of
 hint: counts or 'never'
 hint: this is a brief: 'twire expand' writes the plan that it means"
-run "hints on a brief in the place of a plan" check board.brief --hints always
+run "hints on a brief in the place of a plan" brief board.brief --hints always
 want 2 "" "refused P2 line 1
 hint: line 1 of the brief:
 hint:   plan 2
@@ -437,6 +435,74 @@ want 2 "" "refused read
 hint: BRIEF, the brief \"missing.brief\", cannot be opened:
 hint: No such file or directory (os error 2)"
 run "hints on a missing brief" expand missing.brief --hints always
+
+# ---- A brief in the place of a plan.
+
+# as_plan NAME ARG..: the case gives what it gives where the words `ANY` are the plan; here they are the brief.
+as_plan() {
+    local name=$1
+    shift
+    "$twire" "${@/#ANY/any.plan}" >want_out 2>want_err
+    echo "$?" >want_status
+    run "$name" "${@/#ANY/any.brief}"
+}
+
+for brief in "$tests"/../examples/*.brief; do
+    name=$(basename -- "$brief" .brief)
+    cp -- "$brief" any.brief
+    "$twire" expand any.brief >any.plan
+    "$twire" certify any.plan >any.cert
+    as_plan "$name: check" check ANY
+    as_plan "$name: certify" certify ANY
+    as_plan "$name: verify" verify ANY any.cert
+done
+cp -- "$tests/../examples/shared_board.brief" any.brief
+"$twire" expand any.brief >any.plan
+"$twire" certify any.plan >any.cert
+as_plan "check with explanations" check ANY --explain --hints always
+as_plan "check with workers" check ANY --workers 3
+as_plan "workers are looked at first" check ANY --workers 9
+as_plan "verify with explanations" verify ANY any.cert --explain
+as_plan "order" order ANY
+as_plan "print" print ANY
+as_plan "objects" check ANY --format json
+as_plan "a capture" capture ANY "$tests/../examples/probe_icarus.vcd" --hints always
+as_plan "a bench" bench ANY any.cert "$("$twire" order any.plan | sed -n '1s/^pair 0 \([^ ]*\) .*/\1/p')"
+as_plan "starters that are refused" bench ANY any.cert nobody --hints always
+as_plan "a bench that certifies" bench --certify ANY nobody --hints always
+"$twire" page any.plan | sed 's/any\.plan/any.brief/g' >want_out
+want_page=$(cat want_out)
+want 0 "$want_page" ""
+run "a page" page any.brief
+
+lines wrong.brief "brief 1" "device eeprom 0x50 ;" "device eeprom 0x51 ;"
+want 2 "" "refused P7 line 3
+hint: line 3 of the brief:
+hint:   device eeprom 0x51 ;
+hint:          ^^^^^^
+hint: this stands there already"
+run "a brief that is refused" check wrong.brief --hints always
+lines wrong.brief "brief 2"
+want 2 "" "refused P2 line 1
+hint: line 1 of the brief:
+hint:   brief 2
+hint:         ^
+hint: a brief begins with 'brief 1'"
+run "a brief with a wrong head" check wrong.brief --hints always
+lines wrong.brief "board 1"
+want 2 "" "refused P2 line 1"
+run "neither a plan nor a brief" check wrong.brief
+want 2 "" "refused P2 line 1"
+run "nothing at all" check - </dev/null
+want 2 "" "refused P2 line 2
+hint: line 2 of the plan:
+hint:   brief 1
+hint:   ^^^^^
+hint: a plan begins with 'plan 1', or with 'plan 2' where it has ranges of
+hint: counts or 'never'
+hint: this is a brief: 'twire expand' writes the plan that it means"
+{ echo "# a comment" && echo "brief 1"; } >wrong.brief
+run "brief takes plans alone" brief wrong.brief --hints always
 
 # ---- Help.
 
