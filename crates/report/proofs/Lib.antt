@@ -8,3 +8,4 @@ pub mod CheckLemmas
 pub mod CaptureLemmas
 pub mod TellingLemmas
 pub mod SpellingLemmas
+pub mod LiveLemmas
