@@ -9,3 +9,4 @@ pub mod CaptureLemmas
 pub mod TellingLemmas
 pub mod SpellingLemmas
 pub mod LiveLemmas
+pub mod FrontLemmas

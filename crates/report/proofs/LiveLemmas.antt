@@ -33,19 +33,19 @@ use Rattle.run_parts.specs.declared.errors.RunError.TheVariants as error
 
 -- ---- the lines of some transactions, and of those after them
 
-abbrev made : List ℕ → ℕ → ℕ → Tally
+abbrev pub made : List ℕ → ℕ → ℕ → Tally
 made lines stopped unexplained = record { lines = lines; stopped = stopped; unexplained = unexplained }
 
-abbrev none : Tally
+abbrev pub none : Tally
 none = made [] 0 0
 
-abbrev plus : Tally → Tally → Tally
+abbrev pub plus : Tally → Tally → Tally
 plus a b = made (a.lines ++ b.lines) (a.stopped + b.stopped) (a.unexplained + b.unexplained)
 
-made_by : (l m : List ℕ) (s t u v : ℕ) → l ≡ m → s ≡ t → u ≡ v → made l s u ≡ made m t v
+pub made_by : (l m : List ℕ) (s t u v : ℕ) → l ≡ m → s ≡ t → u ≡ v → made l s u ≡ made m t v
 made_by l m s t u v a b c = rw a (rw b (rw c refl))
 
-plus-none : (a : Tally) → plus a none ≡ a
+pub plus-none : (a : Tally) → plus a none ≡ a
 plus-none a = made_by (a.lines ++ []) a.lines (a.stopped + 0) a.stopped (a.unexplained + 0) a.unexplained (append-nil a.lines) (omega arith) (omega arith)
 
 plus-line : (plan : Contents) (a b : Tally) (t : Recorded) (ps : List ℕ) → with_line plan (plus a b) t ps ≡ plus a (with_line plan b t ps)
@@ -71,7 +71,7 @@ judged tally = go tally.unexplained refl
 first_begin : (least : ℕ) (scl sda : Finder) (text : List ℕ) (ts more : List Recorded) → BeginsWith least scl sda text (ts ++ more) → BeginsWith least scl sda text ts
 first_begin least scl sda text ts more begins samples = let b = begins samples in (more ++ b.0, b.1 ∙ append_assoc ts more b.0)
 
-front_of_stop : {D : Type 0} (writer : Writer D) (start now : D) (text : List ℕ) (e : RunError) → WritingStops writer start text e now → WritesFront writer start text now
+pub front_of_stop : {D : Type 0} (writer : Writer D) (start now : D) (text : List ℕ) (e : RunError) → WritingStops writer start text e now → WritesFront writer start text now
 front_of_stop writer start now text error.Write stops = stops
 front_of_stop writer start now text _ stops = absurd stops
 
@@ -225,27 +225,29 @@ module _ {R O : Type 0} (writer : Writer O) where
     -- the dump was read to its end, and only the last line is left
     pub tells_all : (now : E) (told : Explaining R (Live O)) (it : Telling) → start.sink.stopped ≡ 0 → start.sink.unexplained ≡ 0 → it.stopped ≡ told.sink.stopped → it.unexplained ≡ told.sink.unexplained → string_bytes it.lines ≡ [] → DecodesAll sink start least scl sda second before now told → (told.sink.out.ghost_name ≡ start.sink.out.ghost_name) × HasTold least scl sda (under start) second writer before start.sink.out.now it now told.sink.out.now
     tells_all now told it none_stopped none_unexplained same_stopped same_unexplained empty all =
-        let w = written_by start (quiet_transactions least all.decodes.samples) told all.decodes.taken in
-        (w.same_writer, record {
-          dump = all.dump;
-          read = all.read;
-          passes = all.passes;
-          samples = all.decodes.samples;
-          given = all.decodes.read;
-          tally = w.tally;
-          told = w.told;
-          no_lines = empty;
-          stopped = omega (arith, w.stopped, none_stopped, same_stopped);
-          unexplained = omega (arith, w.unexplained, none_unexplained, same_unexplained);
-          written = w.written;
-        })
+        let w = written_by start (quiet_transactions least all.decodes.samples) told all.decodes.taken in (
+          w.same_writer,
+          record {
+            dump = all.dump;
+            read = all.read;
+            passes = all.passes;
+            samples = all.decodes.samples;
+            given = all.decodes.read;
+            tally = w.tally;
+            told = w.told;
+            no_lines = empty;
+            stopped = omega (arith, w.stopped, none_stopped, same_stopped);
+            unexplained = omega (arith, w.unexplained, none_unexplained, same_unexplained);
+            written = w.written;
+          },
+        )
 
 -- ---- the last line
 
 explained_same : (status : Status) (a b : Tally) → a.unexplained ≡ b.unexplained → Explained status a → Explained status b
-explained_same Good a b same judged = sym same ∙ judged
-explained_same Bad a b same judged = λ no. judged (same ∙ no)
-explained_same Refused a b same judged = absurd judged
+explained_same Good a b same right = sym same ∙ right
+explained_same Bad a b same right = λ no. right (same ∙ no)
+explained_same Refused a b same right = absurd right
 
 module _ (least : ℕ) (scl sda : Finder) (plan : Contents) {E O : Type 0} (second : Reader E) (writer : Writer O) (before : E) (start : O) (told : Telling) (now : E) (middle : O) (h : HasTold least scl sda plan second writer before start told now middle) where
   last_line : (bytes : List ℕ) → bytes ≡ capture_report (tally_of told) → bytes ≡ count_line h.tally.stopped h.tally.unexplained
@@ -257,23 +259,23 @@ module _ (least : ℕ) (scl sda : Finder) (plan : Contents) {E O : Type 0} (seco
   last_left bytes same =
       subst (λ (left : List ℕ). IsLeft writer start (capture_report h.tally) left middle) (sym (last_line bytes same) ∙ sym (append-nil bytes)) (h.written (count_line h.tally.stopped h.tally.unexplained))
 
-  whole : (status : Status) → Explained status (tally_of told) → CaptureOf least scl sda plan h.dump (capture_report h.tally) status
-  whole status judged = record { samples = h.samples; read = h.given; tally = h.tally; told = h.told; lines = refl; judged = explained_same status (tally_of told) h.tally h.unexplained judged }
+  abbrev whole : (status : Status) → Explained status (tally_of told) → CaptureOf least scl sda plan h.dump (capture_report h.tally) status
+  whole status right = record { samples = h.samples; read = h.given; tally = h.tally; told = h.told; lines = refl; judged = explained_same status (tally_of told) h.tally h.unexplained right }
 
   pub ends_live : (it : CaptureCounts) (bytes : List ℕ) (end : O) → Explained it.status (tally_of told) → it.stopped ≡ told.stopped → it.unexplained ≡ told.unexplained → bytes ≡ capture_report (tally_of told) → WritesAll writer middle bytes end → TellsLive least scl sda plan second writer before start it now end
-  ends_live it bytes end judged stopped unexplained same written = record {
+  ends_live it bytes end right same_stopped same_unexplained same written = record {
     dump = h.dump;
     read = h.read;
     report = capture_report h.tally;
-    capture = whole it.status judged;
-    stopped = stopped ∙ h.stopped;
-    unexplained = unexplained ∙ h.unexplained;
+    capture = whole it.status right;
+    stopped = same_stopped ∙ h.stopped;
+    unexplained = same_unexplained ∙ h.unexplained;
     written = none_left writer start (capture_report h.tally) end (part_written writer start (capture_report h.tally) [] bytes middle end (last_left bytes same) written);
   }
 
   pub last_fails : (status : Status) (bytes : List ℕ) (e : RunError) (end : O) → Explained status (tally_of told) → bytes ≡ capture_report (tally_of told) → WritingStops writer middle bytes e end → HaltsLive least scl sda plan second writer before start e now end
-  last_fails status bytes e end judged same stops =
-      at_report h.read (whole status judged) (part_stops writer start (capture_report h.tally) [] bytes middle end e (last_left bytes same) stops)
+  last_fails status bytes e end right same stops =
+      at_report h.read (whole status right) (part_stops writer start (capture_report h.tally) [] bytes middle end e (last_left bytes same) stops)
 
   -- memory ran out for the last line
   pub no_last : HaltsLive least scl sda plan second writer before start error.NoMemory now middle

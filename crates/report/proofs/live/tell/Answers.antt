@@ -12,7 +12,7 @@ pub returns-in_err-decode-clause-stops : goal.returns-in_err-decode-clause-stops
 returns-in_err-decode-clause-stops g c =
     let e = c.in_err-decode.field-0.0 in
     let why = halts_live g.O.Output.writer _ c.args.least (asked c.args.scl) (asked c.args.sda) g.J.Input.reader c.args.vcd.now c.decode.new.vcd e c.decode.new.sink c.in_err-decode.ensures.stops in
-    on_error _ e _ c.from_residual.ensures.1
+    on_error c.from_residual.result e (λ d. HaltsLive c.args.least (asked c.args.scl) (asked c.args.sda) (plan_contents c.args.plan.now) g.J.Input.reader g.O.Output.writer c.args.vcd.now c.args.out.now d c.decode.new.vcd _) c.from_residual.ensures.1
     (subst (λ out. HaltsLive c.args.least (asked c.args.scl) (asked c.args.sda) (plan_contents c.args.plan.now) g.J.Input.reader g.O.Output.writer c.args.vcd.now c.args.out.now e c.decode.new.vcd out) (sym (c.in_err-decode.out-1-own.given.1 (sym why.0))) why.1)
 
 pub returns-clause-all : goal.returns-clause-all
