@@ -185,16 +185,24 @@ for when in never auto; do
 done
 expect "no hints where nothing is said" 0 "$silent" "" plan quiet
 
-# Of a pipe there are words alone, since it cannot be read once more.
+# The reader knows the place of what it refuses, so a pipe has it too.
 expect "hints on a pipe" 2 "" "refused V2 line 26
-$(hint "on line 26 of the capture something stands that cannot stand in its place")" \
+$(hint "line 26 of the capture:" "  U!" "  ^^" \
+    "this is one of VHDL's nine states, and only '0', '1', 'x' and 'z' are" \
+    "read: have the dump written with four states (GHDL: --vcd-4states)")" \
     "$example" /dev/stdin --hints always < <(cat nine_states)
 mkfifo nine_states.fifo
 cat nine_states >nine_states.fifo &
 expect "hints on a FIFO" 2 "" "refused V2 line 26
-$(hint "on line 26 of the capture something stands that cannot stand in its place")" \
+$(hint "line 26 of the capture:" "  U!" "  ^^" \
+    "this is one of VHDL's nine states, and only '0', '1', 'x' and 'z' are" \
+    "read: have the dump written with four states (GHDL: --vcd-4states)")" \
     "$example" nine_states.fifo --hints always
 
+# What has no end began further above, where a pipe cannot be read once more.
+expect "hints on what has no end in a pipe" 2 "" "refused V4 line 9
+$(hint "what begins on line 9 of the capture has no end: an '\$end' is missing, or" "the capture was cut short")" \
+    plan /dev/stdin --hints always < <(cat open)
 expect "hints on a missing signal of a pipe" 2 "" "refused V1 sda
 $(hint "no signal of one bit has the name 'sda'" "give the name that the line has in the file with --sda NAME")" \
     plan /dev/stdin --scl clock_line --hints always < <(cat named)

@@ -371,29 +371,33 @@ last=$((line - 1))
 all=$("$twire" decode three | sed '$d')
 slow "a token of no kind after what has ended" "$last" "$all" 2 "$all" "refused V2 line $line" decode slow --live
 slow "the same in objects" "$last" "$("$twire" decode three --format json | sed '$d')" 2 \
-    "$("$twire" decode three --format json | sed '$d')" "{\"kind\":\"refusal\",\"code\":\"V2\",\"line\":$line}" \
+    "$("$twire" decode three --format json | sed '$d')" \
+    "{\"kind\":\"refusal\",\"code\":\"V2\",\"line\":$line,\"byte\":$(($(wc -c <source) - 2)),\"column\":1,\"expected\":\"change\"}" \
     decode slow --live --format json
 slow "the same of who explains it" "$last" "$("$twire" capture plan three | sed '$d')" 2 \
     "$("$twire" capture plan three | sed '$d')" "refused V2 line $line" capture plan slow --live
 slow "a summary has no line before the end" "$last" "" 2 "" "refused V2 line $line" decode slow --live --summary
 slow "the hint on it comes behind" "$last" "$all" 2 "$all" "refused V2 line $line
-hint: on line $line of the capture something stands that cannot stand in its place" decode slow --live --hints always
+hint: line $line of the capture:
+hint:   ?
+hint:   ^
+hint: expected here: a time as '#10', a change as '1!' or 'b01 !', or a command
+hint: as '\$comment'" decode slow --live --hints always
 { cat three; printf '#4000 1!\n$comment\n'; } >source
 slow "an open comment after what has ended" "$last" "$all" 2 "$all" "refused V4 line $line" decode slow --live
 { cat three; printf '#4000 1!\n#3 1!\n'; } >source
 slow "a time that goes back after what has ended" "$last" "$all" 2 "$all" "refused V3 line $line" decode slow --live
-# Of a file as much is read at a time as 64 KiB; what ended in the read that is refused is not told.
-{ cat long; echo '?'; } >long_stray
+# Of a file as much is read at a time as 64 KiB; of the read that is refused what ended before the refusal is told.
+{ cat long; printf '#18446744073709551615 ?\n'; } >long_stray
 line=$(wc -l <long_stray)
 "$twire" decode long_stray --live >out 2>err
 status=$?
-count=$(wc -l <out)
-head -n "$count" long_due | cmp -s - out && ((count > 4000)) && echo "a part of them" >out
-judge "a token of no kind after many reads" 2 "a part of them" "refused V2 line $line"
+sed '$d' long_due | cmp -s - out && echo "all that ended" >out
+judge "a token of no kind after many reads" 2 "all that ended" "refused V2 line $line"
 "$twire" capture plan long_stray --live >out 2>err
 status=$?
-head -n "$(wc -l <out)" long_captured | cmp -s - out && echo "a part of them" >out
-judge "the same of who explains them" 2 "a part of them" "refused V2 line $line"
+sed '$d' long_captured | cmp -s - out && echo "all that ended" >out
+judge "the same of who explains them" 2 "all that ended" "refused V2 line $line"
 # Without --live lines are written once there are 64 KiB of them, and the exact report when it is whole.
 "$twire" decode long_stray >out 2>err
 status=$?

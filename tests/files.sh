@@ -248,7 +248,11 @@ hint: counts or 'never'"
 line=$(wc -l <changing)
 refused_then end_nothing 4 capture plan changing --hints always
 judge "hints on a dump that was changed" 2 "" "refused V2 line $line
-hint: on line $line of the capture something stands that cannot stand in its place"
+hint: line $line of the capture:
+hint:   ?
+hint:   ^
+hint: expected here: a time as '#10', a change as '1!' or 'b01 !', or a command
+hint: as '\$comment'"
 
 # ---- a file that changes in the midst of being read
 

@@ -239,7 +239,11 @@ run "no transaction behind it is counted" 1 '{"kind":"participant","participant"
 {"kind":"count","what":"cut","transactions":0}
 {"kind":"count","what":"unfinished","transactions":0}
 {"kind":"transactions","transactions":1,"unexplained":1}' "" capture --format json --stop-at-unexplained --summary "$two" odd.vcd
-run "a refused dump" 2 "" '{"kind":"refusal","code":"V3","line":2}' decode --format json - <<<"$lines"$'\n#5 #4'
+run "a refused dump" 2 "" \
+    "{\"kind\":\"refusal\",\"code\":\"V3\",\"line\":2,\"byte\":$((${#lines} + 4)),\"column\":4,\"expected\":\"change\"}" \
+    decode --format json - <<<"$lines"$'\n#5 #4'
+run "a dump with something open" 2 "" '{"kind":"refusal","code":"V4","line":2,"open":"block"}' \
+    decode --format json - <<<"$lines"$'\n$dumpvars 0!'
 run "a rehearsal" 0 '{"kind":"wire","wire":"10010000l00000001l00100000ls"}
 {"kind":"won","participants":["guard/write_alarm"]}' "" \
     bench --format json --certify "$two" main/write_limit,guard/write_alarm --rest 0

@@ -3,7 +3,7 @@
 use crate::below::begin;
 use crate::glitches::{Cut, Cuts};
 use crate::labels::Labels;
-use crate::leaving::{Leaves, does, nearest, shown};
+use crate::leaving::{Leaves, mark_words, nearest, offer_words};
 use crate::words::bytes_of;
 use capture_check::{Mark, Transaction, Until};
 use growing_text::Lines;
@@ -78,8 +78,8 @@ fn tell_leaves(lines: &mut Lines, labels: &Labels, mark: Option<&Mark>, near: Le
     lines.words(labels.of(near.participant));
     lines.words("leaves at slot");
     lines.number(near.slot as u64, ":");
-    lines.words(does(near.offered));
+    lines.words(offer_words(near.offered));
     lines.words("there, the wire has");
-    lines.words(shown(mark));
+    lines.words(mark_words(mark));
     lines.end();
 }

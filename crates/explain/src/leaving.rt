@@ -72,7 +72,7 @@ fn item_for(offered: Offered, mark: Mark) -> Item {
 }
 
 /// What a participant does that offers this, in words.
-pub fn does(offered: Offered) -> &'static str {
+pub fn offer_words(offered: Offered) -> &'static str {
     match offered {
         Offered::Bit(Bit::Zero) => "it sends 0",
         Offered::Bit(Bit::One) => "it sends 1",
@@ -86,7 +86,7 @@ pub fn does(offered: Offered) -> &'static str {
 }
 
 /// What a wire has there, in words.
-pub fn shown(mark: Option<&Mark>) -> &'static str {
+pub fn mark_words(mark: Option<&Mark>) -> &'static str {
     match mark {
         Some(Mark::Level(false)) => "0",
         Some(Mark::Level(true)) => "1",

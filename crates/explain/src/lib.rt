@@ -51,7 +51,7 @@ pub use capture_lines::{CaptureLines, Layout};
 pub use decode_lines::DecodeLines;
 pub use glitches::{Cut, Cuts};
 pub use labels::{Labels, label_of, labels_of};
-pub use leaving::{Leaves, does, nearest, shown};
+pub use leaving::{Leaves, mark_words, nearest, offer_words};
 pub use meetings::{Meeting, Rule, Side, meeting_of};
 pub use mends::Mends;
 pub use mistakes::{Mistake, mistake_of};

@@ -3,7 +3,7 @@
 use capture_check::{Mark, Transaction, Until};
 use decoding::ExplainedSink;
 use dump_tokens::Scale;
-use explain::{Leaves, Seen, Selection, bytes_of, does, nearest, shown};
+use explain::{Leaves, Seen, Selection, bytes_of, mark_words, nearest, offer_words};
 use plan_core::Plan;
 use run_parts::RunError;
 use serde::Serialize;
@@ -174,7 +174,7 @@ fn near_of(near: Leaves, mark: Option<&Mark>) -> Near {
     Near {
         participant: near.participant,
         slot: near.slot,
-        does: does(near.offered),
-        wire: shown(mark),
+        does: offer_words(near.offered),
+        wire: mark_words(mark),
     }
 }

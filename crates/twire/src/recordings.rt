@@ -65,7 +65,7 @@ pub fn open<'v, 'a, J: Input>(
 }
 
 /// Why a run over this dump ends without its report.
-pub fn halted<J>(mut dump: Dump<'_, '_, J>, error: RunError) -> Halt {
+pub fn halted<J: Input>(mut dump: Dump<'_, '_, J>, error: RunError) -> Halt {
     Halt::Dump(error, dump.take_wrong())
 }
 
