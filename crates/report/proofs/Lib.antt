@@ -9,3 +9,5 @@ pub mod GivenLemmas
 pub mod CaptureLemmas
 pub mod TellingLemmas
 pub mod SpellingLemmas
+pub mod LiveLemmas
+pub mod FrontLemmas

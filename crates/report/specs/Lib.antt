@@ -12,3 +12,5 @@ pub mod Spellings
 pub mod CaptureLines
 pub mod CaptureViews
 pub mod Captures
+pub mod LiveViews
+pub mod LiveCaptures

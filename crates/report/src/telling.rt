@@ -27,6 +27,19 @@ pub struct CaptureReport {
     pub unexplained: u64,
 }
 
+/// What a run says of a capture, beside its lines.
+#[derive(Clone, Copy)]
+pub struct CaptureCounts {
+    /// The status of a run with this report.
+    pub status: Status,
+    /// How many transactions there are.
+    pub transactions: u64,
+    /// How many of them a STOP ended.
+    pub stopped: u64,
+    /// How many of these nobody explains.
+    pub unexplained: u64,
+}
+
 /// The lines of the transactions so far, how many of them a STOP ended, and how many of these nobody explains.
 #[derive(Drop)]
 pub struct Telling {
@@ -73,9 +86,9 @@ impl Telling {
         push_line(alloc, &mut self.lines, plan, transaction, participants)?;
         self.transactions = self.transactions.saturating_add(1);
         if let Until::Stopped(_) = transaction.until {
-            self.stopped = more(self.stopped)?;
+            self.stopped = more(self.stopped, 1)?;
             if participants.is_empty() {
-                self.unexplained = more(self.unexplained)?;
+                self.unexplained = more(self.unexplained, 1)?;
             }
         }
         Ok(())
@@ -100,6 +113,8 @@ impl Telling {
     pub fn finish(self) -> Result<CaptureReport, AllocError>
         ensures report { IfOk result (λ it. string_bytes it.report ≡ capture_report (tally_of self)) }
         ensures status { IfOk result (λ it. Explained it.status (tally_of self)) }
+        ensures stopped { IfOk result (λ it. it.stopped ≡ (tally_of self).stopped) }
+        ensures unexplained { IfOk result (λ it. it.unexplained ≡ (tally_of self).unexplained) }
     {
         let status = self.status();
         let Telling {
@@ -138,11 +153,11 @@ impl ExplainedSink for Telling {
     }
 }
 
-// One more. Each that is counted has a line, so more of them than the number holds would not fit into memory.
-fn more(count: u64) -> Result<u64, AllocError>
-    ensures { IfOk result (λ more. more ≡ count + 1) }
+// So many more. Each that is counted has a line, so more of them than the number holds would not fit into memory.
+pub(crate) fn more(count: u64, by: u64) -> Result<u64, AllocError>
+    ensures { IfOk result (λ more. more ≡ count + by) }
 {
-    match count.checked_add(1) {
+    match count.checked_add(by) {
         Some(more) => Ok(more),
         None => Err(AllocError),
     }

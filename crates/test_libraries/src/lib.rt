@@ -23,6 +23,8 @@ mod gates;
 #[cfg(test)]
 mod limits;
 #[cfg(test)]
+mod live;
+#[cfg(test)]
 mod messages;
 #[cfg(test)]
 mod pieces;

@@ -7,7 +7,10 @@ use dump_tokens::{Bus, BusLines, Limits, Quiet};
 use explain::{CaptureLines, DecodeLines, Layout, Paint, Seen, Selection};
 use objects::{CaptureObjects, DecodeObjects, write_signals};
 use plan_core::Plan;
-use report::{CaptureReport, Input, Output, RunError, Status, Telling, find_given};
+use report::{
+    CaptureCounts, CaptureReport, Input, Output, RunError, Status, Telling, find_given,
+    live_capture,
+};
 use run_parts::write_lines;
 use signals::{Dump, Learned, Listed, Sights, SignalDump, brief_of, needs_picking};
 use std::alloc::Global;
@@ -24,9 +27,9 @@ pub struct Capture<'a> {
 }
 
 impl Capture<'_> {
-    // Whether its report is the exact one, which is written when it is whole.
+    // Whether its lines are the exact ones, and no others.
     fn is_exact(self) -> bool {
-        self.bus.view.is_whole() && !self.explain && !self.live && !self.stops
+        self.bus.view.is_whole() && !self.explain && !self.stops
     }
 
     // Whether the definitions of the dump have to be known first.
@@ -99,10 +102,14 @@ fn capture_by<R: AllocGlobal + Threads + Sync, J: Input, O: Output>(
 ) -> Result<(Status, Seen), Halt> {
     let is_exact = capture.is_exact() && matches!(style, Style::Lines(Paint::Plain));
     if is_exact && !capture.reads_ahead() {
-        return exact_capture(rt, plan, vcd, out, capture.bus.lines);
+        return if capture.live {
+            live_lines(rt, plan, vcd, out, capture.bus.lines)
+        } else {
+            exact_capture(rt, plan, vcd, out, capture.bus.lines)
+        };
     }
     let mut dump = open(rt.alloc(), vcd, capture.bus)?;
-    let told = if is_exact {
+    let told = if is_exact && !capture.live {
         exact_dump(rt, plan, &mut dump, out)
     } else {
         capture_dump(rt, plan, &mut dump, out, capture, style)
@@ -110,6 +117,41 @@ fn capture_by<R: AllocGlobal + Threads + Sync, J: Input, O: Output>(
     match told {
         Ok(told) => Ok(told),
         Err(error) => Err(halted(dump, error)),
+    }
+}
+
+// The exact lines, by a proved run over the reader itself: what has ended is written before the dump is read on.
+fn live_lines<R: AllocGlobal + Threads + Sync, J: Input, O: Output>(
+    rt: &R,
+    plan: &Plan,
+    vcd: &mut J,
+    out: &mut O,
+    lines: BusLines<'_>,
+) -> Result<(Status, Seen), Halt> {
+    let least = Quiet::of(lines.min_pulse, None).least;
+    let mut wrong = None;
+    let told = live_capture(
+        rt,
+        rt.alloc(),
+        plan,
+        vcd,
+        out,
+        lines.scl,
+        lines.sda,
+        least,
+        &mut wrong,
+    );
+    match told {
+        Ok(counts) => Ok((counts.status, seen_by(counts))),
+        Err(error) => Err(Halt::Dump(error, wrong)),
+    }
+}
+
+fn seen_by(counts: CaptureCounts) -> Seen {
+    Seen {
+        transactions: counts.transactions,
+        stopped: counts.stopped,
+        unexplained: counts.unexplained,
     }
 }
 
