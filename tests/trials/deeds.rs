@@ -14,6 +14,8 @@ pub enum Deed {
     Objects { hints: bool, explain: bool },
     /// Its command, which reads a dump, so that what has ended is written before more is read, in lines or objects.
     Live { objects: bool },
+    /// Its command, with a brief of its plan in the place of that.
+    OfBrief,
     /// Its command, a check, by so many workers.
     By(u32),
     /// A call in place of its command.
@@ -107,7 +109,7 @@ pub struct Line {
 /// The command line of a deed.
 pub fn line_of(deed: Deed, asked: &Asked) -> Line {
     match deed {
-        Deed::Command => command_line(&asked.command),
+        Deed::Command | Deed::OfBrief => command_line(&asked.command),
         Deed::Hinted => hinted_line(&asked.command),
         Deed::Objects { hints, explain } => objects_line(&asked.command, hints, explain),
         Deed::Live { objects } => live_line(&asked.command, objects),

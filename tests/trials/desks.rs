@@ -1,6 +1,7 @@
 //! Desks, at each of which one program runs after the other. A desk has a folder with the files that the programs read.
 
 use crate::cases::Asked;
+use crate::commands as words;
 use crate::deeds::{line_of, Deed, Line, Program};
 use crate::plain::Answer;
 use crate::setups::{Setup, Told};
@@ -89,9 +90,19 @@ impl Desk {
 
     /// What is said over such devices.
     pub fn run(&mut self, deed: Deed, asked: &Asked, setup: &Setup) -> io::Result<Said> {
-        self.first.hold(&asked.first)?;
+        match deed {
+            Deed::OfBrief => self.hold_brief(asked)?,
+            _ => self.first.hold(&asked.first)?,
+        }
         self.second.hold(&asked.second)?;
         self.run_line(&line_of(deed, asked), setup)
+    }
+
+    // A brief of the plan in its place, where it has one. What it means is compared with the plan when briefs are tried.
+    fn hold_brief(&mut self, asked: &Asked) -> io::Result<()> {
+        let brief = Asked { command: words::Command::Brief, first: asked.first.clone(), second: Vec::new() };
+        let answer = self.answer(&brief)?;
+        self.first.hold(if answer.status == 0 { answer.out.as_bytes() } else { &asked.first })
     }
 
     /// The same of a command line, over the files of the run before.

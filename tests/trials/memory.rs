@@ -148,7 +148,9 @@ fn told(task: &Task<'_>, is_right: bool, why: &'static str) -> Option<Disagreeme
 // The number of workers is judged first, and a call may refuse a text before it takes memory.
 fn asks_for_none(task: &Task<'_>) -> bool {
     match task.deed {
-        Deed::Command | Deed::Hinted | Deed::Objects { .. } | Deed::Live { .. } | Deed::By(_) => task.case.is_unread(),
+        Deed::Command | Deed::OfBrief | Deed::Hinted | Deed::Objects { .. } | Deed::Live { .. } | Deed::By(_) => {
+            task.case.is_unread()
+        }
         Deed::Call(_) | Deed::Lists | Deed::Quiet(_) => !task.case.wanted.refusal.is_empty(),
     }
 }

@@ -20,6 +20,8 @@ pub enum Way {
     FailingWrites,
     /// Signals interrupt each call 1, 3 or 100 times.
     Interrupted,
+    /// A brief of the plan stands in its place.
+    OfBrief,
     /// A check by 1, 2, 3 and 8 workers.
     Workers,
     /// Calls of the libraries in place of a command.
@@ -35,12 +37,13 @@ pub enum Way {
 }
 
 impl Way {
-    pub const ALL: [Way; 11] = [
+    pub const ALL: [Way; 12] = [
         Way::Whole,
         Way::InPieces,
         Way::FailingReads,
         Way::FailingWrites,
         Way::Interrupted,
+        Way::OfBrief,
         Way::Workers,
         Way::Calls,
         Way::Hints,
@@ -56,6 +59,7 @@ impl Way {
             Way::FailingReads => "failing reads",
             Way::FailingWrites => "failing writes",
             Way::Interrupted => "interrupted",
+            Way::OfBrief => "of a brief",
             Way::Workers => "workers",
             Way::Calls => "calls",
             Way::Hints => "hints",
@@ -73,6 +77,7 @@ impl Way {
             Way::FailingReads => failing_reads(case),
             Way::FailingWrites => failing_writes(case),
             Way::Interrupted => [1, 3, 100].map(interrupted).to_vec(),
+            Way::OfBrief => of_brief(&case.asked.command),
             Way::Workers => by_workers(&case.asked.command),
             Way::Calls => by_calls(&case.asked.command),
             Way::Hints => with_hints(case),
@@ -146,6 +151,20 @@ fn failing_writes(case: &Case) -> Vec<Run> {
     }
     list.push(run(Setup { room: Some(report), fails: true, ..Setup::WHOLE }, Due::Wanted));
     list
+}
+
+// Of commands that take a brief in the place of a plan.
+fn of_brief(command: &Command) -> Vec<Run> {
+    match command {
+        Command::Check { .. }
+        | Command::Certify
+        | Command::Verify
+        | Command::Capture { .. }
+        | Command::Bench { .. }
+        | Command::Order
+        | Command::Print => vec![done(Deed::OfBrief)],
+        _ => Vec::new(),
+    }
 }
 
 fn by_workers(command: &Command) -> Vec<Run> {

@@ -35,11 +35,23 @@ impl Answer {
     }
 }
 
-/// What is to be said of a plan, or its refusal.
+/// What is to be said of a plan, or of a brief that means it, or the refusal.
 pub fn with_plan<T>(plan: &[u8], answer: impl FnOnce(&Participants) -> T) -> Result<T, Refusal> {
-    let text = String::from_utf8_lossy(plan);
+    let text = plan_given(plan)?;
     let items = items_of(&text)?;
     Ok(answer(&Participants::of(&items)))
+}
+
+// The text of a plan, also where it is given as a brief: one that does not begin as a plan.
+fn plan_given(text: &[u8]) -> Result<String, Refusal> {
+    let text = String::from_utf8_lossy(text).into_owned();
+    let has_head = |refusal: &Refusal| refusal.code != 2;
+    match items_of(&text).err() {
+        Some(head) if !has_head(&head) => {
+            expansion(&text).map_err(|refusal| if has_head(&refusal) { refusal } else { head })
+        }
+        _ => Ok(text),
+    }
 }
 
 // What is answered of a plan, or its refusal.
@@ -259,9 +271,12 @@ pub fn brief(plan: &[u8]) -> Answer {
     }
 }
 
-/// The canonical spelling of a plan, or nothing where the text spells none.
+/// The canonical spelling of a plan, also of one that is given as a brief, or nothing where the text is neither.
 pub fn spelling(plan: &[u8]) -> String {
-    match items_of(&String::from_utf8_lossy(plan)) {
+    let Ok(plan) = plan_given(plan) else {
+        return String::new();
+    };
+    match items_of(&plan) {
         Ok(items) => items.to_string(),
         Err(_) => String::new(),
     }
