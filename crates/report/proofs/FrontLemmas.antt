@@ -1,13 +1,11 @@
 -- What was written of a capture by the time that a run halts begins the report.
-use Rattle.std.proofs.Common.{◌≡◌, ◌↔◌, ◌⊎◌, inl, inr, ℕ, zero, suc, ◌<◌, List, [], ◌∷◌, ◌++◌, length, AllPairs, Contains, None, Result, Ok, Err, MatchResult, ap, sym, ◌∙◌, subst, refl, append_assoc, append-nil, arith}
-use Rattle.std.specs.Io.KnownBytes.{Appends}
+use Rattle.std.proofs.Common.{◌≡◌, ◌⊎◌, inl, inr, ℕ, zero, suc, ◌<◌, List, [], ◌∷◌, ◌++◌, AllPairs, Contains, None, Result, Ok, Err, MatchResult, ap, sym, ◌∙◌, subst, refl, append_assoc, append-nil, arith}
 use Rattle.plan_core.specs.Contents.{Contents}
 use Rattle.vcd_read.specs.declared.errors.Refusal.{Refusal}
 use Rattle.vcd_read.specs.declared.samples.Sample.{Sample}
 use Rattle.vcd_read.specs.Dumps.{samples_of, given_so_far}
-use Rattle.vcd_read.specs.Pieces.{Kept, Refused, Scan, kept_at_first, bytes_read, samples_at_end}
+use Rattle.vcd_read.specs.Pieces.{Kept, Scan, kept_at_first, bytes_read, samples_at_end}
 use Rattle.vcd_read.specs.Probes.{Finder}
-use Rattle.vcd_read.specs.Readers.{Reading}
 use Rattle.vcd_read.proofs.PieceLemmas.{with_cleared}
 use Rattle.vcd_read.proofs.FedLemmas.{going_from_scan, given_in, scan_more, scan_refused, scan_still_refused, samples_going, samples_refused, samples_refused_at_end}
 use Rattle.capture_check.specs.declared.listening.Mark.{Mark}
@@ -16,16 +14,13 @@ use Rattle.capture_check.specs.declared.listening.Until.TheVariants.{Stopped, Cu
 use Rattle.capture_check.specs.Explained.{AreLeavers, AreExplainersUntil, AreExplainers}
 use Rattle.capture_check.specs.Transactions.{Recorded}
 use Rattle.pulses.specs.Following.{quiet_transactions}
-use Rattle.decoding.specs.Decoding.{BeginsWith}
 use Rattle.report.specs.CaptureLines.{Tally, Tells, no_transaction, next_transaction, capture_line, stopped, unexplained, count_line, capture_report}
 use Rattle.report.specs.Captures.{CaptureOf}
 use Rattle.report.specs.LiveCaptures.{FirstLines, LinesOfDump, BeginsReport, HaltsLive, at_dump, at_both, at_writer, at_end, at_report, WroteFront, of_each, of_whole}
 use Rattle.report.proofs.LiveLemmas.{made, none, plus, made_by, plus-none, front_of_stop}
 use Rattle.run_parts.specs.Devices.{Reader, Writer, by_parts}
-use Rattle.run_parts.specs.Writing.{WritesAll, WritesFront, WritingStops}
 use Rattle.run_parts.specs.declared.runs.Status.{Status}
 use Rattle.run_parts.specs.declared.errors.RunError.{RunError}
-use Rattle.run_parts.specs.declared.errors.RunError.TheVariants as error
 
 -- ---- who explains a transaction is one list
 

@@ -8,7 +8,7 @@ use Rattle.vcd_read.specs.Probes.{Finder}
 use Rattle.pulses.specs.Following.{quiet_transactions}
 use Rattle.capture_check.specs.Transactions.{Recorded}
 use Rattle.decoding.specs.Decoding.{BeginsWith, DecodesAll, HaltsAtDecoding, at_dump, at_both, at_sink, at_end}
-use Rattle.decoding.specs.Dumps.{HaltsAtDump, HasBegun, no_memory, refused_at_end}
+use Rattle.decoding.specs.Dumps.{HaltsAtDump, HasBegun, no_memory}
 use Rattle.decoding.specs.Explaining.{explaining_sink}
 use Rattle.decoding.specs.Sinks.{Sink, HasTaken, no_call, next_call}
 use Rattle.decoding.specs.declared.sinks.Explaining.{Explaining}
@@ -18,7 +18,7 @@ use Rattle.report.specs.Captures.{Explained, CaptureOf}
 use Rattle.report.specs.CaptureViews.{tally_of}
 use Rattle.report.specs.LiveCaptures.{FirstLines, LinesOfDump, HaltsLive, TellsLive}
 use Rattle.report.specs.LiveCaptures.{at_dump as live_at_dump, at_both as live_at_both, at_writer, at_end as live_at_end, at_report}
-use Rattle.report.specs.LiveViews.{WritesBlock, FailsAtBlock, NoRoom, live_sink, HasTold}
+use Rattle.report.specs.LiveViews.{FailsAtBlock, live_sink, HasTold}
 use Rattle.report.specs.declared.live.Live.{Live}
 use Rattle.report.specs.declared.telling.CaptureCounts.{CaptureCounts}
 use Rattle.report.specs.declared.telling.Telling.{Telling}

@@ -56,7 +56,7 @@ module _ (least : ℕ) (scl sda : Finder) (plan : Contents) where
       pub unexplained : it.unexplained ≡ capture.tally.unexplained
       pub written : WritesAll (by_parts writer) start report end
 
-    -- Why a report is not whole, and what was written up to then.
+    -- Why the report is not whole, and what was written up to then.
     pub data HaltsLive : RunError → E → O → Type 0 where
       -- the dump halted, and the writer took the lines of what had ended
       at_dump : {error : RunError} {reads : ℕ} {text lines : List ℕ} {last now : E} {end : O} →
@@ -92,8 +92,8 @@ module _ (least : ℕ) (scl sda : Finder) (plan : Contents) where
           WritingStops (by_parts writer) start report error end →
           HaltsLive error now end
 
-    -- The same in plain words: what was written begins the report of each dump that goes on so, or of the dump that was
-    -- read to its end.
+    -- In plain words: what the writer has taken by then, where it says so, begins the report of each dump that goes on as
+    -- this one did; or of this one, where it was read to its end.
     pub data WroteFront : E → O → Type 0 where
       of_each : {reads : ℕ} {text : List ℕ} {last now : E} {end : O} (front : List ℕ) →
           HasGiven second before reads text last →

@@ -48,15 +48,16 @@ impl<O: Output> ExplainedSink for Live<'_, O> {
     }
 }
 
-/// Explains the capture that the reader gives, a value change dump, by a plan, and writes the report while it reads: the
-/// lines of what has ended in a block of the dump before the next block is read, and the line that counts them at the end.
-/// The lines are those of `run_capture_of`. A block in which the dump is refused is told up to the refusal; `wrong` then has
-/// what is wrong, as far as there was memory for it.
+/// Explains the capture that the reader gives, a value change dump, by a plan. The lines are those of `run_capture_of`, and
+/// they are written as they come: those of what has ended in a block of the dump before the next block is read, and the one
+/// that counts them at the end. A block in which the dump is refused is told up to the refusal, and `wrong` then has what is
+/// wrong there, as far as there was memory for it.
 ///
 /// # Errors
 ///
 /// `Read` where the reader failed or gave no end, `Vcd` with the first refusal of the dump, `Write` where the writer failed
-/// or took no bytes, and `NoMemory` where an allocation fails. What was written by then stays.
+/// or took no bytes, and `NoMemory` where an allocation fails. Where a refused dump meets a writer that fails, it is `Vcd`.
+/// What was written by then stays.
 pub fn live_capture<J: Input, O: Output>(
     rt: &(impl Threads + Sync),
     alloc: Global,
@@ -89,7 +90,7 @@ pub fn live_capture<J: Input, O: Output>(
     })
 }
 
-// Writes the lines of the transactions in the dump, and answers the counts, with no lines.
+// The same without the last line: the counts for it.
 fn tell<J: Input, O: Output>(
     rt: &(impl Threads + Sync),
     alloc: Global,

@@ -153,7 +153,7 @@ impl ExplainedSink for Telling {
     }
 }
 
-// So many more. Each that is counted has a line, so more of them than the number holds would not fit into memory.
+// So many more. Each that is counted has a line, and no run comes to more lines than the number holds.
 pub(crate) fn more(count: u64, by: u64) -> Result<u64, AllocError>
     ensures { IfOk result (λ more. more ≡ count + by) }
 {

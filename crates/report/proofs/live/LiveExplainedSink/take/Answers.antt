@@ -1,4 +1,4 @@
-use Rattle.std.proofs.Common.{◌≡◌, inl, inr, List, [], ℕ, refl, sym, subst}
+use Rattle.std.proofs.Common.{inr, List, [], ℕ, refl, subst}
 use Rattle.plan_core.specs.PlanContents.{plan_contents}
 use Rattle.report.specs.CaptureViews.{tally_of}
 use Rattle.run_parts.specs.Writing.{WritesAll, WritingStops}
