@@ -266,6 +266,13 @@ printf '%s\n' '$scope module top $end' '$var wire 1 ! a"b\c $end' '$upscope $end
 run "signals, with bytes that JSON escapes and bytes that do not print" 0 '{"kind":"signal","code":"!","changes":0,"scope":"top","name":"a\"b\\c"}
 {"kind":"signal","code":"'"'"'","changes":2,"name":"\\x01\\xff [1]"}
 {"kind":"signals","signals":2,"buses":0}' "" signals --format json d.vcd
+run "signals from a time on" 0 '{"kind":"signal","code":"!","changes":0,"scope":"board.i2c0","name":"scl"}
+{"kind":"signal","code":"\"","changes":0,"scope":"board.i2c0","name":"sda"}
+{"kind":"signal","code":"%","changes":20,"scope":"board.i2c1","name":"scl"}
+{"kind":"signal","code":"&","changes":6,"scope":"board.i2c1","name":"sda"}
+{"kind":"bus","transactions":1,"scl_code":"%","sda_code":"&"}
+{"kind":"signals","signals":4,"buses":1}' "" signals --format json --min-pulse 2us --from 165us "$examples/two_buses.vcd"
+run "signals, and times that the dump does not count" 2 "" '{"kind":"refusal","code":"timescale"}' signals --format json --to 1us d.vcd
 
 run "refusals: a code with a line" 2 "" '{"kind":"refusal","code":"P2","line":1}' check --format json - <<<'plan 3'
 run "refusals: a code with a signal" 2 "" '{"kind":"refusal","code":"V1","signal":"scl"}' \

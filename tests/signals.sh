@@ -545,12 +545,6 @@ expect "signals up to a time" 0 "$(shown 13 5 0 0 "$bus_0")" "" signals two --to
 expect "signals at the time of a START" 0 "$(shown 0 1 0 0 "$bus_0")" "" signals two --from 5 --to 5us
 expect "signals between two transactions' beginnings" 0 "$(shown 20 5 0 0)" "" signals two --from 5001ns --to 199999ns
 expect "signals within times, and levels that last" 0 "$(shown 0 1 0 0)" "" signals two --min-pulse 6 --from 11 --to 16
-expect "objects within times" 0 '{"kind":"signal","code":"!","changes":8,"scope":"top.i2c0","name":"scl"}
-{"kind":"signal","code":"\"","changes":1,"scope":"top.i2c0","name":"sda"}
-{"kind":"signal","code":"#","changes":20,"scope":"top.i2c1","name":"scl"}
-{"kind":"signal","code":"$","changes":4,"scope":"top.i2c1","name":"sda"}
-{"kind":"bus","transactions":1,"scl_code":"#","sda_code":"$"}
-{"kind":"signals","signals":4,"buses":1}' "" signals two --from 100 --format json
 buses "only parts within times count" "${the_bus/1/9}
 2 signals, 1 buses" broken_half --from 10000
 buses "parts that are all broken" "2 signals, 0 buses" broken_first --to 9999
