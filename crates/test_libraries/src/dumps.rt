@@ -1,6 +1,6 @@
 // Dumps, fed whole and in pieces.
 
-mod places;
 mod readers;
 mod rows;
 mod texts;
+mod wrong;
