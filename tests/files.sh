@@ -239,7 +239,7 @@ refused_then() {
 make_a_plan() { printf 'plan 1\n' >changing; }
 end_nothing() { printf '$end' >changing; }
 
-printf 'brief 1\n' >changing
+printf 'board 1\n' >changing
 refused_then make_a_plan 3 check changing --hints always
 judge "hints on a plan that was changed" 2 "" "refused P2 line 1
 hint: a plan begins with 'plan 1', or with 'plan 2' where it has ranges of
