@@ -128,8 +128,10 @@ fn by_objects(case: &Case, wanted: Answer, found: &Answer, explain: bool) -> (An
 // A refusal as its object tells it: of a token of a dump also how many bytes stand before it, and in its line.
 fn with_place(case: &Case, refusal: String) -> String {
     let (line, hints) = refusal.split_once('\n').unwrap_or((&refusal, ""));
+    // (with hints behind it the line stands as it is)
+    let told = line.strip_prefix("on standard error: refused ").unwrap_or(line);
     match place_of(&case.asked) {
-        Some((byte, column)) if line.starts_with("V2 ") || line.starts_with("V3 ") => {
+        Some((byte, column)) if told.starts_with("V2 ") || told.starts_with("V3 ") => {
             let rest = if hints.is_empty() { String::new() } else { format!("\n{hints}") };
             format!("{line} byte {byte} column {column}{rest}")
         }
