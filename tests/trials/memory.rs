@@ -129,14 +129,24 @@ fn judge_ample(task: &Task<'_>, ample: &Said) -> Option<Disagreement> {
     Disagreement::of(task.case, "ample memory", wanted, &ample.answer, fault)
 }
 
-// The answer is the one with memory; or out of memory, where an allocation was refused, and then nothing is written.
+// The answer is the one with memory; or out of memory, where an allocation was refused, and then nothing is written. Places are
+// left out then.
 fn judge(case: &Case, ample: &Answer, said: &Said) -> Option<Disagreement> {
     let found = &said.answer;
     let is_want = is_memory(&found.refusal) && found.status == 2 && found.out.is_empty();
-    if said.told.refused && is_want {
+    if said.told.refused && (is_want || *found == without_place(ample)) {
         return None;
     }
     Disagreement::of(case, "refused memory", ample.clone(), found, None)
+}
+
+// Where there is no memory for the place of a token of a dump, the object of its refusal has none.
+fn without_place(ample: &Answer) -> Answer {
+    let refusal = match ample.refusal.split_once(",\"byte\":") {
+        Some((before, after)) => format!("{before}{}", after.find('}').map_or("", |end| &after[end..])),
+        None => ample.refusal.clone(),
+    };
+    Answer { refusal, ..ample.clone() }
 }
 
 // What is to be so of all runs of a task.
