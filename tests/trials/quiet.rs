@@ -34,7 +34,9 @@ fn try_case(desk: &mut Desk, case: &Case, quiet: Quiet) -> io::Result<(Option<Qu
     if said.answer == answer("not made\n") {
         return Ok((None, None));
     }
-    let wanted = answer("quiet\n");
+    // (the end of a reader may take memory to say where the last token is refused)
+    let may_take = quiet == Quiet::Dump && case.wanted.refusal.starts_with(['V']);
+    let wanted = answer(if may_take && said.answer == answer("takes memory\n") { "takes memory\n" } else { "quiet\n" });
     Ok((Some(quiet), Disagreement::of(case, "calls without memory", wanted, &said.answer, None)))
 }
 
