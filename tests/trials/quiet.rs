@@ -35,7 +35,8 @@ fn try_case(desk: &mut Desk, case: &Case, quiet: Quiet) -> io::Result<(Option<Qu
         return Ok((None, None));
     }
     // (the end of a reader may take memory to say where the last token is refused)
-    let may_take = quiet == Quiet::Dump && case.wanted.refusal.starts_with(['V']);
+    let refusal = &case.wanted.refusal;
+    let may_take = quiet == Quiet::Dump && (refusal.starts_with("V2 ") || refusal.starts_with("V3 "));
     let wanted = answer(if may_take && said.answer == answer("takes memory\n") { "takes memory\n" } else { "quiet\n" });
     Ok((Some(quiet), Disagreement::of(case, "calls without memory", wanted, &said.answer, None)))
 }
