@@ -1,6 +1,10 @@
 pub mod Tokens
-pub mod Words
 pub mod Names
+pub mod Words
+pub mod Trees
+pub mod Drafts
+pub mod Splitting
+pub mod Judging
 pub mod Places
 pub mod Frames
 pub mod Items

@@ -1,5 +1,7 @@
--- What a word says that spells out an address or a data byte: in base 2 after `0b`, in base 16 after `0x`.
-use Rattle.std.specs.Prelude.{ℕ, ◌+◌, ◌*◌, Bool, ◌&&◌, ◌==◌, nat_lt, List, [], ◌∷◌, ◌++◌, map, Option, Some, None, codes, if◌then◌else◌}
+-- What a word says by itself: an address or a data byte, in base 2 after `0b`, in base 16 after `0x`; a number or a range
+-- after `*`; and a label.
+use Rattle.std.specs.Prelude.{ℕ, ◌+◌, ◌*◌, Bool, true, false, ◌&&◌, not, ◌==◌, nat_le, nat_lt, List, [], ◌∷◌, ◌++◌, length, map}
+use Rattle.std.specs.Prelude.{Option, Some, None, codes, if◌then◌else◌}
 use Rattle.std.specs.Char.{digit_value}
 use Rattle.message_tree.specs.Bits.{bits_below}
 use Rattle.message_tree.specs.Codes.{code}
@@ -8,7 +10,10 @@ use Rattle.message_tree.specs.declared.bits.Bit.{Bit}
 use Rattle.message_tree.specs.declared.bits.Bit.TheVariants.{Zero, One, Either}
 use Rattle.message_tree.specs.declared.bits.Pattern.{Pattern}
 use Rattle.plan_text.specs.Canonical.{bit_symbol}
+use Rattle.plan_core.specs.Names.{is_name}
 use Rattle.plan_text.specs.Values.{address_of, pattern_of, pattern_by}
+use Rattle.plan_text.specs.Words.{is_digits, number, around_dots}
+use Rattle.brief_text.specs.Names.{is_brief_word}
 
 -- the four bits of a digit, as a plan text has them: those of `X` are open
 unfoldable pub digit_bits : ℕ → Option (List ℕ)
@@ -68,3 +73,49 @@ known_number n [] = Some n
 known_number n (Zero ∷ bits) = known_number (n * 2) bits
 known_number n (One ∷ bits) = known_number (n * 2 + 1) bits
 known_number n (Either ∷ bits) = None
+
+-- ---- repetitions
+
+-- what stands after `*`: a number, or LO and HI around `..`
+pub data Repetition : Type 0 where
+  so_often : (n : ℕ) → Repetition
+  from_to : (least greatest : ℕ) → Repetition
+
+abbrev pub range_by : Option (List ℕ × List ℕ) → Option Repetition
+range_by (Some ends) =
+    if is_digits ends.0 && is_digits ends.1 then Some (from_to (number ends.0) (number ends.1)) else None
+range_by None = None
+
+unfoldable pub repetition_by : List ℕ → Option Repetition
+repetition_by bytes = if is_digits bytes then Some (so_often (number bytes)) else range_by (around_dots bytes)
+
+-- a byte stands 1 to 255 times
+abbrev pub is_countable : ℕ → Bool
+is_countable n = nat_le 1 n && nat_le n 255
+
+-- LO may be 0
+abbrev pub is_range : ℕ → ℕ → Bool
+is_range least greatest = is_countable greatest && nat_le least greatest
+
+-- ---- labels
+
+-- a name of briefs
+abbrev pub is_brief_name : List ℕ → Bool
+is_brief_name bytes = is_name bytes && not (is_brief_word bytes)
+
+abbrev in_front : ℕ → Option (List ℕ × List ℕ) → Option (List ℕ × List ℕ)
+in_front byte (Some parts) = Some (byte ∷ parts.0, parts.1)
+in_front byte None = None
+
+-- what stands before and after the first `/`
+abbrev pub around_slash : List ℕ → Option (List ℕ × List ℕ)
+around_slash [] = None
+around_slash (byte ∷ bytes) = if byte == code "/" then Some ([], bytes) else in_front byte (around_slash bytes)
+
+abbrev pub both_names : Option (List ℕ × List ℕ) → Option (List ℕ × List ℕ)
+both_names (Some parts) = if is_brief_name parts.0 && is_brief_name parts.1 then Some parts else None
+both_names None = None
+
+-- the two names of a label: a controller and what it sends, of 32 characters at most with the `/`
+unfoldable pub label_by : List ℕ → Option (List ℕ × List ℕ)
+label_by bytes = if nat_le (length bytes) 32 then both_names (around_slash bytes) else None
