@@ -12,6 +12,7 @@ use Rattle.message_tree.specs.Trees as trees
 use Rattle.plan_core.specs.Building.{with_message, with_interrupt}
 use Rattle.plan_core.specs.Contents.{Contents, empty}
 use Rattle.plan_text.specs.Values.{address_by}
+use Rattle.brief_text.specs.declared.syntax.Lengths.{Lengths}
 use Rattle.brief_text.specs.Trees.{Said, spelled, named, Times, times, ranged, BriefFrame, write_to, read_from, BriefBytes}
 use Rattle.brief_text.specs.Trees.{data_byte, no_more, BriefTail, stop_here, go_on, Side, BriefItem, device, byte, message}
 use Rattle.brief_text.specs.Trees.{controller, interrupt, never_both}
@@ -23,7 +24,7 @@ pub record Draft : Type 0 where
   -- the messages, those of families too, and the interrupts; it has no controllers yet
   pub plan : Contents
   -- each family with its LO and HI
-  pub families : List (List ℕ × (ℕ × ℕ))
+  pub families : List (List ℕ × Lengths)
   -- each controller with the names of all messages that it lists
   pub controllers : List (List ℕ × List (List ℕ))
   -- the labels in the order in which they were first named, and the `never` items as they are written
@@ -58,14 +59,14 @@ abbrev pub member_name : List ℕ → ℕ → List ℕ
 member_name name n = name ++ codes "_" ++ decimal n
 
 -- LO, and so on to HI
-abbrev pub lengths : ℕ × ℕ → List ℕ
-lengths range = range_with_len range.0 (suc range.1 - range.0)
+abbrev pub lengths : Lengths → List ℕ
+lengths range = range_with_len range.least (suc range.greatest - range.least)
 
-abbrev pub members : List ℕ → ℕ × ℕ → List (List ℕ)
+abbrev pub members : List ℕ → Lengths → List (List ℕ)
 members name range = map (member_name name) (lengths range)
 
 -- the messages that a name stands for: all of the family with this name, or the message with it
-abbrev pub members_or : List ℕ → Option (ℕ × ℕ) → List (List ℕ)
+abbrev pub members_or : List ℕ → Option Lengths → List (List ℕ)
 members_or name (Some range) = members name range
 members_or name None = name ∷ []
 
@@ -100,7 +101,7 @@ abbrev mutual
   tail_meant draft n (go_on frame) = again (frame_meant draft n frame)
 
 -- the messages that a message makes: itself, or those of its family
-abbrev pub messages_meant : Draft → List ℕ → Option (ℕ × ℕ) → BriefFrame → List (List ℕ × FrameTree)
+abbrev pub messages_meant : Draft → List ℕ → Option Lengths → BriefFrame → List (List ℕ × FrameTree)
 messages_meant draft name None frame = (name, frame_meant draft 1 frame) ∷ []
 messages_meant draft name (Some range) frame = map (λ n. (member_name name n, frame_meant draft n frame)) (lengths range)
 
@@ -111,7 +112,7 @@ abbrev pub with_messages : Contents → List (List ℕ × FrameTree) → Content
 with_messages plan [] = plan
 with_messages plan (first ∷ messages) = with_messages (with_message plan first.0 first.1) messages
 
-abbrev pub with_family : Draft → List ℕ → Option (ℕ × ℕ) → List (List ℕ × (ℕ × ℕ))
+abbrev pub with_family : Draft → List ℕ → Option Lengths → List (List ℕ × Lengths)
 with_family draft name None = draft.families
 with_family draft name (Some range) = draft.families ++ (name, range) ∷ []
 

@@ -14,6 +14,7 @@ use Rattle.plan_text.specs.Values.{count_of}
 use Rattle.plan_text.specs.Words.{count_ends}
 use Rattle.brief_text.specs.declared.symbols.Keyword.TheVariants as keywords
 use Rattle.brief_text.specs.declared.symbols.Sign.TheVariants as signs
+use Rattle.brief_text.specs.declared.syntax.Lengths.{Lengths}
 use Rattle.brief_text.specs.Drafts.{Draft}
 use Rattle.brief_text.specs.Judging.{range_refusal}
 use Rattle.brief_text.specs.Places.{Place, Reads, token_as, close_in, past, to_at, data_at}
@@ -57,14 +58,23 @@ abbrev pub repetition_in : Token → Option Repetition
 repetition_in (word bytes) = repetition_by bytes
 repetition_in token = None
 
+-- so many more bytes, which stand so often
+abbrev pub often_or : Times → ℕ → ℕ → ℕ → ℕ → Place → Reads (Times × ℕ)
+often_or often room copies more line at = do
+  after ← further room copies more line at
+  Ok ((often, more), after)
+
+abbrev pub with_range : Around → ℕ → ℕ → Lengths → ℕ → Place → Reads (Times × ℕ)
+with_range around room copies range line at = do
+  named ← range_refusal around.draft around.name range line (record at { range = Some range })
+  often_or ranged room copies (range.greatest - 1) line named
+
 abbrev pub often_by : Around → ℕ → ℕ → Repetition → ℕ → Place → Reads (Times × ℕ)
 often_by around room copies (so_often n) line at =
-    if is_countable n then (further room copies (n - 1) line at >>= λ after. Ok ((times n, n - 1), after))
-    else Err (BadCount line)
+    if is_countable n then often_or (times n) room copies (n - 1) line at else Err (BadCount line)
 often_by around room copies (from_to least greatest) line at =
     if is_some at.range then Err (Unexpected line)
-    else if is_range least greatest then (range_refusal around.draft around.name (least, greatest) line (record at { range = Some (least, greatest) })
-        >>= λ allowed. further room copies (greatest - 1) line allowed >>= λ after. Ok ((ranged, greatest - 1), after))
+    else if is_range least greatest then with_range around room copies (record { least = least; greatest = greatest }) line at
     else Err (BadCount line)
 
 -- once, or as the number or the range after `*` says

@@ -11,12 +11,12 @@ use Rattle.brief_text.specs.declared.symbols.Keyword.TheVariants as keywords
 use Rattle.brief_text.specs.declared.symbols.Sign.TheVariants as signs
 use Rattle.brief_text.specs.Drafts.{Draft, address_said, with_label}
 use Rattle.brief_text.specs.Frames.{frames_at}
-use Rattle.brief_text.specs.Judging.{named_refusal, message_refusal_of, controller_refusal_of, listing_refusal}
+use Rattle.brief_text.specs.Judging.{named_refusal, message_refusal_of, controller_refusal_of, listing_refusal, all_of}
 use Rattle.brief_text.specs.Judging.{first_refusal, second_refusal}
 use Rattle.brief_text.specs.Places.{Place, Reads, token_as, name_in, name_at, end_in, past, to_at}
 use Rattle.brief_text.specs.Tokens.{Token, keyword, word, sign, Tokens, next, last}
 use Rattle.brief_text.specs.Trees.{Side, BriefItem, device, byte, message, controller, interrupt, never_both}
-use Rattle.brief_text.specs.Words.{address_by, data_by, known_number, label_by}
+use Rattle.brief_text.specs.Words.{address_by, data_by, known_number, side_by}
 
 -- `device` and then a name, an address and `;`
 abbrev pub address_in : Token → Option Address
@@ -55,7 +55,7 @@ abbrev pub listed_from : Draft → List (List ℕ) → Tokens → Place → Read
 listed_from draft before (next (sign signs.Semicolon) line rest) at = Ok (before, record at { tokens = rest })
 listed_from draft before (next token line rest) at = do
   name ← or_refused (name_in token) (Unexpected line)
-  allowed ← unless_refused (listing_refusal draft before name) line name
+  allowed ← unless_refused (listing_refusal draft (all_of draft before) name) line name
   listed_from draft (before ++ allowed ∷ []) rest (record at { tokens = rest })
 listed_from draft before (last ending line) at = Err (ends_early ending line)
 
@@ -76,16 +76,8 @@ interrupt_at draft at = do
   Ok (interrupt name.0 to.0, after)
 
 -- a controller by its name, or what it sends by a label
-abbrev pub side_of_label : Option (List ℕ × List ℕ) → Option Side
-side_of_label (Some names) = Some (record { controller = names.0; label = Some names.1 })
-side_of_label None = None
-
-abbrev pub side_by : Option (List ℕ) → List ℕ → Option Side
-side_by (Some name) bytes = Some (record { controller = name; label = None })
-side_by None bytes = side_of_label (label_by bytes)
-
 abbrev pub side_in : Token → Option Side
-side_in (word bytes) = side_by (name_in (word bytes)) bytes
+side_in (word bytes) = side_by bytes
 side_in token = None
 
 -- `never` and then two of these and `;`

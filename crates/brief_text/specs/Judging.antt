@@ -11,6 +11,7 @@ use Rattle.plan_core.specs.declared.builder.BuildError.TheVariants.{Twice, Unkno
 use Rattle.plan_core.specs.declared.limits.TheConstants.{MOST_MESSAGES, MOST_CONTROLLERS, MOST_SENDINGS}
 use Rattle.plan_text.specs.declared.errors.PlanError.{PlanError}
 use Rattle.plan_text.specs.declared.errors.PlanError.TheVariants as errors
+use Rattle.brief_text.specs.declared.syntax.Lengths.{Lengths}
 use Rattle.brief_text.specs.Drafts.{Draft, members, stands_for, same_side, is_new_label, with_label}
 use Rattle.brief_text.specs.Splitting.{parts, side_name}
 use Rattle.brief_text.specs.Trees.{Side}
@@ -30,11 +31,11 @@ message_refusal_of draft name =
     if has_name name draft.families then Some Twice else message_name_refusal draft.plan name
 
 -- its messages have names, so that `NAME_HI` has 32 characters at most; none of them stands already; and the plan has room
-abbrev pub range_refusal : {A : Type 0} → Draft → List ℕ → ℕ × ℕ → ℕ → A → Result A PlanError
+abbrev pub range_refusal : {A : Type 0} → Draft → List ℕ → Lengths → ℕ → A → Result A PlanError
 range_refusal draft name range line x =
     if not (list_all is_name (members name range)) then Err (errors.Unexpected line)
     else if list_any (is_message draft) (members name range) then Err (errors.Twice line)
-    else if nat_lt MOST_MESSAGES (length draft.plan.messages + (suc range.1 - range.0)) then Err (errors.TooMany line)
+    else if nat_lt MOST_MESSAGES (length draft.plan.messages + (suc range.greatest - range.least)) then Err (errors.TooMany line)
     else Ok x
 
 -- ---- controllers, and what they list
@@ -59,13 +60,15 @@ all_of draft names = flat_map (stands_for draft) names
 abbrev pub have_one_of : List (List ℕ) → List (List ℕ) → Bool
 have_one_of listed names = list_any (λ name. list_any (bytes_eq name) listed) names
 
--- a further name after these in the list of a controller
+abbrev pub sendings : Draft → ℕ
+sendings draft = sum_by (λ c. length c.1) draft.controllers
+
+-- a further name in the list of a controller, which has these messages already
 unfoldable pub listing_refusal : Draft → List (List ℕ) → List ℕ → Option BuildError
-listing_refusal draft before name =
+listing_refusal draft listed name =
     if not (is_message draft name) then Some Unknown
-    else if have_one_of (all_of draft before) (stands_for draft name) then Some Twice
-    else if nat_lt MOST_SENDINGS
-        (sum_by (λ c. length c.1) draft.controllers + length (all_of draft before) + length (stands_for draft name)) then Some TooMany
+    else if have_one_of listed (stands_for draft name) then Some Twice
+    else if nat_lt MOST_SENDINGS (sendings draft + length listed + length (stands_for draft name)) then Some TooMany
     else None
 
 -- ---- `never`

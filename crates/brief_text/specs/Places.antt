@@ -12,6 +12,7 @@ use Rattle.plan_text.specs.declared.errors.PlanError.TheVariants.{Unexpected, Un
 use Rattle.plan_text.specs.Reader.{◌>>=◌, or_refused, unless_refused, ends_early}
 use Rattle.brief_text.specs.declared.symbols.Keyword.TheVariants as keywords
 use Rattle.brief_text.specs.declared.symbols.Sign.TheVariants as signs
+use Rattle.brief_text.specs.declared.syntax.Lengths.{Lengths}
 use Rattle.brief_text.specs.Drafts.{Draft}
 use Rattle.brief_text.specs.Tokens.{Token, keyword, word, sign, Tokens, next, last}
 use Rattle.brief_text.specs.Trees.{Said, spelled, named}
@@ -23,7 +24,7 @@ pub record Place : Type 0 where
   -- the headers and data bytes of the message so far, as many as the plan has of them
   pub nodes : ℕ
   -- LO and HI of a byte of the message so far that has a range
-  pub range : Option (ℕ × ℕ)
+  pub range : Option Lengths
 
 -- what is read and the place after it, or the refusal
 abbrev pub Reads : Type 0 → Type 0

@@ -3,6 +3,7 @@ use Rattle.std.specs.Prelude.{ℕ, List, Option}
 use Rattle.message_tree.specs.declared.bits.Address.{Address}
 use Rattle.message_tree.specs.declared.bits.Pattern.{Pattern}
 use Rattle.message_tree.specs.declared.counts.Count.{Count}
+use Rattle.brief_text.specs.declared.syntax.Lengths.{Lengths}
 
 -- a value that is spelled out, or the name of one
 pub data Said (A : Type 0) : Type 0 where
@@ -39,7 +40,7 @@ pub record Side : Type 0 where
 pub data BriefItem : Type 0 where
   device : (name : List ℕ) (address : Address) → BriefItem
   byte : (name : List ℕ) (bits : Pattern) → BriefItem
-  message : (name : List ℕ) (range : Option (ℕ × ℕ)) (frame : BriefFrame) → BriefItem
+  message : (name : List ℕ) (range : Option Lengths) (frame : BriefFrame) → BriefItem
   controller : (name : List ℕ) (messages : List (List ℕ)) → BriefItem
   interrupt : (name : List ℕ) (to : Said Address) → BriefItem
   never_both : (first second : Side) → BriefItem

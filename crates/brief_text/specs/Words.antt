@@ -14,6 +14,7 @@ use Rattle.plan_core.specs.Names.{is_name}
 use Rattle.plan_text.specs.Values.{address_of, pattern_of, pattern_by}
 use Rattle.plan_text.specs.Words.{is_digits, number, around_dots}
 use Rattle.brief_text.specs.Names.{is_brief_word}
+use Rattle.brief_text.specs.Trees.{Side}
 
 -- the four bits of a digit, as a plan text has them: those of `X` are open
 unfoldable pub digit_bits : ℕ → Option (List ℕ)
@@ -104,7 +105,7 @@ abbrev pub is_brief_name : List ℕ → Bool
 is_brief_name bytes = is_name bytes && not (is_brief_word bytes)
 
 abbrev in_front : ℕ → Option (List ℕ × List ℕ) → Option (List ℕ × List ℕ)
-in_front byte (Some parts) = Some (byte ∷ parts.0, parts.1)
+in_front byte (Some halves) = Some (byte ∷ halves.0, halves.1)
 in_front byte None = None
 
 -- what stands before and after the first `/`
@@ -112,10 +113,19 @@ abbrev pub around_slash : List ℕ → Option (List ℕ × List ℕ)
 around_slash [] = None
 around_slash (byte ∷ bytes) = if byte == code "/" then Some ([], bytes) else in_front byte (around_slash bytes)
 
-abbrev pub both_names : Option (List ℕ × List ℕ) → Option (List ℕ × List ℕ)
-both_names (Some parts) = if is_brief_name parts.0 && is_brief_name parts.1 then Some parts else None
-both_names None = None
+-- what a `never` names: a controller by its name, or what it sends by a label of 32 characters at most
+abbrev pub whole_side : Bool → List ℕ → Option Side
+whole_side true name = Some (record { controller = name; label = None })
+whole_side false name = None
 
--- the two names of a label: a controller and what it sends, of 32 characters at most with the `/`
-unfoldable pub label_by : List ℕ → Option (List ℕ × List ℕ)
-label_by bytes = if nat_le (length bytes) 32 then both_names (around_slash bytes) else None
+abbrev pub label_side : Bool → List ℕ × List ℕ → Option Side
+label_side true halves = Some (record { controller = halves.0; label = Some halves.1 })
+label_side false halves = None
+
+abbrev pub side_from : Option (List ℕ × List ℕ) → List ℕ → Option Side
+side_from None bytes = whole_side (is_name bytes) bytes
+side_from (Some halves) bytes =
+    label_side (nat_le (length bytes) 32 && is_brief_name halves.0 && is_brief_name halves.1) halves
+
+unfoldable pub side_by : List ℕ → Option Side
+side_by bytes = side_from (around_slash bytes) bytes

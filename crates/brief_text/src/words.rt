@@ -101,3 +101,24 @@ fn digit(byte: u8) -> Option<Mask>
         value: value as u8,
     })
 }
+
+/// What stands after `*`: a number, or the ends of a range, each as it is written, of digits alone.
+#[derive(Clone, Copy)]
+pub(crate) enum Repetition<'a> {
+    Number(&'a [u8]),
+    Range(&'a [u8], &'a [u8]),
+}
+
+/// What a word says after `*`.
+pub(crate) fn repetition(word: &[u8]) -> Option<Repetition<'_>>
+{
+    if is_digits(word) {
+        return Some(Repetition::Number(word));
+    }
+    let (least, greatest) = around_dots(word)?;
+    if is_digits(least) && is_digits(greatest) {
+        Some(Repetition::Range(least, greatest))
+    } else {
+        None
+    }
+}
