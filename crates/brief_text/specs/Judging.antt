@@ -1,20 +1,19 @@
 -- What is refused of a name, of a range and of a label where it stands, by what the items before it make up.
-use Rattle.std.specs.Prelude.{ℕ, suc, ◌+◌, ◌-◌, Bool, true, false, ◌&&◌, ◌||◌, not, nat_le, nat_lt, List, [], ◌∷◌, ◌++◌, length, map, Option}
+use Rattle.std.specs.Prelude.{◌≡◌, ℕ, suc, ◌+◌, ◌-◌, Bool, true, false, ◌&&◌, ◌||◌, not, nat_le, nat_lt, List, [], ◌∷◌, ◌++◌, length, map, Option}
 use Rattle.std.specs.Prelude.{Some, None, is_some, Result, Ok, Err, if◌then◌else◌}
-use Rattle.std.specs.List.{flat_map, list_all, list_any, sum_by}
+use Rattle.std.specs.List.{flat_map, list_any, sum_by}
 use Rattle.std.specs.Map.{keys_of, lookup}
 use Rattle.std.specs.Str.{bytes_eq}
 use Rattle.plan_core.specs.Building.{has_name, message_name_refusal}
-use Rattle.plan_core.specs.Names.{is_name}
 use Rattle.plan_core.specs.declared.builder.BuildError.{BuildError}
 use Rattle.plan_core.specs.declared.builder.BuildError.TheVariants.{Twice, Unknown, TooMany}
 use Rattle.plan_core.specs.declared.limits.TheConstants.{MOST_MESSAGES, MOST_CONTROLLERS, MOST_SENDINGS}
 use Rattle.plan_text.specs.declared.errors.PlanError.{PlanError}
 use Rattle.plan_text.specs.declared.errors.PlanError.TheVariants as errors
 use Rattle.brief_text.specs.declared.syntax.Lengths.{Lengths}
-use Rattle.brief_text.specs.Drafts.{Draft, members, stands_for, same_side, is_new_label, with_label}
+use Rattle.brief_text.specs.Drafts.{Draft, lengths, member_name, members, stands_for, same_side, is_new_label, with_label}
 use Rattle.brief_text.specs.Splitting.{parts, side_name}
-use Rattle.brief_text.specs.Trees.{Side}
+use Rattle.brief_text.specs.Trees.{Side, BriefItem, device, byte, message}
 
 -- a name stands once among those of its kind
 abbrev pub named_refusal : {A : Type 0} → List (List ℕ × A) → List ℕ → Option BuildError
@@ -23,20 +22,30 @@ named_refusal entries name = if is_some (lookup (bytes_eq name) entries) then So
 -- ---- messages and families, whose names are of one kind
 
 -- a family, or a message, that of a family too
+abbrev pub is_family : Draft → List ℕ → Bool
+is_family draft name = is_some (lookup (bytes_eq name) draft.families)
+
 abbrev pub is_message : Draft → List ℕ → Bool
-is_message draft name = has_name name draft.families || has_name name draft.plan.messages
+is_message draft name = is_family draft name || has_name name draft.plan.messages
 
 unfoldable pub message_refusal_of : Draft → List ℕ → Option BuildError
 message_refusal_of draft name =
-    if has_name name draft.families then Some Twice else message_name_refusal draft.plan name
+    if is_family draft name then Some Twice else message_name_refusal draft.plan name
 
--- its messages have names, so that `NAME_HI` has 32 characters at most; none of them stands already; and the plan has room
+-- `NAME_HI` has no more characters than a name may have, none of the messages stands already, and the plan has room
 abbrev pub range_refusal : {A : Type 0} → Draft → List ℕ → Lengths → ℕ → A → Result A PlanError
 range_refusal draft name range line x =
-    if not (list_all is_name (members name range)) then Err (errors.Unexpected line)
+    if nat_lt 32 (length (member_name name range.greatest)) then Err (errors.Unexpected line)
     else if list_any (is_message draft) (members name range) then Err (errors.Twice line)
-    else if nat_lt MOST_MESSAGES (length draft.plan.messages + (suc range.greatest - range.least)) then Err (errors.TooMany line)
+    else if nat_lt MOST_MESSAGES (length draft.plan.messages + length (members name range)) then Err (errors.TooMany line)
     else Ok x
+
+-- what has a name among devices, bytes or families has a name of its own
+abbrev pub IsNew : Draft → BriefItem → Type 0
+IsNew draft (device name address) = named_refusal draft.devices name ≡ None
+IsNew draft (byte name bits) = named_refusal draft.bytes name ≡ None
+IsNew draft (message name (Some range) frame) = is_family draft name ≡ false
+IsNew draft item = Unit {0}
 
 -- ---- controllers, and what they list
 

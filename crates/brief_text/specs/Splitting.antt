@@ -26,28 +26,30 @@ part_name part = side_name part.side
 
 -- ---- parts
 
--- this message is one that the label stands for
-abbrev pub label_has : Draft → Option (List ℕ) → List ℕ → Bool
-label_has draft None message = false
-label_has draft (Some label) message = list_any (bytes_eq message) (stands_for draft label)
+-- the messages that a label stands for; a whole controller has no label
+abbrev pub label_messages : Draft → Side → List (List ℕ)
+label_messages draft side = elim side.label [ | None ↦ [] | Some label ↦ stands_for draft label ]
 
 -- this message is a label itself
 abbrev pub is_label : List ℕ → Side → Bool
 is_label message side = elim side.label [ | None ↦ false | Some label ↦ bytes_eq label message ]
 
--- of these messages those of the label: a message has its own part, even if it is of a family that has a label
-abbrev pub is_left_to : Draft → List Side → Side → List ℕ → Bool
-is_left_to draft labels side message =
-    label_has draft side.label message && (is_label message side || not (list_any (is_label message) labels))
+-- a message with a label of its own has its own part, even if its family has a label too
+abbrev pub is_in_part : Draft → List Side → Side → List ℕ → Bool
+is_in_part draft labels side message =
+    list_any (bytes_eq message) (label_messages draft side) && (is_label message side || not (list_any (is_label message) labels))
 
 abbrev pub label_part : Draft → List Side → List (List ℕ) → Side → Part
-label_part draft labels listed side = record { side = side; messages = filter (is_left_to draft labels side) listed }
+label_part draft labels listed side = record { side = side; messages = filter (is_in_part draft labels side) listed }
+
+abbrev pub whole : List ℕ → Side
+whole controller = record { controller = controller; label = None }
 
 -- the controller itself, with what no label stands for
 abbrev pub rest_part : Draft → List Side → List (List ℕ) → List ℕ → Part
 rest_part draft labels listed controller = record {
-  side = record { controller = controller; label = None };
-  messages = filter (λ message. not (list_any (λ (side : Side). label_has draft side.label message) labels)) listed;
+  side = whole controller;
+  messages = filter (λ message. not (list_any (bytes_eq message) (flat_map (label_messages draft) labels))) listed;
 }
 
 abbrev pub sends_any : Part → Bool
@@ -56,7 +58,7 @@ sends_any part = elim part.messages [ | [] ↦ false | message ∷ messages ↦ 
 -- A controller of which no label is named stays as it is. Else what is left comes first, then the parts as their labels
 -- were first named, and what has no message is left out.
 abbrev pub split_by : Draft → List Side → List ℕ → List (List ℕ) → List Part
-split_by draft [] controller listed = record { side = record { controller = controller; label = None }; messages = listed } ∷ []
+split_by draft [] controller listed = record { side = whole controller; messages = listed } ∷ []
 split_by draft (side ∷ sides) controller listed =
     filter sends_any (rest_part draft (side ∷ sides) listed controller ∷ map (label_part draft (side ∷ sides) listed) (side ∷ sides))
 
@@ -72,13 +74,16 @@ parts draft = flat_map (parts_of draft) draft.controllers
 -- ---- which of them never start together
 
 -- each with each that comes after it
-abbrev pub pairs_among : List (List ℕ) → List (List ℕ × List ℕ)
+abbrev pub pairs_among : {A : Type 0} → List A → List (A × A)
 pairs_among [] = []
-pairs_among (name ∷ names) = map (λ other. (name, other)) names ++ pairs_among names
+pairs_among (x ∷ xs) = map (λ y. (x, y)) xs ++ pairs_among xs
 
 -- each of the first with each of the second
-abbrev pub pairs_between : List (List ℕ) → List (List ℕ) → List (List ℕ × List ℕ)
-pairs_between firsts seconds = flat_map (λ first. map (λ second. (first, second)) seconds) firsts
+abbrev pub pairs_between : {A : Type 0} → List A → List A → List (A × A)
+pairs_between xs ys = flat_map (λ x. map (λ y. (x, y)) ys) xs
+
+abbrev pub are_of_one : Part × Part → Bool
+are_of_one pair = bytes_eq pair.0.side.controller pair.1.side.controller
 
 -- a controller means all its parts, and a label its own part and those of its messages
 abbrev pub label_means : Draft → Option (List ℕ) → Option (List ℕ) → Bool
@@ -89,14 +94,17 @@ label_means draft (Some label) (Some part) = bytes_eq label part || list_any (by
 abbrev pub side_means : Draft → Side → Part → Bool
 side_means draft side part = bytes_eq side.controller part.side.controller && label_means draft side.label part.side.label
 
-abbrev pub parts_meant : Draft → Side → List (List ℕ)
-parts_meant draft side = map part_name (filter (side_means draft side) (parts draft))
+abbrev pub parts_meant : Draft → Side → List Part
+parts_meant draft side = filter (side_means draft side) (parts draft)
+
+abbrev pub pairs_meant : Draft → Side × Side → List (Part × Part)
+pairs_meant draft never = pairs_between (parts_meant draft never.0) (parts_meant draft never.1)
 
 -- first the parts of one controller, controller by controller, and then each `never` as it is written
 unfoldable pub pairs_apart : Draft → List (List ℕ × List ℕ)
 pairs_apart draft =
-    flat_map (λ controller. pairs_among (map part_name (parts_of draft controller))) draft.controllers
-    ++ flat_map (λ never. pairs_between (parts_meant draft never.0) (parts_meant draft never.1)) draft.nevers
+    map (λ pair. (part_name pair.0, part_name pair.1))
+    (filter are_of_one (pairs_among (parts draft)) ++ flat_map (pairs_meant draft) draft.nevers)
 
 -- ---- the plan
 

@@ -1,7 +1,9 @@
 // A brief as a tree: what its text says, before names are looked up and repetitions are written out.
 
+use crate::naming::{copied, spelled};
 use message_tree::{Address, Count, Pattern};
 use plan_core::Name;
+use std::alloc::{AllocError, Global};
 
 /// A name, with the line of its token.
 #[derive(Drop)]
@@ -84,33 +86,57 @@ pub(crate) struct Party {
     pub(crate) line: u64,
 }
 
-/// An item.
-#[derive(Drop)]
-pub(crate) enum Item {
-    Device {
-        name: NameFound,
-        address: Address,
-    },
-    Byte {
-        name: NameFound,
-        bits: Pattern,
-    },
-    /// A family where a byte of it has a range.
-    Message {
-        name: NameFound,
-        range: Option<Lengths>,
-        frames: FrameSyntax,
-    },
-    Controller {
-        name: NameFound,
-        messages: Vec<Name>,
-    },
-    Interrupt {
-        name: NameFound,
-        to: Value<Address>,
-    },
-    Never {
-        first: Party,
-        second: Party,
-    },
+impl Party {
+    /// The name of its part: the controller, and `bmc_set` for `bmc/set`.
+    pub(crate) fn name(&self, alloc: Global) -> Result<Name, AllocError>
+    {
+        let Some(label) = &self.label else {
+            return copied(alloc, &self.controller);
+        };
+        let mut name = String::from_str(alloc, self.controller.as_str())?;
+        name.push('_')?;
+        name.push_str(label.as_str())?;
+        spelled(alloc, name.as_str())
+    }
+
+    /// The same party, in memory of its own.
+    pub(crate) fn copied(&self, alloc: Global) -> Result<Party, AllocError>
+    {
+        let label = match &self.label {
+            None => None,
+            Some(label) => Some(copied(alloc, label)?),
+        };
+        Ok(Party {
+            controller: copied(alloc, &self.controller)?,
+            label,
+            line: self.line,
+        })
+    }
+
+    /// Whether both are the same, wherever they stand.
+    pub(crate) fn is_same(&self, other: &Party) -> bool
+    {
+        self.controller == other.controller && self.label == other.label
+    }
+
+    /// Whether its part has this name.
+    pub(crate) fn is_named(&self, name: &str) -> bool
+    {
+        match &self.label {
+            None => self.controller.as_str() == name,
+            Some(label) => is_joined(self.controller.as_str(), label.as_str(), name),
+        }
+    }
+}
+
+// Whether a text is these two with `_` between them.
+fn is_joined(first: &str, second: &str, text: &str) -> bool
+{
+    match text.strip_prefix(first) {
+        Some(rest) => match rest.strip_prefix("_") {
+            Some(rest) => rest == second,
+            None => false,
+        },
+        None => false,
+    }
 }

@@ -1,10 +1,15 @@
-// What a word spells out: an address or a data byte.
+// What a word says by itself: an address or a data byte, what stands after `*`, and the halves of a label.
 
-ghost use Rattle.std.specs.Prelude.{◌≡◌, ◌≢◌, ◌<◌, ◌++◌, ℕ, List, map, IfSome, MatchOption, None, Some};
+ghost use Rattle.std.specs.Prelude.{◌≡◌, ◌≢◌, ◌<◌, ◌++◌, ℕ, List, map, true, is_some, nat_le, IfSome, MatchOption, None, Some};
+ghost use Rattle.std.specs.Option.{option_map};
 ghost use Rattle.message_tree.specs.Bits.{bits_below};
 ghost use Rattle.message_tree.specs.Patterns.{address_bits};
 ghost use Rattle.plan_text.specs.Canonical.{bit_symbol};
-ghost use Rattle.brief_text.specs.Words.{data_by, address_by, digit_bits, hex_bits, known_number};
+ghost use Rattle.plan_text.specs.Words.{is_digits, number, around_dots};
+ghost use Rattle.brief_text.specs.Names.{is_brief_word};
+ghost use Rattle.brief_text.specs.Reading.{repetition_said};
+ghost use Rattle.brief_text.specs.Words.{data_by, address_by, digit_bits, hex_bits, known_number, repetition_by, range_by};
+ghost use Rattle.brief_text.specs.Words.{around_slash};
 
 use message_tree::{Address, Bit, Pattern};
 use plan_text::words;
@@ -102,23 +107,92 @@ fn digit(byte: u8) -> Option<Mask>
     })
 }
 
-/// What stands after `*`: a number, or the ends of a range, each as it is written, of digits alone.
+/// Digits as they are written.
+#[derive(Clone, Copy)]
+pub(crate) struct Digits<'a> {
+    word: &'a [u8],
+    ghost are_digits: { is_digits word.now ≡ true },
+}
+
+impl Digits<'_> {
+    /// The number that they write, where it is at most 255.
+    pub(crate) fn value(&self) -> Option<u8>
+        ensures form { is_some result ≡ nat_le (number self.now.word.now) 255 }
+        ensures value { IfSome result (λ n. n ≡ number self.now.word.now) }
+    {
+        words::number(self.word)
+    }
+}
+
+/// What stands after `*`: a number, or the ends of a range.
 #[derive(Clone, Copy)]
 pub(crate) enum Repetition<'a> {
-    Number(&'a [u8]),
-    Range(&'a [u8], &'a [u8]),
+    Number(Digits<'a>),
+    Range(Digits<'a>, Digits<'a>),
 }
 
 /// What a word says after `*`.
-pub(crate) fn repetition(word: &[u8]) -> Option<Repetition<'_>>
+#[tactic(auto, unfolding(crate::specs::Words::repetition_by))]
+pub(crate) fn repetition_of(word: &[u8]) -> Option<Repetition<'_>>
+    ensures { option_map repetition_said result ≡ repetition_by word.now }
 {
-    if is_digits(word) {
-        return Some(Repetition::Number(word));
+    match digits_of(word) {
+        Some(number) => Some(Repetition::Number(number)),
+        None => range(word),
     }
-    let (least, greatest) = around_dots(word)?;
-    if is_digits(least) && is_digits(greatest) {
-        Some(Repetition::Range(least, greatest))
+}
+
+fn digits_of(word: &[u8]) -> Option<Digits<'_>>
+    ensures form { is_some result ≡ is_digits word.now }
+    ensures value { IfSome result (λ it. it.word.now ≡ word.now) }
+{
+    if words::is_digits(word) {
+        Some(Digits { word })
     } else {
         None
     }
+}
+
+// Two numbers around `..`.
+fn range(word: &[u8]) -> Option<Repetition<'_>>
+    ensures { option_map repetition_said result ≡ range_by (around_dots word.now) }
+{
+    let (least, greatest) = around_dots(word)?;
+    match (digits_of(least), digits_of(greatest)) {
+        (Some(least), Some(greatest)) => Some(Repetition::Range(least, greatest)),
+        _ => None,
+    }
+}
+
+// What stands before and after the first `.`, where another `.` follows it directly.
+fn around_dots(word: &[u8]) -> Option<(&[u8], &[u8])>
+    ensures { MatchOption result (around_dots word.now ≡ None)
+        (λ ends. around_dots word.now ≡ Some (ends.0.now, ends.1.now)) }
+{
+    let dot = word.iter().position(|byte| *byte == b'.')?;
+    let (before, rest) = word.split_at(dot);
+    match rest {
+        [b'.', b'.', after @ ..] => Some((before, after)),
+        _ => None,
+    }
+}
+
+/// What stands before and after the first `/`.
+pub(crate) fn around_slash(word: &[u8]) -> Option<(&[u8], &[u8])>
+    ensures { MatchOption result (around_slash word.now ≡ None)
+        (λ halves. around_slash word.now ≡ Some (halves.0.now, halves.1.now)) }
+{
+    let slash = word.iter().position(|byte| *byte == b'/')?;
+    let (before, rest) = word.split_at(slash);
+    match rest {
+        [_, after @ ..] => Some((before, after)),
+        [] => None,
+    }
+}
+
+/// Whether this is a word of briefs and none of plans.
+pub(crate) fn is_brief_word(name: &str) -> bool
+    ensures { result ≡ is_brief_word name.now }
+{
+    matches!(name, "brief" | "device" | "byte" | "any")
 }
