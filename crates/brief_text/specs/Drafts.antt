@@ -100,10 +100,16 @@ abbrev mutual
   tail_meant draft n stop_here = stop
   tail_meant draft n (go_on frame) = again (frame_meant draft n frame)
 
+abbrev pub member_meant : Draft → List ℕ → BriefFrame → ℕ → List ℕ × FrameTree
+member_meant draft name frame n = (member_name name n, frame_meant draft n frame)
+
+abbrev pub family_meant : Draft → List ℕ → Lengths → BriefFrame → List (List ℕ × FrameTree)
+family_meant draft name range frame = map (member_meant draft name frame) (lengths range)
+
 -- the messages that a message makes: itself, or those of its family
 abbrev pub messages_meant : Draft → List ℕ → Option Lengths → BriefFrame → List (List ℕ × FrameTree)
 messages_meant draft name None frame = (name, frame_meant draft 1 frame) ∷ []
-messages_meant draft name (Some range) frame = map (λ n. (member_name name n, frame_meant draft n frame)) (lengths range)
+messages_meant draft name (Some range) frame = family_meant draft name range frame
 
 -- ---- items
 

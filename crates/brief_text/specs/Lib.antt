@@ -11,3 +11,5 @@ pub mod Items
 pub mod Briefs
 pub mod Reading
 pub mod Standing
+pub mod Meanings
+pub mod Parting

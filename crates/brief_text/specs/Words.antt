@@ -1,8 +1,9 @@
 -- What a word says by itself: an address or a data byte, in base 2 after `0b`, in base 16 after `0x`; a number or a range
 -- after `*`; and a label.
-use Rattle.std.specs.Prelude.{ℕ, ◌+◌, ◌*◌, Bool, true, false, ◌&&◌, not, ◌==◌, nat_le, nat_lt, List, [], ◌∷◌, ◌++◌, length, map}
+use Rattle.std.specs.Prelude.{ℕ, ◌+◌, ◌*◌, Bool, true, false, ◌&&◌, not, ◌==◌, nat_le, nat_lt, List, [], ◌∷◌, ◌++◌, length, map, take, drop}
 use Rattle.std.specs.Prelude.{Option, Some, None, codes, if◌then◌else◌}
 use Rattle.std.specs.Char.{digit_value}
+use Rattle.std.specs.List.{prefix_len}
 use Rattle.message_tree.specs.Bits.{bits_below}
 use Rattle.message_tree.specs.Codes.{code}
 use Rattle.message_tree.specs.declared.bits.Address.{Address}
@@ -104,14 +105,15 @@ is_range least greatest = is_countable greatest && nat_le least greatest
 abbrev pub is_brief_name : List ℕ → Bool
 is_brief_name bytes = is_name bytes && not (is_brief_word bytes)
 
-abbrev in_front : ℕ → Option (List ℕ × List ℕ) → Option (List ℕ × List ℕ)
-in_front byte (Some halves) = Some (byte ∷ halves.0, halves.1)
-in_front byte None = None
+abbrev pub is_no_slash : ℕ → Bool
+is_no_slash byte = not (byte == code "/")
+
+abbrev pub halves_at : ℕ → List ℕ → Option (List ℕ × List ℕ)
+halves_at slash bytes = if nat_lt slash (length bytes) then Some (take slash bytes, drop (slash + 1) bytes) else None
 
 -- what stands before and after the first `/`
-abbrev pub around_slash : List ℕ → Option (List ℕ × List ℕ)
-around_slash [] = None
-around_slash (byte ∷ bytes) = if byte == code "/" then Some ([], bytes) else in_front byte (around_slash bytes)
+unfoldable pub around_slash : List ℕ → Option (List ℕ × List ℕ)
+around_slash bytes = halves_at (prefix_len is_no_slash bytes) bytes
 
 -- what a `never` names: a controller by its name, or what it sends by a label of 32 characters at most
 abbrev pub whole_side : Bool → List ℕ → Option Side

@@ -1,16 +1,19 @@
 // What the items of briefs make up so far: names are looked up in it, and what stands next is judged by it.
 
 ghost use Rattle.std.specs.Prelude.{◌≡◌, ◌≤◌, ◌+◌, List, ℕ, [], length, map, is_some, IfOk, IfErr, OnOk, OnErr, None};
-ghost use Rattle.std.specs.List.{list_any};
+ghost use Rattle.std.specs.Option.{option_map};
+ghost use Rattle.plan_text.specs.Places.{Passes};
+ghost use Rattle.brief_text.specs.Places.{Place};
 ghost use Rattle.std.specs.Map.{lookup};
 ghost use Rattle.std.specs.Str.{bytes_eq};
 ghost use Rattle.plan_core.specs.BuilderContents.{builder_contents};
 ghost use Rattle.plan_core.specs.NameBytes.{name_bytes};
 ghost use Rattle.plan_core.specs.declared.limits.TheConstants.{MOST_MESSAGES};
-ghost use Rattle.brief_text.specs.Drafts.{no_items, address_said, bits_said, stands_for, same_side, is_new_label};
+ghost use Rattle.brief_text.specs.Drafts.{no_items, address_said, bits_said, stands_for, with_label, is_new_label};
+ghost use Rattle.brief_text.specs.Meanings.{is_twice};
 ghost use Rattle.brief_text.specs.Judging.{is_family, is_message, message_refusal_of, named_refusal, taken_names, is_taken};
 ghost use Rattle.brief_text.specs.Judging.{controller_refusal_of, listing_refusal, sendings, have_one_of, is_side};
-ghost use Rattle.brief_text.specs.Judging.{part_refusal, first_refusal, second_refusal};
+ghost use Rattle.brief_text.specs.Judging.{part_refusal, first_refusal, second_refusal, range_refusal, are_sides};
 
 use crate::meanings::member_text;
 use crate::naming::{Named, copied};
@@ -55,7 +58,7 @@ pub(crate) struct Board {
 }
 
 impl Board {
-    ghost use Rattle.brief_text.specs.Standing.{draft, said, side, listing};
+    ghost use Rattle.brief_text.specs.Standing.{draft, said, side};
 
     /// No items.
     pub(crate) fn new(alloc: Global) -> Self
@@ -131,7 +134,7 @@ impl Board {
     pub(crate) fn is_message(&self, name: &Name) -> bool
         ensures { result ≡ is_message (draft self.now) (name_bytes name.now) }
     {
-        matches!(self.message_refusal(name), Some(BuildError::Twice))
+        is_twice(self.message_refusal(name))
     }
 
     /// The refusal of a family of this name with the range on this line, where there is one.
@@ -141,8 +144,9 @@ impl Board {
         range: Lengths,
         line: u64,
     ) -> Result<(), PlanError>
+        ensures { (at : Place) → Passes result (range_refusal (draft self.now) (name_bytes name.now) range line at) at }
     {
-        if member_text(self.alloc, name, range.greatest)?.len() > 32 {
+        if member_text(self.alloc, name, range.greatest as u32)?.len() > 32 {
             return Err(PlanError::Unexpected(line));
         }
         let members = self.members(name, range)?;
@@ -202,6 +206,8 @@ impl Board {
         name: &Name,
         further: &[Name],
     ) -> Option<BuildError>
+        requires { map name_bytes further.now ≡ stands_for (draft self.now) (name_bytes name.now) }
+        ensures { result ≡ listing_refusal (draft self.now) (map name_bytes listed.now) (name_bytes name.now) }
     {
         if !self.is_message(name) {
             Some(BuildError::Unknown)
@@ -216,6 +222,7 @@ impl Board {
 
     // How many messages all controllers list.
     fn sendings(&self) -> usize
+        ensures { result ≡ sendings (draft self.now) }
     {
         self.controllers
             .iter()
@@ -223,7 +230,10 @@ impl Board {
             .sum()
     }
 
-    fn controller(&self, name: &Name) -> Option<&Listing> {
+    fn controller(&self, name: &Name) -> Option<&Listing>
+        ensures { option_map (λ it. map name_bytes it.now.messages.items) result ≡
+            lookup (bytes_eq (name_bytes name.now)) (draft self.now).controllers }
+    {
         self.controllers
             .iter()
             .find(|controller| controller.name == *name)
@@ -233,6 +243,8 @@ impl Board {
 
     /// Names what a `never` names first, or says why it may not.
     pub(crate) fn name_first(&mut self, first: &Party) -> Result<Option<BuildError>, AllocError>
+        ensures refusal { IfOk result (λ it. it ≡ first_refusal (draft self.old) (side first.now)) }
+        ensures named { IfOk result (λ it. it ≡ None → draft self.new ≡ with_label (draft self.old) (side first.now)) }
     {
         if self.is_side(first)? {
             self.name_label(first)
@@ -247,6 +259,8 @@ impl Board {
         first: &Party,
         second: &Party,
     ) -> Result<Option<BuildError>, AllocError>
+        ensures refusal { IfOk result (λ it. it ≡ second_refusal (draft self.old) (side first.now) (side second.now)) }
+        ensures named { IfOk result (λ it. it ≡ None → draft self.new ≡ with_label (draft self.old) (side second.now)) }
     {
         if first.controller == second.controller {
             Ok(Some(BuildError::Twice))
@@ -261,6 +275,7 @@ impl Board {
 
     // Whether there is this controller, and it lists what the label stands for, or some of it.
     fn is_side(&self, party: &Party) -> Result<bool, AllocError>
+        ensures { IfOk result (λ it. it ≡ is_side (draft self.now) (side party.now)) }
     {
         let Some(controller) = self.controller(&party.controller) else {
             return Ok(false);
@@ -274,6 +289,8 @@ impl Board {
 
     // A new label takes the name of its part, and may make one controller more.
     fn name_label(&mut self, party: &Party) -> Result<Option<BuildError>, AllocError>
+        ensures refusal { IfOk result (λ it. it ≡ part_refusal (draft self.old) (side party.now)) }
+        ensures named { IfOk result (λ it. it ≡ None → draft self.new ≡ with_label (draft self.old) (side party.now)) }
     {
         if !self.is_new_label(party) {
             return Ok(None);
@@ -291,6 +308,7 @@ impl Board {
 
     // Whether the party has a label that has not been named yet.
     fn is_new_label(&self, party: &Party) -> bool
+        ensures { result ≡ is_new_label (draft self.now) (side party.now) }
     {
         party.label.is_some() && !self.labels.iter().any(|label| label.is_same(party))
     }
@@ -298,15 +316,25 @@ impl Board {
 
 // Whether one of these names is listed.
 pub(crate) fn have_one_of(listed: &[Name], names: &[Name]) -> bool
+    ensures { result ≡ have_one_of (map name_bytes listed.now) (map name_bytes names.now) }
 {
     names.iter().any(|name| listed.contains(name))
 }
 
 impl Never {
+    ghost use Rattle.brief_text.specs.Standing.{side, sides};
+
     // Whether it names these two, in either order.
     fn is_of(&self, one: &Party, other: &Party) -> bool
+        ensures { result ≡ are_sides (side one.now) (side other.now) (sides self.now) }
     {
         (self.first.is_same(one) && self.second.is_same(other))
             || (self.first.is_same(other) && self.second.is_same(one))
     }
+}
+
+fn is_twice(refusal: Option<BuildError>) -> bool
+    ensures { result ≡ is_twice refusal }
+{
+    matches!(refusal, Some(BuildError::Twice))
 }

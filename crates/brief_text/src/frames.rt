@@ -1,10 +1,12 @@
 // The grammar of messages, a function for each of its rules: the tree of a message.
 
-ghost use Rattle.std.specs.Prelude.{◌≡◌, ◌≤◌, ◌+◌, ◌*◌, suc, IfOk, IfErr};
+ghost use Rattle.std.specs.Prelude.{◌≡◌, ◌≤◌, ◌+◌, ◌*◌, suc, is_some, None, IfOk, IfSome, OnOk};
 ghost use Rattle.message_tree.specs.Counts.{greatest_of};
 ghost use Rattle.plan_core.specs.NameBytes.{name_bytes};
 ghost use Rattle.plan_core.specs.declared.limits.TheConstants.{MOST_BYTES, MOST_NODES};
-ghost use Rattle.brief_text.specs.Frames.{frames_at, count_at, often_at, often_by, often_or, with_range, counted, further};
+ghost use Rattle.plan_text.specs.Words.{number};
+ghost use Rattle.brief_text.specs.Frames.{Around, frames_at, count_at, often_at, often_by, further};
+ghost use Rattle.brief_text.specs.Words.{so_often, from_to, is_range};
 ghost use Rattle.brief_text.specs.Places.{past, close_in};
 ghost use Rattle.brief_text.specs.Standing.{brief_frame, brief_bytes, brief_tail};
 
@@ -12,7 +14,8 @@ use crate::boards::Board;
 use crate::sources::Source;
 use crate::symbols::{Keyword, Sign, Symbol};
 use crate::syntax::{DataSyntax, FrameSyntax, Lengths, Often, TailSyntax};
-use crate::words::{Digits, Repetition, repetition_of};
+use crate::numbers::Digits;
+use crate::words::{Repetition, repetition_of};
 use message_tree::Count;
 use plan_core::Name;
 use plan_core::limits::{MOST_BYTES, MOST_NODES};
@@ -49,7 +52,10 @@ impl Source<'_> {
     ghost use Rattle.plan_text.specs.Places.{Passes};
 
     /// The frames of a whole message.
-    pub(crate) fn message_frames(&mut self, within: Within<'_>) -> Result<FrameSyntax, PlanError> {
+    pub(crate) fn message_frames(&mut self, within: Within<'_>) -> Result<FrameSyntax, PlanError>
+        ensures { Gives brief_frame result (frames_at (around within.entry) MOST_BYTES 1
+            (record (place self.old) { nodes = 0; range = None })) (place self.new) }
+    {
         self.nodes = 0;
         self.range = None;
         self.frames(
@@ -63,7 +69,9 @@ impl Source<'_> {
 
     // frame frame*
     #[cycle(message)]
-    fn frames(&mut self, within: Within<'_>, room: Room) -> Result<FrameSyntax, PlanError> {
+    fn frames(&mut self, within: Within<'_>, room: Room) -> Result<FrameSyntax, PlanError>
+        ensures { Gives brief_frame result (frames_at (around within.entry) room.bytes room.copies (place self.old)) (place self.new) }
+    {
         let token = self.next();
         match token.symbol {
             Symbol::Keyword(Keyword::Write) => self.write(within, room),
@@ -74,7 +82,9 @@ impl Source<'_> {
 
     // to refused? ( data refused? )* frame*
     #[cycle(message)]
-    fn write(&mut self, within: Within<'_>, room: Room) -> Result<FrameSyntax, PlanError> {
+    fn write(&mut self, within: Within<'_>, room: Room) -> Result<FrameSyntax, PlanError>
+        ensures { Gives brief_frame result (write_at (around within.entry) room.bytes room.copies (place self.old)) (place self.new) }
+    {
         let to = self.to(within.board)?;
         let below = self.node(room, to.line)?;
         let refused = self.refused(within, below)?;
@@ -88,7 +98,9 @@ impl Source<'_> {
 
     // to COUNT refused? frame*
     #[cycle(message)]
-    fn read(&mut self, within: Within<'_>, room: Room) -> Result<FrameSyntax, PlanError> {
+    fn read(&mut self, within: Within<'_>, room: Room) -> Result<FrameSyntax, PlanError>
+        ensures { Gives brief_frame result (read_at (around within.entry) room.bytes room.copies (place self.old)) (place self.new) }
+    {
         let to = self.to(within.board)?;
         let below = self.node(room, to.line)?;
         let count = self.count(below.bytes)?;
@@ -110,7 +122,9 @@ impl Source<'_> {
 
     // ( data refused? )* frame*
     #[cycle(message)]
-    fn payload(&mut self, within: Within<'_>, room: Room) -> Result<DataSyntax, PlanError> {
+    fn payload(&mut self, within: Within<'_>, room: Room) -> Result<DataSyntax, PlanError>
+        ensures { Gives brief_bytes result (payload_at (around within.entry) room.bytes room.copies (place self.old)) (place self.new) }
+    {
         match self.token.symbol {
             Symbol::Word(_) => self.bytes(within, room),
             Symbol::Keyword(Keyword::Any) => self.bytes(within, room),
@@ -120,7 +134,9 @@ impl Source<'_> {
 
     // data refused? ( data refused? )* frame*
     #[cycle(message)]
-    fn bytes(&mut self, within: Within<'_>, room: Room) -> Result<DataSyntax, PlanError> {
+    fn bytes(&mut self, within: Within<'_>, room: Room) -> Result<DataSyntax, PlanError>
+        ensures { Gives brief_bytes result (bytes_at (around within.entry) room.bytes room.copies (place self.old)) (place self.new) }
+    {
         let data = self.data(within.board)?;
         let first = self.node(room, data.line)?;
         let repeated = self.often(within, first)?;
@@ -149,7 +165,9 @@ impl Source<'_> {
 
     // frame*
     #[cycle(message)]
-    fn following(&mut self, within: Within<'_>, room: Room) -> Result<TailSyntax, PlanError> {
+    fn following(&mut self, within: Within<'_>, room: Room) -> Result<TailSyntax, PlanError>
+        ensures { Gives brief_tail result (next_at (around within.entry) room.bytes room.copies (place self.old)) (place self.new) }
+    {
         match self.token.symbol {
             Symbol::Keyword(Keyword::Write | Keyword::Read) => {
                 let frame = self.frames(within, room)?;
@@ -161,7 +179,9 @@ impl Source<'_> {
 
     // refused?, where refused is: else stop | else ( frame frame* )
     #[cycle(message)]
-    fn refused(&mut self, within: Within<'_>, room: Room) -> Result<TailSyntax, PlanError> {
+    fn refused(&mut self, within: Within<'_>, room: Room) -> Result<TailSyntax, PlanError>
+        ensures { Gives brief_tail result (refused_at (around within.entry) room.bytes room.copies (place self.old)) (place self.new) }
+    {
         let Symbol::Keyword(Keyword::Else) = self.token.symbol else {
             return Ok(TailSyntax::Stop);
         };
@@ -217,7 +237,11 @@ impl Source<'_> {
     }
 
     // ( * NUMBER | * RANGE )?, after a byte that has a node already.
-    fn often(&mut self, within: Within<'_>, room: Room) -> Result<Repeated, PlanError> {
+    fn often(&mut self, within: Within<'_>, room: Room) -> Result<Repeated, PlanError>
+        requires { room.copies ≤ self.old.nodes }
+        ensures read { Gives (λ it. (times_of it.often, it.more)) result (often_at (around within.entry) room.bytes room.copies (place self.old)) (place self.new) }
+        ensures fits { IfOk result (λ it. (it.more ≤ room.bytes) × (it.more ≤ 254) × (room.copies * (it.more + 1) ≤ MOST_NODES)) }
+    {
         let Symbol::Sign(Sign::Star) = self.token.symbol else {
             return Ok(Repeated {
                 often: Often::Times(1),
@@ -239,8 +263,13 @@ impl Source<'_> {
     }
 
     // The byte stands as often as the number on this line says.
-    fn so_often(&mut self, number: Digits<'_>, room: Room, line: u64) -> Result<Repeated, PlanError> {
-        match number.value() {
+    fn so_often(&mut self, digits: Digits<'_>, room: Room, line: u64) -> Result<Repeated, PlanError>
+        requires { room.copies ≤ self.old.nodes }
+        ensures read { (a : Around) → Gives (λ it. (times_of it.often, it.more)) result
+            (often_by a room.bytes room.copies (so_often (number digits.entry.word.now)) line (place self.old)) (place self.new) }
+        ensures fits { IfOk result (λ it. (it.more ≤ room.bytes) × (it.more ≤ 254) × (room.copies * (it.more + 1) ≤ MOST_NODES)) }
+    {
+        match digits.value() {
             None | Some(0) => Err(PlanError::BadCount(line)),
             Some(times) => {
                 let more = times as u32 - 1;
@@ -261,7 +290,13 @@ impl Source<'_> {
         greatest: Digits<'_>,
         room: Room,
         line: u64,
-    ) -> Result<Repeated, PlanError> {
+    ) -> Result<Repeated, PlanError>
+        requires { room.copies ≤ self.old.nodes }
+        ensures read { Gives (λ it. (times_of it.often, it.more)) result
+            (often_by (around within.entry) room.bytes room.copies
+            (from_to (number least.entry.word.now) (number greatest.entry.word.now)) line (place self.old)) (place self.new) }
+        ensures fits { IfOk result (λ it. (it.more ≤ room.bytes) × (it.more ≤ 254) × (room.copies * (it.more + 1) ≤ MOST_NODES)) }
+    {
         if self.range.is_some() {
             return Err(PlanError::Unexpected(line));
         }
@@ -279,7 +314,11 @@ impl Source<'_> {
     }
 
     // So many more bytes on a path, with the token on this line that says so.
-    fn further(&mut self, more: u32, room: Room, line: u64) -> Result<(), PlanError> {
+    fn further(&mut self, more: u32, room: Room, line: u64) -> Result<(), PlanError>
+        requires { more ≤ 254 }
+        ensures read { Passes result (further room.bytes room.copies more line (place self.old)) (place self.new) }
+        ensures fits { OnOk result ((more ≤ room.bytes) × (self.old.nodes + room.copies * more ≤ MOST_NODES)) }
+    {
         let nodes = room.copies * more;
         if more > room.bytes || self.nodes + nodes > MOST_NODES {
             return Err(PlanError::TooLong(line));
@@ -301,7 +340,11 @@ impl Source<'_> {
 }
 
 // The range with these ends: its greatest is 1 to 255.
-fn lengths(least: Digits<'_>, greatest: Digits<'_>) -> Option<Lengths> {
+fn lengths(least: Digits<'_>, greatest: Digits<'_>) -> Option<Lengths>
+    ensures form { is_some result ≡ is_range (number least.entry.word.now) (number greatest.entry.word.now) }
+    ensures ends { IfSome result (λ it. (it.least ≡ number least.entry.word.now) ×
+        (it.greatest ≡ number greatest.entry.word.now)) }
+{
     let least = least.value()?;
     let greatest = greatest.value()?;
     if greatest >= 1 && least <= greatest {

@@ -1,5 +1,22 @@
 // The items of a brief, a function for each of them, and the plan that all make up.
 
+ghost use Rattle.std.specs.Prelude.{◌≡◌, ◌⊎◌, ℕ, List, [], map, true, false, not, Some, None, Ok, Err, IfOk, IfErr, OnOk, MatchResult, is_some};
+ghost use Rattle.std.specs.Map.{lookup};
+ghost use Rattle.std.specs.Str.{bytes_eq};
+ghost use Rattle.plan_core.specs.Contents.{Contents};
+ghost use Rattle.plan_core.specs.NameBytes.{name_bytes};
+ghost use Rattle.plan_core.specs.PlanContents.{plan_contents};
+ghost use Rattle.plan_core.specs.declared.builder.BuildError.{BuildError};
+ghost use Rattle.plan_text.specs.Places.{Refuses, Passes};
+ghost use Rattle.plan_text.specs.Reader.{refused_at};
+ghost use Rattle.brief_text.specs.Briefs.{brief_read, text_read, after_head, is_end, Means, IsRefused};
+ghost use Rattle.brief_text.specs.Items.{device_at, byte_at, message_at, controller_at, listed_from, interrupt_at, never_at};
+ghost use Rattle.brief_text.specs.Items.{item_at};
+ghost use Rattle.brief_text.specs.Judging.{all_of};
+ghost use Rattle.brief_text.specs.Reading.{left};
+ghost use Rattle.brief_text.specs.Standing.{draft, place, adds, entries_of};
+ghost use Rattle.brief_text.specs.Tokens.{tokens_of};
+
 use crate::boards::{Board, Listing, Never};
 use crate::frames::Within;
 use crate::naming::Named;
@@ -21,14 +38,34 @@ use std::alloc::Global;
 /// P1 to P8 as `PlanError` has them: the first in the order of the brief, with its line there. P2 where the text does
 /// not begin with `brief 1`, P4 also at a number after `*` that is not 1 to 255, P5 also at such a number, P7 and P8
 /// also for the names of devices and data bytes. `NoMemory` where an allocation fails before another refusal is met.
-pub fn expand_brief(alloc: Global, text: &[u8]) -> Result<Plan, PlanError> {
+pub fn expand_brief(alloc: Global, text: &[u8]) -> Result<Plan, PlanError>
+    // What is answered is right.
+    ensures meant { IfOk result (λ plan. Means text.now (plan_contents plan)) }
+    ensures refused { IfErr result (λ e. (e ≡ PlanError.NoMemory) ⊎ IsRefused text.now e) }
+    // What is right is answered, unless an allocation fails.
+    ensures plans { (plan : Contents) → Means text.now plan →
+        MatchResult result (λ it. plan_contents it ≡ plan) (λ e. e ≡ PlanError.NoMemory) }
+    ensures refusals { (due : PlanError) → IsRefused text.now due →
+        MatchResult result (λ it. ⊥) (λ e. (e ≡ PlanError.NoMemory) ⊎ (e ≡ due)) }
+{
+    read(alloc, text)
+}
+
+// The same, by the definition of reading.
+#[tactic(auto, unfolding(crate::specs::Briefs::brief_read))]
+fn read(alloc: Global, text: &[u8]) -> Result<Plan, PlanError>
+    ensures read { IfOk result (λ plan. brief_read text.now ≡ Ok (plan_contents plan)) }
+    ensures refused { IfErr result (Refuses (brief_read text.now)) }
+{
     let mut board = Board::new(alloc);
     read_text(alloc, &mut board, text)?;
     Ok(board.finish()?)
 }
 
 // The items of a text go into the board.
-fn read_text(alloc: Global, board: &mut Board, text: &[u8]) -> Result<(), PlanError> {
+fn read_text(alloc: Global, board: &mut Board, text: &[u8]) -> Result<(), PlanError>
+    ensures { Passes result (text_read (draft board.old) text.now) (draft board.new) }
+{
     let tokens = after_head(text)?;
     let mut source = Source::new(alloc, tokens);
     for _ in 0..text.len() {
@@ -40,7 +77,10 @@ fn read_text(alloc: Global, board: &mut Board, text: &[u8]) -> Result<(), PlanEr
 }
 
 // `brief` and `1`: the tokens after them.
-fn after_head(text: &[u8]) -> Result<Tokens<'_>, PlanError> {
+fn after_head(text: &[u8]) -> Result<Tokens<'_>, PlanError>
+    ensures rest { IfOk result (λ rest. after_head (tokens_of 1 text.now) ≡ Ok (left rest)) }
+    ensures refused { IfErr result (λ e. after_head (tokens_of 1 text.now) ≡ Err e) }
+{
     let mut tokens = Tokens::new(text);
     let first = tokens.next();
     let Symbol::Keyword(Keyword::Brief) = first.symbol else {
@@ -54,7 +94,15 @@ fn after_head(text: &[u8]) -> Result<Tokens<'_>, PlanError> {
 }
 
 // An item. It answers whether there was one before the end of the text.
-fn read_item(source: &mut Source<'_>, board: &mut Board) -> Result<bool, PlanError> {
+#[tactic(auto, unfolding(crate::specs::Items::item_at))]
+fn read_item(source: &mut Source<'_>, board: &mut Board) -> Result<bool, PlanError>
+    ensures read { IfOk result (λ more. more ≡ true →
+        adds item_at (draft board.old) (place source.old) ≡ Ok (draft board.new, place source.new)) }
+    ensures more { IfOk result (λ more. is_end (place source.old).tokens ≡ not more) }
+    ensures same { IfOk result (λ more. more ≡ false → draft board.new ≡ draft board.old) }
+    ensures refused { IfErr result (Refuses (adds item_at (draft board.old) (place source.old))) }
+    ensures further { IfErr result (λ e. is_end (place source.old).tokens ≡ false) }
+{
     let token = source.next();
     match token.symbol {
         Symbol::End => return Ok(false),
@@ -70,7 +118,10 @@ fn read_item(source: &mut Source<'_>, board: &mut Board) -> Result<bool, PlanErr
 }
 
 // NAME ADDRESS ;
-fn device(source: &mut Source<'_>, board: &mut Board) -> Result<(), PlanError> {
+#[tactic(auto, unfolding(crate::specs::Items::device_at, crate::specs::Drafts::with_item))]
+fn device(source: &mut Source<'_>, board: &mut Board) -> Result<(), PlanError>
+    ensures { Passes result (adds device_at (draft board.old) (place source.old)) (draft board.new, place source.new) }
+{
     let named = source.name()?;
     once(&board.devices, &named)?;
     let address = source.address()?;
@@ -80,7 +131,10 @@ fn device(source: &mut Source<'_>, board: &mut Board) -> Result<(), PlanError> {
 }
 
 // NAME DATA ;
-fn byte(source: &mut Source<'_>, board: &mut Board) -> Result<(), PlanError> {
+#[tactic(auto, unfolding(crate::specs::Items::byte_at, crate::specs::Drafts::with_item))]
+fn byte(source: &mut Source<'_>, board: &mut Board) -> Result<(), PlanError>
+    ensures { Passes result (adds byte_at (draft board.old) (place source.old)) (draft board.new, place source.new) }
+{
     let named = source.name()?;
     once(&board.bytes, &named)?;
     let bits = source.pattern()?;
@@ -90,7 +144,10 @@ fn byte(source: &mut Source<'_>, board: &mut Board) -> Result<(), PlanError> {
 }
 
 // NAME frame frame* ;
-fn message(source: &mut Source<'_>, board: &mut Board) -> Result<(), PlanError> {
+#[tactic(auto, unfolding(crate::specs::Items::message_at, crate::specs::Drafts::with_item))]
+fn message(source: &mut Source<'_>, board: &mut Board) -> Result<(), PlanError>
+    ensures { Passes result (adds message_at (draft board.old) (place source.old)) (draft board.new, place source.new) }
+{
     let named = source.name()?;
     allowed(board.message_refusal(&named.name), named.line)?;
     let frames = source.message_frames(Within {
@@ -103,7 +160,10 @@ fn message(source: &mut Source<'_>, board: &mut Board) -> Result<(), PlanError> 
 }
 
 // NAME NAME* ;
-fn controller(source: &mut Source<'_>, board: &mut Board) -> Result<(), PlanError> {
+#[tactic(auto, unfolding(crate::specs::Items::controller_at, crate::specs::Drafts::with_item))]
+fn controller(source: &mut Source<'_>, board: &mut Board) -> Result<(), PlanError>
+    ensures { Passes result (adds controller_at (draft board.old) (place source.old)) (draft board.new, place source.new) }
+{
     let named = source.name()?;
     allowed(board.controller_refusal(&named.name)?, named.line)?;
     let messages = listed(source, board)?;
@@ -115,7 +175,13 @@ fn controller(source: &mut Source<'_>, board: &mut Board) -> Result<(), PlanErro
 }
 
 // NAME* ; with the messages that these names stand for.
-fn listed(source: &mut Source<'_>, board: &Board) -> Result<Vec<Name>, PlanError> {
+fn listed(source: &mut Source<'_>, board: &Board) -> Result<Vec<Name>, PlanError>
+    ensures read { IfOk result (λ it. (names : List (List ℕ)) ×
+        (listed_from (draft board.now) [] (place source.old).tokens (place source.old) ≡ Ok (names, place source.new)) ×
+        (map name_bytes it.items ≡ all_of (draft board.now) names)) }
+    ensures refused { IfErr result
+        (Refuses (listed_from (draft board.now) [] (place source.old).tokens (place source.old))) }
+{
     let mut messages = Vec::new(source.alloc);
     'names: loop {
         let token = source.next();
@@ -133,7 +199,10 @@ fn listed(source: &mut Source<'_>, board: &Board) -> Result<Vec<Name>, PlanError
 }
 
 // NAME to ;
-fn interrupt(source: &mut Source<'_>, board: &mut Board) -> Result<(), PlanError> {
+#[tactic(auto, unfolding(crate::specs::Items::interrupt_at, crate::specs::Drafts::with_item))]
+fn interrupt(source: &mut Source<'_>, board: &mut Board) -> Result<(), PlanError>
+    ensures { Passes result (adds interrupt_at (draft board.old) (place source.old)) (draft board.new, place source.new) }
+{
     let named = source.name()?;
     allowed(board.builder.interrupt_refusal(&named.name), named.line)?;
     let to = source.to(board)?;
@@ -146,7 +215,10 @@ fn interrupt(source: &mut Source<'_>, board: &mut Board) -> Result<(), PlanError
 }
 
 // party party ;
-fn never(source: &mut Source<'_>, board: &mut Board) -> Result<(), PlanError> {
+#[tactic(auto, unfolding(crate::specs::Items::never_at, crate::specs::Drafts::with_item))]
+fn never(source: &mut Source<'_>, board: &mut Board) -> Result<(), PlanError>
+    ensures { Passes result (adds never_at (draft board.old) (place source.old)) (draft board.new, place source.new) }
+{
     let first = source.party()?;
     allowed(board.name_first(&first)?, first.line)?;
     let second = source.party()?;
@@ -157,7 +229,10 @@ fn never(source: &mut Source<'_>, board: &mut Board) -> Result<(), PlanError> {
 }
 
 // The refusal of a name on this line, where there is one.
-fn allowed(refusal: Option<BuildError>, line: u64) -> Result<(), PlanError> {
+fn allowed(refusal: Option<BuildError>, line: u64) -> Result<(), PlanError>
+    ensures allowed { OnOk result (refusal ≡ None) }
+    ensures refused { IfErr result (λ e. (cause : BuildError) × (refusal ≡ Some cause) × (e ≡ refused_at cause line)) }
+{
     match refusal {
         None => Ok(()),
         Some(BuildError::TooLong) => Err(PlanError::TooLong(line)),
@@ -169,7 +244,11 @@ fn allowed(refusal: Option<BuildError>, line: u64) -> Result<(), PlanError> {
 }
 
 // A name that stands already among those of its kind is refused.
-fn once<T: Copy>(known: &Named<T>, named: &NameFound) -> Result<(), PlanError> {
+fn once<T: Copy>(known: &Named<T>, named: &NameFound) -> Result<(), PlanError>
+    ensures allowed { OnOk result (lookup (bytes_eq (name_bytes named.now.name)) (entries_of known.now) ≡ None) }
+    ensures refused { IfErr result (λ e. (is_some (lookup (bytes_eq (name_bytes named.now.name)) (entries_of known.now)) ≡
+        true) × (e ≡ PlanError.Twice named.now.line)) }
+{
     match known.get(&named.name) {
         Some(_) => Err(PlanError::Twice(named.line)),
         None => Ok(()),

@@ -14,6 +14,7 @@ mod frames;
 mod items;
 mod meanings;
 mod naming;
+mod numbers;
 mod sources;
 mod splitting;
 mod symbols;

@@ -1,5 +1,12 @@
 // From what briefs say to the plan: controllers are split by the labels of `never`.
 
+ghost use Rattle.std.specs.Prelude.{◌≡◌, ◌++◌, map, IfOk, OnOk};
+ghost use Rattle.plan_core.specs.NameBytes.{name_bytes};
+ghost use Rattle.plan_core.specs.PlanContents.{plan_contents};
+ghost use Rattle.brief_text.specs.Splitting.{parts, plan_meant};
+ghost use Rattle.brief_text.specs.Standing.{draft};
+ghost use Rattle.brief_text.specs.Parting.{part};
+
 use crate::boards::{Board, Listing, Never};
 use crate::naming::copied;
 use crate::syntax::Party;
@@ -23,7 +30,9 @@ struct Apart {
 
 impl Board {
     /// The plan that was meant.
-    pub(crate) fn finish(self) -> Result<Plan, AllocError> {
+    pub(crate) fn finish(self) -> Result<Plan, AllocError>
+        ensures { IfOk result (λ it. plan_contents it ≡ plan_meant (draft self)) }
+    {
         let parts = self.parts()?;
         let pairs = self.pairs_apart(parts.as_slice())?;
         let mut builder = self.builder;
@@ -37,7 +46,9 @@ impl Board {
     }
 
     /// The controllers of the plan.
-    pub(crate) fn parts(&self) -> Result<Vec<Part>, AllocError> {
+    pub(crate) fn parts(&self) -> Result<Vec<Part>, AllocError>
+        ensures { IfOk result (λ it. map part it.items ≡ parts (draft self.now)) }
+    {
         let mut parts = Vec::new(self.alloc);
         for controller in self.controllers.as_slice() {
             self.push_parts(&mut parts, controller)?;
@@ -256,7 +267,9 @@ pub(crate) fn push_all(
     alloc: Global,
     to: &mut Vec<Name>,
     names: &[Name],
-) -> Result<(), AllocError> {
+) -> Result<(), AllocError>
+    ensures { OnOk result (map name_bytes to.new.items ≡ map name_bytes to.old.items ++ map name_bytes names.now) }
+{
     for name in names {
         to.push(copied(alloc, name)?)?;
     }

@@ -1,5 +1,12 @@
 // A brief as a tree: what its text says, before names are looked up and repetitions are written out.
 
+ghost use Rattle.std.specs.Prelude.{◌≡◌, ◌++◌, codes, IfOk};
+ghost use Rattle.std.specs.Str.{bytes_eq};
+ghost use Rattle.plan_core.specs.NameBytes.{name_bytes};
+ghost use Rattle.brief_text.specs.Drafts.{same_side};
+ghost use Rattle.brief_text.specs.Splitting.{side_name};
+ghost use Rattle.brief_text.specs.Standing.{side};
+
 use crate::naming::{copied, spelled};
 use message_tree::{Address, Count, Pattern};
 use plan_core::Name;
@@ -89,6 +96,7 @@ pub(crate) struct Party {
 impl Party {
     /// The name of its part: the controller, and `bmc_set` for `bmc/set`.
     pub(crate) fn name(&self, alloc: Global) -> Result<Name, AllocError>
+        ensures { IfOk result (λ it. name_bytes it ≡ side_name (side self.now)) }
     {
         let Some(label) = &self.label else {
             return copied(alloc, &self.controller);
@@ -101,6 +109,7 @@ impl Party {
 
     /// The same party, in memory of its own.
     pub(crate) fn copied(&self, alloc: Global) -> Result<Party, AllocError>
+        ensures { IfOk result (λ it. side it ≡ side self.now) }
     {
         let label = match &self.label {
             None => None,
@@ -115,12 +124,14 @@ impl Party {
 
     /// Whether both are the same, wherever they stand.
     pub(crate) fn is_same(&self, other: &Party) -> bool
+        ensures { result ≡ same_side (side self.now) (side other.now) }
     {
         self.controller == other.controller && self.label == other.label
     }
 
     /// Whether its part has this name.
     pub(crate) fn is_named(&self, name: &str) -> bool
+        ensures { result ≡ bytes_eq name.now (side_name (side self.now)) }
     {
         match &self.label {
             None => self.controller.as_str() == name,
@@ -131,6 +142,7 @@ impl Party {
 
 // Whether a text is these two with `_` between them.
 fn is_joined(first: &str, second: &str, text: &str) -> bool
+    ensures { result ≡ bytes_eq text.now (first.now ++ codes "_" ++ second.now) }
 {
     match text.strip_prefix(first) {
         Some(rest) => match rest.strip_prefix("_") {

@@ -1,16 +1,18 @@
 // What a word says by itself: an address or a data byte, what stands after `*`, and the halves of a label.
 
-ghost use Rattle.std.specs.Prelude.{◌≡◌, ◌≢◌, ◌<◌, ◌++◌, ℕ, List, map, true, is_some, nat_le, IfSome, MatchOption, None, Some};
+ghost use Rattle.std.specs.Prelude.{◌≡◌, ◌≢◌, ◌<◌, ◌≤◌, ◌++◌, ℕ, List, map, length, IfSome, MatchOption, None, Some};
+ghost use Rattle.std.specs.List.{prefix_len};
 ghost use Rattle.std.specs.Option.{option_map};
 ghost use Rattle.message_tree.specs.Bits.{bits_below};
 ghost use Rattle.message_tree.specs.Patterns.{address_bits};
 ghost use Rattle.plan_text.specs.Canonical.{bit_symbol};
-ghost use Rattle.plan_text.specs.Words.{is_digits, number, around_dots};
+ghost use Rattle.plan_text.specs.Words.{around_dots};
 ghost use Rattle.brief_text.specs.Names.{is_brief_word};
 ghost use Rattle.brief_text.specs.Reading.{repetition_said};
 ghost use Rattle.brief_text.specs.Words.{data_by, address_by, digit_bits, hex_bits, known_number, repetition_by, range_by};
-ghost use Rattle.brief_text.specs.Words.{around_slash};
+ghost use Rattle.brief_text.specs.Words.{around_slash, is_no_slash};
 
+use crate::numbers::{Digits, digits_of};
 use message_tree::{Address, Bit, Pattern};
 use plan_text::words;
 
@@ -107,23 +109,6 @@ fn digit(byte: u8) -> Option<Mask>
     })
 }
 
-/// Digits as they are written.
-#[derive(Clone, Copy)]
-pub(crate) struct Digits<'a> {
-    word: &'a [u8],
-    ghost are_digits: { is_digits word.now ≡ true },
-}
-
-impl Digits<'_> {
-    /// The number that they write, where it is at most 255.
-    pub(crate) fn value(&self) -> Option<u8>
-        ensures form { is_some result ≡ nat_le (number self.now.word.now) 255 }
-        ensures value { IfSome result (λ n. n ≡ number self.now.word.now) }
-    {
-        words::number(self.word)
-    }
-}
-
 /// What stands after `*`: a number, or the ends of a range.
 #[derive(Clone, Copy)]
 pub(crate) enum Repetition<'a> {
@@ -139,17 +124,6 @@ pub(crate) fn repetition_of(word: &[u8]) -> Option<Repetition<'_>>
     match digits_of(word) {
         Some(number) => Some(Repetition::Number(number)),
         None => range(word),
-    }
-}
-
-fn digits_of(word: &[u8]) -> Option<Digits<'_>>
-    ensures form { is_some result ≡ is_digits word.now }
-    ensures value { IfSome result (λ it. it.word.now ≡ word.now) }
-{
-    if words::is_digits(word) {
-        Some(Digits { word })
-    } else {
-        None
     }
 }
 
@@ -178,16 +152,25 @@ fn around_dots(word: &[u8]) -> Option<(&[u8], &[u8])>
 }
 
 /// What stands before and after the first `/`.
+#[tactic(auto, unfolding(crate::specs::Words::around_slash))]
 pub(crate) fn around_slash(word: &[u8]) -> Option<(&[u8], &[u8])>
     ensures { MatchOption result (around_slash word.now ≡ None)
         (λ halves. around_slash word.now ≡ Some (halves.0.now, halves.1.now)) }
 {
-    let slash = word.iter().position(|byte| *byte == b'/')?;
-    let (before, rest) = word.split_at(slash);
-    match rest {
-        [_, after @ ..] => Some((before, after)),
-        [] => None,
+    let slash = slash_of(word);
+    if slash < word.len() {
+        Some((&word[..slash], &word[slash + 1..]))
+    } else {
+        None
     }
+}
+
+// How many bytes stand before the first `/`.
+fn slash_of(word: &[u8]) -> usize
+    ensures place { result ≡ prefix_len is_no_slash word.now }
+    ensures within { result ≤ length word.now }
+{
+    word.iter().take_while(|byte| **byte != b'/').count()
 }
 
 /// Whether this is a word of briefs and none of plans.
