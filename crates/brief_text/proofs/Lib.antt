@@ -1,8 +1,12 @@
 pub mod TokenLemmas
 pub mod StepLemmas
-pub mod LimitLemmas
 pub mod WordLemmas
 pub mod NamingLemmas
 pub mod ValueLemmas
 pub mod TextLemmas
 pub mod NameLemmas
+pub mod LabelLemmas
+pub mod BoardLemmas
+pub mod LoopLemmas
+pub mod RangeLemmas
+pub mod MessageLemmas

@@ -1,9 +1,15 @@
 pub mod Tokens
-pub mod Words
 pub mod Names
+pub mod Words
+pub mod Trees
+pub mod Drafts
+pub mod Splitting
+pub mod Judging
 pub mod Places
 pub mod Frames
 pub mod Items
 pub mod Briefs
 pub mod Reading
 pub mod Standing
+pub mod Meanings
+pub mod Parting

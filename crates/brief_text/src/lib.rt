@@ -2,16 +2,23 @@
 //! writes a brief of a plan.
 //!
 //! A text is cut into tokens, one at a time, each with its line (`tokens`, `symbols`). What a single word spells out is in
-//! `words`, what has a name in `naming`, the parts of items that are one token or two in `sources`. `frames` has a function
-//! for each rule of a message, `items` one for each kind of item. `specs/Briefs.antt` and the files that it stands on
-//! define what a brief means, and each function that reads is proved equal to its rule there.
+//! `words`, the parts of items that are one token in `sources`. `frames` has a function for each rule of a message, and
+//! makes its tree (`syntax`); `items` has one for each kind of item. What items make up so far is a `Board` (`boards`): names
+//! are looked up in it, and each next name is judged by it. `meanings` writes the tree of a message out, `splitting` splits
+//! controllers by labels. `specs/Briefs.antt` and the files that it stands on define what a brief means, and each function
+//! that reads is proved equal to its rule there.
 #![tactic(auto)]
 
+mod boards;
 mod frames;
 mod items;
+mod meanings;
 mod naming;
+mod numbers;
 mod sources;
+mod splitting;
 mod symbols;
+mod syntax;
 mod tokens;
 mod words;
 mod writing;

@@ -107,5 +107,5 @@ fn comment_end(bytes: &[u8]) -> usize
 fn is_part_of_word(byte: u8) -> bool
     ensures { result ≡ is_word_part byte }
 {
-    byte.is_ascii_alphanumeric() || byte == b'_' || byte == b'.'
+    byte.is_ascii_alphanumeric() || byte == b'_' || byte == b'.' || byte == b'/'
 }

@@ -10,6 +10,7 @@ ghost use Rattle.brief_text.specs.Briefs.{Means};
 ghost use Rattle.brief_text.specs.Names.{is_brief_word, has_brief_word, first_brief_word, LacksBrief};
 
 use crate::items::expand_brief;
+use crate::words::is_brief_word;
 use message_tree::{Address, Bit, Count, Frame, Pattern, Payload, Tail};
 use plan_core::{Name, Plan};
 use plan_text::{NoBrief, PlanError, print_plan};
@@ -86,12 +87,6 @@ fn word_of_interrupt(plan: &Plan) -> Option<&Name>
         }
     }
     None
-}
-
-fn is_brief_word(name: &str) -> bool
-    ensures { result ≡ is_brief_word name.now }
-{
-    matches!(name, "brief" | "device" | "byte" | "any")
 }
 
 // Whether the text means this plan: the plan that it means is spelled alike.

@@ -1,7 +1,7 @@
 use Rattle.std.proofs.Common.{◌≡◌}
 use Rattle.message_tree.specs.Trees.{payload_tree, tail_tree}
-use Rattle.brief_text.specs.Frames.{repeated}
-use Rattle.brief_text.proofs.frames.repeated.Given as goal
+use Rattle.brief_text.specs.Drafts.{repeated}
+use Rattle.brief_text.proofs.meanings.repeated.Given as goal
 
 -- as many bytes as there were rounds
 abbrev pub invariant-loop : goal.invariant-loop

@@ -1,0 +1,41 @@
+-- What a board says of a name.
+use Rattle.std.proofs.Common.{◌≡◌, ℕ, Bool, true, false, ◌||◌, List, Option, Some, None, is_some, refl, ap}
+use Rattle.std.specs.Prelude.{nat_le, length, unwrap_or, if◌then◌else◌}
+use Rattle.std.specs.Map.{lookup}
+use Rattle.std.specs.Str.{bytes_eq}
+use Rattle.message_tree.specs.Bits.{bits_below}
+use Rattle.message_tree.specs.Patterns.{address_bits}
+use Rattle.message_tree.specs.declared.bits.Address.{Address}
+use Rattle.plan_core.specs.Building.{has_name, message_name_refusal}
+use Rattle.plan_core.specs.declared.builder.BuildError.{BuildError}
+use Rattle.plan_core.specs.declared.builder.BuildError.TheVariants.{Twice, TooMany}
+use Rattle.plan_core.specs.declared.limits.TheConstants.{MOST_MESSAGES}
+use Rattle.plan_text.specs.Canonical.{bit_symbol}
+use Rattle.plan_text.specs.Values.{address_of}
+use Rattle.plan_text.proofs.ValueLemmas.{address_found}
+use Rattle.std.specs.Prelude.{codes, map}
+use Rattle.brief_text.specs.Drafts.{Draft, any_address, value_or}
+use Rattle.brief_text.specs.Judging.{is_family, is_message, message_refusal_of}
+use Rattle.brief_text.specs.Meanings.{is_twice}
+use Rattle.brief_text.specs.Trees.{named}
+
+by_tests : (family message full : Bool) → is_twice (if family then Some Twice else (if message then Some Twice else if full then Some TooMany else None)) ≡ (family || message)
+by_tests true message full = refl
+by_tests false true full = refl
+by_tests false false true = refl
+by_tests false false false = refl
+
+pub twice_is_message : (draft : Draft) (name : List ℕ) → is_twice (message_refusal_of draft name) ≡ is_message draft name
+unfolding message_refusal_of message_name_refusal
+twice_is_message draft name = by_tests (is_family draft name) (has_name name draft.plan.messages) (nat_le MOST_MESSAGES (length draft.plan.messages))
+
+-- seven open bits
+pub any_address_is : (a : Address) → address_bits a ≡ bits_below 7 0 0 → any_address ≡ a
+unfolding address_of
+any_address_is a is =
+    let found : address_of (codes "xxxxxxx") ≡ Some a = address_found (codes "xxxxxxx") a (ap (map bit_symbol) is) in
+    let same : Some any_address ≡ Some a = found in
+    cc
+
+pub no_value : {A : Type 0} (or : A) (entries : List (List ℕ × A)) (name : List ℕ) → lookup (bytes_eq name) entries ≡ None → value_or or entries (named name) ≡ or
+no_value {A} or entries name e = ap (λ (o : Option A). unwrap_or o or) e

@@ -1,0 +1,16 @@
+use Rattle.std.proofs.Common.{◌≡◌, ◌++◌, ◌∷◌, [], map, take, ap, sym, ◌∙◌}
+use Rattle.std.proofs.lemmas.List.{append_assoc, map_push, map_more}
+use Rattle.plan_core.specs.NameBytes.{name_bytes}
+use Rattle.brief_text.proofs.splitting.push_all.Goals as goal
+
+pub loop-name-preserved : goal.loop-name-preserved
+loop-name-preserved c =
+    let names = c.args.names.now in
+    let i = c.loop-name.name-index in
+    let before = map name_bytes c.args.to.now.items in
+    let taken = map name_bytes (take i names) in
+    ap (map name_bytes) c.in_ok-push.ensures.items ∙ map_push name_bytes c.loop-name.to.items c.in_ok-copied.field-0
+    ∙ ap (λ n. map name_bytes c.loop-name.to.items ++ n ∷ []) (c.in_ok-copied.ensures ∙ ap name_bytes c.name-item.is)
+    ∙ ap (λ xs. xs ++ name_bytes _ ∷ []) c.loop-name.invariant
+    ∙ append_assoc before taken _
+    ∙ ap (λ xs. before ++ xs) (sym (map_more name_bytes names i _ c.loop-name-test.true))

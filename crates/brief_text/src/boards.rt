@@ -1,0 +1,340 @@
+// What the items of briefs make up so far: names are looked up in it, and what stands next is judged by it.
+
+ghost use Rattle.std.specs.Prelude.{◌≡◌, ◌≤◌, ◌+◌, List, ℕ, [], length, map, is_some, IfOk, IfErr, OnOk, OnErr, None};
+ghost use Rattle.std.specs.Option.{option_map};
+ghost use Rattle.plan_text.specs.Places.{Passes};
+ghost use Rattle.brief_text.specs.Places.{Place};
+ghost use Rattle.std.specs.Map.{lookup};
+ghost use Rattle.std.specs.Str.{bytes_eq};
+ghost use Rattle.plan_core.specs.BuilderContents.{builder_contents};
+ghost use Rattle.plan_core.specs.NameBytes.{name_bytes};
+ghost use Rattle.plan_core.specs.declared.limits.TheConstants.{MOST_MESSAGES};
+ghost use Rattle.brief_text.specs.Drafts.{no_items, address_said, bits_said, stands_for, with_label, is_new_label};
+ghost use Rattle.brief_text.specs.Meanings.{is_twice};
+ghost use Rattle.brief_text.specs.Judging.{is_family, is_message, message_refusal_of, named_refusal, taken_names, is_taken};
+ghost use Rattle.brief_text.specs.Judging.{controller_refusal_of, listing_refusal, sendings, have_one_of, is_side};
+ghost use Rattle.brief_text.specs.Judging.{part_refusal, first_refusal, second_refusal, range_refusal, are_sides};
+
+use crate::meanings::member_text;
+use crate::naming::{Named, copied};
+use crate::syntax::{Lengths, Party, Value};
+use message_tree::{Address, Pattern};
+use plan_core::limits::{MOST_CONTROLLERS, MOST_MESSAGES, MOST_SENDINGS};
+use plan_core::{BuildError, Builder, Name};
+use plan_text::PlanError;
+use std::alloc::{AllocError, Global};
+
+/// A controller with the names of all messages that it lists.
+#[derive(Drop)]
+pub(crate) struct Listing {
+    pub(crate) name: Name,
+    pub(crate) messages: Vec<Name>,
+}
+
+/// A `never` as it is written.
+#[derive(Drop)]
+pub(crate) struct Never {
+    pub(crate) first: Party,
+    pub(crate) second: Party,
+}
+
+/// What the items of briefs make up so far.
+#[derive(Drop)]
+pub(crate) struct Board {
+    pub(crate) alloc: Global,
+    pub(crate) devices: Named<Address>,
+    pub(crate) bytes: Named<Pattern>,
+    /// The messages and the interrupts of the plan.
+    pub(crate) builder: Builder,
+    /// How many messages it has.
+    pub(crate) messages: u32,
+    pub(crate) families: Named<Lengths>,
+    pub(crate) controllers: Vec<Listing>,
+    /// The parties with labels, as they were first named.
+    pub(crate) labels: Vec<Party>,
+    pub(crate) nevers: Vec<Never>,
+    ghost counted: { messages ≡ length (builder_contents builder).messages },
+    ghost room: { messages ≤ MOST_MESSAGES },
+}
+
+impl Board {
+    ghost use Rattle.brief_text.specs.Standing.{draft, said, side};
+
+    /// No items.
+    pub(crate) fn new(alloc: Global) -> Self
+        ensures { draft result ≡ no_items }
+    {
+        Board {
+            alloc,
+            devices: Named::new(alloc),
+            bytes: Named::new(alloc),
+            builder: Builder::new(alloc),
+            messages: 0,
+            families: Named::new(alloc),
+            controllers: Vec::new(alloc),
+            labels: Vec::new(alloc),
+            nevers: Vec::new(alloc),
+        }
+    }
+
+    /// Whether a device has this name.
+    pub(crate) fn has_device(&self, name: &Name) -> bool
+        ensures { result ≡ is_some (lookup (bytes_eq (name_bytes name.now)) (draft self.now).devices) }
+    {
+        self.devices.get(name).is_some()
+    }
+
+    /// Whether a data byte has this name.
+    pub(crate) fn has_byte(&self, name: &Name) -> bool
+        ensures { result ≡ is_some (lookup (bytes_eq (name_bytes name.now)) (draft self.now).bytes) }
+    {
+        self.bytes.get(name).is_some()
+    }
+
+    /// The address that is meant. Each name is that of a device by then.
+    pub(crate) fn address(&self, to: &Value<Address>) -> Address
+        ensures { result ≡ address_said (draft self.now) (said to.now) }
+    {
+        match to {
+            Value::Spelled(address) => *address,
+            Value::Named(named) => match self.devices.get(&named.name) {
+                Some(address) => address,
+                None => Address::new(0, 0),
+            },
+        }
+    }
+
+    /// The data byte that is meant. Each name is that of a byte by then.
+    pub(crate) fn bits(&self, bits: &Value<Pattern>) -> Pattern
+        ensures { result ≡ bits_said (draft self.now) (said bits.now) }
+    {
+        match bits {
+            Value::Spelled(bits) => *bits,
+            Value::Named(named) => match self.bytes.get(&named.name) {
+                Some(bits) => bits,
+                None => Pattern::new(0, 0),
+            },
+        }
+    }
+
+    // ---- messages and families
+
+    /// Why a message of this name is refused, whatever its frames.
+    #[tactic(auto, unfolding(crate::specs::Judging::message_refusal_of))]
+    pub(crate) fn message_refusal(&self, name: &Name) -> Option<BuildError>
+        ensures { result ≡ message_refusal_of (draft self.now) (name_bytes name.now) }
+    {
+        match self.families.get(name) {
+            Some(_) => Some(BuildError::Twice),
+            None => self.builder.message_name_refusal(name),
+        }
+    }
+
+    /// Whether a message or a family has this name.
+    pub(crate) fn is_message(&self, name: &Name) -> bool
+        ensures { result ≡ is_message (draft self.now) (name_bytes name.now) }
+    {
+        is_twice(self.message_refusal(name))
+    }
+
+    /// The refusal of a family of this name with the range on this line, where there is one.
+    pub(crate) fn range_refusal(
+        &self,
+        name: &Name,
+        range: Lengths,
+        line: u64,
+    ) -> Result<(), PlanError>
+        ensures { (at : Place) → Passes result (range_refusal (draft self.now) (name_bytes name.now) range line at) at }
+    {
+        if member_text(self.alloc, name, range.greatest as u32)?.len() > 32 {
+            return Err(PlanError::Unexpected(line));
+        }
+        let members = self.members(name, range)?;
+        if members.iter().any(|member| self.is_message(member)) {
+            return Err(PlanError::Twice(line));
+        }
+        if self.messages as usize + members.len() > MOST_MESSAGES as usize {
+            return Err(PlanError::TooMany(line));
+        }
+        Ok(())
+    }
+
+    /// The messages that this name stands for.
+    pub(crate) fn named(&self, name: &Name) -> Result<Vec<Name>, AllocError>
+        ensures { IfOk result (λ it. map name_bytes it.items ≡ stands_for (draft self.now) (name_bytes name.now)) }
+    {
+        match self.families.get(name) {
+            Some(range) => self.members(name, range),
+            None => {
+                let mut only = Vec::new(self.alloc);
+                only.push(copied(self.alloc, name)?)?;
+                Ok(only)
+            }
+        }
+    }
+
+    // ---- controllers
+
+    /// Why a controller of this name is refused, whatever its messages.
+    pub(crate) fn controller_refusal(&self, name: &Name) -> Result<Option<BuildError>, AllocError>
+        ensures { IfOk result (λ it. it ≡ controller_refusal_of (draft self.now) (name_bytes name.now)) }
+    {
+        if self.is_taken(name.as_str()) {
+            return Ok(Some(BuildError::Twice));
+        }
+        if self.parts()?.len() >= MOST_CONTROLLERS as usize {
+            return Ok(Some(BuildError::TooMany));
+        }
+        Ok(None)
+    }
+
+    // Whether a controller has this name, or a label takes it.
+    fn is_taken(&self, name: &str) -> bool
+        ensures { result ≡ is_taken (draft self.now) name.now }
+    {
+        self.controllers
+            .iter()
+            .any(|controller| controller.name.as_str() == name)
+            || self.labels.iter().any(|label| label.is_named(name))
+    }
+
+    /// Why a further message or family of this name is refused to a controller that lists these messages already;
+    /// `further` is what the name stands for.
+    pub(crate) fn listing_refusal(
+        &self,
+        listed: &[Name],
+        name: &Name,
+        further: &[Name],
+    ) -> Option<BuildError>
+        requires { map name_bytes further.now ≡ stands_for (draft self.now) (name_bytes name.now) }
+        ensures { result ≡ listing_refusal (draft self.now) (map name_bytes listed.now) (name_bytes name.now) }
+    {
+        if !self.is_message(name) {
+            Some(BuildError::Unknown)
+        } else if have_one_of(listed, further) {
+            Some(BuildError::Twice)
+        } else if self.sendings() + listed.len() + further.len() > MOST_SENDINGS as usize {
+            Some(BuildError::TooMany)
+        } else {
+            None
+        }
+    }
+
+    // How many messages all controllers list.
+    fn sendings(&self) -> usize
+        ensures { result ≡ sendings (draft self.now) }
+    {
+        self.controllers
+            .iter()
+            .map(|controller| controller.messages.len())
+            .sum()
+    }
+
+    fn controller(&self, name: &Name) -> Option<&Listing>
+        ensures { option_map (λ it. map name_bytes it.now.messages.items) result ≡
+            lookup (bytes_eq (name_bytes name.now)) (draft self.now).controllers }
+    {
+        self.controllers
+            .iter()
+            .find(|controller| controller.name == *name)
+    }
+
+    // ---- `never`
+
+    /// Names what a `never` names first, or says why it may not.
+    pub(crate) fn name_first(&mut self, first: &Party) -> Result<Option<BuildError>, AllocError>
+        ensures refusal { IfOk result (λ it. it ≡ first_refusal (draft self.old) (side first.now)) }
+        ensures named { IfOk result (λ it. it ≡ None → draft self.new ≡ with_label (draft self.old) (side first.now)) }
+    {
+        if self.is_side(first)? {
+            self.name_label(first)
+        } else {
+            Ok(Some(BuildError::Unknown))
+        }
+    }
+
+    /// Names what a `never` names after the first, or says why it may not.
+    pub(crate) fn name_second(
+        &mut self,
+        first: &Party,
+        second: &Party,
+    ) -> Result<Option<BuildError>, AllocError>
+        ensures refusal { IfOk result (λ it. it ≡ second_refusal (draft self.old) (side first.now) (side second.now)) }
+        ensures named { IfOk result (λ it. it ≡ None → draft self.new ≡ with_label (draft self.old) (side second.now)) }
+    {
+        if first.controller == second.controller {
+            Ok(Some(BuildError::Twice))
+        } else if !self.is_side(second)? {
+            Ok(Some(BuildError::Unknown))
+        } else if self.nevers.iter().any(|never| never.is_of(first, second)) {
+            Ok(Some(BuildError::Twice))
+        } else {
+            self.name_label(second)
+        }
+    }
+
+    // Whether there is this controller, and it lists what the label stands for, or some of it.
+    fn is_side(&self, party: &Party) -> Result<bool, AllocError>
+        ensures { IfOk result (λ it. it ≡ is_side (draft self.now) (side party.now)) }
+    {
+        let Some(controller) = self.controller(&party.controller) else {
+            return Ok(false);
+        };
+        let Some(label) = &party.label else {
+            return Ok(true);
+        };
+        let named = self.named(label)?;
+        Ok(have_one_of(controller.messages.as_slice(), named.as_slice()))
+    }
+
+    // A new label takes the name of its part, and may make one controller more.
+    fn name_label(&mut self, party: &Party) -> Result<Option<BuildError>, AllocError>
+        ensures refusal { IfOk result (λ it. it ≡ part_refusal (draft self.old) (side party.now)) }
+        ensures named { IfOk result (λ it. it ≡ None → draft self.new ≡ with_label (draft self.old) (side party.now)) }
+    {
+        if !self.is_new_label(party) {
+            return Ok(None);
+        }
+        let name = party.name(self.alloc)?;
+        if self.is_taken(name.as_str()) {
+            return Ok(Some(BuildError::Twice));
+        }
+        self.labels.push(party.copied(self.alloc)?)?;
+        if self.parts()?.len() > MOST_CONTROLLERS as usize {
+            return Ok(Some(BuildError::TooMany));
+        }
+        Ok(None)
+    }
+
+    // Whether the party has a label that has not been named yet.
+    fn is_new_label(&self, party: &Party) -> bool
+        ensures { result ≡ is_new_label (draft self.now) (side party.now) }
+    {
+        party.label.is_some() && !self.labels.iter().any(|label| label.is_same(party))
+    }
+}
+
+// Whether one of these names is listed.
+pub(crate) fn have_one_of(listed: &[Name], names: &[Name]) -> bool
+    ensures { result ≡ have_one_of (map name_bytes listed.now) (map name_bytes names.now) }
+{
+    names.iter().any(|name| listed.contains(name))
+}
+
+impl Never {
+    ghost use Rattle.brief_text.specs.Standing.{side, sides};
+
+    // Whether it names these two, in either order.
+    fn is_of(&self, one: &Party, other: &Party) -> bool
+        ensures { result ≡ are_sides (side one.now) (side other.now) (sides self.now) }
+    {
+        (self.first.is_same(one) && self.second.is_same(other))
+            || (self.first.is_same(other) && self.second.is_same(one))
+    }
+}
+
+fn is_twice(refusal: Option<BuildError>) -> bool
+    ensures { result ≡ is_twice refusal }
+{
+    matches!(refusal, Some(BuildError::Twice))
+}
