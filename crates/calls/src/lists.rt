@@ -46,7 +46,11 @@ fn explained_of(alloc: Global, plan: &Plan, samples: &[Sample]) -> Result<u64, R
 fn samples(task: &Task<'_>) -> Result<Vec<Sample>, VcdError> {
     let mut reader = Reader::new(task.alloc, task.one, task.other)?;
     let fed = feed(task.alloc, &mut reader, task.second);
-    fed.and(reader.end())
+    fed?;
+    match reader.end() {
+        Ok(samples) => Ok(samples),
+        Err(refused) => Err(refused.error),
+    }
 }
 
 // Feeds a piece, and once more where an allocation failed, when there is memory: the reader is then as it was.

@@ -80,7 +80,7 @@ fn push_place(line: &mut Text, front: usize, place: &Place) {
     line.push_number(place.column);
     line.push(" ");
     for byte in place.token() {
-        line.push(char::from(*byte));
+        line.push_char(char::from(*byte));
     }
     match place.expected {
         Expected::Command => line.push(" command"),
