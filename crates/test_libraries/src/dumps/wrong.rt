@@ -5,15 +5,18 @@ use growing_text::Text;
 use std::alloc::{AllocError, Global};
 use vcd_read::{Expected, Opened, Place, Reader, VcdError, Wrong};
 
-// A dump, and what is wrong with it: how many bytes stand before the token that is refused, its column, the token, and what
-// could stand there; or what has no end.
+// A dump, and what is wrong with it: how many bytes stand before the token that is refused, its column, what stands before
+// it in its line, the token, and what could stand there; or what has no end.
 type Row = (&'static str, &'static str);
 
 const BROKEN_DEFINITIONS: [Row; 8] = [
-    ("0! ", "0:1 0! command"),
-    ("$version x $end\n $end ", "17:2 $end command"),
-    ("$dumpvars", "0:1 $dumpvars command"),
-    ("$var wire 1 ! $end ", "14:15 $end var token"),
+    ("0! ", "0:1 <0!> command"),
+    ("$version x $end\n $end ", "17:2  <$end> command"),
+    ("$dumpvars", "0:1 <$dumpvars> command"),
+    (
+        "$var wire 1 ! $end ",
+        "14:15 $var wire 1 ! <$end> var token",
+    ),
     ("$var wire 1", "open var"),
     ("\n$comment $dumpvars", "open command"),
     ("$enddefinitions", "open enddefinitions"),
@@ -22,15 +25,15 @@ const BROKEN_DEFINITIONS: [Row; 8] = [
 
 // The same of what stands behind definitions, with which the bytes are not counted.
 const BROKEN_CHANGES: [Row; 11] = [
-    ("#5 0!\n#3 ", "6:1 #3 change from 5"),
-    ("#5 0!\n#3", "6:1 #3 change from 5"),
-    (" b2 !", "1:2 b2 change from 0"),
-    ("#7 b1 \x07 ", "6:7 \x07 code from 7"),
+    ("#5 0!\n#3 ", "6:1 <#3> change from 5"),
+    ("#5 0!\n#3", "6:1 <#3> change from 5"),
+    (" b2 !", "1:2  <b2> change from 0"),
+    ("#7 b1 \x07 ", "6:7 #7 b1 <\x07> code from 7"),
     (
-        "$dumpvars\t$dumpall ",
-        "10:11 $dumpall change in a block from 0",
+        "$dumpvars 0! $dumpall ",
+        "13:14 $dumpvars 0! <$dumpall> change in a block from 0",
     ),
-    ("0!\r\n$end\n", "4:1 $end change from 0"),
+    ("0!\r\n$end\n", "4:1 <$end> change from 0"),
     ("$dumpvars 0!", "open block"),
     ("$dumpvars b1", "open block"),
     ("$comment 0!", "open command"),
@@ -38,40 +41,58 @@ const BROKEN_CHANGES: [Row; 11] = [
     ("#1 0!", "nothing"),
 ];
 
-// What is wrong with a dump that comes in pieces of so many bytes.
-fn wrong_in_pieces(
-    alloc: Global,
-    front: &[u8],
-    dump: &[u8],
-    bytes: usize,
-) -> Result<Option<Wrong>, AllocError> {
-    let mut reader = Reader::new(alloc, "scl", "sda")?;
-    for part in [front, dump] {
-        for piece in part.chunks(bytes.max(1)) {
-            match reader.feed(piece) {
-                Ok(()) => {}
-                Err(VcdError::NoMemory) => return Err(AllocError),
-                Err(_) => return Ok(reader.take_wrong()),
-            }
-        }
+fn feed(reader: &mut Reader, dump: &[u8], bytes: usize) -> Result<(), VcdError> {
+    for piece in dump.chunks(bytes.max(1)) {
+        reader.feed(piece)?;
     }
-    Ok(match reader.end() {
-        Ok(_) => None,
-        Err(refused) => refused.wrong,
-    })
+    Ok(())
 }
 
-fn told(alloc: Global, front: usize, wrong: Option<Wrong>) -> Result<String, AllocError> {
+fn feed_both(reader: &mut Reader, front: &str, dump: &[u8], bytes: usize) -> Result<(), VcdError> {
+    feed(reader, front.as_bytes(), bytes)?;
+    feed(reader, dump, bytes)
+}
+
+fn wrong_at_end(reader: Reader) -> Option<Wrong> {
+    match reader.end() {
+        Ok(_) => None,
+        Err(refused) => refused.wrong,
+    }
+}
+
+fn wrong_of(mut reader: Reader, fed: Result<(), VcdError>) -> Option<Wrong> {
+    if fed.is_err() {
+        return reader.take_wrong();
+    }
+    wrong_at_end(reader)
+}
+
+// What is wrong with a dump that comes behind the front, in pieces of so many bytes.
+fn told(alloc: Global, front: &str, dump: &[u8], bytes: usize) -> Result<String, AllocError> {
+    let mut reader = Reader::new(alloc, "scl", "sda")?;
+    let fed = feed_both(&mut reader, front, dump, bytes);
+    let wrong = wrong_of(reader, fed);
+    line_of(alloc, front.len(), wrong.as_ref())
+}
+
+fn line_of(alloc: Global, front: usize, wrong: Option<&Wrong>) -> Result<String, AllocError> {
     let mut line = Text::new(alloc);
+    push_wrong(&mut line, front, wrong);
+    line.finish()
+}
+
+fn push_wrong(line: &mut Text, front: usize, wrong: Option<&Wrong>) {
     match wrong {
         None => line.push("nothing"),
         Some(Wrong::Unended(opened)) => {
             line.push("open ");
-            line.push(opened_word(opened));
+            line.push(opened_word(*opened));
         }
-        Some(Wrong::Token(place)) => push_place(&mut line, front, &place),
+        Some(Wrong::Token(place)) => {
+            push_place(line, front, place);
+            push_expected(line, place.expected);
+        }
     }
-    line.finish()
 }
 
 fn push_place(line: &mut Text, front: usize, place: &Place) {
@@ -79,15 +100,25 @@ fn push_place(line: &mut Text, front: usize, place: &Place) {
     line.push(":");
     line.push_number(place.column);
     line.push(" ");
-    for byte in place.token() {
+    push_bytes(line, place.before());
+    line.push("<");
+    push_bytes(line, place.token());
+    line.push("> ");
+}
+
+fn push_bytes(line: &mut Text, bytes: &[u8]) {
+    for byte in bytes {
         line.push_char(char::from(*byte));
     }
-    match place.expected {
-        Expected::Command => line.push(" command"),
-        Expected::VarToken => line.push(" var token"),
-        Expected::Code => line.push(" code"),
+}
+
+fn push_expected(line: &mut Text, expected: Expected) {
+    match expected {
+        Expected::Command => line.push("command"),
+        Expected::VarToken => line.push("var token"),
+        Expected::Code => line.push("code"),
         Expected::Change { time, in_block } => {
-            line.push(" change");
+            line.push("change");
             if in_block {
                 line.push(" in a block");
             }
@@ -107,13 +138,17 @@ fn opened_word(opened: Opened) -> &'static str {
     }
 }
 
-fn wrong_row(alloc: Global, front: &str, rows: &[Row]) -> Result<Option<&'static str>, AllocError> {
+// The first of the dumps of which something else is wrong, in pieces of so many bytes.
+fn other_row(
+    alloc: Global,
+    front: &str,
+    rows: &[Row],
+    bytes: usize,
+) -> Result<Option<&'static str>, AllocError> {
     for (dump, wanted) in rows {
-        for bytes in [1, 7, 65_536] {
-            let wrong = wrong_in_pieces(alloc, front.as_bytes(), dump.as_bytes(), bytes)?;
-            if told(alloc, front.len(), wrong)?.as_str() != *wanted {
-                return Ok(Some(*dump));
-            }
+        let told = told(alloc, front, dump.as_bytes(), bytes)?;
+        if told.as_str() != *wanted {
+            return Ok(Some(*dump));
         }
     }
     Ok(None)
@@ -121,52 +156,51 @@ fn wrong_row(alloc: Global, front: &str, rows: &[Row]) -> Result<Option<&'static
 
 #[test]
 fn what_is_wrong_has_its_place(rt: HostRuntime) {
-    assert!(rt; wrong_row(rt.alloc(), "", &BROKEN_DEFINITIONS) == Ok(None));
-    assert!(rt; wrong_row(rt.alloc(), DEFINITIONS, &BROKEN_CHANGES) == Ok(None));
+    for bytes in [1, 7, 65_536] {
+        assert!(rt; other_row(rt.alloc(), "", &BROKEN_DEFINITIONS, bytes) == Ok(None));
+        assert!(rt; other_row(rt.alloc(), DEFINITIONS, &BROKEN_CHANGES, bytes) == Ok(None));
+    }
 }
 
-// The line of a token: what stands before it, and what follows as far as it was read.
-fn line_of(alloc: Global) -> Result<bool, AllocError> {
-    let dump = b"#1 0!\n#2 1! #x 0! #3\n#4";
-    let wrong = wrong_in_pieces(alloc, DEFINITIONS.as_bytes(), dump, 65_536)?;
-    let in_bytes = wrong_in_pieces(alloc, DEFINITIONS.as_bytes(), dump, 1)?;
-    Ok(match (wrong, in_bytes) {
-        (Some(Wrong::Token(place)), Some(Wrong::Token(cut))) => {
-            place.before() == b"#2 1! ".as_slice()
-                && place.after() == b" 0! #3".as_slice()
-                && cut.before() == b"#2 1! ".as_slice()
-                && cut.after() == b" ".as_slice()
-        }
+// What follows a token in its line is known as far as it was read.
+fn is_followed(alloc: Global, bytes: usize, after: &[u8]) -> Result<bool, AllocError> {
+    let mut reader = Reader::new(alloc, "scl", "sda")?;
+    let fed = feed_both(&mut reader, DEFINITIONS, b"#2 1! #x 0! #3\n#4", bytes);
+    Ok(match wrong_of(reader, fed) {
+        Some(Wrong::Token(place)) => place.after() == after,
         _ => false,
     })
 }
 
 #[test]
 fn what_is_wrong_has_its_line(rt: HostRuntime) {
-    assert!(rt; line_of(rt.alloc()) == Ok(true));
+    assert!(rt; is_followed(rt.alloc(), 65_536, b" 0! #3") == Ok(true));
+    assert!(rt; is_followed(rt.alloc(), 1, b" ") == Ok(true));
 }
 
-// A line of 75,000 bytes before the token, in reads of 65,536: its end is kept.
-fn long_line(alloc: Global) -> Result<bool, AllocError> {
+// A line of 75,003 bytes before the token, in reads of 65,536: its end is kept.
+fn is_cut(alloc: Global) -> Result<bool, AllocError> {
     let mut dump = Vec::new(alloc);
     for _ in 0..25_000 {
         dump.extend_from_slice(b"0! ")?;
     }
     dump.extend_from_slice(b"0? #x ")?;
-    let wrong = wrong_in_pieces(alloc, DEFINITIONS.as_bytes(), dump.as_slice(), 65_536)?;
-    Ok(match wrong {
-        Some(Wrong::Token(place)) => {
-            place.column == 75_004
-                && place.offset == (DEFINITIONS.len() as u64).saturating_add(75_003)
-                && place.token() == b"#x".as_slice()
-                && place.before().ends_with(b"0! 0! 0? ")
-                && place.before().len() <= 65_536
-        }
+    let mut reader = Reader::new(alloc, "scl", "sda")?;
+    let fed = feed_both(&mut reader, DEFINITIONS, dump.as_slice(), 65_536);
+    Ok(match wrong_of(reader, fed) {
+        Some(Wrong::Token(place)) => is_cut_place(&place),
         _ => false,
     })
 }
 
+fn is_cut_place(place: &Place) -> bool {
+    place.column == 75_004
+        && place.token() == b"#x".as_slice()
+        && place.before().ends_with(b"0! 0! 0? ")
+        && place.before().len() <= 65_536
+}
+
 #[test]
 fn of_a_long_line_the_end_is_kept(rt: HostRuntime) {
-    assert!(rt; long_line(rt.alloc()) == Ok(true));
+    assert!(rt; is_cut(rt.alloc()) == Ok(true));
 }
