@@ -1,6 +1,10 @@
 -- What a board says of a name.
-use Rattle.std.proofs.Common.{◌≡◌, ℕ, Bool, true, false, ◌||◌, List, Option, Some, None, is_some, refl, ap}
-use Rattle.std.specs.Prelude.{nat_le, length, unwrap_or, if◌then◌else◌}
+use Rattle.std.proofs.Common.{◌≡◌, ℕ, ◌+◌, ◌<◌, ◌≤◌, arith, Bool, true, false, ◌||◌, List, Option, Some, None, is_some, refl, ap}
+use Rattle.std.specs.Prelude.{nat_le, nat_lt, length, unwrap_or, Result, Ok, Err, if◌then◌else◌}
+use Rattle.std.specs.List.{list_any}
+use Rattle.std.proofs.lemmas.Bool.Decides.{nat_tests}
+use Rattle.plan_text.specs.declared.errors.PlanError.TheVariants as errors
+use Rattle.brief_text.specs.declared.syntax.Lengths.{Lengths}
 use Rattle.std.specs.Map.{lookup}
 use Rattle.std.specs.Str.{bytes_eq}
 use Rattle.message_tree.specs.Bits.{bits_below}
@@ -14,8 +18,8 @@ use Rattle.plan_text.specs.Canonical.{bit_symbol}
 use Rattle.plan_text.specs.Values.{address_of}
 use Rattle.plan_text.proofs.ValueLemmas.{address_found}
 use Rattle.std.specs.Prelude.{codes, map}
-use Rattle.brief_text.specs.Drafts.{Draft, any_address, value_or}
-use Rattle.brief_text.specs.Judging.{is_family, is_message, message_refusal_of}
+use Rattle.brief_text.specs.Drafts.{Draft, any_address, value_or, member_name, members}
+use Rattle.brief_text.specs.Judging.{is_family, is_message, message_refusal_of, range_refusal}
 use Rattle.brief_text.specs.Meanings.{is_twice}
 use Rattle.brief_text.specs.Trees.{named}
 
@@ -39,3 +43,17 @@ any_address_is a is =
 
 pub no_value : {A : Type 0} (or : A) (entries : List (List ℕ × A)) (name : List ℕ) → lookup (bytes_eq name) entries ≡ None → value_or or entries (named name) ≡ or
 no_value {A} or entries name e = ap (λ (o : Option A). unwrap_or o or) e
+
+-- ---- ranges, by three tests
+
+module _ {A : Type 0} (draft : Draft) (name : List ℕ) (range : Lengths) (line : ℕ) (x : A) where
+  pub range_judged : (long stands many : Bool) → nat_lt 32 (length (member_name name range.greatest)) ≡ long → list_any (is_message draft) (members name range) ≡ stands → nat_lt MOST_MESSAGES (length draft.plan.messages + length (members name range)) ≡ many
+      → range_refusal draft name range line x ≡ (if long then Err (errors.Unexpected line) else if stands then Err (errors.Twice line) else if many then Err (errors.TooMany line) else Ok x)
+  range_judged long stands many is_long one_stands are_many =
+      λ i. if is_long i then Err (errors.Unexpected line) else if one_stands i then Err (errors.Twice line) else if are_many i then Err (errors.TooMany line) else Ok x
+
+pub no_more_than : (n m : ℕ) → n ≤ m → nat_lt m n ≡ false
+no_more_than n m h = grind (arith, nat_tests)
+
+pub more_than : (n m : ℕ) → m < n → nat_lt m n ≡ true
+more_than n m h = grind (arith, nat_tests)

@@ -1,6 +1,7 @@
 // What the items of briefs make up so far: names are looked up in it, and what stands next is judged by it.
 
 ghost use Rattle.std.specs.Prelude.{◌≡◌, ◌≤◌, ◌+◌, List, ℕ, [], length, map, is_some, IfOk, IfErr, OnOk, OnErr, None};
+ghost use Rattle.std.specs.List.{list_any};
 ghost use Rattle.std.specs.Option.{option_map};
 ghost use Rattle.plan_text.specs.Places.{Passes};
 ghost use Rattle.brief_text.specs.Places.{Place};
@@ -150,13 +151,20 @@ impl Board {
             return Err(PlanError::Unexpected(line));
         }
         let members = self.members(name, range)?;
-        if members.iter().any(|member| self.is_message(member)) {
+        if self.has_one_of(members.as_slice()) {
             return Err(PlanError::Twice(line));
         }
         if self.messages as usize + members.len() > MOST_MESSAGES as usize {
             return Err(PlanError::TooMany(line));
         }
         Ok(())
+    }
+
+    // Whether a message or a family has one of these names.
+    fn has_one_of(&self, names: &[Name]) -> bool
+        ensures { result ≡ list_any (λ name. is_message (draft self.now) (name_bytes name)) names.now }
+    {
+        names.iter().any(|name| self.is_message(name))
     }
 
     /// The messages that this name stands for.

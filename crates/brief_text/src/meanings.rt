@@ -220,7 +220,8 @@ impl Often {
 
 // How many messages a family has.
 fn count(range: Lengths) -> u32
-    ensures { result ≡ length (lengths range) }
+    ensures count { result ≡ length (lengths range) }
+    ensures small { result ≤ 256 }
 {
     (range.greatest as u32 + 1).saturating_sub(range.least as u32)
 }
