@@ -1,5 +1,5 @@
 -- What a board says of a name.
-use Rattle.std.proofs.Common.{◌≡◌, ℕ, ◌+◌, ◌<◌, ◌≤◌, arith, Bool, true, false, ◌||◌, List, Option, Some, None, is_some, refl, ap}
+use Rattle.std.proofs.Common.{◌≡◌, ℕ, ◌+◌, ◌<◌, ◌≤◌, arith, Bool, true, false, ◌||◌, List, Option, Some, None, is_some, IfSome, refl, ap}
 use Rattle.std.specs.Prelude.{nat_le, nat_lt, length, unwrap_or, Result, Ok, Err, if◌then◌else◌}
 use Rattle.std.specs.List.{list_any}
 use Rattle.std.proofs.lemmas.Bool.Decides.{nat_tests}
@@ -57,3 +57,17 @@ no_more_than n m h = grind (arith, nat_tests)
 
 pub more_than : (n m : ℕ) → m < n → nat_lt m n ≡ true
 more_than n m h = grind (arith, nat_tests)
+
+-- ---- a message that is not refused
+
+none_of : (family : Bool) (later : Option BuildError) → (if family then Some Twice else later) ≡ None → family ≡ false
+none_of true later h = absurd cc
+none_of false later h = refl
+
+pub no_family : (draft : Draft) (name : List ℕ) → message_refusal_of draft name ≡ None → is_family draft name ≡ false
+unfolding message_refusal_of
+no_family draft name h = none_of (is_family draft name) (message_name_refusal draft.plan name) h
+
+pub for_any : {A P : Type 0} (o : Option A) → P → IfSome o (λ it. P)
+for_any None p = tt
+for_any (Some x) p = p

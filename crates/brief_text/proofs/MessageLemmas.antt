@@ -1,7 +1,6 @@
 -- Messages that go into a draft.
-use Rattle.std.proofs.Common.{◌≡◌, ℕ, suc, ◌+◌, ◌<◌, ◌==◌, true, List, [], ◌∷◌, length, slice_index_or, refl, ap, sym, ◌∙◌, arith}
+use Rattle.std.proofs.Common.{◌≡◌, ℕ, suc, ◌+◌, ◌<◌, List, [], ◌∷◌, length, slice_index_or, refl, ap, sym, ◌∙◌, arith}
 use Rattle.std.specs.List.{remove}
-use Rattle.std.proofs.lemmas.Bool.Decides.{nat_tests}
 use Rattle.std.proofs.lemmas.List.{length-append}
 use Rattle.message_tree.specs.Trees.{FrameTree}
 use Rattle.plan_core.specs.Building.{with_message}
@@ -20,6 +19,6 @@ pub first_removed : {A : Type 0} (xs : List A) (x : A) → 0 < length xs → x �
 first_removed [] x some is = absurd (omega arith)
 first_removed (y ∷ ys) x some is = ap (λ z. z ∷ ys) (sym is)
 
-pub none_left : {A : Type 0} (xs : List A) → (length xs == 0) ≡ true → xs ≡ []
+pub none_left : {A : Type 0} (xs : List A) → length xs ≡ 0 → xs ≡ []
 none_left [] e = refl
-none_left (x ∷ xs) e = absurd cc
+none_left (x ∷ xs) e = absurd (omega (arith, e))

@@ -154,9 +154,9 @@ module _ (token : seen.Token) (at after : Place) (first : at ≡ before token af
 -- `*`, and a word that is read as how often a byte stands
 pub often_word : (g : Around) (room copies : ℕ) (star token : seen.Token) (at middle after : Place) → at ≡ before star middle → star.symbol ≡ symbols.Sign signs.Star → middle ≡ before token after
     → (w : Bor (List ℕ)) → token.symbol ≡ symbols.Word w → (said : Repetition) → repetition_by w.now ≡ Some said → often_at g room copies at ≡ often_by g room copies said token.line after
-often_word g room copies star token at middle after first is second w word said e =
+often_word g room copies star token at middle after first is second w spelled_so said e =
     often_star star at middle first g room copies is
-    ∙ ap (λ (r : Finds Repetition). r >>= λ found. often_by g room copies found.0 found.1 found.2) (word_found token middle after second w word repetition_in said e)
+    ∙ ap (λ (r : Finds Repetition). r >>= λ found. often_by g room copies found.0 found.1 found.2) (word_found token middle after second w spelled_so repetition_in said e)
 
 -- ---- by the symbol that stands first, where it stays
 
