@@ -3,7 +3,7 @@ use Rattle.std.proofs.Common.{◌≡◌, ℕ, suc, ◌+◌, ◌<◌, List, [], �
 use Rattle.std.specs.List.{remove}
 use Rattle.std.proofs.lemmas.List.{length-append}
 use Rattle.message_tree.specs.Trees.{FrameTree}
-use Rattle.plan_core.specs.Building.{with_message}
+use Rattle.plan_core.specs.Building.{with_message, with_interrupt}
 use Rattle.plan_core.specs.Contents.{Contents}
 use Rattle.brief_text.specs.Drafts.{Draft, with_messages}
 
@@ -22,3 +22,7 @@ first_removed (y ∷ ys) x some is = ap (λ z. z ∷ ys) (sym is)
 pub none_left : {A : Type 0} (xs : List A) → length xs ≡ 0 → xs ≡ []
 none_left [] e = refl
 none_left (x ∷ xs) e = absurd (omega (arith, e))
+
+pub same_messages : (plan : Contents) (name : List ℕ) (address : ℕ) → (with_interrupt plan name address).messages ≡ plan.messages
+unfolding with_interrupt
+same_messages plan name address = refl
