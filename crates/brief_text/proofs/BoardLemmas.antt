@@ -1,6 +1,16 @@
 -- What a board says of a name.
-use Rattle.std.proofs.Common.{◌≡◌, ℕ, Bool, true, false, ◌||◌, List, Option, Some, None, is_some, refl, ap}
-use Rattle.std.specs.Prelude.{nat_le, length, unwrap_or, if◌then◌else◌}
+use Rattle.std.proofs.Common.{◌≡◌, ℕ, ◌+◌, ◌<◌, ◌≤◌, arith, Bool, true, false, ◌||◌, List, [], ◌∷◌, ◌∙◌, Option, Some, None, is_some, IfSome, refl, ap}
+use Rattle.std.specs.Prelude.{nat_le, nat_lt, length, unwrap_or, Result, Ok, Err, not, if◌then◌else◌}
+use Rattle.std.specs.List.{list_any, sum_by}
+use Rattle.std.proofs.lemmas.List.{length-map}
+use Rattle.plan_core.proofs.StepLemmas.{list_any-map}
+use Rattle.plan_core.specs.NameBytes.{name_bytes}
+use Rattle.plan_core.specs.declared.names.Name.{Name}
+use Rattle.brief_text.specs.declared.boards.Listing.{Listing}
+use Rattle.brief_text.specs.Standing.{listing}
+use Rattle.std.proofs.lemmas.Bool.Decides.{nat_tests}
+use Rattle.plan_text.specs.declared.errors.PlanError.TheVariants as errors
+use Rattle.brief_text.specs.declared.syntax.Lengths.{Lengths}
 use Rattle.std.specs.Map.{lookup}
 use Rattle.std.specs.Str.{bytes_eq}
 use Rattle.message_tree.specs.Bits.{bits_below}
@@ -8,14 +18,14 @@ use Rattle.message_tree.specs.Patterns.{address_bits}
 use Rattle.message_tree.specs.declared.bits.Address.{Address}
 use Rattle.plan_core.specs.Building.{has_name, message_name_refusal}
 use Rattle.plan_core.specs.declared.builder.BuildError.{BuildError}
-use Rattle.plan_core.specs.declared.builder.BuildError.TheVariants.{Twice, TooMany}
-use Rattle.plan_core.specs.declared.limits.TheConstants.{MOST_MESSAGES}
+use Rattle.plan_core.specs.declared.builder.BuildError.TheVariants.{Twice, TooMany, Unknown}
+use Rattle.plan_core.specs.declared.limits.TheConstants.{MOST_MESSAGES, MOST_SENDINGS}
 use Rattle.plan_text.specs.Canonical.{bit_symbol}
 use Rattle.plan_text.specs.Values.{address_of}
 use Rattle.plan_text.proofs.ValueLemmas.{address_found}
 use Rattle.std.specs.Prelude.{codes, map}
-use Rattle.brief_text.specs.Drafts.{Draft, any_address, value_or}
-use Rattle.brief_text.specs.Judging.{is_family, is_message, message_refusal_of}
+use Rattle.brief_text.specs.Drafts.{Draft, any_address, value_or, member_name, members, stands_for}
+use Rattle.brief_text.specs.Judging.{is_family, is_message, message_refusal_of, range_refusal, have_one_of, sendings, listing_refusal}
 use Rattle.brief_text.specs.Meanings.{is_twice}
 use Rattle.brief_text.specs.Trees.{named}
 
@@ -39,3 +49,49 @@ any_address_is a is =
 
 pub no_value : {A : Type 0} (or : A) (entries : List (List ℕ × A)) (name : List ℕ) → lookup (bytes_eq name) entries ≡ None → value_or or entries (named name) ≡ or
 no_value {A} or entries name e = ap (λ (o : Option A). unwrap_or o or) e
+
+-- ---- ranges, by three tests
+
+module _ {A : Type 0} (draft : Draft) (name : List ℕ) (range : Lengths) (line : ℕ) (x : A) where
+  pub range_judged : (long stands many : Bool) → nat_lt 32 (length (member_name name range.greatest)) ≡ long → list_any (is_message draft) (members name range) ≡ stands → nat_lt MOST_MESSAGES (length draft.plan.messages + length (members name range)) ≡ many
+      → range_refusal draft name range line x ≡ (if long then Err (errors.Unexpected line) else if stands then Err (errors.Twice line) else if many then Err (errors.TooMany line) else Ok x)
+  range_judged long stands many is_long one_stands are_many =
+      λ i. if is_long i then Err (errors.Unexpected line) else if one_stands i then Err (errors.Twice line) else if are_many i then Err (errors.TooMany line) else Ok x
+
+pub no_more_than : (n m : ℕ) → n ≤ m → nat_lt m n ≡ false
+no_more_than n m h = grind (arith, nat_tests)
+
+pub more_than : (n m : ℕ) → m < n → nat_lt m n ≡ true
+more_than n m h = grind (arith, nat_tests)
+
+-- ---- a message that is not refused
+
+none_of : (family : Bool) (later : Option BuildError) → (if family then Some Twice else later) ≡ None → family ≡ false
+none_of true later h = absurd cc
+none_of false later h = refl
+
+pub no_family : (draft : Draft) (name : List ℕ) → message_refusal_of draft name ≡ None → is_family draft name ≡ false
+unfolding message_refusal_of
+no_family draft name h = none_of (is_family draft name) (message_name_refusal draft.plan name) h
+
+pub for_any : {A P : Type 0} (o : Option A) → P → IfSome o (λ it. P)
+for_any None p = tt
+for_any (Some x) p = p
+
+-- ---- lists of names
+
+pub have_one : (listed names : List Name) → have_one_of (map name_bytes listed) (map name_bytes names) ≡ list_any (λ name. list_any (λ other. bytes_eq (name_bytes other) (name_bytes name)) listed) names
+have_one listed names =
+    list_any-map (λ (name : List ℕ). list_any (λ other. bytes_eq other name) (map name_bytes listed)) name_bytes names
+    ∙ (λ i. list_any (λ name. list_any-map (λ (other : List ℕ). bytes_eq other (name_bytes name)) name_bytes listed i) names)
+
+pub sendings_of : (controllers : List Listing) → sum_by (λ c. length c.1) (map listing controllers) ≡ sum_by (λ (it : Listing). length it.messages.items) controllers
+sendings_of [] = refl
+sendings_of (it ∷ controllers) = ap (λ n. n + sum_by (λ c. length c.1) (map listing controllers)) (length-map {B = List ℕ} it.messages.items name_bytes) ∙ ap (λ n. length it.messages.items + n) (sendings_of controllers)
+
+module _ (draft : Draft) (listed : List (List ℕ)) (name : List ℕ) where
+  pub listing_judged : (known twice many : Bool) → is_message draft name ≡ known → have_one_of listed (stands_for draft name) ≡ twice → nat_lt MOST_SENDINGS (sendings draft + length listed + length (stands_for draft name)) ≡ many
+      → listing_refusal draft listed name ≡ (if not known then Some Unknown else if twice then Some Twice else if many then Some TooMany else None)
+  unfolding listing_refusal
+  listing_judged known twice many is_known is_twice are_many =
+      λ i. if not (is_known i) then Some Unknown else if is_twice i then Some Twice else if are_many i then Some TooMany else None

@@ -20,6 +20,7 @@ use Rattle.brief_text.specs.declared.symbols.Token as seen
 use Rattle.brief_text.specs.Drafts.{Draft}
 use Rattle.brief_text.specs.Frames.{Around, Frames, Bytes, counted, ends_in, count_at, repetition_in, often_by, often_from, often_at, frames_by, next_from, next_by, ends_with, else_by, refused_from, refused_by, begins_data, last_by, payload_by, frame_in, byte_in, frames_at}
 use Rattle.brief_text.specs.Places.{Place, Reads, Finds, token_as, to_at, data_at}
+use Rattle.brief_text.specs.Words.{Repetition, repetition_by}
 use Rattle.brief_text.specs.Trees.{Said, Times, times, BriefFrame, write_to, read_from, BriefBytes, data_byte, BriefTail, stop_here, go_on}
 use Rattle.brief_text.specs.Standing.{before, node_at, refused_at, next_at, payload_at, write_at, read_at, bytes_at}
 use Rattle.brief_text.specs.Reading.{with_symbol, unexpected_symbol, unexpected_at}
@@ -149,6 +150,13 @@ module _ (token : seen.Token) (at after : Place) (first : at ≡ before token af
 
       pub count_fits : (c : Count) → count_of ends ≡ Some c → greatest_of c ≤ room → count_at room at ≡ Ok (c, after)
       count_fits c e fits = let fitting : nat_le (greatest_of c) room ≡ true = grind arith in by_count (Some c) e ∙ rw fitting refl
+
+-- `*`, and a word that is read as how often a byte stands
+pub often_word : (g : Around) (room copies : ℕ) (star token : seen.Token) (at middle after : Place) → at ≡ before star middle → star.symbol ≡ symbols.Sign signs.Star → middle ≡ before token after
+    → (w : Bor (List ℕ)) → token.symbol ≡ symbols.Word w → (said : Repetition) → repetition_by w.now ≡ Some said → often_at g room copies at ≡ often_by g room copies said token.line after
+often_word g room copies star token at middle after first is second w spelled_so said e =
+    often_star star at middle first g room copies is
+    ∙ ap (λ (r : Finds Repetition). r >>= λ found. often_by g room copies found.0 found.1 found.2) (word_found token middle after second w spelled_so repetition_in said e)
 
 -- ---- by the symbol that stands first, where it stays
 

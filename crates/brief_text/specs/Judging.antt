@@ -67,7 +67,7 @@ abbrev pub all_of : Draft → List (List ℕ) → List (List ℕ)
 all_of draft names = flat_map (stands_for draft) names
 
 abbrev pub have_one_of : List (List ℕ) → List (List ℕ) → Bool
-have_one_of listed names = list_any (λ name. list_any (bytes_eq name) listed) names
+have_one_of listed names = list_any (λ name. list_any (λ other. bytes_eq other name) listed) names
 
 abbrev pub sendings : Draft → ℕ
 sendings draft = sum_by (λ c. length c.1) draft.controllers

@@ -13,3 +13,4 @@ pub mod Reading
 pub mod Standing
 pub mod Meanings
 pub mod Parting
+pub mod Grammar

@@ -37,7 +37,7 @@ is_label message side = elim side.label [ | None ↦ false | Some label ↦ byte
 -- a message with a label of its own has its own part, even if its family has a label too
 abbrev pub is_in_part : Draft → List Side → Side → List ℕ → Bool
 is_in_part draft labels side message =
-    list_any (bytes_eq message) (label_messages draft side) && (is_label message side || not (list_any (is_label message) labels))
+    list_any (λ other. bytes_eq other message) (label_messages draft side) && (is_label message side || not (list_any (is_label message) labels))
 
 abbrev pub label_part : Draft → List Side → List (List ℕ) → Side → Part
 label_part draft labels listed side = record { side = side; messages = filter (is_in_part draft labels side) listed }
@@ -49,7 +49,7 @@ whole controller = record { controller = controller; label = None }
 abbrev pub rest_part : Draft → List Side → List (List ℕ) → List ℕ → Part
 rest_part draft labels listed controller = record {
   side = whole controller;
-  messages = filter (λ message. not (list_any (bytes_eq message) (flat_map (label_messages draft) labels))) listed;
+  messages = filter (λ message. not (list_any (λ other. bytes_eq other message) (flat_map (label_messages draft) labels))) listed;
 }
 
 abbrev pub sends_any : Part → Bool
@@ -89,7 +89,7 @@ are_of_one pair = bytes_eq pair.0.side.controller pair.1.side.controller
 abbrev pub label_means : Draft → Option (List ℕ) → Option (List ℕ) → Bool
 label_means draft None part = true
 label_means draft (Some label) None = false
-label_means draft (Some label) (Some part) = bytes_eq label part || list_any (bytes_eq part) (stands_for draft label)
+label_means draft (Some label) (Some part) = bytes_eq label part || list_any (λ other. bytes_eq other part) (stands_for draft label)
 
 abbrev pub side_means : Draft → Side → Part → Bool
 side_means draft side part = bytes_eq side.controller part.side.controller && label_means draft side.label part.side.label

@@ -1,6 +1,7 @@
 // What the items of briefs make up so far: names are looked up in it, and what stands next is judged by it.
 
-ghost use Rattle.std.specs.Prelude.{◌≡◌, ◌≤◌, ◌+◌, List, ℕ, [], length, map, is_some, IfOk, IfErr, OnOk, OnErr, None};
+ghost use Rattle.std.specs.Prelude.{◌≡◌, ◌<◌, ◌≤◌, ◌++◌, ◌∷◌, [], length, map, sum_by, is_some, IfOk, OnOk, None};
+ghost use Rattle.std.specs.List.{list_any};
 ghost use Rattle.std.specs.Option.{option_map};
 ghost use Rattle.plan_text.specs.Places.{Passes};
 ghost use Rattle.brief_text.specs.Places.{Place};
@@ -8,16 +9,18 @@ ghost use Rattle.std.specs.Map.{lookup};
 ghost use Rattle.std.specs.Str.{bytes_eq};
 ghost use Rattle.plan_core.specs.BuilderContents.{builder_contents};
 ghost use Rattle.plan_core.specs.NameBytes.{name_bytes};
-ghost use Rattle.plan_core.specs.declared.limits.TheConstants.{MOST_MESSAGES};
+ghost use Rattle.plan_core.specs.Building.{interrupt_refusal, with_interrupt};
+ghost use Rattle.plan_core.specs.declared.limits.TheConstants.{MOST_MESSAGES, MOST_SENDINGS};
 ghost use Rattle.brief_text.specs.Drafts.{no_items, address_said, bits_said, stands_for, with_label, is_new_label};
 ghost use Rattle.brief_text.specs.Meanings.{is_twice};
 ghost use Rattle.brief_text.specs.Judging.{is_family, is_message, message_refusal_of, named_refusal, taken_names, is_taken};
-ghost use Rattle.brief_text.specs.Judging.{controller_refusal_of, listing_refusal, sendings, have_one_of, is_side};
+ghost use Rattle.brief_text.specs.Judging.{controller_refusal_of, listing_refusal, is_side};
 ghost use Rattle.brief_text.specs.Judging.{part_refusal, first_refusal, second_refusal, range_refusal, are_sides};
 
 use crate::meanings::member_text;
 use crate::naming::{Named, copied};
-use crate::syntax::{Lengths, Party, Value};
+use crate::origins::Spot;
+use crate::syntax::{Lengths, NameFound, Party, Value};
 use message_tree::{Address, Pattern};
 use plan_core::limits::{MOST_CONTROLLERS, MOST_MESSAGES, MOST_SENDINGS};
 use plan_core::{BuildError, Builder, Name};
@@ -29,6 +32,7 @@ use std::alloc::{AllocError, Global};
 pub(crate) struct Listing {
     pub(crate) name: Name,
     pub(crate) messages: Vec<Name>,
+    pub(crate) spot: Spot,
 }
 
 /// A `never` as it is written.
@@ -50,11 +54,18 @@ pub(crate) struct Board {
     pub(crate) messages: u32,
     pub(crate) families: Named<Lengths>,
     pub(crate) controllers: Vec<Listing>,
+    /// How many messages all of them list.
+    pub(crate) sendings: usize,
     /// The parties with labels, as they were first named.
     pub(crate) labels: Vec<Party>,
     pub(crate) nevers: Vec<Never>,
+    /// Where each message stands, and which brief is read, from 0 on.
+    pub(crate) spots: Vec<Spot>,
+    pub(crate) file: u32,
     ghost counted: { messages ≡ length (builder_contents builder).messages },
     ghost room: { messages ≤ MOST_MESSAGES },
+    ghost listed: { sendings ≡ sum_by (λ it. length it.messages.items) controllers.items },
+    ghost few: { sendings ≤ MOST_SENDINGS },
 }
 
 impl Board {
@@ -72,8 +83,11 @@ impl Board {
             messages: 0,
             families: Named::new(alloc),
             controllers: Vec::new(alloc),
+            sendings: 0,
             labels: Vec::new(alloc),
             nevers: Vec::new(alloc),
+            spots: Vec::new(alloc),
+            file: 0,
         }
     }
 
@@ -150,13 +164,20 @@ impl Board {
             return Err(PlanError::Unexpected(line));
         }
         let members = self.members(name, range)?;
-        if members.iter().any(|member| self.is_message(member)) {
+        if self.has_one_of(members.as_slice()) {
             return Err(PlanError::Twice(line));
         }
         if self.messages as usize + members.len() > MOST_MESSAGES as usize {
             return Err(PlanError::TooMany(line));
         }
         Ok(())
+    }
+
+    // Whether a message or a family has one of these names.
+    fn has_one_of(&self, names: &[Name]) -> bool
+        ensures { result ≡ list_any (λ name. is_message (draft self.now) (name_bytes name)) names.now }
+    {
+        names.iter().any(|name| self.is_message(name))
     }
 
     /// The messages that this name stands for.
@@ -213,21 +234,50 @@ impl Board {
             Some(BuildError::Unknown)
         } else if have_one_of(listed, further) {
             Some(BuildError::Twice)
-        } else if self.sendings() + listed.len() + further.len() > MOST_SENDINGS as usize {
+        } else if self.sendings + listed.len() + further.len() > MOST_SENDINGS as usize {
             Some(BuildError::TooMany)
         } else {
             None
         }
     }
 
-    // How many messages all controllers list.
-    fn sendings(&self) -> usize
-        ensures { result ≡ sendings (draft self.now) }
+    /// Adds a controller that lists these messages. It has been judged where it stands that there is room for them.
+    pub(crate) fn add_controller(
+        &mut self,
+        named: NameFound,
+        messages: Vec<Name>,
+    ) -> Result<(), AllocError>
+        ensures { OnOk result (draft self.new ≡ record (draft self.old) {
+          controllers = (draft self.old).controllers ++ (name_bytes named.name, map name_bytes messages.items) ∷ [];
+        }) }
     {
-        self.controllers
-            .iter()
-            .map(|controller| controller.messages.len())
-            .sum()
+        let sendings = self.sendings.saturating_add(messages.len());
+        if sendings > MOST_SENDINGS as usize {
+            return Err(AllocError);
+        }
+        let spot = Spot {
+            file: self.file,
+            line: named.line,
+        };
+        self.controllers.push(Listing {
+            name: named.name,
+            messages,
+            spot,
+        })?;
+        self.sendings = sendings;
+        Ok(())
+    }
+
+    /// Adds an interrupt that is not refused.
+    #[tactic(auto, using(crate::proofs::MessageLemmas::same_messages))]
+    pub(crate) fn add_interrupt(&mut self, name: Name, address: u8) -> Result<(), AllocError>
+        requires new { interrupt_refusal (draft self.old).plan (name_bytes name) ≡ None }
+        requires small { address < 128 }
+        ensures { OnOk result (draft self.new ≡ record (draft self.old) {
+          plan = with_interrupt (draft self.old).plan (name_bytes name) address;
+        }) }
+    {
+        self.builder.add_interrupt(name, address)
     }
 
     fn controller(&self, name: &Name) -> Option<&Listing>
@@ -316,7 +366,8 @@ impl Board {
 
 // Whether one of these names is listed.
 pub(crate) fn have_one_of(listed: &[Name], names: &[Name]) -> bool
-    ensures { result ≡ have_one_of (map name_bytes listed.now) (map name_bytes names.now) }
+    ensures { result ≡
+        list_any (λ name. list_any (λ other. bytes_eq (name_bytes other) (name_bytes name)) listed.now) names.now }
 {
     names.iter().any(|name| listed.contains(name))
 }

@@ -17,7 +17,7 @@ ghost use Rattle.brief_text.specs.Reading.{left};
 ghost use Rattle.brief_text.specs.Standing.{draft, place, adds, entries_of};
 ghost use Rattle.brief_text.specs.Tokens.{tokens_of};
 
-use crate::boards::{Board, Listing, Never};
+use crate::boards::{Board, Never};
 use crate::frames::Within;
 use crate::naming::Named;
 use crate::sources::Source;
@@ -155,7 +155,7 @@ fn message(source: &mut Source<'_>, board: &mut Board) -> Result<(), PlanError>
         name: &named.name,
     })?;
     source.semicolon()?;
-    board.add_messages(named.name, source.range, &frames)?;
+    board.add_messages(named, source.range, &frames)?;
     Ok(())
 }
 
@@ -167,10 +167,7 @@ fn controller(source: &mut Source<'_>, board: &mut Board) -> Result<(), PlanErro
     let named = source.name()?;
     allowed(board.controller_refusal(&named.name)?, named.line)?;
     let messages = listed(source, board)?;
-    board.controllers.push(Listing {
-        name: named.name,
-        messages,
-    })?;
+    board.add_controller(named, messages)?;
     Ok(())
 }
 
@@ -210,7 +207,7 @@ fn interrupt(source: &mut Source<'_>, board: &mut Board) -> Result<(), PlanError
         return Err(PlanError::Unexpected(to.line));
     };
     source.semicolon()?;
-    board.builder.add_interrupt(named.name, address)?;
+    board.add_interrupt(named.name, address)?;
     Ok(())
 }
 

@@ -15,6 +15,7 @@ mod items;
 mod meanings;
 mod naming;
 mod numbers;
+mod origins;
 mod sources;
 mod splitting;
 mod symbols;
@@ -24,5 +25,6 @@ mod words;
 mod writing;
 
 pub use items::expand_brief;
+pub use origins::Spot;
 pub use plan_text::PlanError as BriefError;
 pub use writing::{brief_of, brief_word};

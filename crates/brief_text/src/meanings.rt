@@ -15,7 +15,8 @@ ghost use Rattle.brief_text.specs.Standing.{brief_frame, brief_bytes, brief_tail
 
 use crate::boards::Board;
 use crate::naming::{copied as named_alike, spelled};
-use crate::syntax::{DataSyntax, FrameSyntax, Lengths, Often, TailSyntax};
+use crate::origins::Spot;
+use crate::syntax::{DataSyntax, FrameSyntax, Lengths, NameFound, Often, TailSyntax};
 use message_tree::{Frame, Pattern, Payload, Tail};
 use plan_core::Name;
 use plan_core::limits::MOST_MESSAGES;
@@ -35,19 +36,19 @@ impl Board {
     #[tactic(auto, unfolding(crate::specs::Drafts::with_item))]
     pub(crate) fn add_messages(
         &mut self,
-        name: Name,
+        named: NameFound,
         range: Option<Lengths>,
         frames: &FrameSyntax,
     ) -> Result<(), AllocError>
-        requires { IfSome range (λ it. is_family (draft self.old) (name_bytes name) ≡ false) }
+        requires { IfSome range (λ it. is_family (draft self.old) (name_bytes named.name) ≡ false) }
         ensures { OnOk result (draft self.new ≡
-            with_item (draft self.old) (message (name_bytes name) range (brief_frame frames.now))) }
+            with_item (draft self.old) (message (name_bytes named.name) range (brief_frame frames.now))) }
     {
-        let messages = self.messages_meant(&name, range, frames)?;
-        self.push_messages(messages)?;
+        let messages = self.messages_meant(&named.name, range, frames)?;
+        self.push_messages(messages, named.line)?;
         match range {
             None => Ok(()),
-            Some(range) => self.families.add(name, range),
+            Some(range) => self.families.add(named.name, range),
         }
     }
 
@@ -97,8 +98,8 @@ impl Board {
         Ok(messages)
     }
 
-    // These messages go into the plan.
-    fn push_messages(&mut self, messages: Vec<Message>) -> Result<(), AllocError>
+    // These messages go into the plan. They stand on this line.
+    fn push_messages(&mut self, messages: Vec<Message>, line: u64) -> Result<(), AllocError>
         ensures { OnOk result (draft self.new ≡ record (draft self.old) {
           plan = with_messages (draft self.old).plan (map message_of messages.items);
         }) }
@@ -106,14 +107,14 @@ impl Board {
         let mut left = messages;
         while !left.is_empty() {
             let message = left.remove(0);
-            self.push_message(message)?;
+            self.push_message(message, line)?;
         }
         Ok(())
     }
 
     // A message goes into the plan. None is refused: all that a plan asks has been judged where it stands.
     #[tactic(auto, using(crate::proofs::MessageLemmas::one_more_message))]
-    fn push_message(&mut self, message: Message) -> Result<(), AllocError>
+    fn push_message(&mut self, message: Message, line: u64) -> Result<(), AllocError>
         ensures { OnOk result (draft self.new ≡ record (draft self.old) {
           plan = with_message (draft self.old).plan (name_bytes message.name) (frame_tree message.frame);
         }) }
@@ -121,6 +122,8 @@ impl Board {
         if self.messages >= MOST_MESSAGES {
             return Err(AllocError);
         }
+        let file = self.file;
+        self.spots.push(Spot { file, line })?;
         match self.builder.message(message.name, message.frame) {
             Ok(()) => {
                 self.messages += 1;
@@ -220,7 +223,8 @@ impl Often {
 
 // How many messages a family has.
 fn count(range: Lengths) -> u32
-    ensures { result ≡ length (lengths range) }
+    ensures count { result ≡ length (lengths range) }
+    ensures small { result ≤ 256 }
 {
     (range.greatest as u32 + 1).saturating_sub(range.least as u32)
 }

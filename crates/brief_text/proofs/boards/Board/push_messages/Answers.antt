@@ -11,9 +11,9 @@ pub loop-left-preserved : goal.loop-left-preserved
 loop-left-preserved c =
     let before = draft c.loop-left.self in
     let all = c.loop-left.left.items in
-    let rest = map message_of c.remove.new.self.items in
-    let first = first_removed all c.remove.result (grind (arith, nat_tests)) c.remove.ensures.value in
-    let removed : all ≡ c.remove.result ∷ c.remove.new.self.items = first ∙ ap (λ ms. c.remove.result ∷ ms) (sym c.remove.ensures.items) in
+    let rest = map message_of c.remove-message.new.self.items in
+    let first = first_removed all c.remove-message.result (grind (arith, nat_tests)) c.remove-message.ensures.value in
+    let removed : all ≡ c.remove-message.result ∷ c.remove-message.new.self.items = first ∙ ap (λ ms. c.remove-message.result ∷ ms) (sym c.remove-message.ensures.items) in
     ap (λ (d : Draft). with_all d rest) c.in_ok-push_message.ensures
     ∙ ap (λ (ms : List Message). with_all before (map message_of ms)) (sym removed)
     ∙ c.loop-left.invariant
