@@ -9,6 +9,28 @@ use crate::json::{read, Value};
 ///
 /// What is wrong, and in which line.
 pub fn lines_of(text: &str) -> Result<String, String> {
+    let lines = placed_lines_of(text)?;
+    Ok(lines.lines().map(|line| format!("{}\n", without_place(line))).collect())
+}
+
+// The line of a refusal has no place besides its line.
+fn without_place(line: &str) -> &str {
+    match line.split_once(PLACE) {
+        Some((before, _)) if line.starts_with("refused ") => before,
+        _ => line,
+    }
+}
+
+// What stands before the place of a token in a dump.
+const PLACE: &str = " byte ";
+
+/// The same, where the line of a refused token of a dump has its place too: how many bytes stand before it, and in its line and
+/// one.
+///
+/// # Errors
+///
+/// Those of `lines_of`.
+pub fn placed_lines_of(text: &str) -> Result<String, String> {
     let mut lines = String::new();
     if !text.is_empty() && !text.ends_with('\n') {
         return Err("the last line has no end".to_owned());
@@ -91,7 +113,7 @@ const OPEN: [&str; 5] = ["command", "var", "enddefinitions", "block", "change"];
 fn place(fields: &mut Fields, code: &str) -> Result<String, String> {
     match code {
         "V2" | "V3" => {
-            let place = format!(" byte {} column {}", fields.number("byte")?, fields.number("column")?);
+            let place = format!("{PLACE}{} column {}", fields.number("byte")?, fields.number("column")?);
             one_of(&EXPECTED, &fields.text("expected")?).map(|()| place)
         }
         "V4" => one_of(&OPEN, &fields.text("open")?).map(|()| String::new()),

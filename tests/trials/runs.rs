@@ -151,13 +151,17 @@ fn shown_again(text: &str) -> String {
 }
 
 fn in_lines(text: &str) -> String {
-    object_lines::lines_of(text).unwrap_or_else(|why| format!("no objects: {why}"))
+    told(object_lines::lines_of(text))
+}
+
+fn told(lines: Result<String, String>) -> String {
+    lines.unwrap_or_else(|why| format!("no objects: {why}"))
 }
 
 // What the objects on standard error say, as lines.
 fn refusal_in_lines(refusal: &str) -> String {
     match refusal.strip_prefix("on standard error: ") {
-        Some(text) => refusal_of(&in_lines(text)),
+        Some(text) => refusal_of(&told(object_lines::placed_lines_of(text))),
         None if refusal.is_empty() => String::new(),
         None => format!("no object: {refusal}"),
     }
