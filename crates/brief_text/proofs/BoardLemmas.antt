@@ -1,7 +1,7 @@
 -- What a board says of a name.
 use Rattle.std.proofs.Common.{◌≡◌, ℕ, ◌+◌, ◌<◌, ◌≤◌, arith, Bool, true, false, ◌||◌, List, [], ◌∷◌, ◌∙◌, Option, Some, None, is_some, IfSome, refl, ap}
 use Rattle.std.specs.Prelude.{nat_le, nat_lt, length, unwrap_or, Result, Ok, Err, not, if◌then◌else◌}
-use Rattle.std.specs.List.{list_any, sum_by}
+use Rattle.std.specs.List.{list_any, sum_by, fold}
 use Rattle.std.proofs.lemmas.List.{length-map}
 use Rattle.plan_core.proofs.StepLemmas.{list_any-map}
 use Rattle.plan_core.specs.NameBytes.{name_bytes}
@@ -85,9 +85,14 @@ have_one listed names =
     list_any-map (λ (name : List ℕ). list_any (λ other. bytes_eq other name) (map name_bytes listed)) name_bytes names
     ∙ (λ i. list_any (λ name. list_any-map (λ (other : List ℕ). bytes_eq other (name_bytes name)) name_bytes listed i) names)
 
+sums : (n : ℕ) (controllers : List Listing) → fold (λ (a : ℕ) (c : List ℕ × List (List ℕ)). a + length c.1) n (map listing controllers) ≡ fold (λ (a : ℕ) (it : Listing). a + length it.messages.items) n controllers
+sums n [] = refl
+sums n (it ∷ controllers) =
+    ap (λ m. fold (λ (a : ℕ) (c : List ℕ × List (List ℕ)). a + length c.1) (n + m) (map listing controllers)) (length-map {B = List ℕ} it.messages.items name_bytes)
+    ∙ sums (n + length it.messages.items) controllers
+
 pub sendings_of : (controllers : List Listing) → sum_by (λ c. length c.1) (map listing controllers) ≡ sum_by (λ (it : Listing). length it.messages.items) controllers
-sendings_of [] = refl
-sendings_of (it ∷ controllers) = ap (λ n. n + sum_by (λ c. length c.1) (map listing controllers)) (length-map {B = List ℕ} it.messages.items name_bytes) ∙ ap (λ n. length it.messages.items + n) (sendings_of controllers)
+sendings_of controllers = sums 0 controllers
 
 module _ (draft : Draft) (listed : List (List ℕ)) (name : List ℕ) where
   pub listing_judged : (known twice many : Bool) → is_message draft name ≡ known → have_one_of listed (stands_for draft name) ≡ twice → nat_lt MOST_SENDINGS (sendings draft + length listed + length (stands_for draft name)) ≡ many
