@@ -1,5 +1,5 @@
 -- What a board says of a name.
-use Rattle.std.proofs.Common.{◌≡◌, ℕ, ◌+◌, ◌<◌, ◌≤◌, arith, Bool, true, false, ◌||◌, List, [], ◌∷◌, ◌∙◌, Option, Some, None, is_some, IfSome, refl, ap}
+use Rattle.std.proofs.Common.{◌≡◌, ℕ, ◌+◌, ◌<◌, ◌≤◌, arith, Bool, true, false, ◌||◌, ◌&&◌, List, [], ◌∷◌, ◌∙◌, Option, Some, None, is_some, IfSome, refl, ap}
 use Rattle.std.specs.Prelude.{nat_le, nat_lt, length, unwrap_or, Result, Ok, Err, not, if◌then◌else◌}
 use Rattle.std.specs.List.{list_any, sum_by, fold}
 use Rattle.std.proofs.lemmas.List.{length-map}
@@ -7,7 +7,14 @@ use Rattle.plan_core.proofs.StepLemmas.{list_any-map}
 use Rattle.plan_core.specs.NameBytes.{name_bytes}
 use Rattle.plan_core.specs.declared.names.Name.{Name}
 use Rattle.brief_text.specs.declared.boards.Listing.{Listing}
-use Rattle.brief_text.specs.Standing.{listing}
+use Rattle.brief_text.specs.declared.syntax.Party.{Party}
+use Rattle.brief_text.specs.Splitting.{side_name}
+use Rattle.brief_text.specs.declared.boards.Never.{Never}
+use Rattle.std.specs.Option.{option_map}
+use Rattle.brief_text.specs.Standing.{listing, side, sides}
+use Rattle.brief_text.specs.Trees.{Side}
+use Rattle.std.specs.Map.{keys_of}
+use Rattle.std.proofs.lemmas.List.Folds.{list_any-append}
 use Rattle.std.proofs.lemmas.Bool.Decides.{nat_tests}
 use Rattle.plan_text.specs.declared.errors.PlanError.TheVariants as errors
 use Rattle.brief_text.specs.declared.syntax.Lengths.{Lengths}
@@ -24,8 +31,8 @@ use Rattle.plan_text.specs.Canonical.{bit_symbol}
 use Rattle.plan_text.specs.Values.{address_of}
 use Rattle.plan_text.proofs.ValueLemmas.{address_found}
 use Rattle.std.specs.Prelude.{codes, map}
-use Rattle.brief_text.specs.Drafts.{Draft, any_address, value_or, member_name, members, stands_for}
-use Rattle.brief_text.specs.Judging.{is_family, is_message, message_refusal_of, range_refusal, have_one_of, sendings, listing_refusal}
+use Rattle.brief_text.specs.Drafts.{Draft, any_address, value_or, member_name, members, stands_for, same_side, is_new_label}
+use Rattle.brief_text.specs.Judging.{is_family, is_message, message_refusal_of, range_refusal, have_one_of, sendings, listing_refusal, is_taken, are_sides}
 use Rattle.brief_text.specs.Meanings.{is_twice}
 use Rattle.brief_text.specs.Trees.{named}
 
@@ -100,3 +107,30 @@ module _ (draft : Draft) (listed : List (List ℕ)) (name : List ℕ) where
   unfolding listing_refusal
   listing_judged known twice many is_known is_twice are_many =
       λ i. if not (is_known i) then Some Unknown else if is_twice i then Some Twice else if are_many i then Some TooMany else None
+
+-- ---- names of controllers and of parts
+
+pub taken : (draft : Draft) (name : List ℕ) (controllers : List Listing) (labels : List Party) → draft.controllers ≡ map listing controllers → draft.labels ≡ map side labels
+    → is_taken draft name ≡ (list_any (λ (it : Listing). bytes_eq name (name_bytes it.name)) controllers || list_any (λ (it : Party). bytes_eq name (side_name (side it))) labels)
+taken draft name controllers labels one other =
+    list_any-append (bytes_eq name) (keys_of draft.controllers) (map side_name draft.labels)
+    ∙ (λ i. list_any (bytes_eq name) (keys_of (one i)) || list_any (bytes_eq name) (map side_name (other i)))
+    ∙ (λ i. keys i || parts i)
+  where
+    keys : list_any (bytes_eq name) (keys_of (map listing controllers)) ≡ list_any (λ (it : Listing). bytes_eq name (name_bytes it.name)) controllers
+    keys = list_any-map (bytes_eq name) _ (map listing controllers) ∙ list_any-map (λ (c : List ℕ × List (List ℕ)). bytes_eq name c.0) listing controllers
+
+    parts : list_any (bytes_eq name) (map side_name (map side labels)) ≡ list_any (λ (it : Party). bytes_eq name (side_name (side it))) labels
+    parts = list_any-map (bytes_eq name) side_name (map side labels) ∙ list_any-map (λ (s : Side). bytes_eq name (side_name s)) side labels
+
+pub new_label : (draft : Draft) (party : Party) (labels : List Party) → draft.labels ≡ map side labels
+    → is_new_label draft (side party) ≡ (is_some party.label && not (list_any (λ (it : Party). same_side (side it) (side party)) labels))
+new_label draft party labels same =
+    λ i. some party.label i && not ((ap (λ them. list_any (λ other. same_side other (side party)) them) same ∙ list_any-map (λ other. same_side other (side party)) side labels) i)
+  where
+    some : (o : Option Name) → is_some (option_map name_bytes o) ≡ is_some o
+    some None = refl
+    some (Some x) = refl
+
+pub nevers_of : (first second : Side) (nevers : List Never) → list_any (are_sides first second) (map sides nevers) ≡ list_any (λ (it : Never). are_sides first second (sides it)) nevers
+nevers_of first second nevers = list_any-map (are_sides first second) sides nevers
