@@ -161,10 +161,8 @@ impl Board {
     // Whether the label is this message, or none of its controller is.
     fn is_left_to(&self, label: &Party, message: &Name) -> bool {
         is_label(label, message)
-            || !self
-                .labels
-                .iter()
-                .any(|other| other.controller == label.controller && is_label(other, message))
+            || !self.labels.iter().any(|other| other.controller == label.controller
+                && is_label(other, message))
     }
 
     // The names of the parts that never start together.
@@ -283,11 +281,7 @@ fn all_copied(alloc: Global, names: &[Name]) -> Result<Vec<Name>, AllocError> {
 }
 
 /// The same names after those that stand.
-pub(crate) fn push_all(
-    alloc: Global,
-    to: &mut Vec<Name>,
-    names: &[Name],
-) -> Result<(), AllocError>
+pub(crate) fn push_all(alloc: Global, to: &mut Vec<Name>, names: &[Name]) -> Result<(), AllocError>
     ensures { OnOk result (map name_bytes to.new.items ≡ map name_bytes to.old.items ++ map name_bytes names.now) }
 {
     for name in names {

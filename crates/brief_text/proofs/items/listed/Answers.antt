@@ -70,7 +70,9 @@ names-preserved c =
     ap (λ (ns : List (List ℕ)). listing_refusal d ns name) (sym i.2)
     ∙ (ap (λ (ns : List Name). listing_refusal d (map name_bytes ns) name) (sym c.as_slice.ensures.value) ∙ (sym c.listing_refusal.ensures ∙ c.in_ok-allowed.ensures.allowed)) in
     let on = sending_on d i.0 c.next-token.result (place c.names.source) after c.next-token.ensures.place (c.is_semicolon.ensures.none c.if-is_semicolon.false) name (c.in_ok-name.ensures after) allowed in
-    let one : all_of d (name ∷ []) ≡ stands_for d name = append-nil (stands_for d name) in
-    (i.0 ++ name ∷ [], sym on ∙ i.1,
-    c.in_ok-push_all.ensures ∙ ap (λ (ns : List Name). map name_bytes c.names.messages.items ++ map name_bytes ns) c.as_slice-in-names-2.ensures.value
-    ∙ ap (λ ns. map name_bytes c.names.messages.items ++ ns) c.in_ok-further.ensures ∙ ap (λ ns. ns ++ stands_for d name) i.2 ∙ ap (λ ns. all_of d i.0 ++ ns) (sym one) ∙ sym (flat_map-append (stands_for d) i.0 (name ∷ [])))
+    let one : all_of d (name ∷ []) ≡ stands_for d name = append-nil (stands_for d name) in (
+      i.0 ++ name ∷ [],
+      sym on ∙ i.1,
+      c.in_ok-push_all.ensures ∙ ap (λ (ns : List Name). map name_bytes c.names.messages.items ++ map name_bytes ns) c.as_slice-in-names-2.ensures.value
+          ∙ ap (λ ns. map name_bytes c.names.messages.items ++ ns) c.in_ok-further.ensures ∙ ap (λ ns. ns ++ stands_for d name) i.2 ∙ ap (λ ns. all_of d i.0 ++ ns) (sym one) ∙ sym (flat_map-append (stands_for d) i.0 (name ∷ [])),
+    )
