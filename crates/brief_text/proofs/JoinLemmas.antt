@@ -1,5 +1,5 @@
 -- Two texts with `_` between them.
-use Rattle.std.proofs.Common.{◌≡◌, ◌≢◌, ℕ, Bool, true, false, List, [], ◌∷◌, ◌++◌, codes, refl, ap, sym, ◌∙◌}
+use Rattle.std.proofs.Common.{◌≡◌, ℕ, Bool, true, false, List, [], ◌∷◌, ◌++◌, codes, refl, ap, sym, ◌∙◌}
 use Rattle.std.specs.Str.{bytes_eq}
 use Rattle.std.proofs.lemmas.List.{append_assoc}
 use Rattle.plan_core.proofs.BuildingLemmas.{bytes_eq-same, same-bytes_eq}
@@ -26,9 +26,9 @@ module _ (first second text : List ℕ) where
       whole : first ++ codes "_" ++ after ≡ text
       whole = append_assoc first (codes "_") after ∙ ap (λ r. first ++ r) f ∙ e
 
-  pub no_front : ((rest : List ℕ) → first ++ rest ≢ text) → false ≡ bytes_eq text (first ++ codes "_" ++ second)
-  no_front no = same_test false text (first ++ codes "_" ++ second) (λ h. absurd cc) (λ h. absurd (no (codes "_" ++ second) (sym (append_assoc first (codes "_") second) ∙ sym h)))
+  pub no_front : ((rest : List ℕ) → text ≡ first ++ rest → ⊥) → false ≡ bytes_eq text (first ++ codes "_" ++ second)
+  no_front nowhere = same_test false text (first ++ codes "_" ++ second) (λ h. absurd cc) (λ h. absurd (nowhere (codes "_" ++ second) (h ∙ append_assoc first (codes "_") second)))
 
-  pub no_stroke : (rest : List ℕ) → first ++ rest ≡ text → ((after : List ℕ) → codes "_" ++ after ≢ rest) → false ≡ bytes_eq text (first ++ codes "_" ++ second)
-  no_stroke rest e no = same_test false text (first ++ codes "_" ++ second) (λ h. absurd cc)
-      (λ h. absurd (no second (cancel first (codes "_" ++ second) rest (sym (append_assoc first (codes "_") second) ∙ sym h ∙ sym e))))
+  pub no_stroke : (rest : List ℕ) → first ++ rest ≡ text → ((after : List ℕ) → rest ≡ codes "_" ++ after → ⊥) → false ≡ bytes_eq text (first ++ codes "_" ++ second)
+  no_stroke rest e nowhere = same_test false text (first ++ codes "_" ++ second) (λ h. absurd cc)
+      (λ h. absurd (nowhere second (cancel first rest (codes "_" ++ second) (e ∙ h ∙ append_assoc first (codes "_") second))))

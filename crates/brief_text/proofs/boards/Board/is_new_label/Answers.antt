@@ -10,4 +10,5 @@ pub returns-then-is_some : goal.returns-then-is_some
 returns-then-is_some c =
     let labels = c.args.self.now.labels.items in
     let party = c.args.party.now in
-    ap not c.has_label.ensures ∙ sym (new_label (draft c.args.self.now) party labels refl ∙ (λ i. c.if-is_some.true i && not (list_any (λ (it : Party). same_side (side it) (side party)) labels)))
+    let some = sym c.is_some.ensures ∙ c.if-is_some.true in
+    ap not c.has_label.ensures ∙ sym (new_label (draft c.args.self.now) party labels refl ∙ (λ i. some i && not (list_any (λ (it : Party). same_side (side it) (side party)) labels)))

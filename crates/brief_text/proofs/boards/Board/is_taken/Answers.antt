@@ -12,7 +12,7 @@ returns-then-has_controller c =
     let name = c.args.name.now in
     let labels = c.args.self.now.labels.items in
     let one = sym c.has_controller.ensures ∙ c.if-has_controller.true in
-    sym (taken (draft c.args.self.now) name c.args.self.now.controllers.items labels refl refl ∙ (λ i. one i || list_any (λ (it : Party). bytes_eq name (side_name (side it))) labels))
+    c.if-has_controller.true ∙ sym (taken (draft c.args.self.now) name c.args.self.now.controllers.items labels refl refl ∙ (λ i. one i || list_any (λ (it : Party). bytes_eq name (side_name (side it))) labels))
 
 pub returns-else-has_controller : goal.returns-else-has_controller
 returns-else-has_controller c =
