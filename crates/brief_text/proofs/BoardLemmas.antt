@@ -1,5 +1,5 @@
 -- What a board says of a name.
-use Rattle.std.proofs.Common.{◌≡◌, ℕ, ◌+◌, ◌<◌, ◌≤◌, arith, Bool, true, false, ◌||◌, ◌&&◌, List, [], ◌∷◌, ◌∙◌, Option, Some, None, is_some, IfSome, refl, ap}
+use Rattle.std.proofs.Common.{◌≡◌, ℕ, ◌+◌, ◌<◌, ◌≤◌, arith, Bool, true, false, ◌||◌, ◌&&◌, List, [], ◌∷◌, ◌∙◌, Option, Some, None, is_some, IfSome, refl, ap, sym}
 use Rattle.std.specs.Prelude.{nat_le, nat_lt, length, unwrap_or, Result, Ok, Err, not, if◌then◌else◌}
 use Rattle.std.specs.List.{list_any, sum_by, fold}
 use Rattle.std.proofs.lemmas.List.{length-map}
@@ -32,7 +32,7 @@ use Rattle.plan_text.specs.Values.{address_of}
 use Rattle.plan_text.proofs.ValueLemmas.{address_found}
 use Rattle.std.specs.Prelude.{codes, map}
 use Rattle.brief_text.specs.Drafts.{Draft, any_address, value_or, member_name, members, stands_for, same_side, is_new_label}
-use Rattle.brief_text.specs.Judging.{is_family, is_message, message_refusal_of, range_refusal, have_one_of, sendings, listing_refusal, is_taken, are_sides}
+use Rattle.brief_text.specs.Judging.{is_family, is_message, message_refusal_of, range_refusal, have_one_of, sendings, listing_refusal, is_taken, are_sides, lists_one, is_side}
 use Rattle.brief_text.specs.Meanings.{is_twice}
 use Rattle.brief_text.specs.Trees.{named}
 
@@ -134,3 +134,11 @@ new_label draft party labels same =
 
 pub nevers_of : (first second : Side) (nevers : List Never) → list_any (are_sides first second) (map sides nevers) ≡ list_any (λ (it : Never). are_sides first second (sides it)) nevers
 nevers_of first second nevers = list_any-map (are_sides first second) sides nevers
+
+-- a controller lists one of the messages that a label stands for
+pub side_lists : (draft : Draft) (party : Party) (label : Name) (listed them : List Name) → lookup (bytes_eq (name_bytes party.controller)) draft.controllers ≡ Some (map name_bytes listed)
+    → party.label ≡ Some label → map name_bytes them ≡ stands_for draft (name_bytes label)
+    → is_side draft (side party) ≡ list_any (λ name. list_any (λ other. bytes_eq (name_bytes other) (name_bytes name)) listed) them
+side_lists draft party label listed them found is stand =
+    (λ i. lists_one draft (found i) (option_map name_bytes (is i)))
+    ∙ ap (have_one_of (map name_bytes listed)) (sym stand) ∙ have_one listed them
