@@ -1,13 +1,20 @@
 -- What a board says of a name.
-use Rattle.std.proofs.Common.{◌≡◌, ℕ, ◌+◌, ◌<◌, ◌≤◌, arith, Bool, true, false, ◌||◌, List, [], ◌∷◌, ◌∙◌, Option, Some, None, is_some, IfSome, refl, ap}
+use Rattle.std.proofs.Common.{◌≡◌, ℕ, ◌+◌, ◌<◌, ◌≤◌, arith, Bool, true, false, ◌||◌, ◌&&◌, List, [], ◌∷◌, ◌∙◌, Option, Some, None, is_some, IfSome, refl, ap, sym}
 use Rattle.std.specs.Prelude.{nat_le, nat_lt, length, unwrap_or, Result, Ok, Err, not, if◌then◌else◌}
-use Rattle.std.specs.List.{list_any, sum_by}
+use Rattle.std.specs.List.{list_any, sum_by, fold}
 use Rattle.std.proofs.lemmas.List.{length-map}
 use Rattle.plan_core.proofs.StepLemmas.{list_any-map}
 use Rattle.plan_core.specs.NameBytes.{name_bytes}
 use Rattle.plan_core.specs.declared.names.Name.{Name}
 use Rattle.brief_text.specs.declared.boards.Listing.{Listing}
-use Rattle.brief_text.specs.Standing.{listing}
+use Rattle.brief_text.specs.declared.syntax.Party.{Party}
+use Rattle.brief_text.specs.Splitting.{side_name}
+use Rattle.brief_text.specs.declared.boards.Never.{Never}
+use Rattle.std.specs.Option.{option_map}
+use Rattle.brief_text.specs.Standing.{listing, side, sides}
+use Rattle.brief_text.specs.Trees.{Side}
+use Rattle.std.specs.Map.{keys_of}
+use Rattle.std.proofs.lemmas.List.Folds.{list_any-append}
 use Rattle.std.proofs.lemmas.Bool.Decides.{nat_tests}
 use Rattle.plan_text.specs.declared.errors.PlanError.TheVariants as errors
 use Rattle.brief_text.specs.declared.syntax.Lengths.{Lengths}
@@ -24,8 +31,8 @@ use Rattle.plan_text.specs.Canonical.{bit_symbol}
 use Rattle.plan_text.specs.Values.{address_of}
 use Rattle.plan_text.proofs.ValueLemmas.{address_found}
 use Rattle.std.specs.Prelude.{codes, map}
-use Rattle.brief_text.specs.Drafts.{Draft, any_address, value_or, member_name, members, stands_for}
-use Rattle.brief_text.specs.Judging.{is_family, is_message, message_refusal_of, range_refusal, have_one_of, sendings, listing_refusal}
+use Rattle.brief_text.specs.Drafts.{Draft, any_address, value_or, member_name, members, stands_for, same_side, is_new_label}
+use Rattle.brief_text.specs.Judging.{is_family, is_message, message_refusal_of, range_refusal, have_one_of, sendings, listing_refusal, is_taken, are_sides, lists_one, is_side}
 use Rattle.brief_text.specs.Meanings.{is_twice}
 use Rattle.brief_text.specs.Trees.{named}
 
@@ -85,9 +92,14 @@ have_one listed names =
     list_any-map (λ (name : List ℕ). list_any (λ other. bytes_eq other name) (map name_bytes listed)) name_bytes names
     ∙ (λ i. list_any (λ name. list_any-map (λ (other : List ℕ). bytes_eq other (name_bytes name)) name_bytes listed i) names)
 
+sums : (n : ℕ) (controllers : List Listing) → fold (λ (a : ℕ) (c : List ℕ × List (List ℕ)). a + length c.1) n (map listing controllers) ≡ fold (λ (a : ℕ) (it : Listing). a + length it.messages.items) n controllers
+sums n [] = refl
+sums n (it ∷ controllers) =
+    ap (λ m. fold (λ (a : ℕ) (c : List ℕ × List (List ℕ)). a + length c.1) (n + m) (map listing controllers)) (length-map {B = List ℕ} it.messages.items name_bytes)
+    ∙ sums (n + length it.messages.items) controllers
+
 pub sendings_of : (controllers : List Listing) → sum_by (λ c. length c.1) (map listing controllers) ≡ sum_by (λ (it : Listing). length it.messages.items) controllers
-sendings_of [] = refl
-sendings_of (it ∷ controllers) = ap (λ n. n + sum_by (λ c. length c.1) (map listing controllers)) (length-map {B = List ℕ} it.messages.items name_bytes) ∙ ap (λ n. length it.messages.items + n) (sendings_of controllers)
+sendings_of controllers = sums 0 controllers
 
 module _ (draft : Draft) (listed : List (List ℕ)) (name : List ℕ) where
   pub listing_judged : (known twice many : Bool) → is_message draft name ≡ known → have_one_of listed (stands_for draft name) ≡ twice → nat_lt MOST_SENDINGS (sendings draft + length listed + length (stands_for draft name)) ≡ many
@@ -95,3 +107,38 @@ module _ (draft : Draft) (listed : List (List ℕ)) (name : List ℕ) where
   unfolding listing_refusal
   listing_judged known twice many is_known is_twice are_many =
       λ i. if not (is_known i) then Some Unknown else if is_twice i then Some Twice else if are_many i then Some TooMany else None
+
+-- ---- names of controllers and of parts
+
+pub taken : (draft : Draft) (name : List ℕ) (controllers : List Listing) (labels : List Party) → draft.controllers ≡ map listing controllers → draft.labels ≡ map side labels
+    → is_taken draft name ≡ (list_any (λ (it : Listing). bytes_eq name (name_bytes it.name)) controllers || list_any (λ (it : Party). bytes_eq name (side_name (side it))) labels)
+taken draft name controllers labels one other =
+    list_any-append (bytes_eq name) (keys_of draft.controllers) (map side_name draft.labels)
+    ∙ (λ i. list_any (bytes_eq name) (keys_of (one i)) || list_any (bytes_eq name) (map side_name (other i)))
+    ∙ (λ i. keys i || parts i)
+  where
+    keys : list_any (bytes_eq name) (keys_of (map listing controllers)) ≡ list_any (λ (it : Listing). bytes_eq name (name_bytes it.name)) controllers
+    keys = list_any-map (bytes_eq name) _ (map listing controllers) ∙ list_any-map (λ (c : List ℕ × List (List ℕ)). bytes_eq name c.0) listing controllers
+
+    parts : list_any (bytes_eq name) (map side_name (map side labels)) ≡ list_any (λ (it : Party). bytes_eq name (side_name (side it))) labels
+    parts = list_any-map (bytes_eq name) side_name (map side labels) ∙ list_any-map (λ (s : Side). bytes_eq name (side_name s)) side labels
+
+pub new_label : (draft : Draft) (party : Party) (labels : List Party) → draft.labels ≡ map side labels
+    → is_new_label draft (side party) ≡ (is_some party.label && not (list_any (λ (it : Party). same_side (side it) (side party)) labels))
+new_label draft party labels same =
+    λ i. some party.label i && not ((ap (λ them. list_any (λ other. same_side other (side party)) them) same ∙ list_any-map (λ other. same_side other (side party)) side labels) i)
+  where
+    some : (o : Option Name) → is_some (option_map name_bytes o) ≡ is_some o
+    some None = refl
+    some (Some x) = refl
+
+pub nevers_of : (first second : Side) (nevers : List Never) → list_any (are_sides first second) (map sides nevers) ≡ list_any (λ (it : Never). are_sides first second (sides it)) nevers
+nevers_of first second nevers = list_any-map (are_sides first second) sides nevers
+
+-- a controller lists one of the messages that a label stands for
+pub side_lists : (draft : Draft) (party : Party) (label : Name) (listed them : List Name) → lookup (bytes_eq (name_bytes party.controller)) draft.controllers ≡ Some (map name_bytes listed)
+    → party.label ≡ Some label → map name_bytes them ≡ stands_for draft (name_bytes label)
+    → is_side draft (side party) ≡ list_any (λ name. list_any (λ other. bytes_eq (name_bytes other) (name_bytes name)) listed) them
+side_lists draft party label listed them found is stand =
+    (λ i. lists_one draft (found i) (option_map name_bytes (is i)))
+    ∙ ap (have_one_of (map name_bytes listed)) (sym stand) ∙ have_one listed them

@@ -10,3 +10,4 @@ pub mod BoardLemmas
 pub mod LoopLemmas
 pub mod RangeLemmas
 pub mod MessageLemmas
+pub mod JoinLemmas

@@ -132,7 +132,7 @@ same_side side other = bytes_eq side.controller other.controller && same_label s
 
 -- the side has a label that has not been named yet
 abbrev pub is_new_label : Draft → Side → Bool
-is_new_label draft side = is_some side.label && not (list_any (same_side side) draft.labels)
+is_new_label draft side = is_some side.label && not (list_any (λ other. same_side other side) draft.labels)
 
 abbrev pub with_label : Draft → Side → Draft
 with_label draft side = if is_new_label draft side then record draft { labels = draft.labels ++ side ∷ [] } else draft

@@ -14,3 +14,4 @@ pub mod Standing
 pub mod Meanings
 pub mod Parting
 pub mod Grammar
+pub mod Together

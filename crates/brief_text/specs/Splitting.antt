@@ -28,11 +28,11 @@ part_name part = side_name part.side
 
 -- the messages that a label stands for; a whole controller has no label
 abbrev pub label_messages : Draft → Side → List (List ℕ)
-label_messages draft side = elim side.label [ | None ↦ [] | Some label ↦ stands_for draft label ]
+label_messages draft side = elim side.label [ None ↦ [] | Some label ↦ stands_for draft label ]
 
 -- this message is a label itself
 abbrev pub is_label : List ℕ → Side → Bool
-is_label message side = elim side.label [ | None ↦ false | Some label ↦ bytes_eq label message ]
+is_label message side = elim side.label [ None ↦ false | Some label ↦ bytes_eq label message ]
 
 -- a message with a label of its own has its own part, even if its family has a label too
 abbrev pub is_in_part : Draft → List Side → Side → List ℕ → Bool
@@ -53,7 +53,7 @@ rest_part draft labels listed controller = record {
 }
 
 abbrev pub sends_any : Part → Bool
-sends_any part = elim part.messages [ | [] ↦ false | message ∷ messages ↦ true ]
+sends_any part = elim part.messages [ [] ↦ false | message ∷ messages ↦ true ]
 
 -- A controller of which no label is named stays as it is. Else what is left comes first, then the parts as their labels
 -- were first named, and what has no message is left out.

@@ -11,7 +11,8 @@ ghost use Rattle.plan_core.specs.BuilderContents.{builder_contents};
 ghost use Rattle.plan_core.specs.NameBytes.{name_bytes};
 ghost use Rattle.plan_core.specs.Building.{interrupt_refusal, with_interrupt};
 ghost use Rattle.plan_core.specs.declared.limits.TheConstants.{MOST_MESSAGES, MOST_SENDINGS};
-ghost use Rattle.brief_text.specs.Drafts.{no_items, address_said, bits_said, stands_for, with_label, is_new_label};
+ghost use Rattle.brief_text.specs.Drafts.{no_items, address_said, bits_said, stands_for, with_label, is_new_label, same_side};
+ghost use Rattle.brief_text.specs.Splitting.{side_name};
 ghost use Rattle.brief_text.specs.Meanings.{is_twice};
 ghost use Rattle.brief_text.specs.Judging.{is_family, is_message, message_refusal_of, named_refusal, taken_names, is_taken};
 ghost use Rattle.brief_text.specs.Judging.{controller_refusal_of, listing_refusal, is_side};
@@ -69,7 +70,7 @@ pub(crate) struct Board {
 }
 
 impl Board {
-    ghost use Rattle.brief_text.specs.Standing.{draft, said, side};
+    ghost use Rattle.brief_text.specs.Standing.{draft, said, side, sides};
 
     /// No items.
     pub(crate) fn new(alloc: Global) -> Self
@@ -213,10 +214,22 @@ impl Board {
     fn is_taken(&self, name: &str) -> bool
         ensures { result ≡ is_taken (draft self.now) name.now }
     {
+        self.has_controller(name) || self.has_part(name)
+    }
+
+    fn has_controller(&self, name: &str) -> bool
+        ensures { result ≡ list_any (λ it. bytes_eq name.now (name_bytes it.name)) self.now.controllers.items }
+    {
         self.controllers
             .iter()
-            .any(|controller| controller.name.as_str() == name)
-            || self.labels.iter().any(|label| label.is_named(name))
+            .any(|controller| *name == *controller.name.as_str())
+    }
+
+    // Whether a label takes this name.
+    fn has_part(&self, name: &str) -> bool
+        ensures { result ≡ list_any (λ it. bytes_eq name.now (side_name (side it))) self.now.labels.items }
+    {
+        self.labels.iter().any(|label| label.is_named(name))
     }
 
     /// Why a further message or family of this name is refused to a controller that lists these messages already;
@@ -280,13 +293,17 @@ impl Board {
         self.builder.add_interrupt(name, address)
     }
 
+    // The controller of this name.
     fn controller(&self, name: &Name) -> Option<&Listing>
         ensures { option_map (λ it. map name_bytes it.now.messages.items) result ≡
             lookup (bytes_eq (name_bytes name.now)) (draft self.now).controllers }
     {
-        self.controllers
-            .iter()
-            .find(|controller| controller.name == *name)
+        for controller in self.controllers.as_slice() {
+            if *name == controller.name {
+                return Some(controller);
+            }
+        }
+        None
     }
 
     // ---- `never`
@@ -316,7 +333,7 @@ impl Board {
             Ok(Some(BuildError::Twice))
         } else if !self.is_side(second)? {
             Ok(Some(BuildError::Unknown))
-        } else if self.nevers.iter().any(|never| never.is_of(first, second)) {
+        } else if self.has_never(first, second) {
             Ok(Some(BuildError::Twice))
         } else {
             self.name_label(second)
@@ -360,7 +377,21 @@ impl Board {
     fn is_new_label(&self, party: &Party) -> bool
         ensures { result ≡ is_new_label (draft self.now) (side party.now) }
     {
-        party.label.is_some() && !self.labels.iter().any(|label| label.is_same(party))
+        party.label.is_some() && !self.has_label(party)
+    }
+
+    // Whether this label has been named.
+    fn has_label(&self, party: &Party) -> bool
+        ensures { result ≡ list_any (λ it. same_side (side it) (side party.now)) self.now.labels.items }
+    {
+        self.labels.iter().any(|label| label.is_same(party))
+    }
+
+    // Whether a `never` names these two.
+    fn has_never(&self, first: &Party, second: &Party) -> bool
+        ensures { result ≡ list_any (λ it. are_sides (side first.now) (side second.now) (sides it)) self.now.nevers.items }
+    {
+        self.nevers.iter().any(|never| never.is_of(first, second))
     }
 }
 

@@ -11,10 +11,10 @@ ghost use Rattle.brief_text.specs.Places.{past, close_in};
 ghost use Rattle.brief_text.specs.Standing.{brief_frame, brief_bytes, brief_tail};
 
 use crate::boards::Board;
+use crate::numbers::Digits;
 use crate::sources::Source;
 use crate::symbols::{Keyword, Sign, Symbol};
 use crate::syntax::{DataSyntax, FrameSyntax, Lengths, Often, TailSyntax};
-use crate::numbers::Digits;
 use crate::words::{Repetition, repetition_of};
 use message_tree::Count;
 use plan_core::Name;

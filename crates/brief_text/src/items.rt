@@ -62,8 +62,8 @@ fn read(alloc: Global, text: &[u8]) -> Result<Plan, PlanError>
     Ok(board.finish()?)
 }
 
-// The items of a text go into the board.
-fn read_text(alloc: Global, board: &mut Board, text: &[u8]) -> Result<(), PlanError>
+/// The items of a text go into the board.
+pub(crate) fn read_text(alloc: Global, board: &mut Board, text: &[u8]) -> Result<(), PlanError>
     ensures { Passes result (text_read (draft board.old) text.now) (draft board.new) }
 {
     let tokens = after_head(text)?;

@@ -10,6 +10,7 @@
 #![tactic(auto)]
 
 mod boards;
+mod briefs;
 mod frames;
 mod items;
 mod meanings;
@@ -24,7 +25,8 @@ mod tokens;
 mod words;
 mod writing;
 
+pub use briefs::Briefs;
 pub use items::expand_brief;
-pub use origins::Spot;
+pub use origins::{ControllerOrigin, Origins, Spot};
 pub use plan_text::PlanError as BriefError;
 pub use writing::{brief_of, brief_word};

@@ -9,6 +9,7 @@ ghost use Rattle.brief_text.specs.Parting.{part};
 
 use crate::boards::{Board, Listing, Never};
 use crate::naming::copied;
+use crate::origins::{ControllerOrigin, Origins, Spot};
 use crate::syntax::Party;
 use plan_core::{BuildError, Builder, Name, Plan};
 use std::alloc::{AllocError, Global};
@@ -19,6 +20,7 @@ pub(crate) struct Part {
     party: Party,
     name: Name,
     messages: Vec<Name>,
+    spot: Spot,
 }
 
 /// Two controllers of the plan that never start together.
@@ -45,6 +47,19 @@ impl Board {
         Ok(builder.finish())
     }
 
+    /// Where the controllers and the messages of the plan come from.
+    pub(crate) fn origins(&self) -> Result<Origins, AllocError> {
+        let mut controllers = Vec::new(self.alloc);
+        for part in self.parts()?.as_slice() {
+            let party = part.party.copied(self.alloc)?;
+            controllers.push(ControllerOrigin::new(party, part.spot))?;
+        }
+        Ok(Origins {
+            controllers,
+            messages: Vec::from_slice(self.alloc, self.spots.as_slice())?,
+        })
+    }
+
     /// The controllers of the plan.
     pub(crate) fn parts(&self) -> Result<Vec<Part>, AllocError>
         ensures { IfOk result (λ it. map part it.items ≡ parts (draft self.now)) }
@@ -60,17 +75,18 @@ impl Board {
     fn push_parts(&self, parts: &mut Vec<Part>, controller: &Listing) -> Result<(), AllocError> {
         let name = &controller.name;
         let listed = controller.messages.as_slice();
+        let spot = controller.spot;
         if !self.is_split(name) {
             let messages = all_copied(self.alloc, listed)?;
-            return push_whole(self.alloc, parts, name, messages);
+            return push_whole(self.alloc, parts, name, messages, spot);
         }
         let rest = self.rest_of(name, listed)?;
         if !rest.is_empty() {
-            push_whole(self.alloc, parts, name, rest)?;
+            push_whole(self.alloc, parts, name, rest, spot)?;
         }
         for label in self.labels.as_slice() {
             if label.controller == *name {
-                self.push_label(parts, label, listed)?;
+                self.push_label(parts, label, listed, spot)?;
             }
         }
         Ok(())
@@ -121,6 +137,7 @@ impl Board {
         parts: &mut Vec<Part>,
         label: &Party,
         listed: &[Name],
+        spot: Spot,
     ) -> Result<(), AllocError> {
         let named = self.label_messages(label)?;
         let mut messages = Vec::new(self.alloc);
@@ -136,6 +153,7 @@ impl Board {
             name: label.name(self.alloc)?,
             party: label.copied(self.alloc)?,
             messages,
+            spot,
         })?;
         Ok(())
     }
@@ -143,10 +161,8 @@ impl Board {
     // Whether the label is this message, or none of its controller is.
     fn is_left_to(&self, label: &Party, message: &Name) -> bool {
         is_label(label, message)
-            || !self
-                .labels
-                .iter()
-                .any(|other| other.controller == label.controller && is_label(other, message))
+            || !self.labels.iter().any(|other| other.controller == label.controller
+                && is_label(other, message))
     }
 
     // The names of the parts that never start together.
@@ -212,6 +228,7 @@ fn push_whole(
     parts: &mut Vec<Part>,
     name: &Name,
     messages: Vec<Name>,
+    spot: Spot,
 ) -> Result<(), AllocError> {
     let party = Party {
         controller: copied(alloc, name)?,
@@ -222,6 +239,7 @@ fn push_whole(
         name: copied(alloc, name)?,
         party,
         messages,
+        spot,
     })?;
     Ok(())
 }
@@ -263,11 +281,7 @@ fn all_copied(alloc: Global, names: &[Name]) -> Result<Vec<Name>, AllocError> {
 }
 
 /// The same names after those that stand.
-pub(crate) fn push_all(
-    alloc: Global,
-    to: &mut Vec<Name>,
-    names: &[Name],
-) -> Result<(), AllocError>
+pub(crate) fn push_all(alloc: Global, to: &mut Vec<Name>, names: &[Name]) -> Result<(), AllocError>
     ensures { OnOk result (map name_bytes to.new.items ≡ map name_bytes to.old.items ++ map name_bytes names.now) }
 {
     for name in names {

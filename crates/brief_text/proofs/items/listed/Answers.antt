@@ -1,4 +1,4 @@
-use Rattle.std.proofs.Common.{◌≡◌, List, [], ◌∷◌, ◌++◌, ℕ, Some, None, map, ap, sym, ◌∙◌, subst, refl, inl}
+use Rattle.std.proofs.Common.{rules, ◌≡◌, List, [], ◌∷◌, ◌++◌, ℕ, Some, None, map, ap, sym, ◌∙◌, subst, refl, inl}
 use Rattle.std.proofs.lemmas.Grind.{flat_map-append}
 use Rattle.std.proofs.lemmas.List.{append-nil}
 use Rattle.std.proofs.lemmas.Result.{err_from_is_err_and}
@@ -14,7 +14,9 @@ use Rattle.brief_text.proofs.ValueLemmas.{sendings_end, no_sending, sending_refu
 use Rattle.brief_text.proofs.items.listed.Goals as goal
 
 pub names-init : goal.names-init
-names-init c = ([], refl, refl)
+names-init c =
+    let none : c.new-messages.result.items ≡ [] = search rules in
+    ([], refl, ap (map name_bytes) none)
 
 pub returns-in_err-name : goal.returns-in_err-name
 returns-in_err-name c =
@@ -68,6 +70,9 @@ names-preserved c =
     ap (λ (ns : List (List ℕ)). listing_refusal d ns name) (sym i.2)
     ∙ (ap (λ (ns : List Name). listing_refusal d (map name_bytes ns) name) (sym c.as_slice.ensures.value) ∙ (sym c.listing_refusal.ensures ∙ c.in_ok-allowed.ensures.allowed)) in
     let on = sending_on d i.0 c.next-token.result (place c.names.source) after c.next-token.ensures.place (c.is_semicolon.ensures.none c.if-is_semicolon.false) name (c.in_ok-name.ensures after) allowed in
-    let one : all_of d (name ∷ []) ≡ stands_for d name = append-nil (stands_for d name) in
-    (i.0 ++ name ∷ [], sym on ∙ i.1,
-    c.in_ok-push_all.ensures ∙ ap (λ ns. ns ++ stands_for d name) i.2 ∙ ap (λ ns. all_of d i.0 ++ ns) (sym one) ∙ sym (flat_map-append (stands_for d) i.0 (name ∷ [])))
+    let one : all_of d (name ∷ []) ≡ stands_for d name = append-nil (stands_for d name) in (
+      i.0 ++ name ∷ [],
+      sym on ∙ i.1,
+      c.in_ok-push_all.ensures ∙ ap (λ (ns : List Name). map name_bytes c.names.messages.items ++ map name_bytes ns) c.as_slice-in-names-2.ensures.value
+          ∙ ap (λ ns. map name_bytes c.names.messages.items ++ ns) c.in_ok-further.ensures ∙ ap (λ ns. ns ++ stands_for d name) i.2 ∙ ap (λ ns. all_of d i.0 ++ ns) (sym one) ∙ sym (flat_map-append (stands_for d) i.0 (name ∷ [])),
+    )
