@@ -1,0 +1,23 @@
+// The causes of all unsafe pairs of a plan.
+
+use crate::families::families_of;
+use crate::meetings::{Cause, cause_of};
+use plan_core::Plan;
+use std::alloc::{AllocError, Global};
+use verdicts::Faults;
+
+/// The cause of each unsafe pair, in the order of the pairs.
+pub(crate) fn causes_of(
+    alloc: Global,
+    plan: &Plan,
+    faults: &Faults,
+) -> Result<Vec<Cause>, AllocError> {
+    let families = families_of(alloc, plan)?;
+    let mut causes = Vec::with_capacity(alloc, faults.len())?;
+    for k in 0..faults.len() {
+        let (pair, fault) = faults.get(k);
+        let cause = cause_of(plan, &families, pair, fault);
+        causes.push(cause)?;
+    }
+    Ok(causes)
+}

@@ -1,0 +1,78 @@
+// Where two participants meet, and why that is a fault.
+
+use crate::families::{Family, family_at};
+use crate::sides::{Side, in_order};
+use certificate::Fault;
+use message_tree::Item;
+use plan_core::Plan;
+
+/// Where in a frame two meet.
+#[derive(Clone, Copy, PartialEq, Eq, Hash, Debug)]
+pub enum Place {
+    /// In its first nine slots: the address, the R/W bit and the acknowledge.
+    Header,
+    /// After its header.
+    Data,
+    /// In this byte after its header, or where it would begin, counted from 1. It counts where neither of the two is one of
+    /// several messages.
+    Byte(usize),
+}
+
+/// Why a pair is unsafe: what meets, and where.
+#[derive(Clone, Copy, PartialEq, Eq, Hash, Debug)]
+pub struct Cause {
+    /// The side of the lower family, and of one family that of the lower kind.
+    pub first: Side,
+    pub second: Side,
+    /// The number of the frame in which they meet, counted from 0: a repeated START begins the next one.
+    pub frame: usize,
+    pub place: Place,
+}
+
+/// The cause of the pair with this number, where these are the families of the messages.
+pub(crate) fn cause_of(plan: &Plan, families: &[Family], pair: u32, fault: &Fault) -> Cause {
+    let (x, y) = plan.pair(pair);
+    let (first, second) = in_order(
+        Side {
+            family: family_at(families, plan.participant(x)),
+            kind: fault.first,
+        },
+        Side {
+            family: family_at(families, plan.participant(y)),
+            kind: fault.second,
+        },
+    );
+    let (frame, slot) = slot_after(&fault.wire);
+    let several = first.family.is_several() || second.family.is_several();
+    Cause {
+        first,
+        second,
+        frame,
+        place: place_of(slot, several),
+    }
+}
+
+// The number of the frame in which the slot after this wire lies, and its number in that frame.
+fn slot_after(wire: &[Item]) -> (usize, usize) {
+    let mut frame = 0;
+    let mut slot = 0;
+    for item in wire {
+        if *item == Item::Again {
+            frame += 1;
+            slot = 0;
+        } else {
+            slot += 1;
+        }
+    }
+    (frame, slot)
+}
+
+fn place_of(slot: usize, several: bool) -> Place {
+    if slot < 9 {
+        Place::Header
+    } else if several {
+        Place::Data
+    } else {
+        Place::Byte(slot / 9)
+    }
+}
