@@ -1,11 +1,17 @@
 // Families: messages whose names are alike but for a number at the end.
 
-use crate::names::{are_alike, stem_len};
+ghost use Rattle.std.specs.Prelude.{◌≡◌, ◌<◌, IfOk, length, slice_index_or};
+ghost use Rattle.plan_core.specs.declared.plans.Participant.TheVariants.{Interrupt};
+ghost use Rattle.plan_core.specs.Participants.{participants_of, participant_count};
+ghost use Rattle.plan_core.specs.PlanContents.{plan_contents};
+ghost use Rattle.causes.specs.Families.{AreFamilies, family_at, family_of, first_relative, is_several, messages_in, names_alike, relatives};
+
+use crate::names::are_alike;
 use plan_core::{Participant, Plan};
 use std::alloc::{AllocError, Global};
 
 /// Who may stand on one side of a cause.
-#[derive(Clone, Copy, PartialEq, Eq, PartialOrd, Ord, Hash, Debug)]
+#[derive(Clone, Copy, PartialEq, Eq, Hash, Debug)]
 pub enum Family {
     /// Messages whose names are alike but for a last `_NUMBER`: the number of the first of them, and how many the plan has.
     /// A message that is like no other is a family of one.
@@ -16,7 +22,9 @@ pub enum Family {
 
 impl Family {
     /// How many messages it has: none where it is an interrupt.
-    pub fn messages(&self) -> u32 {
+    pub fn messages(&self) -> u32
+        ensures { result ≡ messages_in self.now }
+    {
         match self {
             Family::Messages { count, .. } => *count,
             Family::Interrupt(_) => 0,
@@ -24,8 +32,13 @@ impl Family {
     }
 
     /// Whether it has several messages.
-    pub fn is_several(&self) -> bool {
-        self.messages() > 1
+    pub fn is_several(&self) -> bool
+        ensures { result ≡ is_several self.now }
+    {
+        match self {
+            Family::Messages { count, .. } => *count > 1,
+            Family::Interrupt(_) => false,
+        }
     }
 
     /// Its name for people: `stem_*` where it has several messages, else the name of the message, or `!` and the name of the
@@ -68,7 +81,9 @@ fn interrupt_name(alloc: Global, plan: &Plan, k: u32) -> Result<String, AllocErr
 }
 
 /// The family of each message of the plan.
-pub(crate) fn families_of(alloc: Global, plan: &Plan) -> Result<Vec<Family>, AllocError> {
+pub(crate) fn families_of(alloc: Global, plan: &Plan) -> Result<Vec<Family>, AllocError>
+    ensures { IfOk result (λ families. AreFamilies (plan_contents plan.now) families.items) }
+{
     let mut families = Vec::with_capacity(alloc, plan.messages() as usize)?;
     for m in 0..plan.messages() {
         families.push(family_of(plan, m))?;
@@ -77,29 +92,64 @@ pub(crate) fn families_of(alloc: Global, plan: &Plan) -> Result<Vec<Family>, All
 }
 
 // The family of the message with this number.
-fn family_of(plan: &Plan, m: u32) -> Family {
-    let mut first = m;
-    let mut count = 0u32;
+#[tactic(auto, unfolding(crate::specs::Families::family_of))]
+fn family_of(plan: &Plan, m: u32) -> Family
+    requires { m < length (plan_contents plan.now).messages }
+    ensures { result ≡ family_of (plan_contents plan.now) m }
+{
+    Family::Messages {
+        first: first_relative(plan, m),
+        count: relatives(plan, m),
+    }
+}
+
+// The first message that is this one or has a name like it.
+fn first_relative(plan: &Plan, m: u32) -> u32
+    requires { m < length (plan_contents plan.now).messages }
+    ensures { result ≡ first_relative (plan_contents plan.now) m }
+{
+    for n in 0..m {
+        if names_alike(plan, m, n) {
+            return n;
+        }
+    }
+    m
+}
+
+// How many messages are this one or have a name like it.
+fn relatives(plan: &Plan, m: u32) -> u32
+    requires { m < length (plan_contents plan.now).messages }
+    ensures { result ≡ relatives (plan_contents plan.now) m }
+{
+    let mut count = 0;
     for n in 0..plan.messages() {
-        if n == m || are_relatives(plan, m, n) {
-            if n < first {
-                first = n;
-            }
+        if n == m || names_alike(plan, m, n) {
             count += 1;
         }
     }
-    Family::Messages { first, count }
+    count
 }
 
 // Whether the names of the messages with these numbers are alike.
-fn are_relatives(plan: &Plan, m: u32, n: u32) -> bool {
-    let (a, b) = (plan.message_name(m), plan.message_name(n));
+#[tactic(auto, unfolding(crate::specs::Families::names_alike))]
+fn names_alike(plan: &Plan, m: u32, n: u32) -> bool
+    requires first { m < length (plan_contents plan.now).messages }
+    requires second { n < length (plan_contents plan.now).messages }
+    ensures { result ≡ names_alike (plan_contents plan.now) m n }
+{
+    let a = plan.message_name(m);
+    let b = plan.message_name(n);
     are_alike(a.as_str().as_bytes(), b.as_str().as_bytes())
 }
 
 /// The family of a participant, where these are the families of the messages.
-pub(crate) fn family_at(families: &[Family], participant: Participant) -> Family {
-    match participant {
+pub(crate) fn family_at(plan: &Plan, families: &[Family], x: u32) -> Family
+    requires families { AreFamilies (plan_contents plan.now) families.now }
+    requires within { x < participant_count (plan_contents plan.now) }
+    ensures { result ≡
+        family_at (plan_contents plan.now) (slice_index_or (participants_of (plan_contents plan.now)) x (Interrupt 0)) }
+{
+    match plan.participant(x) {
         Participant::Sending { message, .. } => families[message as usize],
         Participant::Interrupt(k) => Family::Interrupt(k),
     }

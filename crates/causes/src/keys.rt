@@ -1,5 +1,10 @@
 // The causes of all unsafe pairs of a plan.
 
+ghost use Rattle.std.specs.Prelude.{◌≡◌, IfOk};
+ghost use Rattle.plan_core.specs.PlanContents.{plan_contents};
+ghost use Rattle.verdicts.specs.Faults.{AreFaults, fault_list};
+ghost use Rattle.causes.specs.Causes.{causes_of};
+
 use crate::families::families_of;
 use crate::meetings::{Cause, cause_of};
 use plan_core::Plan;
@@ -11,7 +16,10 @@ pub(crate) fn causes_of(
     alloc: Global,
     plan: &Plan,
     faults: &Faults,
-) -> Result<Vec<Cause>, AllocError> {
+) -> Result<Vec<Cause>, AllocError>
+    requires { AreFaults (plan_contents plan.now) (fault_list faults.now) }
+    ensures { IfOk result (λ causes. causes.items ≡ causes_of (plan_contents plan.now) (fault_list faults.now)) }
+{
     let families = families_of(alloc, plan)?;
     let mut causes = Vec::with_capacity(alloc, faults.len())?;
     for k in 0..faults.len() {

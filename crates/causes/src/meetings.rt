@@ -1,5 +1,11 @@
 // Where two participants meet, and why that is a fault.
 
+ghost use Rattle.std.specs.Prelude.{◌≡◌, ◌<◌, length};
+ghost use Rattle.plan_core.specs.Pairs.{pairs_of};
+ghost use Rattle.plan_core.specs.PlanContents.{plan_contents};
+ghost use Rattle.causes.specs.Causes.{cause_of, place_of, slot_after};
+ghost use Rattle.causes.specs.Families.{AreFamilies};
+
 use crate::families::{Family, family_at};
 use crate::sides::{Side, in_order};
 use certificate::Fault;
@@ -30,34 +36,40 @@ pub struct Cause {
 }
 
 /// The cause of the pair with this number, where these are the families of the messages.
-pub(crate) fn cause_of(plan: &Plan, families: &[Family], pair: u32, fault: &Fault) -> Cause {
+#[tactic(auto, unfolding(crate::specs::Causes::cause_of))]
+pub(crate) fn cause_of(plan: &Plan, families: &[Family], pair: u32, fault: &Fault) -> Cause
+    requires families { AreFamilies (plan_contents plan.now) families.now }
+    requires within { pair < length (pairs_of (plan_contents plan.now)) }
+    ensures { result ≡ cause_of (plan_contents plan.now) (pair, fault.now) }
+{
     let (x, y) = plan.pair(pair);
-    let (first, second) = in_order(
-        Side {
-            family: family_at(families, plan.participant(x)),
-            kind: fault.first,
-        },
-        Side {
-            family: family_at(families, plan.participant(y)),
-            kind: fault.second,
-        },
-    );
+    let a = Side {
+        family: family_at(plan, families, x),
+        kind: fault.first,
+    };
+    let b = Side {
+        family: family_at(plan, families, y),
+        kind: fault.second,
+    };
+    let (first, second) = in_order(a, b);
     let (frame, slot) = slot_after(&fault.wire);
-    let several = first.family.is_several() || second.family.is_several();
     Cause {
         first,
         second,
         frame,
-        place: place_of(slot, several),
+        place: place_of(slot, first.family.is_several() || second.family.is_several()),
     }
 }
 
-// The number of the frame in which the slot after this wire lies, and its number in that frame.
-fn slot_after(wire: &[Item]) -> (usize, usize) {
+// The number of the frame in which the slot after this wire lies, and the slot's number in that frame.
+#[tactic(auto, unfolding(crate::specs::Causes::slot_after))]
+fn slot_after(wire: &[Item]) -> (usize, usize)
+    ensures { result ≡ slot_after wire.now }
+{
     let mut frame = 0;
     let mut slot = 0;
     for item in wire {
-        if *item == Item::Again {
+        if let Item::Again = item {
             frame += 1;
             slot = 0;
         } else {
@@ -67,7 +79,9 @@ fn slot_after(wire: &[Item]) -> (usize, usize) {
     (frame, slot)
 }
 
-fn place_of(slot: usize, several: bool) -> Place {
+fn place_of(slot: usize, several: bool) -> Place
+    ensures { result ≡ place_of slot several }
+{
     if slot < 9 {
         Place::Header
     } else if several {

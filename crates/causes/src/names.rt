@@ -1,15 +1,24 @@
 // Names that are alike but for a number at the end.
 
-/// Whether the names are alike but for a last `_NUMBER`, which both have.
-pub(crate) fn are_alike(a: &[u8], b: &[u8]) -> bool {
+ghost use Rattle.std.specs.Prelude.{◌≡◌, ◌≤◌, IfSome, length};
+ghost use Rattle.causes.specs.Names.{are_alike, is_number, stem_length};
+
+/// Whether both names end in `_NUMBER`, and what stands before it is the same.
+#[tactic(auto, unfolding(crate::specs::Names::are_alike))]
+pub(crate) fn are_alike(a: &[u8], b: &[u8]) -> bool
+    ensures { result ≡ are_alike a.now b.now }
+{
     match (stem_len(a), stem_len(b)) {
         (Some(m), Some(n)) => a[..m] == b[..n],
         _ => false,
     }
 }
 
-/// How many bytes stand before the last `_NUMBER` of the name, if it has one.
-pub(crate) fn stem_len(name: &[u8]) -> Option<usize> {
+// How many bytes of the name stand before a last `_NUMBER`.
+fn stem_len(name: &[u8]) -> Option<usize>
+    ensures value { result ≡ stem_length name.now }
+    ensures within { IfSome result (λ m. m ≤ length name.now) }
+{
     for k in 0..name.len() {
         if name[k] == b'_' && is_number(&name[k + 1..]) {
             return Some(k);
@@ -18,6 +27,8 @@ pub(crate) fn stem_len(name: &[u8]) -> Option<usize> {
     None
 }
 
-fn is_number(bytes: &[u8]) -> bool {
-    !bytes.is_empty() && bytes.iter().all(|byte| byte.is_ascii_digit())
+fn is_number(bytes: &[u8]) -> bool
+    ensures { result ≡ is_number bytes.now }
+{
+    bytes.len() != 0 && bytes.iter().all(|byte| byte.is_ascii_digit())
 }

@@ -1,0 +1,5 @@
+pub mod Causes
+pub mod Families
+pub mod Groupings
+pub mod Names
+pub mod Orders

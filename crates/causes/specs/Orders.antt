@@ -1,0 +1,52 @@
+-- Pairs in the order of their wires, and the first of each cause. Only private contracts and proofs use this.
+use Rattle.std.specs.Prelude.{◌≡◌, ℕ, ◌<◌, ◌≤◌, List, length, Some, slice_get}
+use Rattle.std.specs.List.{Contains}
+use Rattle.causes.specs.declared.groups.Group.{Group}
+use Rattle.causes.specs.declared.meetings.Cause.{Cause}
+use Rattle.causes.specs.Groupings.{IsNoLater}
+
+-- the length of each wire, with its place
+pub record IsNumbered (wires : List ℕ) (order : List (ℕ × ℕ)) : Type 0 where
+  pub whole : length order ≡ length wires
+  pub each : (k l : ℕ) → slice_get wires k ≡ Some l → slice_get order k ≡ Some (l, k)
+
+-- the same, the shortest wire first
+pub record IsOrder (wires : List ℕ) (order : List (ℕ × ℕ)) : Type 0 where
+  pub of : (i : ℕ) (p : ℕ × ℕ) → slice_get order i ≡ Some p → slice_get wires p.1 ≡ Some p.0
+  pub all : (k l : ℕ) → slice_get wires k ≡ Some l → (i : ℕ) × (slice_get order i ≡ Some (l, k))
+  pub sorted : (i j : ℕ) (p q : ℕ × ℕ) → i ≤ j → slice_get order i ≡ Some p → slice_get order j ≡ Some q → IsNoLater p q
+
+-- Of the first n in this order: `keys` are their causes, each once, and `places` has where in the order each first stands.
+pub record AreFirsts (causes : List Cause) (order : List (ℕ × ℕ)) (n : ℕ) (keys : List Cause) (places : List ℕ) : Type 0 where
+  pub paired : length places ≡ length keys
+  pub below : (g i : ℕ) → slice_get places g ≡ Some i → i < n
+  pub of : (g i : ℕ) (p : ℕ × ℕ) → slice_get places g ≡ Some i → slice_get order i ≡ Some p → slice_get keys g ≡ slice_get causes p.1
+  pub known : (j : ℕ) (p : ℕ × ℕ) → j < n → slice_get order j ≡ Some p → (g : ℕ) × (slice_get keys g ≡ slice_get causes p.1)
+  pub once : (g h : ℕ) (c : Cause) → slice_get keys g ≡ Some c → slice_get keys h ≡ Some c → g ≡ h
+  pub earliest : (g i j : ℕ) (p : ℕ × ℕ) → slice_get places g ≡ Some i → j < n → slice_get order j ≡ Some p → slice_get keys g ≡ slice_get causes p.1 → i ≤ j
+  pub ascending : (g h i j : ℕ) → g < h → slice_get places g ≡ Some i → slice_get places h ≡ Some j → i < j
+
+-- each cause with its place among the keys
+pub record AreNumbers (keys causes : List Cause) (numbers : List ℕ) : Type 0 where
+  pub whole : length numbers ≡ length causes
+  pub each : (k g : ℕ) → slice_get numbers k ≡ Some g → slice_get keys g ≡ slice_get causes k
+  pub within : (k g : ℕ) → slice_get numbers k ≡ Some g → g < length keys
+
+-- each key is a cause of these
+abbrev pub AllKnown : List Cause → List Cause → Type 0
+AllKnown keys causes = (k : ℕ) (c : Cause) → slice_get causes k ≡ Some c → Contains keys c
+
+-- the places in this order are below n
+abbrev pub IsWithin : ℕ → List (ℕ × ℕ) → Type 0
+IsWithin n order = (i : ℕ) (p : ℕ × ℕ) → slice_get order i ≡ Some p → p.1 < n
+
+-- the numbers are below n
+abbrev pub AreWithin : ℕ → List ℕ → Type 0
+AreWithin n numbers = (k g : ℕ) → slice_get numbers k ≡ Some g → g < n
+
+-- for each of these places there is a group, with the cause and the place that stand there
+pub record AreGroupsAt (causes : List Cause) (order : List (ℕ × ℕ)) (places counts : List ℕ) (groups : List Group) : Type 0 where
+  pub whole : length groups ≡ length places
+  pub cause : (g i : ℕ) (p : ℕ × ℕ) (group : Group) → slice_get groups g ≡ Some group → slice_get places g ≡ Some i → slice_get order i ≡ Some p → slice_get causes p.1 ≡ Some group.cause
+  pub example : (g i : ℕ) (p : ℕ × ℕ) (group : Group) → slice_get groups g ≡ Some group → slice_get places g ≡ Some i → slice_get order i ≡ Some p → group.example ≡ p.1
+  pub pairs : (g : ℕ) (group : Group) → slice_get groups g ≡ Some group → slice_get counts g ≡ Some group.pairs
