@@ -26,9 +26,13 @@ names_alike plan m n = are_alike (name_at plan.messages m) (name_at plan.message
 abbrev pub first_relative : Contents → ℕ → ℕ
 first_relative plan m = first_from (names_alike plan m) m 0
 
+-- one message, or two whose names are alike
+abbrev pub are_relatives : Contents → ℕ → ℕ → Bool
+are_relatives plan m n = (n == m) || names_alike plan m n
+
 -- how many messages are m or have a name like it
 abbrev pub relatives : Contents → ℕ → ℕ
-relatives plan m = count_below (λ n. (n == m) || names_alike plan m n) (length plan.messages)
+relatives plan m = count_below (are_relatives plan m) (length plan.messages)
 
 -- the family of the message m
 unfoldable pub family_of : Contents → ℕ → Family

@@ -1,6 +1,5 @@
 -- Pairs in the order of their wires, and the first of each cause. Only private contracts and proofs use this.
 use Rattle.std.specs.Prelude.{◌≡◌, ℕ, ◌<◌, ◌≤◌, List, length, Some, slice_get}
-use Rattle.std.specs.List.{Contains}
 use Rattle.causes.specs.declared.groups.Group.{Group}
 use Rattle.causes.specs.declared.meetings.Cause.{Cause}
 use Rattle.causes.specs.Groupings.{IsNoLater}
@@ -16,14 +15,20 @@ pub record IsOrder (wires : List ℕ) (order : List (ℕ × ℕ)) : Type 0 where
   pub all : (k l : ℕ) → slice_get wires k ≡ Some l → (i : ℕ) × (slice_get order i ≡ Some (l, k))
   pub sorted : (i j : ℕ) (p q : ℕ × ℕ) → i ≤ j → slice_get order i ≡ Some p → slice_get order j ≡ Some q → IsNoLater p q
 
+-- this is such an order of as many wires as there are causes
+pub record HasOrder (causes : List Cause) (order : List (ℕ × ℕ)) : Type 0 where
+  pub wires : List ℕ
+  pub whole : length wires ≡ length causes
+  pub sorted : IsOrder wires order
+
 -- Of the first n in this order: `keys` are their causes, each once, and `places` has where in the order each first stands.
 pub record AreFirsts (causes : List Cause) (order : List (ℕ × ℕ)) (n : ℕ) (keys : List Cause) (places : List ℕ) : Type 0 where
   pub paired : length places ≡ length keys
   pub below : (g i : ℕ) → slice_get places g ≡ Some i → i < n
-  pub of : (g i : ℕ) (p : ℕ × ℕ) → slice_get places g ≡ Some i → slice_get order i ≡ Some p → slice_get keys g ≡ slice_get causes p.1
-  pub known : (j : ℕ) (p : ℕ × ℕ) → j < n → slice_get order j ≡ Some p → (g : ℕ) × (slice_get keys g ≡ slice_get causes p.1)
+  pub of : (g i : ℕ) (p : ℕ × ℕ) (c : Cause) → slice_get places g ≡ Some i → slice_get order i ≡ Some p → slice_get keys g ≡ Some c → slice_get causes p.1 ≡ Some c
+  pub known : (j : ℕ) (p : ℕ × ℕ) (c : Cause) → j < n → slice_get order j ≡ Some p → slice_get causes p.1 ≡ Some c → (g : ℕ) × (slice_get keys g ≡ Some c)
   pub once : (g h : ℕ) (c : Cause) → slice_get keys g ≡ Some c → slice_get keys h ≡ Some c → g ≡ h
-  pub earliest : (g i j : ℕ) (p : ℕ × ℕ) → slice_get places g ≡ Some i → j < n → slice_get order j ≡ Some p → slice_get keys g ≡ slice_get causes p.1 → i ≤ j
+  pub earliest : (g i j : ℕ) (p : ℕ × ℕ) (c : Cause) → slice_get places g ≡ Some i → slice_get keys g ≡ Some c → j < n → slice_get order j ≡ Some p → slice_get causes p.1 ≡ Some c → i ≤ j
   pub ascending : (g h i j : ℕ) → g < h → slice_get places g ≡ Some i → slice_get places h ≡ Some j → i < j
 
 -- each cause with its place among the keys
@@ -34,7 +39,7 @@ pub record AreNumbers (keys causes : List Cause) (numbers : List ℕ) : Type 0 w
 
 -- each key is a cause of these
 abbrev pub AllKnown : List Cause → List Cause → Type 0
-AllKnown keys causes = (k : ℕ) (c : Cause) → slice_get causes k ≡ Some c → Contains keys c
+AllKnown keys causes = (k : ℕ) (c : Cause) → slice_get causes k ≡ Some c → (g : ℕ) × (slice_get keys g ≡ Some c)
 
 -- the places in this order are below n
 abbrev pub IsWithin : ℕ → List (ℕ × ℕ) → Type 0

@@ -4,7 +4,7 @@ ghost use Rattle.std.specs.Prelude.{◌≡◌, ◌<◌, IfOk, length, slice_inde
 ghost use Rattle.plan_core.specs.declared.plans.Participant.TheVariants.{Interrupt};
 ghost use Rattle.plan_core.specs.Participants.{participants_of, participant_count};
 ghost use Rattle.plan_core.specs.PlanContents.{plan_contents};
-ghost use Rattle.causes.specs.Families.{AreFamilies, family_at, family_of, first_relative, is_several, messages_in, names_alike, relatives};
+ghost use Rattle.causes.specs.Families.{AreFamilies, are_relatives, family_at, family_of, first_relative, is_several, messages_in, names_alike, relatives};
 
 use crate::names::are_alike;
 use plan_core::{Participant, Plan};
@@ -104,6 +104,7 @@ fn family_of(plan: &Plan, m: u32) -> Family
 }
 
 // The first message that is this one or has a name like it.
+#[tactic(auto, using(crate::proofs::FamilyLemmas::first_step))]
 fn first_relative(plan: &Plan, m: u32) -> u32
     requires { m < length (plan_contents plan.now).messages }
     ensures { result ≡ first_relative (plan_contents plan.now) m }
@@ -117,17 +118,27 @@ fn first_relative(plan: &Plan, m: u32) -> u32
 }
 
 // How many messages are this one or have a name like it.
+#[tactic(auto, using(crate::proofs::FamilyLemmas::count_step))]
 fn relatives(plan: &Plan, m: u32) -> u32
     requires { m < length (plan_contents plan.now).messages }
     ensures { result ≡ relatives (plan_contents plan.now) m }
 {
     let mut count = 0;
     for n in 0..plan.messages() {
-        if n == m || names_alike(plan, m, n) {
+        if are_relatives(plan, m, n) {
             count += 1;
         }
     }
     count
+}
+
+// Whether these are one message, or two whose names are alike.
+fn are_relatives(plan: &Plan, m: u32, n: u32) -> bool
+    requires first { m < length (plan_contents plan.now).messages }
+    requires second { n < length (plan_contents plan.now).messages }
+    ensures { result ≡ are_relatives (plan_contents plan.now) m n }
+{
+    n == m || names_alike(plan, m, n)
 }
 
 // Whether the names of the messages with these numbers are alike.

@@ -1,16 +1,32 @@
 // What has one cause, by number.
 
-ghost use Rattle.std.specs.Prelude.{◌≡◌, ◌<◌, ℕ, IfOk, Some, length, nat_eq, slice_get};
+ghost use Rattle.std.specs.Prelude.{◌≡◌, ◌<◌, [], ◌∷◌, ◌++◌, ℕ, IfOk, OnOk, List, Some, length, nat_eq, slice_get, slice_index_or, if◌then◌else◌};
 ghost use Rattle.std.specs.List.{count_by};
 ghost use Rattle.indexmap.specs.IndexSet.{keys};
-ghost use Rattle.causes.specs.Orders.{AllKnown, AreFirsts, AreNumbers, AreWithin, IsWithin};
+ghost use Rattle.causes.specs.declared.meetings.Cause.{Cause};
+ghost use Rattle.causes.specs.Orders.{AllKnown, AreFirsts, AreNumbers, AreWithin, HasOrder, IsWithin};
 
 use crate::meetings::Cause;
 use indexmap::IndexSet;
 use std::alloc::{AllocError, Global};
 
-/// Each different cause once, in this order, and where in the order it stands first.
-pub(crate) fn firsts(
+/// Where in this order each different cause stands first, and the number that each cause then has.
+pub(crate) fn numbered(
+    alloc: Global,
+    causes: &[Cause],
+    order: &[(usize, usize)],
+) -> Result<(Vec<usize>, Vec<usize>), AllocError>
+    requires { HasOrder causes.now order.now }
+    ensures { IfOk result (λ found. (keys : List Cause) ×
+        AreFirsts causes.now order.now (length order.now) keys found.0.items × AreNumbers keys causes.now found.1.items) }
+{
+    let (known, places) = firsts(alloc, causes, order)?;
+    let numbers = numbers(alloc, &known, causes)?;
+    Ok((places, numbers))
+}
+
+// Each different cause once, in this order, and where in the order it stands first.
+fn firsts(
     alloc: Global,
     causes: &[Cause],
     order: &[(usize, usize)],
@@ -22,17 +38,33 @@ pub(crate) fn firsts(
     let mut known = IndexSet::new(alloc);
     let mut places = Vec::new(alloc);
     for i in 0..order.len() {
-        let (_, k) = order[i];
-        let (_, is_new) = known.insert_full(causes[k])?;
-        if is_new {
-            places.push(i)?;
-        }
+        let (_, is_new) = known.insert_full(cause_at(causes, order, i))?;
+        push_if(&mut places, is_new, i)?;
     }
     Ok((known, places))
 }
 
-/// The number that each cause has among these.
-pub(crate) fn numbers(
+// The cause that stands at this place in the order.
+fn cause_at(causes: &[Cause], order: &[(usize, usize)], i: usize) -> Cause
+    requires place { i < length order.now }
+    requires within { (slice_index_or order.now i (0, 0)).1 < length causes.now }
+    ensures { slice_get causes.now (slice_index_or order.now i (0, 0)).1 ≡ Some result }
+{
+    let (_, k) = order[i];
+    causes[k]
+}
+
+fn push_if(places: &mut Vec<usize>, is_new: bool, i: usize) -> Result<(), AllocError>
+    ensures { OnOk result (places.new.items ≡ (if is_new then places.old.items ++ i ∷ [] else places.old.items)) }
+{
+    if is_new {
+        places.push(i)?;
+    }
+    Ok(())
+}
+
+// The number that each cause has among these.
+fn numbers(
     alloc: Global,
     known: &IndexSet<Cause>,
     causes: &[Cause],

@@ -1,13 +1,13 @@
 // The groups of the unsafe pairs of a plan.
 
-ghost use Rattle.std.specs.Prelude.{◌≡◌, ◌<◌, IfOk, Some, length, slice_get};
+ghost use Rattle.std.specs.Prelude.{◌≡◌, ◌<◌, ℕ, IfOk, List, Some, length, slice_get, slice_index_or};
 ghost use Rattle.plan_core.specs.PlanContents.{plan_contents};
 ghost use Rattle.verdicts.specs.Faults.{AreFaults, fault_list};
 ghost use Rattle.causes.specs.Causes.{causes_of, wires_of};
 ghost use Rattle.causes.specs.Groupings.{AreGroups, group_list, number_list};
-ghost use Rattle.causes.specs.Orders.{AreGroupsAt, AreWithin, IsWithin};
+ghost use Rattle.causes.specs.Orders.{AreGroupsAt, AreWithin, HasOrder, IsOrder, IsWithin};
 
-use crate::grouping::{counts, firsts, numbers};
+use crate::grouping::{counts, numbered};
 use crate::keys::causes_of;
 use crate::meetings::Cause;
 use crate::orders::by_wire;
@@ -33,6 +33,13 @@ pub struct Groups {
 }
 
 impl Groups {
+    /// How many unsafe pairs there are.
+    pub fn pairs(&self) -> usize
+        ensures { result ≡ length (number_list self.now) }
+    {
+        self.numbers.len()
+    }
+
     /// How many groups there are.
     pub fn len(&self) -> usize
         ensures { result ≡ length (group_list self.now) }
@@ -66,10 +73,22 @@ pub fn groups_of(alloc: Global, plan: &Plan, faults: &Faults) -> Result<Groups, 
 {
     let causes = causes_of(alloc, plan, faults)?;
     let order = by_wire(alloc, faults)?;
-    let (known, places) = firsts(alloc, &causes, &order)?;
-    let numbers = numbers(alloc, &known, &causes)?;
-    let counts = counts(alloc, places.len(), &numbers)?;
-    let groups = groups_at(alloc, &causes, &order, &places, &counts)?;
+    grouped(alloc, causes.as_slice(), order.as_slice())
+}
+
+// What has these causes, in groups, where this is the order of the wires.
+fn grouped(
+    alloc: Global,
+    causes: &[Cause],
+    order: &[(usize, usize)],
+) -> Result<Groups, AllocError>
+    requires { HasOrder causes.now order.now }
+    ensures { IfOk result (λ groups. (wires : List ℕ) → length wires ≡ length causes.now → IsOrder wires order.now →
+        AreGroups causes.now wires (group_list groups) (number_list groups)) }
+{
+    let (places, numbers) = numbered(alloc, causes, order)?;
+    let counts = counts(alloc, places.len(), numbers.as_slice())?;
+    let groups = groups_at(alloc, causes, order, places.as_slice(), counts.as_slice())?;
     Ok(Groups { groups, numbers })
 }
 
@@ -88,13 +107,23 @@ fn groups_at(
 {
     let mut groups = Vec::with_capacity(alloc, places.len())?;
     for g in 0..places.len() {
-        let (_, k) = order[places[g]];
-        let group = Group {
-            cause: causes[k],
-            pairs: counts[g],
-            example: k,
-        };
-        groups.push(group)?;
+        groups.push(group_at(causes, order, places[g], counts[g]))?;
     }
     Ok(groups)
+}
+
+// A group of so many pairs, whose example stands at this place in the order.
+fn group_at(causes: &[Cause], order: &[(usize, usize)], i: usize, pairs: usize) -> Group
+    requires place { i < length order.now }
+    requires within { (slice_index_or order.now i (0, 0)).1 < length causes.now }
+    ensures cause { slice_get causes.now (slice_index_or order.now i (0, 0)).1 ≡ Some result.cause }
+    ensures example { result.example ≡ (slice_index_or order.now i (0, 0)).1 }
+    ensures pairs { result.pairs ≡ pairs }
+{
+    let (_, k) = order[i];
+    Group {
+        cause: causes[k],
+        pairs,
+        example: k,
+    }
 }

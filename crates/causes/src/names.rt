@@ -1,6 +1,8 @@
 // Names that are alike but for a number at the end.
 
 ghost use Rattle.std.specs.Prelude.{◌≡◌, ◌≤◌, IfSome, length};
+ghost use Rattle.std.specs.Char.{is_ascii_digit};
+ghost use Rattle.std.specs.List.{list_all};
 ghost use Rattle.causes.specs.Names.{are_alike, is_number, stem_length};
 
 /// Whether both names end in `_NUMBER`, and what stands before it is the same.
@@ -30,5 +32,17 @@ fn stem_len(name: &[u8]) -> Option<usize>
 fn is_number(bytes: &[u8]) -> bool
     ensures { result ≡ is_number bytes.now }
 {
-    bytes.len() != 0 && bytes.iter().all(|byte| byte.is_ascii_digit())
+    bytes.len() != 0 && are_digits(bytes)
+}
+
+fn are_digits(bytes: &[u8]) -> bool
+    ensures { result ≡ list_all is_ascii_digit bytes.now }
+{
+    bytes.iter().all(|byte| is_digit(*byte))
+}
+
+fn is_digit(byte: u8) -> bool
+    ensures { result ≡ is_ascii_digit byte }
+{
+    byte.is_ascii_digit()
 }
