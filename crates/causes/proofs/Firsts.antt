@@ -1,5 +1,5 @@
 -- The first of each cause in an order, one more at a time.
-use Rattle.std.proofs.Common.{◌≡◌, ℕ, zero, suc, ◌+◌, ◌<◌, ◌≤◌, ◌||◌, Bool, true, false, ◌⊎◌, inl, inr, Some, List, [], ◌∷◌, ◌++◌, length, slice_get, refl, ap, sym, ◌∙◌, arith, length-append}
+use Rattle.std.proofs.Common.{◌≡◌, ℕ, zero, suc, ◌+◌, ◌<◌, ◌≤◌, Bool, true, false, ◌⊎◌, inl, inr, Some, List, [], ◌∷◌, ◌++◌, length, slice_get, refl, ap, sym, ◌∙◌, arith, length-append}
 use Rattle.std.specs.Prelude.{not, if◌then◌else◌}
 use Rattle.std.specs.List.{list_any}
 use Rattle.std.proofs.lemmas.Bool.{cases_lt}
@@ -8,6 +8,8 @@ use Rattle.indexmap.specs.IndexSet.{insert_key}
 use Rattle.indexmap.proofs.CallerLemmas.{Contains-list_any}
 use Rattle.causes.specs.declared.meetings.Cause.{Cause}
 use Rattle.causes.specs.Orders.{AreFirsts}
+use Rattle.causes.specs.contracts.meetings.CausePartialEq.TheImpl.{eq-value}
+use Rattle.causes.proofs.Lookups.{exact, any_at}
 use Rattle.causes.proofs.Pushes.{push_old, push_new, push_cases}
 
 pub firsts_none : (causes : List Cause) (order : List (ℕ × ℕ)) → AreFirsts causes order 0 [] []
@@ -128,25 +130,13 @@ module _ (causes : List Cause) (order : List (ℕ × ℕ)) (n : ℕ) (keys : Lis
     }
 
   -- what an insertion tells
-  module _ (eq : Cause → Cause → Bool) (exact : (x y : Cause) → eq x y ≡ true → x ≡ y) (itself : (x : Cause) → eq x x ≡ true) where
-    any_at : (xs : List Cause) (g : ℕ) → slice_get xs g ≡ Some c → list_any (eq c) xs ≡ true
-    any_at [] g e = cc
-    any_at (x ∷ xs) zero e =
-        let one : x ≡ c = cc in
-        ap (λ (y : Cause). eq c y || list_any (eq c) xs) one ∙ ap (λ (b : Bool). b || list_any (eq c) xs) (itself c)
-    any_at (x ∷ xs) (suc g) e = ap (λ (b : Bool). eq c x || b) (any_at xs g e) ∙ or_true (eq c x)
-      where
-        or_true : (b : Bool) → (b || true) ≡ true
-        or_true true = refl
-        or_true false = refl
-
-    pub firsts_more : (is_new : Bool) → is_new ≡ not (list_any (eq c) keys) → AreFirsts causes order (n + 1) (insert_key eq keys c) (if is_new then places ++ n ∷ [] else places)
-    firsts_more is_new e = by (list_any (eq c) keys) refl is_new e
-      where
-        by : (b : Bool) → list_any (eq c) keys ≡ b → (new : Bool) → new ≡ not b → AreFirsts causes order (n + 1) (if b then keys else keys ++ c ∷ []) (if new then places ++ n ∷ [] else places)
-        by true stands false e =
-            let r = Contains-list_any eq exact keys c stands in
-            firsts_known r.0 (slice_get-get_or keys r.0 c r.1 ∙ ap Some r.2)
-        by true stands true e = cc
-        by false none true e = firsts_new (λ g stands. let both : true ≡ false = sym (any_at keys g stands) ∙ none in cc)
-        by false none false e = cc
+  pub firsts_more : (is_new : Bool) → is_new ≡ not (list_any (eq-value.it c) keys) → AreFirsts causes order (n + 1) (insert_key eq-value.it keys c) (if is_new then places ++ n ∷ [] else places)
+  firsts_more is_new e = by (list_any (eq-value.it c) keys) refl is_new e
+    where
+      by : (b : Bool) → list_any (eq-value.it c) keys ≡ b → (new : Bool) → new ≡ not b → AreFirsts causes order (n + 1) (if b then keys else keys ++ c ∷ []) (if new then places ++ n ∷ [] else places)
+      by true stands false e =
+          let r = Contains-list_any eq-value.it exact keys c stands in
+          firsts_known r.0 (slice_get-get_or keys r.0 c r.1 ∙ ap Some r.2)
+      by true stands true e = cc
+      by false none true e = firsts_new (λ g stands. let both : true ≡ false = sym (any_at c keys g stands) ∙ none in cc)
+      by false none false e = cc

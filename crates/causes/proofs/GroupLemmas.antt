@@ -2,12 +2,22 @@
 use Rattle.std.proofs.Common.{◌≡◌, ℕ, ◌+◌, ◌<◌, Some, List, length, slice_get, refl, ap, sym, subst, ◌∙◌, arith}
 use Rattle.std.specs.Prelude.{nat_eq}
 use Rattle.std.specs.List.{count_by}
+use Rattle.std.proofs.Math.Seq.{take-length}
+use Rattle.std.proofs.lemmas.List.{length-map}
 use Rattle.std.proofs.lemmas.Option.{slice_get_within}
+use Rattle.certificate.specs.declared.values.Fault.{Fault}
+use Rattle.plan_core.specs.Contents.{Contents}
+use Rattle.causes.specs.Causes.{cause_of, causes_of, wires_of}
 use Rattle.plan_core.proofs.ListLemmas.{some_at}
 use Rattle.causes.specs.declared.groups.Group.{Group}
 use Rattle.causes.specs.declared.meetings.Cause.{Cause}
 use Rattle.causes.specs.Groupings.{AreGroups, IsNoLater}
-use Rattle.causes.specs.Orders.{IsOrder, AreFirsts, AreNumbers, AreGroupsAt, IsWithin, AreWithin, AllKnown}
+use Rattle.causes.specs.Orders.{IsOrder, AreFirsts, AreNumbers, AreCounts, AreGroupsAt, IsWithin, AreWithin, AllKnown}
+
+-- a plan has as many causes as wires
+pub same_count : (plan : Contents) (faults : List (ℕ × Fault)) (causes : List Cause) → causes ≡ causes_of plan faults → length (wires_of faults) ≡ length causes
+same_count plan faults causes e =
+    length-map faults (λ (found : ℕ × Fault). length found.1.wire.items) ∙ sym (ap length e ∙ length-map faults (cause_of plan))
 
 -- what stands in an order of these wires is within as many causes
 pub order_within : (causes : List Cause) (wires : List ℕ) (order : List (ℕ × ℕ)) → length wires ≡ length causes → IsOrder wires order → IsWithin (length causes) order
@@ -20,7 +30,7 @@ module _ (causes : List Cause) (wires : List ℕ) (order : List (ℕ × ℕ)) (k
       let r = ord.all k l.0 l.1 in
       firsts.known r.0 (l.0, k) c (slice_get_within order r.0 (l.0, k) r.1) r.1 e
 
-  module _ (numbers counts : List ℕ) (groups : List Group) (nums : AreNumbers keys causes numbers) (counted : (g : ℕ) → g < length places → slice_get counts g ≡ Some (count_by (nat_eq g) numbers)) (at : AreGroupsAt causes order places counts groups) where
+  module _ (numbers counts : List ℕ) (groups : List Group) (nums : AreNumbers keys causes (length causes) numbers) (counted : AreCounts (length places) numbers (length numbers) counts) (at : AreGroupsAt causes order places counts (length places) groups) where
     -- where the example of a group stands
     record Stands (g : ℕ) (group : Group) : Type 0 where
       i : ℕ
@@ -95,7 +105,7 @@ module _ (causes : List Cause) (wires : List ℕ) (order : List (ℕ × ℕ)) (k
       );
       counted = λ g group e.
         let within = slice_get_within groups g group e in
-        let one : Some group.pairs ≡ Some (count_by (nat_eq g) numbers) = sym (at.pairs g group e) ∙ counted g (omega (arith, within, at.whole)) in
+        let one : Some group.pairs ≡ Some (count_by (nat_eq g) numbers) = sym (at.pairs g group e) ∙ (counted.each g (omega (arith, within, at.whole)) ∙ ap (λ (xs : List ℕ). Some (count_by (nat_eq g) xs)) (take-length numbers)) in
         cc;
       example = example_stands;
       shortest = shortest_stands;

@@ -1,5 +1,5 @@
 -- Names that are alike but for a number at the end.
-use Rattle.std.specs.Prelude.{ℕ, suc, Bool, true, false, ◌&&◌, ◌==◌, not, List, [], ◌∷◌, take, length, Option, Some, None, option_map, if◌then◌else◌}
+use Rattle.std.specs.Prelude.{ℕ, suc, Bool, true, false, ◌&&◌, ◌==◌, not, List, [], ◌∷◌, ◌+◌, drop, slice_index, take, length, Option, Some, None, option_map, if◌then◌else◌}
 use Rattle.std.specs.Char.{is_ascii_digit}
 use Rattle.std.specs.List.{list_all}
 use Rattle.std.specs.Str.{bytes_eq}
@@ -8,6 +8,10 @@ use Rattle.message_tree.specs.Codes.{code}
 -- one digit or more, and nothing else
 abbrev pub is_number : List ℕ → Bool
 is_number bytes = not (length bytes == 0) && list_all is_ascii_digit bytes
+
+-- the bytes from k on are `_NUMBER`
+abbrev pub has_number_at : List ℕ → ℕ → Bool
+has_number_at name k = (slice_index name k == code "_") && is_number (drop (k + 1) name)
 
 -- how many bytes stand before a last `_NUMBER`
 abbrev pub stem_length : List ℕ → Option ℕ

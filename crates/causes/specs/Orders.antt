@@ -1,5 +1,6 @@
 -- Pairs in the order of their wires, and the first of each cause. Only private contracts and proofs use this.
-use Rattle.std.specs.Prelude.{◌≡◌, ℕ, ◌<◌, ◌≤◌, List, length, Some, slice_get}
+use Rattle.std.specs.Prelude.{◌≡◌, ℕ, ◌<◌, ◌≤◌, List, length, nat_eq, Some, slice_get, take}
+use Rattle.std.specs.List.{count_by}
 use Rattle.causes.specs.declared.groups.Group.{Group}
 use Rattle.causes.specs.declared.meetings.Cause.{Cause}
 use Rattle.causes.specs.Groupings.{IsNoLater}
@@ -31,11 +32,16 @@ pub record AreFirsts (causes : List Cause) (order : List (ℕ × ℕ)) (n : ℕ)
   pub earliest : (g i j : ℕ) (p : ℕ × ℕ) (c : Cause) → slice_get places g ≡ Some i → slice_get keys g ≡ Some c → j < n → slice_get order j ≡ Some p → slice_get causes p.1 ≡ Some c → i ≤ j
   pub ascending : (g h i j : ℕ) → g < h → slice_get places g ≡ Some i → slice_get places h ≡ Some j → i < j
 
--- each cause with its place among the keys
-pub record AreNumbers (keys causes : List Cause) (numbers : List ℕ) : Type 0 where
-  pub whole : length numbers ≡ length causes
+-- for each of the first n causes its place among the keys
+pub record AreNumbers (keys causes : List Cause) (n : ℕ) (numbers : List ℕ) : Type 0 where
+  pub whole : length numbers ≡ n
   pub each : (k g : ℕ) → slice_get numbers k ≡ Some g → slice_get keys g ≡ slice_get causes k
   pub within : (k g : ℕ) → slice_get numbers k ≡ Some g → g < length keys
+
+-- how often each number below n stands among the first m of these
+pub record AreCounts (n : ℕ) (numbers : List ℕ) (m : ℕ) (counts : List ℕ) : Type 0 where
+  pub whole : length counts ≡ n
+  pub each : (g : ℕ) → g < n → slice_get counts g ≡ Some (count_by (nat_eq g) (take m numbers))
 
 -- each key is a cause of these
 abbrev pub AllKnown : List Cause → List Cause → Type 0
@@ -49,9 +55,9 @@ IsWithin n order = (i : ℕ) (p : ℕ × ℕ) → slice_get order i ≡ Some p �
 abbrev pub AreWithin : ℕ → List ℕ → Type 0
 AreWithin n numbers = (k g : ℕ) → slice_get numbers k ≡ Some g → g < n
 
--- for each of these places there is a group, with the cause and the place that stand there
-pub record AreGroupsAt (causes : List Cause) (order : List (ℕ × ℕ)) (places counts : List ℕ) (groups : List Group) : Type 0 where
-  pub whole : length groups ≡ length places
+-- for each of the first n of these places there is a group, with the cause and the place that stand there
+pub record AreGroupsAt (causes : List Cause) (order : List (ℕ × ℕ)) (places counts : List ℕ) (n : ℕ) (groups : List Group) : Type 0 where
+  pub whole : length groups ≡ n
   pub cause : (g i : ℕ) (p : ℕ × ℕ) (group : Group) → slice_get groups g ≡ Some group → slice_get places g ≡ Some i → slice_get order i ≡ Some p → slice_get causes p.1 ≡ Some group.cause
   pub example : (g i : ℕ) (p : ℕ × ℕ) (group : Group) → slice_get groups g ≡ Some group → slice_get places g ≡ Some i → slice_get order i ≡ Some p → group.example ≡ p.1
   pub pairs : (g : ℕ) (group : Group) → slice_get groups g ≡ Some group → slice_get counts g ≡ Some group.pairs

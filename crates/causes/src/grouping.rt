@@ -1,10 +1,9 @@
 // What has one cause, by number.
 
-ghost use Rattle.std.specs.Prelude.{◌≡◌, ◌<◌, [], ◌∷◌, ◌++◌, ℕ, IfOk, OnOk, List, Some, length, nat_eq, slice_get, slice_index_or, if◌then◌else◌};
-ghost use Rattle.std.specs.List.{count_by};
+ghost use Rattle.std.specs.Prelude.{◌≡◌, ◌+◌, ◌<◌, [], ◌∷◌, ◌++◌, ℕ, IfOk, OnOk, List, Some, length, replicate, slice_get, slice_index, slice_index_or, slice_set, if◌then◌else◌};
 ghost use Rattle.indexmap.specs.IndexSet.{keys};
 ghost use Rattle.causes.specs.declared.meetings.Cause.{Cause};
-ghost use Rattle.causes.specs.Orders.{AllKnown, AreFirsts, AreNumbers, AreWithin, HasOrder, IsWithin};
+ghost use Rattle.causes.specs.Orders.{AllKnown, AreCounts, AreFirsts, AreNumbers, AreWithin, HasOrder, IsWithin};
 
 use crate::meetings::Cause;
 use indexmap::IndexSet;
@@ -18,7 +17,7 @@ pub(crate) fn numbered(
 ) -> Result<(Vec<usize>, Vec<usize>), AllocError>
     requires { HasOrder causes.now order.now }
     ensures { IfOk result (λ found. (keys : List Cause) ×
-        AreFirsts causes.now order.now (length order.now) keys found.0.items × AreNumbers keys causes.now found.1.items) }
+        AreFirsts causes.now order.now (length order.now) keys found.0.items × AreNumbers keys causes.now (length causes.now) found.1.items) }
 {
     let (known, places) = firsts(alloc, causes, order)?;
     let numbers = numbers(alloc, &known, causes)?;
@@ -70,26 +69,46 @@ fn numbers(
     causes: &[Cause],
 ) -> Result<Vec<usize>, AllocError>
     requires { AllKnown (keys known.now) causes.now }
-    ensures { IfOk result (λ numbers. AreNumbers (keys known.now) causes.now numbers.items) }
+    ensures { IfOk result (λ numbers. AreNumbers (keys known.now) causes.now (length causes.now) numbers.items) }
 {
     let mut numbers = Vec::with_capacity(alloc, causes.len())?;
     for k in 0..causes.len() {
-        if let Some(g) = known.get_index_of(&causes[k]) {
-            numbers.push(g)?;
-        }
+        let g = number_in(known, &causes[k]);
+        numbers.push(g)?;
     }
     Ok(numbers)
+}
+
+fn number_in(known: &IndexSet<Cause>, cause: &Cause) -> usize
+    requires { (g : ℕ) × (slice_get (keys known.now) g ≡ Some cause.now) }
+    ensures { slice_get (keys known.now) result ≡ Some cause.now }
+{
+    known.get_index_of(cause).unwrap()
 }
 
 /// How often each number below `n` stands among these.
 pub(crate) fn counts(alloc: Global, n: usize, numbers: &[usize]) -> Result<Vec<usize>, AllocError>
     requires { AreWithin n numbers.now }
-    ensures { IfOk result (λ counts. (length counts.items ≡ n) ×
-        ((g : ℕ) → g < n → slice_get counts.items g ≡ Some (count_by (nat_eq g) numbers.now))) }
+    ensures { IfOk result (λ counts. AreCounts n numbers.now (length numbers.now) counts.items) }
 {
-    let mut counts: Vec<usize> = vec![in alloc; 0; n]?;
-    for g in numbers {
-        counts[*g] += 1;
+    let mut counts = zeros(alloc, n)?;
+    for i in 0..numbers.len() {
+        count_one(&mut counts, numbers[i], numbers.len());
     }
     Ok(counts)
+}
+
+fn zeros(alloc: Global, n: usize) -> Result<Vec<usize>, AllocError>
+    ensures { IfOk result (λ counts. counts.items ≡ replicate n 0) }
+{
+    vec![in alloc; 0; n]
+}
+
+// Counts one more of this number, where there are at most so many.
+fn count_one(counts: &mut Vec<usize>, g: usize, most: usize)
+    requires within { g < length counts.old.items }
+    requires fewer { slice_index counts.old.items g < most }
+    ensures { counts.new.items ≡ slice_set counts.old.items g (slice_index counts.old.items g + 1) }
+{
+    counts[g] += 1;
 }

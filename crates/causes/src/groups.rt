@@ -73,7 +73,8 @@ pub fn groups_of(alloc: Global, plan: &Plan, faults: &Faults) -> Result<Groups, 
 {
     let causes = causes_of(alloc, plan, faults)?;
     let order = by_wire(alloc, faults)?;
-    grouped(alloc, causes.as_slice(), order.as_slice())
+    let groups = grouped(alloc, causes.as_slice(), order.as_slice())?;
+    Ok(groups)
 }
 
 // What has these causes, in groups, where this is the order of the wires.
@@ -103,7 +104,7 @@ fn groups_at(
     requires causes { IsWithin (length causes.now) order.now }
     requires places { AreWithin (length order.now) places.now }
     requires counts { length counts.now ≡ length places.now }
-    ensures { IfOk result (λ groups. AreGroupsAt causes.now order.now places.now counts.now groups.items) }
+    ensures { IfOk result (λ groups. AreGroupsAt causes.now order.now places.now counts.now (length places.now) groups.items) }
 {
     let mut groups = Vec::with_capacity(alloc, places.len())?;
     for g in 0..places.len() {

@@ -1,15 +1,16 @@
 // Where two participants meet, and why that is a fault.
 
-ghost use Rattle.std.specs.Prelude.{◌≡◌, ◌<◌, length};
+ghost use Rattle.std.specs.Prelude.{◌≡◌, ◌<◌, length, slice_index_or};
 ghost use Rattle.plan_core.specs.Pairs.{pairs_of};
+ghost use Rattle.plan_core.specs.Participants.{participant_count};
 ghost use Rattle.plan_core.specs.PlanContents.{plan_contents};
-ghost use Rattle.causes.specs.Causes.{cause_of, place_of, slot_after};
+ghost use Rattle.causes.specs.Causes.{cause, cause_of, place_of, side_at, sides_of, slot_after};
 ghost use Rattle.causes.specs.Families.{AreFamilies};
 
 use crate::families::{Family, family_at};
 use crate::sides::{Side, in_order};
 use certificate::Fault;
-use message_tree::Item;
+use message_tree::{Item, Kind};
 use plan_core::Plan;
 
 /// Where in a frame two meet.
@@ -42,22 +43,45 @@ pub(crate) fn cause_of(plan: &Plan, families: &[Family], pair: u32, fault: &Faul
     requires within { pair < length (pairs_of (plan_contents plan.now)) }
     ensures { result ≡ cause_of (plan_contents plan.now) (pair, fault.now) }
 {
+    let sides = sides_of(plan, families, pair, fault);
+    cause(sides, slot_after(&fault.wire))
+}
+
+// The two sides of the pair with this number.
+fn sides_of(plan: &Plan, families: &[Family], pair: u32, fault: &Fault) -> (Side, Side)
+    requires families { AreFamilies (plan_contents plan.now) families.now }
+    requires within { pair < length (pairs_of (plan_contents plan.now)) }
+    ensures { result ≡
+        sides_of (plan_contents plan.now) (slice_index_or (pairs_of (plan_contents plan.now)) pair (0, 0)) fault.now }
+{
     let (x, y) = plan.pair(pair);
-    let a = Side {
+    let a = side_at(plan, families, x, fault.first);
+    let b = side_at(plan, families, y, fault.second);
+    in_order(a, b)
+}
+
+fn side_at(plan: &Plan, families: &[Family], x: u32, kind: Kind) -> Side
+    requires families { AreFamilies (plan_contents plan.now) families.now }
+    requires within { x < participant_count (plan_contents plan.now) }
+    ensures { result ≡ side_at (plan_contents plan.now) x kind }
+{
+    Side {
         family: family_at(plan, families, x),
-        kind: fault.first,
-    };
-    let b = Side {
-        family: family_at(plan, families, y),
-        kind: fault.second,
-    };
-    let (first, second) = in_order(a, b);
-    let (frame, slot) = slot_after(&fault.wire);
+        kind,
+    }
+}
+
+// What meets so, and there.
+fn cause(sides: (Side, Side), at: (usize, usize)) -> Cause
+    ensures { result ≡ cause sides at }
+{
+    let (first, second) = sides;
+    let several = first.family.is_several() || second.family.is_several();
     Cause {
         first,
         second,
-        frame,
-        place: place_of(slot, first.family.is_several() || second.family.is_several()),
+        frame: at.0,
+        place: place_of(at.1, several),
     }
 }
 

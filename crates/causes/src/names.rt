@@ -1,9 +1,9 @@
 // Names that are alike but for a number at the end.
 
-ghost use Rattle.std.specs.Prelude.{◌≡◌, ◌≤◌, IfSome, length};
+ghost use Rattle.std.specs.Prelude.{◌≡◌, ◌<◌, ◌≤◌, IfSome, length};
 ghost use Rattle.std.specs.Char.{is_ascii_digit};
 ghost use Rattle.std.specs.List.{list_all};
-ghost use Rattle.causes.specs.Names.{are_alike, is_number, stem_length};
+ghost use Rattle.causes.specs.Names.{are_alike, has_number_at, is_number, stem_length};
 
 /// Whether both names end in `_NUMBER`, and what stands before it is the same.
 #[tactic(auto, unfolding(crate::specs::Names::are_alike))]
@@ -22,11 +22,19 @@ fn stem_len(name: &[u8]) -> Option<usize>
     ensures within { IfSome result (λ m. m ≤ length name.now) }
 {
     for k in 0..name.len() {
-        if name[k] == b'_' && is_number(&name[k + 1..]) {
+        if has_number_at(name, k) {
             return Some(k);
         }
     }
     None
+}
+
+// Whether the rest of the name, from this byte on, is `_NUMBER`.
+fn has_number_at(name: &[u8], k: usize) -> bool
+    requires { k < length name.now }
+    ensures { result ≡ has_number_at name.now k }
+{
+    name[k] == b'_' && is_number(&name[k + 1..])
 }
 
 fn is_number(bytes: &[u8]) -> bool

@@ -5,4 +5,4 @@ use Rattle.causes.proofs.orders.by_wire.Goals as goal
 
 pub returns : goal.returns
 returns c =
-    order_of_sort (wires_of (fault_list c.args.faults.now)) c.in_ok-order.order.items _ c.in_ok-order.ensures ? ?
+    order_of_sort (wires_of (fault_list c.args.faults.now)) c.in_ok-order.order.items _ c.in_ok-order.ensures c.in_ok-sort.ensures.permutation c.in_ok-sort.ensures.sorted
