@@ -9,7 +9,8 @@ use Rattle.indexmap.proofs.CallerLemmas.{Contains-list_any}
 use Rattle.causes.specs.declared.meetings.Cause.{Cause}
 use Rattle.causes.specs.Orders.{AreFirsts}
 use Rattle.causes.specs.contracts.meetings.CausePartialEq.TheImpl.{eq-value}
-use Rattle.causes.proofs.Lookups.{exact, any_at}
+use Rattle.causes.proofs.Exact.{exact}
+use Rattle.causes.proofs.Lookups.{any_at}
 use Rattle.causes.proofs.Pushes.{push_old, push_new, push_cases}
 
 pub firsts_none : (causes : List Cause) (order : List (ℕ × ℕ)) → AreFirsts causes order 0 [] []

@@ -1,3 +1,4 @@
+pub mod Exact
 pub mod FamilyLemmas
 pub mod Firsts
 pub mod GroupLemmas

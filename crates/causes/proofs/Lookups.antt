@@ -1,16 +1,11 @@
 -- What a set of causes finds: its test for equality is equality.
-use Rattle.std.proofs.Common.{◌≡◌, ℕ, zero, suc, ◌||◌, Bool, true, false, Option, Some, List, [], ◌∷◌, get_or, slice_get, position, refl, ap, sym, ◌∙◌, rules}
+use Rattle.std.proofs.Common.{◌≡◌, ℕ, zero, suc, ◌||◌, Bool, true, false, Option, Some, List, [], ◌∷◌, get_or, slice_get, position, refl, ap, sym, ◌∙◌}
 use Rattle.std.specs.List.{list_any}
 use Rattle.std.proofs.lemmas.List.Quantifiers.{position-Some}
 use Rattle.std.proofs.lemmas.Option.{slice_get-get_or}
 use Rattle.causes.specs.declared.meetings.Cause.{Cause}
+use Rattle.causes.proofs.Exact.{exact, itself}
 use Rattle.causes.specs.contracts.meetings.CausePartialEq.TheImpl.{eq-value}
-
-pub exact : (x y : Cause) → eq-value.it x y ≡ true → x ≡ y
-exact x y h = search rules
-
-pub itself : (x : Cause) → eq-value.it x x ≡ true
-itself x = search rules
 
 or_true : (b : Bool) → (b || true) ≡ true
 or_true true = refl

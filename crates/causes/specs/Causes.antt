@@ -57,8 +57,8 @@ place_of slot several = if nat_lt slot 9 then Header else if several then Data e
 
 -- ---- the cause
 
-abbrev pub cause : Side × Side → ℕ × ℕ → Cause
-cause sides at = record {
+abbrev pub meet : Side × Side → ℕ × ℕ → Cause
+meet sides at = record {
   first = sides.0;
   second = sides.1;
   frame = at.0;
@@ -75,7 +75,7 @@ sides_of plan pair fault = in_order (side_at plan pair.0 fault.first) (side_at p
 -- the cause of the pair with this number, whose fault this is
 unfoldable pub cause_of : Contents → ℕ × Fault → Cause
 cause_of plan found =
-    cause (sides_of plan (slice_index_or (pairs_of plan) found.0 (0, 0)) found.1) (slot_after found.1.wire.items)
+    meet (sides_of plan (slice_index_or (pairs_of plan) found.0 (0, 0)) found.1) (slot_after found.1.wire.items)
 
 abbrev pub causes_of : Contents → List (ℕ × Fault) → List Cause
 causes_of plan faults = map (cause_of plan) faults

@@ -4,7 +4,7 @@ ghost use Rattle.std.specs.Prelude.{◌≡◌, ◌<◌, length, slice_index_or};
 ghost use Rattle.plan_core.specs.Pairs.{pairs_of};
 ghost use Rattle.plan_core.specs.Participants.{participant_count};
 ghost use Rattle.plan_core.specs.PlanContents.{plan_contents};
-ghost use Rattle.causes.specs.Causes.{cause, cause_of, place_of, side_at, sides_of, slot_after};
+ghost use Rattle.causes.specs.Causes.{cause_of, meet, place_of, side_at, sides_of, slot_after};
 ghost use Rattle.causes.specs.Families.{AreFamilies};
 
 use crate::families::{Family, family_at};
@@ -44,7 +44,7 @@ pub(crate) fn cause_of(plan: &Plan, families: &[Family], pair: u32, fault: &Faul
     ensures { result ≡ cause_of (plan_contents plan.now) (pair, fault.now) }
 {
     let sides = sides_of(plan, families, pair, fault);
-    cause(sides, slot_after(&fault.wire))
+    meet(sides, slot_after(&fault.wire))
 }
 
 // The two sides of the pair with this number.
@@ -72,8 +72,8 @@ fn side_at(plan: &Plan, families: &[Family], x: u32, kind: Kind) -> Side
 }
 
 // What meets so, and there.
-fn cause(sides: (Side, Side), at: (usize, usize)) -> Cause
-    ensures { result ≡ cause sides at }
+fn meet(sides: (Side, Side), at: (usize, usize)) -> Cause
+    ensures { result ≡ meet sides at }
 {
     let (first, second) = sides;
     let several = first.family.is_several() || second.family.is_several();
