@@ -12,6 +12,14 @@ first_step p m n h =
     let more : m - n ≡ suc (m - (n + 1)) = omega (arith, h) in
     ap (λ (k : ℕ). first_from p k n) more
 
+pub first_here : (p : ℕ → Bool) (m n first : ℕ) → n < m → first_from p (m - n) n ≡ first → p n ≡ true → n ≡ first
+first_here p m n first h so_far t =
+    sym (first_step p m n h ∙ ap (λ (b : Bool). if b then n else first_from p (m - (n + 1)) (n + 1)) t) ∙ so_far
+
+pub first_later : (p : ℕ → Bool) (m n first : ℕ) → n < m → first_from p (m - n) n ≡ first → p n ≡ false → first_from p (m - (n + 1)) (n + 1) ≡ first
+first_later p m n first h so_far t =
+    sym (first_step p m n h ∙ ap (λ (b : Bool). if b then n else first_from p (m - (n + 1)) (n + 1)) t) ∙ so_far
+
 pub count_step : (p : ℕ → Bool) (n : ℕ) → count_below p (n + 1) ≡ (if p n then count_below p n + 1 else count_below p n)
 count_step p n = ap (count_below p) (add-one n)
 

@@ -3,6 +3,7 @@ pub mod FamilyLemmas
 pub mod Firsts
 pub mod GroupLemmas
 pub mod Lookups
+pub mod PairNumbers
 pub mod Pushes
 pub mod SortLemmas
 pub mod StepLemmas

@@ -104,7 +104,6 @@ fn family_of(plan: &Plan, m: u32) -> Family
 }
 
 // The first message that is this one or has a name like it.
-#[tactic(auto, using(crate::proofs::FamilyLemmas::first_step))]
 fn first_relative(plan: &Plan, m: u32) -> u32
     requires { m < length (plan_contents plan.now).messages }
     ensures { result ≡ first_relative (plan_contents plan.now) m }
