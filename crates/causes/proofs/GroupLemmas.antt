@@ -100,13 +100,13 @@ module _ (causes : List Cause) (wires : List ℕ) (order : List (ℕ × ℕ)) (k
       same = λ j k g h e f. (
         (λ one. sym (nums.each j g e) ∙ (ap (slice_get keys) one ∙ nums.each k h f)),
         (λ one.
-          let c = some_at keys g (nums.within j g e) in
-          firsts.once g h c.0 c.1 (nums.each k h f ∙ (sym one ∙ (sym (nums.each j g e) ∙ c.1))))
+            let c = some_at keys g (nums.within j g e) in
+            firsts.once g h c.0 c.1 (nums.each k h f ∙ (sym one ∙ (sym (nums.each j g e) ∙ c.1)))),
       );
       counted = λ g group e.
-        let within = slice_get_within groups g group e in
-        let one : Some group.pairs ≡ Some (count_by (nat_eq g) numbers) = sym (at.pairs g group e) ∙ (counted.each g (omega (arith, within, at.whole)) ∙ ap (λ (xs : List ℕ). Some (count_by (nat_eq g) xs)) (take-length numbers)) in
-        cc;
+          let within = slice_get_within groups g group e in
+          let one : Some group.pairs ≡ Some (count_by (nat_eq g) numbers) = sym (at.pairs g group e) ∙ (counted.each g (omega (arith, within, at.whole)) ∙ ap (λ (xs : List ℕ). Some (count_by (nat_eq g) xs)) (take-length numbers)) in
+          cc;
       example = example_stands;
       shortest = shortest_stands;
       in_order = in_order_stands;

@@ -24,8 +24,8 @@ not_later p q h = elim (cases_lt p.0 q.0) [
     | inl less ↦
         let less_is : true ≡ false = ap (λ (o : Ordering). is_lt (ordering_then o (nat_cmp q.1 p.1))) (nat_cmp_is q.0 p.0 Less less) ∙ h in
         cc
-    | inr no ↦
-        let same : q.0 ≡ p.0 = omega (arith, above, no) in
+    | inr most ↦
+        let same : q.0 ≡ p.0 = omega (arith, above, most) in
         inr (sym same, ge_from_not_lt q.1 p.1 (ap (λ (o : Ordering). is_lt (ordering_then o (nat_cmp q.1 p.1))) (nat_cmp_is q.0 p.0 Equal same) ∙ h))
   ]
 ]
@@ -60,16 +60,16 @@ in_order_by order h (suc n) i p q e f =
 pub order_of_sort : (wires : List ℕ) (listed order : List (ℕ × ℕ)) → IsNumbered wires listed → IsPermutation listed order → IsSorted by_both order → IsOrder wires order
 order_of_sort wires listed order numbered moved sorted = record {
   of = λ i p e.
-    let r = Contains-permutation order listed p (IsPermutation-sym listed order moved) (i, slice_get_within order i p e, get_or_from_slice_get order i p p e) in
-    let l = some_at wires r.0 (omega (arith, r.1, numbered.whole)) in
-    let here : slice_get listed r.0 ≡ Some p = slice_get-get_or listed r.0 p r.1 ∙ ap Some r.2 in
-    let one : Some (l.0, r.0) ≡ Some p = sym (numbered.each r.0 l.0 l.1) ∙ here in
-    let same : (l.0, r.0) ≡ p = cc in
-    subst (λ (it : ℕ × ℕ). slice_get wires it.1 ≡ Some it.0) same l.1;
+      let r = Contains-permutation order listed p (IsPermutation-sym listed order moved) (i, slice_get_within order i p e, get_or_from_slice_get order i p p e) in
+      let l = some_at wires r.0 (omega (arith, r.1, numbered.whole)) in
+      let here : slice_get listed r.0 ≡ Some p = slice_get-get_or listed r.0 p r.1 ∙ ap Some r.2 in
+      let one : Some (l.0, r.0) ≡ Some p = sym (numbered.each r.0 l.0 l.1) ∙ here in
+      let same : (l.0, r.0) ≡ p = cc in
+      subst (λ (it : ℕ × ℕ). slice_get wires it.1 ≡ Some it.0) same l.1;
   all = λ k l e.
-    let stands = numbered.each k l e in
-    let r = Contains-permutation listed order (l, k) moved (k, slice_get_within listed k (l, k) stands, get_or_from_slice_get listed k (l, k) (l, k) stands) in
-    (r.0, slice_get-get_or order r.0 (l, k) r.1 ∙ ap Some r.2);
+      let stands = numbered.each k l e in
+      let r = Contains-permutation listed order (l, k) moved (k, slice_get_within listed k (l, k) stands, get_or_from_slice_get listed k (l, k) (l, k) stands) in
+      (r.0, slice_get-get_or order r.0 (l, k) r.1 ∙ ap Some r.2);
   sorted = λ i j p q le e f.
-    in_order_by order sorted (j - i) i p q e (ap (slice_get order) (omega (arith, le)) ∙ f);
+      in_order_by order sorted (j - i) i p q e (ap (slice_get order) (omega (arith, le)) ∙ f);
 }

@@ -32,8 +32,8 @@ pub counts_none : (n : ℕ) (numbers : List ℕ) → AreCounts n numbers 0 (repl
 counts_none n numbers = record {
   whole = length_of_all {X = ℕ} n 0;
   each = λ g lt.
-    let r = some_at (replicate n 0) g (omega (arith, lt, length_of_all {X = ℕ} n 0)) in
-    r.1 ∙ ap Some (sym (get_replicate {X = ℕ} n g 0 r.0 r.1));
+      let r = some_at (replicate n 0) g (omega (arith, lt, length_of_all {X = ℕ} n 0)) in
+      r.1 ∙ ap Some (sym (get_replicate {X = ℕ} n g 0 r.0 r.1));
 }
 
 module _ (n : ℕ) (numbers : List ℕ) (m : ℕ) (counts : List ℕ) (so_far : AreCounts n numbers m counts) (g : ℕ) (lt : m < length numbers) (at : get_or numbers m 0 ≡ g) (low : g < n) where

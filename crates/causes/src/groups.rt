@@ -78,11 +78,7 @@ pub fn groups_of(alloc: Global, plan: &Plan, faults: &Faults) -> Result<Groups, 
 }
 
 // What has these causes, in groups, where this is the order of the wires.
-fn grouped(
-    alloc: Global,
-    causes: &[Cause],
-    order: &[(usize, usize)],
-) -> Result<Groups, AllocError>
+fn grouped(alloc: Global, causes: &[Cause], order: &[(usize, usize)]) -> Result<Groups, AllocError>
     requires { HasOrder causes.now order.now }
     ensures { IfOk result (λ groups. (wires : List ℕ) → length wires ≡ length causes.now → IsOrder wires order.now →
         AreGroups causes.now wires (group_list groups) (number_list groups)) }

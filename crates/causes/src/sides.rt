@@ -27,8 +27,7 @@ pub(crate) fn in_order(a: Side, b: Side) -> (Side, Side)
 fn comes_before(a: Side, b: Side) -> bool
     ensures { result ≡ comes_before a b }
 {
-    is_lower(a.family, b.family)
-        || !is_lower(b.family, a.family) && rank(a.kind) < rank(b.kind)
+    is_lower(a.family, b.family) || !is_lower(b.family, a.family) && rank(a.kind) < rank(b.kind)
 }
 
 fn is_lower(a: Family, b: Family) -> bool

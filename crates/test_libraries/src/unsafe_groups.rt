@@ -34,19 +34,39 @@ interrupt s 1010010 ;
 const NUMBERS: [usize; 16] = [1, 1, 1, 1, 1, 1, 1, 1, 1, 2, 4, 2, 3, 0, 5, 0];
 
 const A: Family = Family::Messages { first: 0, count: 3 };
+
 const B: Family = Family::Messages { first: 3, count: 3 };
+
 const P: Family = Family::Messages { first: 6, count: 1 };
+
 const Q: Family = Family::Messages { first: 7, count: 1 };
+
 const R: Family = Family::Messages { first: 8, count: 1 };
+
 const G: Family = Family::Messages { first: 9, count: 1 };
-const D: Family = Family::Messages { first: 10, count: 1 };
-const E: Family = Family::Messages { first: 11, count: 1 };
+
+const D: Family = Family::Messages {
+    first: 10,
+    count: 1,
+};
+
+const E: Family = Family::Messages {
+    first: 11,
+    count: 1,
+};
+
 const S: Family = Family::Interrupt(0);
 
 // The group of this number, where the frame is the first one but for the last group.
 fn expected(g: usize) -> Group {
     match g {
-        0 => group((G, Kind::Heard), (S, Kind::Claim), 0, Place::Header, (2, 13)),
+        0 => group(
+            (G, Kind::Heard),
+            (S, Kind::Claim),
+            0,
+            Place::Header,
+            (2, 13),
+        ),
         1 => group((A, Kind::Stop), (B, Kind::Sent), 0, Place::Data, (9, 0)),
         2 => group((P, Kind::Sent), (Q, Kind::Stop), 0, Place::Byte(2), (2, 9)),
         3 => group((Q, Kind::Stop), (R, Kind::Sent), 0, Place::Byte(2), (1, 12)),

@@ -15,4 +15,4 @@ cause_at-requires-clause-within c =
 pub loop-i-preserved : goal.loop-i-preserved
 loop-i-preserved c =
     rw c.in_ok-push_if.ensures (rw c.in_ok-is_new.ensures.keys (
-      firsts_more c.args.causes.now c.args.order.now c.loop-i.i (keys c.loop-i.known) c.loop-i.places.items c.loop-i.invariant (get_or c.args.order.now c.loop-i.i (0, 0)) (slice_get-get_or c.args.order.now c.loop-i.i (0, 0) c.loop-i-test.true) c.cause_at.result c.cause_at.ensures c.in_ok-is_new.is_new c.in_ok-is_new.ensures.added))
+    firsts_more c.args.causes.now c.args.order.now c.loop-i.i (keys c.loop-i.known) c.loop-i.places.items c.loop-i.invariant (get_or c.args.order.now c.loop-i.i (0, 0)) (slice_get-get_or c.args.order.now c.loop-i.i (0, 0) c.loop-i-test.true) c.cause_at.result c.cause_at.ensures c.in_ok-is_new.is_new c.in_ok-is_new.ensures.added))

@@ -24,4 +24,4 @@ returns c =
     let are = c.as_slice.ensures.value ∙ c.in_ok-causes.ensures in
     let groups = c.in_ok-groups.groups in
     subst (λ (cs : List Cause). AreGroups cs (wires_of faults) (group_list groups) (number_list groups)) are
-      (c.in_ok-groups.ensures (wires_of faults) (same_count plan faults c.as_slice.result.now are) (rw c.as_slice-2.ensures.value c.in_ok-order.ensures))
+    (c.in_ok-groups.ensures (wires_of faults) (same_count plan faults c.as_slice.result.now are) (rw c.as_slice-2.ensures.value c.in_ok-order.ensures))
