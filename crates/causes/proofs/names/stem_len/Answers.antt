@@ -15,4 +15,4 @@ loop-k-preserved c =
 
 pub returns-clause-value : goal.returns-clause-value
 returns-clause-value c =
-    sym (stem_none c.args.name.now c.loop-k.k (omega (arith, c.loop-k-test.false, c.len-k-end.ensures)) c.loop-k.invariant)
+    sym (stem_none c.args.name.now c.loop-k.k (omega (arith, c.loop-k-test.false)) c.loop-k.invariant)
