@@ -92,7 +92,8 @@ run_blocks docs/PLANS.md
 # ---- the table of data-sheet transactions
 
 sed -n '/^```brief/,/^```/p' "$top/docs/GUIDE.md" | sed -n '/^brief 1/,/^```/p' | sed '/^```/,$d' >devices
-grep -o '`message [^`]*;`' "$top/docs/GUIDE.md" | tr -d '`' >recipes
+# (a family is many messages, of several lengths: the text leaves it out)
+grep -o '`message [^`]*;`' "$top/docs/GUIDE.md" | tr -d '`' | grep -v '[*][0-9]*[.][.]' >recipes
 names=$(awk '{ printf " %s", $2 }' recipes)
 want "the table has recipes" yes "$( (($(wc -l <recipes) > 10)) && echo yes)"
 
@@ -102,6 +103,10 @@ while IFS= read -r recipe; do
     { cat devices && printf '%s\n' "$recipe" "controller a $name ;" "controller b $name ;"; } >one.brief
     want "the line of $name beside itself" "safe: 1 pairs" "$(twire expand one.brief | twire check - 2>&1)"
 done <recipes
+
+# A family of it is read.
+want "the family in the table" "32" "$({ cat devices && grep -o '`message pages [^`]*;`' "$top/docs/GUIDE.md" | tr -d '`'; } >one.brief
+    twire expand one.brief | grep -c '^message pages_')"
 
 # Two that may send all of them have the unsafe pairs that the text names.
 { cat devices recipes && printf '%s\n' "controller a$names ;" "controller b$names ;"; } >all.brief

@@ -475,6 +475,9 @@ glitch() {
 glitch '0 1' >glitch
 glitch '0 1 0 1' >chatter
 glitch 'x 1' >lost
+printf '$var wire 1 ! scl $end $var wire 1 " sda $end stray $enddefinitions $end\n' >stray_no_scale
+expect "what is wrong among the definitions comes first" 2 "" "refused V2 line 1" capture plan stray_no_scale --from 5us
+expect "the same of signals" 2 "" "refused V2 line 1" signals stray_no_scale --from 5us
 sed '/timescale/d' glitch >glitch_no_scale
 torn=$'5-22 unexplained\n1 transactions, 1 unexplained'
 expect "a glitch" 1 "$torn" "" capture plan glitch

@@ -47,7 +47,7 @@ impl Case {
 }
 
 /// The case files, in the order in which they are run.
-pub const FILES: [&str; 16] = [
+pub const FILES: [&str; 17] = [
     "plans",
     "checks",
     "certificates",
@@ -59,6 +59,7 @@ pub const FILES: [&str; 16] = [
     "refusals",
     "spellings",
     "briefs",
+    "boards",
     "hints_plans",
     "hints_certificates",
     "hints_starters",

@@ -6,7 +6,7 @@ use crate::decodings::decoding_fault;
 use crate::desks::Desk;
 use crate::disagreements::{Disagreement, Score};
 use crate::plain;
-use crate::plainly::{found_plainly, said_plainly, spelling_of};
+use crate::plainly::{said_plainly, spelling_of};
 use crate::seeds::Seeds;
 use crate::tallies::{kind_of, Tallies};
 use std::io;
@@ -48,7 +48,7 @@ pub fn try_changed(crew: &mut Crew, score: &mut Score, cases: &[Case], lot: Lot,
 fn compare(desk: &mut Desk, number: u64, asked: &Asked) -> io::Result<(String, Option<Disagreement>)> {
     let plain = said_plainly(asked);
     let kind = kind_of(asked, &plain);
-    let found = found_plainly(asked, desk.answer(asked)?);
+    let found = desk.answer(asked)?;
     let fault = spelling_fault(desk, asked)?;
     if fault.is_none() && plain == found {
         return Ok((kind, decoding_fault(desk, &shown(number, asked), asked)?));

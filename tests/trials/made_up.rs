@@ -6,10 +6,22 @@ const ADDRESSES: [&str; 8] = ["0x48", "0x50", "0xX1", "0x3X", "0b1001000", "0b10
 
 const BYTES: [&str; 9] = ["any", "0x00", "0xfF", "0xX0", "0x1X", "0b0011000x", "0b11110000", "p", "q"];
 
+// Each controller as it is, or what it sends of the first message, which may be a family.
+const NEVERS: [&str; 8] = [
+    "never b a ;\n",
+    "never b/m0 a ;\n",
+    "never a/m0 b ;\n",
+    "never b a/m0_1 ;\n",
+    "never a/m0 b/m0 ;\n",
+    "never a/m1 b ; never b/m0 a/m0 ;\n",
+    "",
+    "",
+];
+
 const COUNTS: [&str; 5] = ["1", "2", "007", "1..3", "2..16"];
 
 /// A brief of two devices, two data bytes, and one to three messages of some frames, with who sends them. Most are briefs
-/// of a plan; in some a message has too many bytes.
+/// of a plan; in some a message has too many bytes or ranges, or a label names what is not sent.
 pub fn made_up(dice: &mut Dice) -> String {
     let mut text = String::from("brief 1\ndevice d 0x21 ; device e 0b011xx00 ;\n");
     text.push_str("byte p 0x5A ; byte q 0bxx00xx11 ;\n");
@@ -25,7 +37,7 @@ pub fn made_up(dice: &mut Dice) -> String {
     }
     text.push_str(" ; controller b m0 ;\n");
     text.push_str(dice.pick(&["interrupt t d ;\n", "interrupt t 0x0C ;\n", ""], ""));
-    text.push_str(dice.pick(&["never b a ;\n", "", ""], ""));
+    text.push_str(dice.pick(&NEVERS, ""));
     text
 }
 
@@ -90,6 +102,11 @@ fn push_header(text: &mut String, dice: &mut Dice) -> Next {
 
 fn push_data(text: &mut String, dice: &mut Dice) -> Next {
     text.push_str(dice.pick(&BYTES, ""));
+    if dice.index(16) == 0 {
+        let least = dice.index(3);
+        text.push_str(&format!("*{least}..{} ", least + dice.index(3)));
+        return Next::Refusal { in_write: true };
+    }
     match dice.index(6) {
         0 => text.push_str(&format!("*{} ", dice.index(6) + 1)),
         1 => text.push_str(&format!(" * {} ", dice.index(90) + 1)),

@@ -10,7 +10,7 @@ use std::io;
 /// Tries the plain programs, which know no workers, on a case, and how twire spells its plan.
 pub fn try_plainly(desk: &mut Desk, case: &Case) -> io::Result<Option<Disagreement>> {
     let spelling = spelling_of(desk, &case.asked)?;
-    let wanted = found_plainly(&case.asked, case.wanted.clone());
+    let wanted = case.wanted.clone();
     let found = said_plainly(&case.asked);
     let is_spelt = plain::spelling(&case.asked.first) == spelling;
     let fault = (!is_spelt).then_some("the plan is spelt otherwise");
@@ -52,14 +52,6 @@ pub fn place_of(asked: &Asked) -> Option<(usize, usize)> {
         Command::Capture { scl, sda } => plain::place_of_refusal(&asked.second, scl, sda),
         Command::Decode { scl, sda, .. } => plain::place_of_refusal(&asked.first, scl, sda),
         _ => None,
-    }
-}
-
-/// An answer as the plain program can say it: a brief that was written is expanded plainly.
-pub fn found_plainly(asked: &Asked, found: Answer) -> Answer {
-    match asked.command {
-        Command::Brief if found.status == 0 => plain::expand(found.out.as_bytes()),
-        _ => found,
     }
 }
 

@@ -57,7 +57,7 @@ pub const PLAN_WORDS: [&str; 52] = [
 ];
 
 /// Words of briefs, and some that no brief has.
-pub const BRIEF_WORDS: [&str; 56] = [
+pub const BRIEF_WORDS: [&str; 62] = [
     "brief",
     "1",
     "2",
@@ -114,6 +114,12 @@ pub const BRIEF_WORDS: [&str; 56] = [
     "device q 0x11 ;",
     "byte q any ;",
     "interrupt v d ;",
+    "any*1..2",
+    "*0..3",
+    "a/m0",
+    "b/m",
+    "m0_1",
+    "never a/m0 b ;",
 ];
 
 /// Words of certificates, and some that none has.

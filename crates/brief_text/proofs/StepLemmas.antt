@@ -6,7 +6,6 @@ use Rattle.message_tree.specs.declared.bits.Address.{Address}
 use Rattle.message_tree.specs.declared.bits.Pattern.{Pattern}
 use Rattle.message_tree.specs.declared.counts.Count.{Count}
 use Rattle.message_tree.specs.Counts.{greatest_of}
-use Rattle.message_tree.specs.Trees.{FrameTree, write, read, PayloadTree, TailTree, stop, again}
 use Rattle.plan_text.specs.declared.errors.PlanError.{PlanError}
 use Rattle.plan_text.specs.declared.errors.PlanError.TheVariants.{TooLong, Unexpected, BadCount}
 use Rattle.plan_text.specs.Reader.{◌>>=◌, or_refused, writes, reads}
@@ -18,8 +17,11 @@ use Rattle.brief_text.specs.declared.symbols.Sign.TheVariants as signs
 use Rattle.brief_text.specs.declared.symbols.Symbol.{Symbol}
 use Rattle.brief_text.specs.declared.symbols.Symbol.TheVariants as symbols
 use Rattle.brief_text.specs.declared.symbols.Token as seen
-use Rattle.brief_text.specs.Frames.{Frames, Bytes, counted, ends_in, count_at, further, more_from, more_at, frames_by, next_from, next_by, ends_with, else_by, refused_from, refused_by, begins_data, last_by, payload_by, repeated, frame_in, byte_in, frames_at}
-use Rattle.brief_text.specs.Places.{Place, Reads, Finds, token_as, number_at, to_at, data_at}
+use Rattle.brief_text.specs.Drafts.{Draft}
+use Rattle.brief_text.specs.Frames.{Around, Frames, Bytes, counted, ends_in, count_at, repetition_in, often_by, often_from, often_at, frames_by, next_from, next_by, ends_with, else_by, refused_from, refused_by, begins_data, last_by, payload_by, frame_in, byte_in, frames_at}
+use Rattle.brief_text.specs.Places.{Place, Reads, Finds, token_as, to_at, data_at}
+use Rattle.brief_text.specs.Words.{Repetition, repetition_by}
+use Rattle.brief_text.specs.Trees.{Said, Times, times, BriefFrame, write_to, read_from, BriefBytes, data_byte, BriefTail, stop_here, go_on}
 use Rattle.brief_text.specs.Standing.{before, node_at, refused_at, next_at, payload_at, write_at, read_at, bytes_at}
 use Rattle.brief_text.specs.Reading.{with_symbol, unexpected_symbol, unexpected_at}
 use Rattle.brief_text.specs.Tokens.{Token, word, Tokens}
@@ -36,73 +38,73 @@ node_is {B} room copies line at f = by_test (nat_lt 0 (suc room)) (suc room - 1)
     by_test false below e same = absurd cc
 
 -- what is used is room less
-pub used_up : (room used copies : ℕ) → frame_in room used copies ≡ frame_in (room - used) 0 copies
+pub used_up : (g : Around) (room used copies : ℕ) → frame_in g room used copies ≡ frame_in g (room - used) 0 copies
 unfolding frame_in
-used_up zero used copies = let none : 0 - used ≡ 0 = omega arith in rw none refl
-used_up (suc room) zero copies = let same : suc room - 0 ≡ suc room = omega arith in ap (λ n. frame_in n 0 copies) (sym same)
-used_up (suc room) (suc used) copies = let same : room - used ≡ suc room - suc used = omega arith in used_up room used copies ∙ ap (λ n. frame_in n 0 copies) same
+used_up g zero used copies = let none : 0 - used ≡ 0 = omega arith in rw none refl
+used_up g (suc room) zero copies = let same : suc room - 0 ≡ suc room = omega arith in ap (λ n. frame_in g n 0 copies) (sym same)
+used_up g (suc room) (suc used) copies = let same : room - used ≡ suc room - suc used = omega arith in used_up g room used copies ∙ ap (λ n. frame_in g n 0 copies) same
 
-pub bytes_used_up : (room used copies : ℕ) → byte_in room used copies ≡ byte_in (room - used) 0 copies
+pub bytes_used_up : (g : Around) (room used copies : ℕ) → byte_in g room used copies ≡ byte_in g (room - used) 0 copies
 unfolding byte_in
-bytes_used_up zero used copies = let none : 0 - used ≡ 0 = omega arith in rw none refl
-bytes_used_up (suc room) zero copies = let same : suc room - 0 ≡ suc room = omega arith in ap (λ n. byte_in n 0 copies) (sym same)
-bytes_used_up (suc room) (suc used) copies = let same : room - used ≡ suc room - suc used = omega arith in bytes_used_up room used copies ∙ ap (λ n. byte_in n 0 copies) same
+bytes_used_up g zero used copies = let none : 0 - used ≡ 0 = omega arith in rw none refl
+bytes_used_up g (suc room) zero copies = let same : suc room - 0 ≡ suc room = omega arith in ap (λ n. byte_in g n 0 copies) (sym same)
+bytes_used_up g (suc room) (suc used) copies = let same : room - used ≡ suc room - suc used = omega arith in bytes_used_up g room used copies ∙ ap (λ n. byte_in g n 0 copies) same
 
 -- the rest of a frame after its address
-abbrev write_rest : ℕ → Address → ℕ × Place → Reads FrameTree
-write_rest copies a node = refused_at node.0 copies node.1 >>= λ refused. payload_at node.0 copies refused.1 >>= λ acked. Ok (write a acked.0 refused.0, acked.1)
+abbrev write_rest : Around → ℕ → Said Address → ℕ × Place → Reads BriefFrame
+write_rest g copies to node = refused_at g node.0 copies node.1 >>= λ refused. payload_at g node.0 copies refused.1 >>= λ acked. Ok (write_to to refused.0 acked.0, acked.1)
 
-pub write_in_is : (room copies line : ℕ) (a : Address) (at : Place) → frame_in room 0 copies writes a line at ≡ (node_at room copies line at >>= write_rest copies a)
+pub write_in_is : (g : Around) (room copies line : ℕ) (to : Said Address) (at : Place) → frame_in g room 0 copies writes to line at ≡ (node_at room copies line at >>= write_rest g copies to)
 unfolding frame_in
-write_in_is zero copies line a at = refl
-write_in_is (suc room) copies line a at = node_is room copies line at (write_rest copies a)
+write_in_is g zero copies line to at = refl
+write_in_is g (suc room) copies line to at = node_is room copies line at (write_rest g copies to)
 
-abbrev read_rest : ℕ → Address → ℕ × Place → Reads FrameTree
-read_rest copies a node =
-    count_at node.0 node.1 >>= λ count. refused_at node.0 copies count.1 >>= λ refused. next_at (node.0 - greatest_of count.0) copies refused.1 >>= λ after.
-    Ok (read a count.0 after.0 refused.0, after.1)
+abbrev read_rest : Around → ℕ → Said Address → ℕ × Place → Reads BriefFrame
+read_rest g copies to node =
+    count_at node.0 node.1 >>= λ count. refused_at g node.0 copies count.1 >>= λ refused. next_at g (node.0 - greatest_of count.0) copies refused.1 >>= λ after.
+    Ok (read_from to count.0 refused.0 after.0, after.1)
 
-pub read_in_is : (room copies line : ℕ) (a : Address) (at : Place) → frame_in room 0 copies reads a line at ≡ (node_at room copies line at >>= read_rest copies a)
+pub read_in_is : (g : Around) (room copies line : ℕ) (to : Said Address) (at : Place) → frame_in g room 0 copies reads to line at ≡ (node_at room copies line at >>= read_rest g copies to)
 unfolding frame_in
-read_in_is zero copies line a at = refl
-read_in_is (suc room) copies line a at =
-    same_after (counted copies line at) _ _ (λ node. same_after (count_at room node) _ _ (λ count. same_after (refused_at room copies count.1) _ _ (λ refused.
-    ap (λ (frames : Frames). next_by frames refused.1 >>= λ after. Ok (read a count.0 after.0 refused.0, after.1)) (used_up room (greatest_of count.0) copies))))
-    ∙ node_is room copies line at (read_rest copies a)
+read_in_is g zero copies line to at = refl
+read_in_is g (suc room) copies line to at =
+    same_after (counted copies line at) _ _ (λ node. same_after (count_at room node) _ _ (λ count. same_after (refused_at g room copies count.1) _ _ (λ refused.
+    ap (λ (frames : Frames). next_by g.draft frames refused.1 >>= λ after. Ok (read_from to count.0 refused.0 after.0, after.1)) (used_up g room (greatest_of count.0) copies))))
+    ∙ node_is room copies line at (read_rest g copies to)
 
 -- the rest of a payload after a data byte
-abbrev byte_rest : ℕ → Pattern → ℕ × Place → Reads PayloadTree
-byte_rest copies bits node =
-    more_at node.0 copies node.1 >>= λ more. refused_at (node.0 - more.0) (copies * suc more.0) more.1 >>= λ refused. payload_at (node.0 - more.0) copies refused.1 >>= λ acked.
-    Ok (repeated (suc more.0) bits acked.0 refused.0, acked.1)
+abbrev byte_rest : Around → ℕ → Said Pattern → ℕ × Place → Reads BriefBytes
+byte_rest g copies bits node =
+    often_at g node.0 copies node.1 >>= λ often. refused_at g (node.0 - often.0.1) (copies * suc often.0.1) often.1 >>= λ refused. payload_at g (node.0 - often.0.1) copies refused.1 >>= λ acked.
+    Ok (data_byte bits often.0.0 refused.0 acked.0, acked.1)
 
-pub byte_in_is : (room copies line : ℕ) (bits : Pattern) (at : Place) → byte_in room 0 copies bits line at ≡ (node_at room copies line at >>= byte_rest copies bits)
+pub byte_in_is : (g : Around) (room copies line : ℕ) (bits : Said Pattern) (at : Place) → byte_in g room 0 copies bits line at ≡ (node_at room copies line at >>= byte_rest g copies bits)
 unfolding byte_in
-byte_in_is zero copies line bits at = refl
-byte_in_is (suc room) copies line bits at =
-    same_after (counted copies line at) _ _ (λ node. same_after (more_at room copies node) _ _ (λ more.
-    ap (λ (frames : Frames). refused_by frames more.1 >>= λ refused. payload_by (frame_in room more.0 copies) (byte_in room more.0 copies) refused.1 >>= λ acked. Ok (repeated (suc more.0) bits acked.0 refused.0, acked.1)) (used_up room more.0 (copies * suc more.0))
-    ∙ same_after (refused_at (room - more.0) (copies * suc more.0) more.1) _ _ (λ refused.
-    ap (λ (frames : Frames). payload_by frames (byte_in room more.0 copies) refused.1 >>= λ acked. Ok (repeated (suc more.0) bits acked.0 refused.0, acked.1)) (used_up room more.0 copies)
-    ∙ ap (λ (bytes : Bytes). payload_by (frame_in (room - more.0) 0 copies) bytes refused.1 >>= λ acked. Ok (repeated (suc more.0) bits acked.0 refused.0, acked.1)) (bytes_used_up room more.0 copies))))
-    ∙ node_is room copies line at (byte_rest copies bits)
+byte_in_is g zero copies line bits at = refl
+byte_in_is g (suc room) copies line bits at =
+    same_after (counted copies line at) _ _ (λ node. same_after (often_at g room copies node) _ _ (λ often.
+    ap (λ (frames : Frames). refused_by g.draft frames often.1 >>= λ refused. payload_by g.draft (frame_in g room often.0.1 copies) (byte_in g room often.0.1 copies) refused.1 >>= λ acked. Ok (data_byte bits often.0.0 refused.0 acked.0, acked.1)) (used_up g room often.0.1 (copies * suc often.0.1))
+    ∙ same_after (refused_at g (room - often.0.1) (copies * suc often.0.1) often.1) _ _ (λ refused.
+    ap (λ (frames : Frames). payload_by g.draft frames (byte_in g room often.0.1 copies) refused.1 >>= λ acked. Ok (data_byte bits often.0.0 refused.0 acked.0, acked.1)) (used_up g room often.0.1 copies)
+    ∙ ap (λ (bytes : Bytes). payload_by g.draft (frame_in g (room - often.0.1) 0 copies) bytes refused.1 >>= λ acked. Ok (data_byte bits often.0.0 refused.0 acked.0, acked.1)) (bytes_used_up g room often.0.1 copies))))
+    ∙ node_is room copies line at (byte_rest g copies bits)
 
 -- data bytes, once all but what follows the last of them is read
-module _ (room copies more : ℕ) (at p1 p2 p3 p4 : Place) (bits : Pattern) (line first : ℕ) (refused : TailTree) (d : data_at at ≡ Ok (bits, line, p1)) (n : node_at room copies line p1 ≡ Ok (first, p2)) where
-  bytes_rest : more_at first copies p2 ≡ Ok (more, p3) → refused_at (first - more) (copies * suc more) p3 ≡ Ok (refused, p4)
-      → bytes_at room copies at ≡ (payload_at (first - more) copies p4 >>= λ acked. Ok (repeated (suc more) bits acked.0 refused, acked.1))
+module _ (g : Around) (room copies more : ℕ) (often : Times) (at p1 p2 p3 p4 : Place) (bits : Said Pattern) (line first : ℕ) (refused : BriefTail) (d : data_at g.draft at ≡ Ok (bits, line, p1)) (n : node_at room copies line p1 ≡ Ok (first, p2)) where
+  bytes_rest : often_at g first copies p2 ≡ Ok ((often, more), p3) → refused_at g (first - more) (copies * suc more) p3 ≡ Ok (refused, p4)
+      → bytes_at g room copies at ≡ (payload_at g (first - more) copies p4 >>= λ acked. Ok (data_byte bits often refused acked.0, acked.1))
   bytes_rest m r =
-      ap (λ (x : Finds Pattern). x >>= λ found. node_at room copies found.1 found.2 >>= byte_rest copies found.0) d
-      ∙ ap (λ (x : Reads ℕ). x >>= byte_rest copies bits) n
-      ∙ ap (λ (x : Reads ℕ). x >>= λ more. refused_at (first - more.0) (copies * suc more.0) more.1 >>= λ refused. payload_at (first - more.0) copies refused.1 >>= λ acked. Ok (repeated (suc more.0) bits acked.0 refused.0, acked.1)) m
-      ∙ ap (λ (x : Reads TailTree). x >>= λ refused. payload_at (first - more) copies refused.1 >>= λ acked. Ok (repeated (suc more) bits acked.0 refused.0, acked.1)) r
+      ap (λ (x : Finds (Said Pattern)). x >>= λ found. node_at room copies found.1 found.2 >>= byte_rest g copies found.0) d
+      ∙ ap (λ (x : Reads ℕ). x >>= byte_rest g copies bits) n
+      ∙ ap (λ (x : Reads (Times × ℕ)). x >>= λ often. refused_at g (first - often.0.1) (copies * suc often.0.1) often.1 >>= λ refused. payload_at g (first - often.0.1) copies refused.1 >>= λ acked. Ok (data_byte bits often.0.0 refused.0 acked.0, acked.1)) m
+      ∙ ap (λ (x : Reads BriefTail). x >>= λ refused. payload_at g (first - more) copies refused.1 >>= λ acked. Ok (data_byte bits often refused.0 acked.0, acked.1)) r
 
   -- the same where the copies are counted by equal numbers
-  pub bytes_steps : (others times : ℕ) → others ≡ copies → times ≡ suc more → more_at first others p2 ≡ Ok (more, p3) → refused_at (first - more) (others * times) p3 ≡ Ok (refused, p4)
-      → bytes_at room copies at ≡ (payload_at (first - more) others p4 >>= λ acked. Ok (repeated (suc more) bits acked.0 refused, acked.1))
-  bytes_steps others times same count m r =
-      bytes_rest (subst (λ k. more_at first k p2 ≡ Ok (more, p3)) same m) (subst (λ k. refused_at (first - more) k p3 ≡ Ok (refused, p4)) (ap (λ k. k * times) same ∙ ap (λ t. copies * t) count) r)
-      ∙ ap (λ k. payload_at (first - more) k p4 >>= λ acked. Ok (repeated (suc more) bits acked.0 refused, acked.1)) (sym same)
+  pub bytes_steps : (others count : ℕ) → others ≡ copies → count ≡ suc more → often_at g first others p2 ≡ Ok ((often, more), p3) → refused_at g (first - more) (others * count) p3 ≡ Ok (refused, p4)
+      → bytes_at g room copies at ≡ (payload_at g (first - more) others p4 >>= λ acked. Ok (data_byte bits often refused acked.0, acked.1))
+  bytes_steps others count same counts m r =
+      bytes_rest (subst (λ k. often_at g first k p2 ≡ Ok ((often, more), p3)) same m) (subst (λ k. refused_at g (first - more) k p3 ≡ Ok (refused, p4)) (ap (λ k. k * count) same ∙ ap (λ t. copies * t) counts) r)
+      ∙ ap (λ k. payload_at g (first - more) k p4 >>= λ acked. Ok (data_byte bits often refused acked.0, acked.1)) (sym same)
 
 -- ---- by the symbol of the first token, which stands before these tokens
 
@@ -110,18 +112,18 @@ module _ (token : seen.Token) (at after : Place) (first : at ≡ before token af
   pub by_symbol : {A : Type 0} (f : Place → A) (s : Symbol) → token.symbol ≡ s → f at ≡ f (record after { tokens = with_symbol s token.line after.tokens })
   by_symbol f s is = ap f first ∙ ap (λ (k : Symbol). f (record after { tokens = with_symbol k token.line after.tokens })) is
 
-  pub frames_write : (room copies : ℕ) → token.symbol ≡ symbols.Keyword keywords.Write → frames_at room copies at ≡ write_at room copies after
-  frames_write room copies is = by_symbol (frames_at room copies) _ is ∙ same_after (to_at after) _ _ (λ to. write_in_is room copies to.1 to.0 to.2)
+  pub frames_write : (g : Around) (room copies : ℕ) → token.symbol ≡ symbols.Keyword keywords.Write → frames_at g room copies at ≡ write_at g room copies after
+  frames_write g room copies is = by_symbol (frames_at g room copies) _ is ∙ same_after (to_at g.draft after) _ _ (λ to. write_in_is g room copies to.1 to.0 to.2)
 
-  pub frames_read : (room copies : ℕ) → token.symbol ≡ symbols.Keyword keywords.Read → frames_at room copies at ≡ read_at room copies after
-  frames_read room copies is = by_symbol (frames_at room copies) _ is ∙ same_after (to_at after) _ _ (λ to. read_in_is room copies to.1 to.0 to.2)
+  pub frames_read : (g : Around) (room copies : ℕ) → token.symbol ≡ symbols.Keyword keywords.Read → frames_at g room copies at ≡ read_at g room copies after
+  frames_read g room copies is = by_symbol (frames_at g room copies) _ is ∙ same_after (to_at g.draft after) _ _ (λ to. read_in_is g room copies to.1 to.0 to.2)
 
-  pub refused_else : (room copies : ℕ) → token.symbol ≡ symbols.Keyword keywords.Else → refused_at room copies at ≡ (token_as ends_with after >>= λ ends. else_by (frame_in room 0 copies) ends.0 ends.2)
-  refused_else room copies is = by_symbol (refused_at room copies) _ is
+  pub refused_else : (g : Around) (room copies : ℕ) → token.symbol ≡ symbols.Keyword keywords.Else → refused_at g room copies at ≡ (token_as ends_with after >>= λ ends. else_by g.draft (frame_in g room 0 copies) ends.0 ends.2)
+  refused_else g room copies is = by_symbol (refused_at g room copies) _ is
 
-  pub more_star : (room copies : ℕ) → token.symbol ≡ symbols.Sign signs.Star → more_at room copies at
-      ≡ (number_at after >>= λ times. further room copies (times.0 - 1) times.1 times.2)
-  more_star room copies is = by_symbol (more_at room copies) _ is
+  pub often_star : (g : Around) (room copies : ℕ) → token.symbol ≡ symbols.Sign signs.Star → often_at g room copies at
+      ≡ (token_as repetition_in after >>= λ found. often_by g room copies found.0 found.1 found.2)
+  often_star g room copies is = by_symbol (often_at g room copies) _ is
 
   module _ (w : Bor (List ℕ)) (is : token.symbol ≡ symbols.Word w) where
     pub unexpected_word : Unexpected token.line ≡ unexpected_at token
@@ -149,10 +151,17 @@ module _ (token : seen.Token) (at after : Place) (first : at ≡ before token af
       pub count_fits : (c : Count) → count_of ends ≡ Some c → greatest_of c ≤ room → count_at room at ≡ Ok (c, after)
       count_fits c e fits = let fitting : nat_le (greatest_of c) room ≡ true = grind arith in by_count (Some c) e ∙ rw fitting refl
 
+-- `*`, and a word that is read as how often a byte stands
+pub often_word : (g : Around) (room copies : ℕ) (star token : seen.Token) (at middle after : Place) → at ≡ before star middle → star.symbol ≡ symbols.Sign signs.Star → middle ≡ before token after
+    → (w : Bor (List ℕ)) → token.symbol ≡ symbols.Word w → (said : Repetition) → repetition_by w.now ≡ Some said → often_at g room copies at ≡ often_by g room copies said token.line after
+often_word g room copies star token at middle after first is second w spelled_so said e =
+    often_star star at middle first g room copies is
+    ∙ ap (λ (r : Finds Repetition). r >>= λ found. often_by g room copies found.0 found.1 found.2) (word_found token middle after second w spelled_so repetition_in said e)
+
 -- ---- by the symbol that stands first, where it stays
 
-module _ (frames : Frames) (line : ℕ) (rest : Tokens) (at : Place) where
-  pub no_frame : (s : Symbol) → s ≢ symbols.Keyword keywords.Write → s ≢ symbols.Keyword keywords.Read → next_from frames (with_symbol s line rest) at ≡ Ok (stop, at)
+module _ (g : Draft) (frames : Frames) (line : ℕ) (rest : Tokens) (at : Place) where
+  pub no_frame : (s : Symbol) → s ≢ symbols.Keyword keywords.Write → s ≢ symbols.Keyword keywords.Read → next_from g frames (with_symbol s line rest) at ≡ Ok (stop_here, at)
   no_frame (symbols.Keyword keywords.Write) a b = absurd (a refl)
   no_frame (symbols.Keyword keywords.Read) a b = absurd (b refl)
   no_frame (symbols.Keyword k) a b = refl
@@ -162,11 +171,11 @@ module _ (frames : Frames) (line : ℕ) (rest : Tokens) (at : Place) where
   no_frame symbols.Foreign a b = refl
   no_frame symbols.End a b = refl
 
-  pub further_frame : (s : Symbol) → (s ≡ symbols.Keyword keywords.Write) ⊎ (s ≡ symbols.Keyword keywords.Read) → next_from frames (with_symbol s line rest) at ≡ (frames_by frames at >>= λ frame. Ok (again frame.0, frame.1))
-  further_frame s (inl e) = ap (λ (k : Symbol). next_from frames (with_symbol k line rest) at) e
-  further_frame s (inr e) = ap (λ (k : Symbol). next_from frames (with_symbol k line rest) at) e
+  pub further_frame : (s : Symbol) → (s ≡ symbols.Keyword keywords.Write) ⊎ (s ≡ symbols.Keyword keywords.Read) → next_from g frames (with_symbol s line rest) at ≡ (frames_by g frames at >>= λ frame. Ok (go_on frame.0, frame.1))
+  further_frame s (inl e) = ap (λ (k : Symbol). next_from g frames (with_symbol k line rest) at) e
+  further_frame s (inr e) = ap (λ (k : Symbol). next_from g frames (with_symbol k line rest) at) e
 
-  pub no_else : (s : Symbol) → s ≢ symbols.Keyword keywords.Else → refused_from frames (with_symbol s line rest) at ≡ Ok (stop, at)
+  pub no_else : (s : Symbol) → s ≢ symbols.Keyword keywords.Else → refused_from g frames (with_symbol s line rest) at ≡ Ok (stop_here, at)
   no_else (symbols.Keyword keywords.Else) a = absurd (a refl)
   no_else (symbols.Keyword k) a = refl
   no_else (symbols.Word w) a = refl
@@ -175,14 +184,14 @@ module _ (frames : Frames) (line : ℕ) (rest : Tokens) (at : Place) where
   no_else symbols.Foreign a = refl
   no_else symbols.End a = refl
 
-pub no_star : (room copies line : ℕ) (rest : Tokens) (at : Place) (s : Symbol) → s ≢ symbols.Sign signs.Star → more_from room copies (with_symbol s line rest) at ≡ Ok (0, at)
-no_star room copies line rest at (symbols.Sign signs.Star) a = absurd (a refl)
-no_star room copies line rest at (symbols.Sign s) a = refl
-no_star room copies line rest at (symbols.Keyword k) a = refl
-no_star room copies line rest at (symbols.Word w) a = refl
-no_star room copies line rest at symbols.Stray a = refl
-no_star room copies line rest at symbols.Foreign a = refl
-no_star room copies line rest at symbols.End a = refl
+pub no_star : (g : Around) (room copies line : ℕ) (rest : Tokens) (at : Place) (s : Symbol) → s ≢ symbols.Sign signs.Star → often_from g room copies (with_symbol s line rest) at ≡ Ok ((times 1, 0), at)
+no_star g room copies line rest at (symbols.Sign signs.Star) a = absurd (a refl)
+no_star g room copies line rest at (symbols.Sign s) a = refl
+no_star g room copies line rest at (symbols.Keyword k) a = refl
+no_star g room copies line rest at (symbols.Word w) a = refl
+no_star g room copies line rest at symbols.Stray a = refl
+no_star g room copies line rest at symbols.Foreign a = refl
+no_star g room copies line rest at symbols.End a = refl
 
 pub data_first : (line : ℕ) (rest : Tokens) (s : Symbol) → ((w : Bor (List ℕ)) × (s ≡ symbols.Word w)) ⊎ (s ≡ symbols.Keyword keywords.Any) → begins_data (with_symbol s line rest) ≡ true
 data_first line rest s (inl e) = ap (λ (k : Symbol). begins_data (with_symbol k line rest)) e.1
@@ -198,8 +207,8 @@ no_data_first line rest symbols.Foreign a b = refl
 no_data_first line rest symbols.End a b = refl
 
 -- a payload begins with data, or it is what follows the last of them
-pub payload_data : (room copies : ℕ) (at : Place) → begins_data at.tokens ≡ true → payload_at room copies at ≡ bytes_at room copies at
-payload_data room copies at e = rw e (same_after (data_at at) _ _ (λ found. byte_in_is room copies found.1 found.0 found.2))
+pub payload_data : (g : Around) (room copies : ℕ) (at : Place) → begins_data at.tokens ≡ true → payload_at g room copies at ≡ bytes_at g room copies at
+payload_data g room copies at e = rw e (same_after (data_at g.draft at) _ _ (λ found. byte_in_is g room copies found.1 found.0 found.2))
 
-pub payload_last : (room copies : ℕ) (at : Place) → begins_data at.tokens ≡ false → payload_at room copies at ≡ last_by (frame_in room 0 copies) at
-payload_last room copies at e = rw e refl
+pub payload_last : (g : Around) (room copies : ℕ) (at : Place) → begins_data at.tokens ≡ false → payload_at g room copies at ≡ last_by g.draft (frame_in g room 0 copies) at
+payload_last g room copies at e = rw e refl

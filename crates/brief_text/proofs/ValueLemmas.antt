@@ -1,12 +1,10 @@
 -- Addresses and data bytes that are spelled out or have names, names, and lists of names, by the symbol of the first token.
-use Rattle.std.proofs.Common.{◌≡◌, ℕ, suc, ◌<◌, Bool, true, false, List, [], ◌∷◌, ◌++◌, Option, Some, None, Bor, refl, ap, sym, ◌∙◌, subst, arith, inl, inr}
+use Rattle.std.proofs.Common.{◌≡◌, ℕ, suc, ◌<◌, Bool, true, false, List, [], ◌∷◌, ◌++◌, Option, Some, None, is_some, Bor, refl, ap, sym, ◌∙◌, subst, arith, inl, inr}
 use Rattle.std.specs.Prelude.{Result, Ok, Err, if◌then◌else◌}
 use Rattle.std.specs.Map.{lookup}
 use Rattle.std.specs.Str.{bytes_eq}
 use Rattle.message_tree.specs.declared.bits.Address.{Address}
 use Rattle.message_tree.specs.declared.bits.Pattern.{Pattern}
-use Rattle.plan_core.specs.Building.{list_refusal}
-use Rattle.plan_core.specs.Contents.{Contents}
 use Rattle.plan_core.specs.Names.{is_name}
 use Rattle.plan_core.specs.declared.builder.BuildError.{BuildError}
 use Rattle.plan_text.specs.Places.{Refuses}
@@ -19,12 +17,15 @@ use Rattle.brief_text.specs.declared.symbols.Sign.TheVariants as signs
 use Rattle.brief_text.specs.declared.symbols.Symbol.{Symbol}
 use Rattle.brief_text.specs.declared.symbols.Symbol.TheVariants as symbols
 use Rattle.brief_text.specs.declared.symbols.Token as seen
-use Rattle.brief_text.specs.Items.{sendings_from}
-use Rattle.brief_text.specs.Places.{Place, Reads, Finds, first_as, token_as, name_in, Said, named, or_name, value_of, to_at, data_at}
+use Rattle.brief_text.specs.Drafts.{Draft}
+use Rattle.brief_text.specs.Items.{listed_from}
+use Rattle.brief_text.specs.Judging.{listing_refusal, all_of}
+use Rattle.brief_text.specs.Places.{Place, Reads, Finds, first_as, token_as, name_in, or_name, is_known, to_at, data_at}
 use Rattle.brief_text.specs.Reading.{with_symbol}
 use Rattle.brief_text.specs.Standing.{before}
 use Rattle.brief_text.specs.Tokens.{Token, word, Tokens, next}
 use Rattle.brief_text.specs.Tokens as tokens
+use Rattle.brief_text.specs.Trees.{Said, spelled, named}
 use Rattle.brief_text.specs.Words.{address_by, data_by, any_byte}
 use Rattle.brief_text.proofs.StepLemmas.{by_symbol}
 
@@ -41,14 +42,14 @@ said_step o line after = or_refused o (Unexpected line) >>= λ x. Ok (x, line, a
 abbrev name_found : Option (List ℕ) → ℕ → Place → Finds (List ℕ)
 name_found o line after = or_refused o (Unexpected line) >>= λ x. Ok (x, line, after)
 
-abbrev value_step : {A : Type 0} → Option (Said A) → List (List ℕ × A) → ℕ → Place → Finds A
-value_step o entries line after = said_step o line after >>= λ said. or_refused (value_of entries said.0) (Unknown said.1) >>= λ value. Ok (value, said.1, said.2)
+abbrev value_step : {A : Type 0} → Option (Said A) → List (List ℕ × A) → ℕ → Place → Finds (Said A)
+value_step o entries line after = said_step o line after >>= λ said. if is_known entries said.0 then Ok said else Err (Unknown said.1)
 
 -- what has a name
-abbrev pub found_at : {A : Type 0} → List (List ℕ × A) → List ℕ × ℕ × Place → Finds A
-found_at entries name = or_refused (lookup (bytes_eq name.0) entries) (Unknown name.1) >>= λ value. Ok (value, name.1, name.2)
+abbrev pub found_at : {A : Type 0} → List (List ℕ × A) → List ℕ × ℕ × Place → Finds (Said A)
+found_at entries name = if is_some (lookup (bytes_eq name.0) entries) then Ok (named name.0, name.1, name.2) else Err (Unknown name.1)
 
-module _ (token : seen.Token) (at after : Place) (first : at ≡ before token after) (w : Bor (List ℕ)) (is : token.symbol ≡ symbols.Word w) where
+module _ (g : Draft) (token : seen.Token) (at after : Place) (first : at ≡ before token after) (w : Bor (List ℕ)) (is : token.symbol ≡ symbols.Word w) where
   name_step : {A : Type 0} (entries : List (List ℕ × A)) → value_step (or_name None w.now) entries token.line after ≡ (token_as name_in (before token after) >>= found_at entries)
   name_step {A} entries = by_name (is_name w.now) ∙ ap (λ (s : Symbol). token_as name_in (record after { tokens = with_symbol s token.line after.tokens }) >>= found_at entries) (sym is)
     where
@@ -57,33 +58,33 @@ module _ (token : seen.Token) (at after : Place) (first : at ≡ before token af
       by_name true = refl
       by_name false = refl
 
-  to_word : (o : Option Address) → address_by w.now ≡ o → to_at at ≡ value_step (or_name o w.now) after.devices token.line after
-  to_word o e = by_symbol token at after first to_at _ is ∙ ap (λ (p : Option Address). value_step (or_name p w.now) after.devices token.line after) e
+  to_word : (o : Option Address) → address_by w.now ≡ o → to_at g at ≡ value_step (or_name o w.now) g.devices token.line after
+  to_word o e = by_symbol token at after first (to_at g) _ is ∙ ap (λ (p : Option Address). value_step (or_name p w.now) g.devices token.line after) e
 
-  pub to_spelled : (a : Address) → address_by w.now ≡ Some a → to_at at ≡ Ok (a, token.line, after)
+  pub to_spelled : (a : Address) → address_by w.now ≡ Some a → to_at g at ≡ Ok (spelled a, token.line, after)
   to_spelled a e = to_word (Some a) e
 
-  pub to_named : address_by w.now ≡ None → to_at at ≡ (token_as name_in (before token after) >>= found_at after.devices)
-  to_named e = to_word None e ∙ name_step after.devices
+  pub to_named : address_by w.now ≡ None → to_at g at ≡ (token_as name_in (before token after) >>= found_at g.devices)
+  to_named e = to_word None e ∙ name_step g.devices
 
-  data_word : (o : Option Pattern) → data_by w.now ≡ o → data_at at ≡ value_step (or_name o w.now) after.bytes token.line after
-  data_word o e = by_symbol token at after first data_at _ is ∙ ap (λ (p : Option Pattern). value_step (or_name p w.now) after.bytes token.line after) e
+  data_word : (o : Option Pattern) → data_by w.now ≡ o → data_at g at ≡ value_step (or_name o w.now) g.bytes token.line after
+  data_word o e = by_symbol token at after first (data_at g) _ is ∙ ap (λ (p : Option Pattern). value_step (or_name p w.now) g.bytes token.line after) e
 
-  pub data_spelled : (p : Pattern) → data_by w.now ≡ Some p → data_at at ≡ Ok (p, token.line, after)
+  pub data_spelled : (p : Pattern) → data_by w.now ≡ Some p → data_at g at ≡ Ok (spelled p, token.line, after)
   data_spelled p e = data_word (Some p) e
 
-  pub data_named : data_by w.now ≡ None → data_at at ≡ (token_as name_in (before token after) >>= found_at after.bytes)
-  data_named e = data_word None e ∙ name_step after.bytes
+  pub data_named : data_by w.now ≡ None → data_at g at ≡ (token_as name_in (before token after) >>= found_at g.bytes)
+  data_named e = data_word None e ∙ name_step g.bytes
 
-pub data_any : (token : seen.Token) (at after : Place) → at ≡ before token after → token.symbol ≡ symbols.Keyword keywords.Any → data_at at ≡ Ok (any_byte, token.line, after)
-data_any token at after first is = by_symbol token at after first data_at _ is
+pub data_any : (g : Draft) (token : seen.Token) (at after : Place) → at ≡ before token after → token.symbol ≡ symbols.Keyword keywords.Any → data_at g at ≡ Ok (spelled any_byte, token.line, after)
+data_any g token at after first is = by_symbol token at after first (data_at g) _ is
 
 module _ {A : Type 0} (r : Finds (List ℕ)) (entries : List (List ℕ × A)) (name : List ℕ) (line : ℕ) (after : Place) (got : r ≡ Ok (name, line, after)) where
-  pub value_found : (a : A) → lookup (bytes_eq name) entries ≡ Some a → (r >>= found_at entries) ≡ Ok (a, line, after)
-  value_found a e = ap (λ (x : Finds (List ℕ)). x >>= found_at entries) got ∙ ap (λ (o : Option A). or_refused o (Unknown line) >>= λ value. Ok (value, line, after)) e
+  pub value_found : is_some (lookup (bytes_eq name) entries) ≡ true → (r >>= found_at entries) ≡ Ok (named name, line, after)
+  value_found e = ap (λ (x : Finds (List ℕ)). x >>= found_at entries) got ∙ ap (λ (t : Bool). if t then Ok (named name, line, after) else Err (Unknown line)) e
 
-  pub value_missing : lookup (bytes_eq name) entries ≡ None → (r >>= found_at entries) ≡ Err (Unknown line)
-  value_missing e = ap (λ (x : Finds (List ℕ)). x >>= found_at entries) got ∙ ap (λ (o : Option A). or_refused o (Unknown line) >>= λ value. Ok (value, line, after)) e
+  pub value_missing : is_some (lookup (bytes_eq name) entries) ≡ false → (r >>= found_at entries) ≡ Err (Unknown line)
+  value_missing e = ap (λ (x : Finds (List ℕ)). x >>= found_at entries) got ∙ ap (λ (t : Bool). if t then Ok (named name, line, after) else Err (Unknown line)) e
 
 -- ---- lists of names
 
@@ -101,23 +102,23 @@ token_smaller {A} what at x e = by_tokens at.tokens e
         ap (λ (z : A × ℕ × Place). suc (size z.2.tokens)) (ok_is (y.0, line, record at { tokens = rest }) x y.2)
     by_tokens (tokens.last ending line) h = absurd cc
 
-module _ (plan : Contents) (names : List (List ℕ)) (token : seen.Token) (at after : Place) (first : at ≡ before token after) where
-  pub sendings_end : token.symbol ≡ symbols.Sign signs.Semicolon → sendings_from plan names at.tokens at ≡ Ok (names, after)
-  sendings_end is = by_symbol token at after first (λ p. sendings_from plan names p.tokens p) _ is
+module _ (plan : Draft) (names : List (List ℕ)) (token : seen.Token) (at after : Place) (first : at ≡ before token after) where
+  pub sendings_end : token.symbol ≡ symbols.Sign signs.Semicolon → listed_from plan names at.tokens at ≡ Ok (names, after)
+  sendings_end is = by_symbol token at after first (λ p. listed_from plan names p.tokens p) _ is
 
   module _ (other : token.symbol ≡ symbols.Sign signs.Semicolon → ⊥) where
     abbrev allowed_then : Finds (List ℕ) → Reads (List (List ℕ))
-    allowed_then r = r >>= λ name. unless_refused (list_refusal plan names (name.0 ∷ [])) name.1 name.0 >>= λ allowed. sendings_from plan (names ++ allowed ∷ []) name.2.tokens name.2
+    allowed_then r = r >>= λ name. unless_refused (listing_refusal plan (all_of plan names) name.0) name.1 name.0 >>= λ allowed. listed_from plan (names ++ allowed ∷ []) name.2.tokens name.2
 
-    sendings_step : sendings_from plan names at.tokens at ≡ allowed_then (token_as name_in (before token after))
-    sendings_step = by_symbol token at after first (λ p. sendings_from plan names p.tokens p) token.symbol refl ∙ by_case token.symbol other
+    sendings_step : listed_from plan names at.tokens at ≡ allowed_then (token_as name_in (before token after))
+    sendings_step = by_symbol token at after first (λ p. listed_from plan names p.tokens p) token.symbol refl ∙ by_case token.symbol other
       where
-        by_option : (o : Option (List ℕ)) (line : ℕ) → (or_refused o (Unexpected line) >>= λ name. unless_refused (list_refusal plan names (name ∷ [])) line name >>= λ allowed. sendings_from plan (names ++ allowed ∷ []) after.tokens after)
+        by_option : (o : Option (List ℕ)) (line : ℕ) → (or_refused o (Unexpected line) >>= λ name. unless_refused (listing_refusal plan (all_of plan names) name) line name >>= λ allowed. listed_from plan (names ++ allowed ∷ []) after.tokens after)
             ≡ allowed_then (or_refused o (Unexpected line) >>= λ x. Ok (x, line, after))
         by_option (Some x) line = refl
         by_option None line = refl
 
-        by_case : (s : Symbol) → (s ≡ symbols.Sign signs.Semicolon → ⊥) → sendings_from plan names (with_symbol s token.line after.tokens) (record after { tokens = with_symbol s token.line after.tokens })
+        by_case : (s : Symbol) → (s ≡ symbols.Sign signs.Semicolon → ⊥) → listed_from plan names (with_symbol s token.line after.tokens) (record after { tokens = with_symbol s token.line after.tokens })
             ≡ allowed_then (token_as name_in (record after { tokens = with_symbol s token.line after.tokens }))
         by_case (symbols.Keyword k) h = refl
         by_case (symbols.Word w) h = by_option (name_in (word w.now)) token.line
@@ -127,14 +128,14 @@ module _ (plan : Contents) (names : List (List ℕ)) (token : seen.Token) (at af
         by_case symbols.Foreign h = refl
         by_case symbols.End h = refl
 
-    pub no_sending : (e : PlanError) → Refuses (token_as name_in (before token after)) e → Refuses (sendings_from plan names at.tokens at) e
+    pub no_sending : (e : PlanError) → Refuses (token_as name_in (before token after)) e → Refuses (listed_from plan names at.tokens at) e
     no_sending e h = subst (λ (r : Reads (List (List ℕ))). Refuses r e) (sym sendings_step) (refuses_on (token_as name_in (before token after)) _ e h)
 
     module _ (name : List ℕ) (found : token_as name_in (before token after) ≡ Ok (name, token.line, after)) where
-      pub sending_refused : (e : PlanError) (cause : BuildError) → list_refusal plan names (name ∷ []) ≡ Some cause → e ≡ refused_at cause token.line → Refuses (sendings_from plan names at.tokens at) e
+      pub sending_refused : (e : PlanError) (cause : BuildError) → listing_refusal plan (all_of plan names) name ≡ Some cause → e ≡ refused_at cause token.line → Refuses (listed_from plan names at.tokens at) e
       sending_refused e cause h is = inr (sendings_step ∙ ap allowed_then found ∙ rw h (ap (λ (f : PlanError). Err f) (sym is)))
 
-      pub sending_on : list_refusal plan names (name ∷ []) ≡ None → sendings_from plan names at.tokens at ≡ sendings_from plan (names ++ name ∷ []) after.tokens after
+      pub sending_on : listing_refusal plan (all_of plan names) name ≡ None → listed_from plan names at.tokens at ≡ listed_from plan (names ++ name ∷ []) after.tokens after
       sending_on h = sendings_step ∙ ap allowed_then found ∙ rw h refl
 
       pub sending_smaller : size after.tokens < size at.tokens

@@ -1,24 +1,29 @@
 -- The frames of a message: the tree that they make up, or the first refusal.
-use Rattle.std.specs.Prelude.{ℕ, zero, suc, ◌+◌, ◌*◌, ◌-◌, Bool, true, false, nat_le, List, Option, Some, None}
-use Rattle.std.specs.Prelude.{Result, Ok, Err, if◌then◌else◌}
+use Rattle.std.specs.Prelude.{ℕ, zero, suc, ◌+◌, ◌*◌, ◌-◌, Bool, true, false, nat_le, List, Option, Some}
+use Rattle.std.specs.Prelude.{None, is_some, Result, Ok, Err, if◌then◌else◌}
+use Rattle.message_tree.specs.declared.counts.Count.{Count}
 use Rattle.message_tree.specs.declared.bits.Address.{Address}
 use Rattle.message_tree.specs.declared.bits.Pattern.{Pattern}
-use Rattle.message_tree.specs.declared.counts.Count.{Count}
 use Rattle.message_tree.specs.Counts.{greatest_of}
-use Rattle.message_tree.specs.Trees.{FrameTree, write, read, PayloadTree, byte, last, TailTree, stop, again}
 use Rattle.plan_core.specs.declared.limits.TheConstants.{MOST_NODES}
 use Rattle.plan_text.specs.declared.errors.PlanError.{PlanError}
-use Rattle.plan_text.specs.declared.errors.PlanError.TheVariants.{BadCount, TooLong}
+use Rattle.plan_text.specs.declared.errors.PlanError.TheVariants.{Unexpected, BadCount, TooLong}
 use Rattle.plan_text.specs.Reader.{◌>>=◌, or_refused, Form, writes, reads}
 use Rattle.plan_text.specs.Values.{count_of}
 use Rattle.plan_text.specs.Words.{count_ends}
 use Rattle.brief_text.specs.declared.symbols.Keyword.TheVariants as keywords
 use Rattle.brief_text.specs.declared.symbols.Sign.TheVariants as signs
-use Rattle.brief_text.specs.Places.{Place, Reads, token_as, close_in, past, number_at, to_at, data_at}
+use Rattle.brief_text.specs.declared.syntax.Lengths.{Lengths}
+use Rattle.brief_text.specs.Drafts.{Draft}
+use Rattle.brief_text.specs.Judging.{range_refusal}
+use Rattle.brief_text.specs.Places.{Place, Reads, token_as, close_in, past, to_at, data_at}
 use Rattle.brief_text.specs.Tokens.{Token, keyword, word, sign, Tokens, next}
+use Rattle.brief_text.specs.Trees.{Said, Times, times, ranged, BriefFrame, write_to, read_from, BriefBytes, data_byte, no_more}
+use Rattle.brief_text.specs.Trees.{BriefTail, stop_here, go_on}
+use Rattle.brief_text.specs.Words.{Repetition, so_often, from_to, repetition_by, is_countable, is_range}
 
 -- ---- the limits. What stands after the `else` of `any*16` stands in the message 16 times: in 16 copies. Room is how many
--- bytes a path may still have, where it is longest.
+-- bytes a path may still have, where it is longest. A range counts as its HI.
 
 -- so many more nodes, with the token that says so on this line
 abbrev pub counted : ℕ → ℕ → Place → Result Place PlanError
@@ -37,28 +42,58 @@ count_at room at = do
   if nat_le (greatest_of count) room then Ok (count, ends.2) else Err (TooLong ends.1)
 
 -- so many more bytes on a path, each in so many copies
-abbrev pub further : ℕ → ℕ → ℕ → ℕ → Place → Reads ℕ
+abbrev pub further : ℕ → ℕ → ℕ → ℕ → Place → Result Place PlanError
 further room copies more line at =
-    if nat_le more room then (counted (copies * more) line at >>= λ node. Ok (more, node)) else Err (TooLong line)
+    if nat_le more room then counted (copies * more) line at else Err (TooLong line)
 
--- how many more of a data byte follow it: none, or one less than the number after `*`, which all find room
-abbrev pub more_from : ℕ → ℕ → Tokens → Place → Reads ℕ
-more_from room copies (next (sign signs.Star) line rest) at = do
-  times ← number_at (record at { tokens = rest })
-  further room copies (times.0 - 1) times.1 times.2
-more_from room copies tokens at = Ok (0, at)
+-- ---- repetitions: how often a data byte stands, and how many more of it that are at most
 
-abbrev pub more_at : ℕ → ℕ → Place → Reads ℕ
-more_at room copies at = more_from room copies at.tokens at
+-- the message in which a repetition stands: what briefs have before it, and its name
+pub record Around : Type 0 where
+  pub draft : Draft
+  pub name : List ℕ
+
+abbrev pub repetition_in : Token → Option Repetition
+repetition_in (word bytes) = repetition_by bytes
+repetition_in token = None
+
+-- so many more bytes, which stand so often
+abbrev pub often_or : Times → ℕ → ℕ → ℕ → ℕ → Place → Reads (Times × ℕ)
+often_or often room copies more line at = do
+  after ← further room copies more line at
+  Ok ((often, more), after)
+
+abbrev pub with_range : Around → ℕ → ℕ → Lengths → ℕ → Place → Reads (Times × ℕ)
+with_range around room copies range line at = do
+  named ← range_refusal around.draft around.name range line (record at { range = Some range })
+  often_or ranged room copies (range.greatest - 1) line named
+
+abbrev pub often_by : Around → ℕ → ℕ → Repetition → ℕ → Place → Reads (Times × ℕ)
+often_by around room copies (so_often n) line at =
+    if is_countable n then often_or (times n) room copies (n - 1) line at else Err (BadCount line)
+often_by around room copies (from_to least greatest) line at =
+    if is_some at.range then Err (Unexpected line)
+    else if is_range least greatest then with_range around room copies (record { least = least; greatest = greatest }) line at
+    else Err (BadCount line)
+
+-- once, or as the number or the range after `*` says
+abbrev pub often_from : Around → ℕ → ℕ → Tokens → Place → Reads (Times × ℕ)
+often_from around room copies (next (sign signs.Star) line rest) at = do
+  found ← token_as repetition_in (record at { tokens = rest })
+  often_by around room copies found.0 found.1 found.2
+often_from around room copies tokens at = Ok ((times 1, 0), at)
+
+abbrev pub often_at : Around → ℕ → ℕ → Place → Reads (Times × ℕ)
+often_at around room copies at = often_from around room copies at.tokens at
 
 -- ---- the rules
 
--- how the rest of a frame is read after its address, and how the rest of a payload is read after a data byte
+-- how the rest of a frame is read after its address, and how the rest of the data bytes is read after the first
 abbrev pub Frames : Type 0
-Frames = Form → Address → ℕ → Place → Reads FrameTree
+Frames = Form → Said Address → ℕ → Place → Reads BriefFrame
 
 abbrev pub Bytes : Type 0
-Bytes = Pattern → ℕ → Place → Reads PayloadTree
+Bytes = Said Pattern → ℕ → Place → Reads BriefBytes
 
 -- `write` or `read`, and to whom
 abbrev pub form_in : Token → Option Form
@@ -66,26 +101,26 @@ form_in (keyword keywords.Write) = Some writes
 form_in (keyword keywords.Read) = Some reads
 form_in token = None
 
-abbrev pub frames_by : Frames → Place → Reads FrameTree
-frames_by frames at = do
+abbrev pub frames_by : Draft → Frames → Place → Reads BriefFrame
+frames_by draft frames at = do
   form ← token_as form_in at
-  to ← to_at form.2
+  to ← to_at draft form.2
   frames form.0 to.0 to.1 to.2
 
 -- a further frame follows by a repeated START; where there is none, a STOP follows
-abbrev pub next_from : Frames → Tokens → Place → Reads TailTree
-next_from frames (next (keyword keywords.Write) line rest) at = do
-  frame ← frames_by frames at
-  Ok (again frame.0, frame.1)
-next_from frames (next (keyword keywords.Read) line rest) at = do
-  frame ← frames_by frames at
-  Ok (again frame.0, frame.1)
-next_from frames tokens at = Ok (stop, at)
+abbrev pub next_from : Draft → Frames → Tokens → Place → Reads BriefTail
+next_from draft frames (next (keyword keywords.Write) line rest) at = do
+  frame ← frames_by draft frames at
+  Ok (go_on frame.0, frame.1)
+next_from draft frames (next (keyword keywords.Read) line rest) at = do
+  frame ← frames_by draft frames at
+  Ok (go_on frame.0, frame.1)
+next_from draft frames tokens at = Ok (stop_here, at)
 
-abbrev pub next_by : Frames → Place → Reads TailTree
-next_by frames at = next_from frames at.tokens at
+abbrev pub next_by : Draft → Frames → Place → Reads BriefTail
+next_by draft frames at = next_from draft frames at.tokens at
 
--- what follows a refusal: `else stop`, or `else` and frames in parentheses; where there is no `else`, a STOP
+-- what follows where there is no acknowledge: `else stop`, or `else` and frames in parentheses; without `else` a STOP
 pub data Ends : Type 0 where
   stops : Ends
   opens : Ends
@@ -95,21 +130,21 @@ ends_with (keyword keywords.Stop) = Some stops
 ends_with (sign signs.Open) = Some opens
 ends_with token = None
 
-abbrev pub else_by : Frames → Ends → Place → Reads TailTree
-else_by frames stops at = Ok (stop, at)
-else_by frames opens at = do
-  frame ← frames_by frames at
+abbrev pub else_by : Draft → Frames → Ends → Place → Reads BriefTail
+else_by draft frames stops at = Ok (stop_here, at)
+else_by draft frames opens at = do
+  frame ← frames_by draft frames at
   after ← past close_in frame.1
-  Ok (again frame.0, after)
+  Ok (go_on frame.0, after)
 
-abbrev pub refused_from : Frames → Tokens → Place → Reads TailTree
-refused_from frames (next (keyword keywords.Else) line rest) at = do
+abbrev pub refused_from : Draft → Frames → Tokens → Place → Reads BriefTail
+refused_from draft frames (next (keyword keywords.Else) line rest) at = do
   ends ← token_as ends_with (record at { tokens = rest })
-  else_by frames ends.0 ends.2
-refused_from frames tokens at = Ok (stop, at)
+  else_by draft frames ends.0 ends.2
+refused_from draft frames tokens at = Ok (stop_here, at)
 
-abbrev pub refused_by : Frames → Place → Reads TailTree
-refused_by frames at = refused_from frames at.tokens at
+abbrev pub refused_by : Draft → Frames → Place → Reads BriefTail
+refused_by draft frames at = refused_from draft frames at.tokens at
 
 -- data bytes, and then what follows the last of them
 abbrev pub begins_data : Tokens → Bool
@@ -117,52 +152,47 @@ begins_data (next (word w) line rest) = true
 begins_data (next (keyword keywords.Any) line rest) = true
 begins_data tokens = false
 
-abbrev pub bytes_by : Bytes → Place → Reads PayloadTree
-bytes_by bytes at = do
-  found ← data_at at
+abbrev pub bytes_by : Draft → Bytes → Place → Reads BriefBytes
+bytes_by draft bytes at = do
+  found ← data_at draft at
   bytes found.0 found.1 found.2
 
-abbrev pub last_by : Frames → Place → Reads PayloadTree
-last_by frames at = do
-  tail ← next_by frames at
-  Ok (last tail.0, tail.1)
+abbrev pub last_by : Draft → Frames → Place → Reads BriefBytes
+last_by draft frames at = do
+  tail ← next_by draft frames at
+  Ok (no_more tail.0, tail.1)
 
-abbrev pub payload_by : Frames → Bytes → Place → Reads PayloadTree
-payload_by frames bytes at = if begins_data at.tokens then bytes_by bytes at else last_by frames at
+abbrev pub payload_by : Draft → Frames → Bytes → Place → Reads BriefBytes
+payload_by draft frames bytes at = if begins_data at.tokens then bytes_by draft bytes at else last_by draft frames at
 
--- so many times the same byte, each with the same after its refusal
-abbrev pub repeated : ℕ → Pattern → PayloadTree → TailTree → PayloadTree
-repeated zero bits acked refused = acked
-repeated (suc n) bits acked refused = byte bits (repeated n bits acked refused) refused
-
--- The rest of a frame after its address on this line, and the rest of a payload after a data byte, where what stands
+-- The rest of a frame after its address on this line, and the rest of the data bytes after the first, where what stands
 -- before them has used so many bytes of the room, and where they stand in so many copies.
 unfoldable mutual
-  pub frame_in : ℕ → ℕ → ℕ → Form → Address → ℕ → Place → Reads FrameTree
-  frame_in zero used copies form address line at = Err (TooLong line)
-  frame_in (suc room) (suc used) copies form address line at = frame_in room used copies form address line at
-  frame_in (suc room) zero copies writes address line at = do
+  pub frame_in : Around → ℕ → ℕ → ℕ → Form → Said Address → ℕ → Place → Reads BriefFrame
+  frame_in around zero used copies form to line at = Err (TooLong line)
+  frame_in around (suc room) (suc used) copies form to line at = frame_in around room used copies form to line at
+  frame_in around (suc room) zero copies writes to line at = do
     node ← counted copies line at
-    refused ← refused_by (frame_in room 0 copies) node
-    acked ← payload_by (frame_in room 0 copies) (byte_in room 0 copies) refused.1
-    Ok (write address acked.0 refused.0, acked.1)
-  frame_in (suc room) zero copies reads address line at = do
+    refused ← refused_by around.draft (frame_in around room 0 copies) node
+    acked ← payload_by around.draft (frame_in around room 0 copies) (byte_in around room 0 copies) refused.1
+    Ok (write_to to refused.0 acked.0, acked.1)
+  frame_in around (suc room) zero copies reads to line at = do
     node ← counted copies line at
     count ← count_at room node
-    refused ← refused_by (frame_in room 0 copies) count.1
-    after ← next_by (frame_in room (greatest_of count.0) copies) refused.1
-    Ok (read address count.0 after.0 refused.0, after.1)
+    refused ← refused_by around.draft (frame_in around room 0 copies) count.1
+    after ← next_by around.draft (frame_in around room (greatest_of count.0) copies) refused.1
+    Ok (read_from to count.0 refused.0 after.0, after.1)
 
-  pub byte_in : ℕ → ℕ → ℕ → Pattern → ℕ → Place → Reads PayloadTree
-  byte_in zero used copies bits line at = Err (TooLong line)
-  byte_in (suc room) (suc used) copies bits line at = byte_in room used copies bits line at
-  byte_in (suc room) zero copies bits line at = do
+  pub byte_in : Around → ℕ → ℕ → ℕ → Said Pattern → ℕ → Place → Reads BriefBytes
+  byte_in around zero used copies bits line at = Err (TooLong line)
+  byte_in around (suc room) (suc used) copies bits line at = byte_in around room used copies bits line at
+  byte_in around (suc room) zero copies bits line at = do
     node ← counted copies line at
-    more ← more_at room copies node
-    refused ← refused_by (frame_in room more.0 (copies * suc more.0)) more.1
-    acked ← payload_by (frame_in room more.0 copies) (byte_in room more.0 copies) refused.1
-    Ok (repeated (suc more.0) bits acked.0 refused.0, acked.1)
+    often ← often_at around room copies node
+    refused ← refused_by around.draft (frame_in around room often.0.1 (copies * suc often.0.1)) often.1
+    acked ← payload_by around.draft (frame_in around room often.0.1 copies) (byte_in around room often.0.1 copies) refused.1
+    Ok (data_byte bits often.0.0 refused.0 acked.0, acked.1)
 
 -- the frames of a message, where a path has so much room and they stand in so many copies
-abbrev pub frames_at : ℕ → ℕ → Place → Reads FrameTree
-frames_at room copies = frames_by (frame_in room 0 copies)
+abbrev pub frames_at : Around → ℕ → ℕ → Place → Reads BriefFrame
+frames_at around room copies = frames_by around.draft (frame_in around room 0 copies)

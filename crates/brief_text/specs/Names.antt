@@ -1,5 +1,5 @@
 -- The names that a plan may have and a brief can't.
-use Rattle.std.specs.Prelude.{◌≡◌, ℕ, Bool, true, false, ◌||◌, List, [], ◌∷◌, ◌++◌, Option, codes}
+use Rattle.std.specs.Prelude.{◌≡◌, ℕ, Bool, true, ◌||◌, List, [], ◌∷◌, ◌++◌, Option, codes}
 use Rattle.std.specs.List.{list_any, find}
 use Rattle.std.specs.Map.{keys_of}
 use Rattle.std.specs.Str.{bytes_eq}
@@ -25,5 +25,5 @@ first_brief_word plan = find is_brief_word (keys_of plan.messages ++ (keys_of pl
 -- this is why the plan has no brief
 abbrev pub LacksBrief : Contents → NoBrief → Type 0
 LacksBrief plan cause.Name = has_brief_word plan ≡ true
-LacksBrief plan cause.Unwritten = has_brief_word plan ≡ false
+LacksBrief plan cause.Unwritten = ⊥
 LacksBrief plan cause.NoMemory = ⊥

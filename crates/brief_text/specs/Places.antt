@@ -1,6 +1,6 @@
 -- A place in a brief, and what one token or two stand for there: what is read and the place after it, or the refusal.
 -- `PlanError` of plan_text has the codes P1 to P8.
-use Rattle.std.specs.Prelude.{ℕ, ◌&&◌, Bool, nat_le, List, Option, Some, None, Result, Ok, Err, if◌then◌else◌}
+use Rattle.std.specs.Prelude.{ℕ, Bool, true, List, Option, Some, None, is_some, Result, Ok, Err, if◌then◌else◌}
 use Rattle.std.specs.Map.{lookup}
 use Rattle.std.specs.Str.{bytes_eq}
 use Rattle.message_tree.specs.declared.bits.Address.{Address}
@@ -8,22 +8,23 @@ use Rattle.message_tree.specs.declared.bits.Pattern.{Pattern}
 use Rattle.plan_core.specs.Names.{is_name}
 use Rattle.plan_core.specs.declared.builder.BuildError.{BuildError}
 use Rattle.plan_text.specs.declared.errors.PlanError.{PlanError}
-use Rattle.plan_text.specs.declared.errors.PlanError.TheVariants.{Unexpected, BadCount, Unknown}
+use Rattle.plan_text.specs.declared.errors.PlanError.TheVariants.{Unexpected, Unknown}
 use Rattle.plan_text.specs.Reader.{◌>>=◌, or_refused, unless_refused, ends_early}
-use Rattle.plan_text.specs.Words.{is_digits, number}
 use Rattle.brief_text.specs.declared.symbols.Keyword.TheVariants as keywords
 use Rattle.brief_text.specs.declared.symbols.Sign.TheVariants as signs
+use Rattle.brief_text.specs.declared.syntax.Lengths.{Lengths}
+use Rattle.brief_text.specs.Drafts.{Draft}
 use Rattle.brief_text.specs.Tokens.{Token, keyword, word, sign, Tokens, next, last}
+use Rattle.brief_text.specs.Trees.{Said, spelled, named}
 use Rattle.brief_text.specs.Words.{address_by, data_by, any_byte}
 
 pub record Place : Type 0 where
   -- the tokens that are left
   pub tokens : Tokens
-  -- the devices and the data bytes that have names
-  pub devices : List (List ℕ × Address)
-  pub bytes : List (List ℕ × Pattern)
-  -- the nodes of the message so far
+  -- the headers and data bytes of the message so far, as many as the plan has of them
   pub nodes : ℕ
+  -- LO and HI of a byte of the message so far that has a range
+  pub range : Option Lengths
 
 -- what is read and the place after it, or the refusal
 abbrev pub Reads : Type 0 → Type 0
@@ -68,48 +69,29 @@ name_at refusal at = do
   name ← token_as name_in at
   unless_refused (refusal name.0) name.1 (name.0, name.2)
 
--- a number of digits alone, which is 1 to 255
-abbrev pub digits_in : Token → Option (List ℕ)
-digits_in (word bytes) = if is_digits bytes then Some bytes else None
-digits_in token = None
-
-abbrev pub is_countable : ℕ → Bool
-is_countable n = nat_le 1 n && nat_le n 255
-
-abbrev pub number_at : Place → Finds ℕ
-number_at at = do
-  digits ← token_as digits_in at
-  if is_countable (number digits.0) then Ok (number digits.0, digits.1, digits.2) else Err (BadCount digits.1)
-
 -- ---- values that may have names
-
--- a value that is spelled out, or the name of one
-pub data Said (A : Type 0) : Type 0 where
-  spelled : (value : A) → Said A
-  named : (name : List ℕ) → Said A
 
 abbrev pub or_name : {A : Type 0} → Option A → List ℕ → Option (Said A)
 or_name (Some value) bytes = Some (spelled value)
 or_name None bytes = if is_name bytes then Some (named bytes) else None
 
--- the value with this name, the first of them
-abbrev pub value_of : {A : Type 0} → List (List ℕ × A) → Said A → Option A
-value_of entries (spelled value) = Some value
-value_of entries (named name) = lookup (bytes_eq name) entries
+abbrev pub is_known : {A : Type 0} → List (List ℕ × A) → Said A → Bool
+is_known entries (spelled value) = true
+is_known entries (named name) = is_some (lookup (bytes_eq name) entries)
 
-abbrev pub value_as : {A : Type 0} → (Token → Option (Said A)) → List (List ℕ × A) → Place → Finds A
+-- a value that is spelled out, or the name of one that stands before
+abbrev pub value_as : {A : Type 0} → (Token → Option (Said A)) → List (List ℕ × A) → Place → Finds (Said A)
 value_as what entries at = do
   said ← token_as what at
-  value ← or_refused (value_of entries said.0) (Unknown said.1)
-  Ok (value, said.1, said.2)
+  if is_known entries said.0 then Ok said else Err (Unknown said.1)
 
 -- the address of a device, or its name
 abbrev pub to_in : Token → Option (Said Address)
 to_in (word bytes) = or_name (address_by bytes) bytes
 to_in token = None
 
-abbrev pub to_at : Place → Finds Address
-to_at at = value_as to_in at.devices at
+abbrev pub to_at : Draft → Place → Finds (Said Address)
+to_at draft at = value_as to_in draft.devices at
 
 -- a data byte, its name, or `any`
 abbrev pub data_in : Token → Option (Said Pattern)
@@ -117,5 +99,5 @@ data_in (word bytes) = or_name (data_by bytes) bytes
 data_in (keyword keywords.Any) = Some (spelled any_byte)
 data_in token = None
 
-abbrev pub data_at : Place → Finds Pattern
-data_at at = value_as data_in at.bytes at
+abbrev pub data_at : Draft → Place → Finds (Said Pattern)
+data_at draft at = value_as data_in draft.bytes at

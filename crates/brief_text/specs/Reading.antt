@@ -3,13 +3,17 @@
 use Rattle.std.specs.Prelude.{◌≡◌, ℕ, false, List, [], ◌∷◌, length, Option, Some, None}
 use Rattle.plan_text.specs.Reading.{is_skipped}
 use Rattle.plan_text.specs.Tokens.{text_end, foreign, stray}
+use Rattle.plan_text.specs.Words.{number}
 use Rattle.plan_text.specs.declared.errors.PlanError.{PlanError}
 use Rattle.plan_text.specs.declared.errors.PlanError.TheVariants as errors
 use Rattle.brief_text.specs.declared.symbols.Symbol.{Symbol}
 use Rattle.brief_text.specs.declared.symbols.Symbol.TheVariants as symbols
 use Rattle.brief_text.specs.declared.symbols.Token.{Token}
 use Rattle.brief_text.specs.declared.tokens.Tokens.{Tokens}
+use Rattle.brief_text.specs.declared.words.Repetition.{Repetition}
+use Rattle.brief_text.specs.declared.words.Repetition.TheVariants as repetitions
 use Rattle.brief_text.specs.Tokens as spec
+use Rattle.brief_text.specs.Words as spoken
 
 -- the bytes that are left
 abbrev pub unread : Tokens → ℕ
@@ -50,3 +54,8 @@ unexpected_symbol _ line = errors.Unexpected line
 
 abbrev pub unexpected_at : Token → PlanError
 unexpected_at token = unexpected_symbol token.symbol token.line
+
+-- what stands after `*`, as its digits write it
+abbrev pub repetition_said : Repetition → spoken.Repetition
+repetition_said (repetitions.Number n) = spoken.so_often (number n.word.now)
+repetition_said (repetitions.Range least greatest) = spoken.from_to (number least.word.now) (number greatest.word.now)

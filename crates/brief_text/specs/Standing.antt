@@ -1,39 +1,100 @@
--- What the functions of the reader say of the place at which they stand. Only private contracts and proofs use this.
+-- What the functions of the reader say of the place at which they stand and of what they have. Only private contracts and
+-- proofs use this.
 use Rattle.std.specs.Prelude.{◌≡◌, ℕ, ◌-◌, ◌*◌, suc, List, map, nat_lt, Result, Ok, Err, if◌then◌else◌}
+use Rattle.std.specs.Option.{option_map}
 use Rattle.message_tree.specs.Counts.{greatest_of}
-use Rattle.message_tree.specs.Trees.{FrameTree, write, read, PayloadTree, TailTree}
 use Rattle.plan_core.specs.BuilderContents.{builder_contents}
-use Rattle.plan_core.specs.Contents.{Contents}
 use Rattle.plan_core.specs.NameBytes.{name_bytes}
 use Rattle.plan_text.specs.Places.{Refuses}
 use Rattle.plan_text.specs.Reader.{◌>>=◌}
 use Rattle.plan_text.specs.declared.errors.PlanError.{PlanError}
 use Rattle.plan_text.specs.declared.errors.PlanError.TheVariants.{TooLong}
-use Rattle.brief_text.specs.declared.items.Reader.{Reader}
+use Rattle.brief_text.specs.declared.boards.Board.{Board}
+use Rattle.brief_text.specs.declared.boards.Listing.{Listing}
+use Rattle.brief_text.specs.declared.boards.Never.{Never}
+use Rattle.brief_text.specs.declared.frames.Within.{Within}
 use Rattle.brief_text.specs.declared.naming.Named.{Named}
 use Rattle.brief_text.specs.declared.sources.Source.{Source}
 use Rattle.brief_text.specs.declared.symbols.Token.{Token}
-use Rattle.brief_text.specs.Frames.{count_at, counted, more_at, refused_by, next_by, payload_by, repeated, frame_in, byte_in}
+use Rattle.brief_text.specs.declared.syntax.DataSyntax.{DataSyntax}
+use Rattle.brief_text.specs.declared.syntax.DataSyntax.TheVariants.{Byte', Last}
+use Rattle.brief_text.specs.declared.syntax.FrameSyntax.{FrameSyntax}
+use Rattle.brief_text.specs.declared.syntax.FrameSyntax.TheVariants.{Write', Read}
+use Rattle.brief_text.specs.declared.syntax.Often.{Often}
+use Rattle.brief_text.specs.declared.syntax.Often.TheVariants as oftens
+use Rattle.brief_text.specs.declared.syntax.Party.{Party}
+use Rattle.brief_text.specs.declared.syntax.TailSyntax.{TailSyntax}
+use Rattle.brief_text.specs.declared.syntax.TailSyntax.TheVariants.{Stop, Frames'}
+use Rattle.brief_text.specs.declared.syntax.Value.{Value}
+use Rattle.brief_text.specs.declared.syntax.Value.TheVariants as values
+use Rattle.brief_text.specs.Drafts.{Draft, with_item}
+use Rattle.brief_text.specs.Frames.{Around, count_at, counted, often_at, refused_by, next_by, payload_by, frame_in, byte_in}
 use Rattle.brief_text.specs.Places.{Place, Reads, Finds, to_at, data_at}
 use Rattle.brief_text.specs.Reading.{left, with_token}
+use Rattle.brief_text.specs.Trees.{Said, spelled, named, Times, times, ranged, BriefFrame, write_to, read_from, BriefBytes}
+use Rattle.brief_text.specs.Trees.{data_byte, no_more, BriefTail, stop_here, go_on, Side, BriefItem}
+
+-- ---- trees
+
+abbrev pub said : {A : Type 0} → Value A → Said A
+said (values.Spelled value) = spelled value
+said (values.Named found) = named (name_bytes found.name)
+
+abbrev pub times_of : Often → Times
+times_of (oftens.Times n) = times n
+times_of oftens.Ranged = ranged
+
+-- A constructor with a prime, as `Write' to refused p acked`, shows a box: `p` is its address, and the value in it comes next.
+abbrev mutual
+  pub brief_frame : FrameSyntax → BriefFrame
+  brief_frame (Write' to refused p acked) = write_to (said to) (brief_tail refused) (brief_bytes acked)
+  brief_frame (Read to count refused after) = read_from (said to) count (brief_tail refused) (brief_tail after)
+
+  pub brief_bytes : DataSyntax → BriefBytes
+  brief_bytes (Byte' bits often refused p acked) =
+      data_byte (said bits) (times_of often) (brief_tail refused) (brief_bytes acked)
+  brief_bytes (Last tail) = no_more (brief_tail tail)
+
+  pub brief_tail : TailSyntax → BriefTail
+  brief_tail Stop = stop_here
+  brief_tail (Frames' p frame) = go_on (brief_frame frame)
+
+abbrev pub side : Party → Side
+side party = record { controller = name_bytes party.controller; label = option_map name_bytes party.label }
+
+-- ---- what items make up
 
 abbrev pub entries_of : {A : Type 0} → Named A → List (List ℕ × A)
 entries_of known = map (λ entry. (name_bytes entry.0, entry.1)) known.entries.entries
 
+abbrev pub listing : Listing → List ℕ × List (List ℕ)
+listing it = (name_bytes it.name, map name_bytes it.messages.items)
+
+abbrev pub sides : Never → Side × Side
+sides never = (side never.first, side never.second)
+
+abbrev pub draft : Board → Draft
+draft board = record {
+  devices = entries_of board.devices;
+  bytes = entries_of board.bytes;
+  plan = builder_contents board.builder;
+  families = entries_of board.families;
+  controllers = map listing board.controllers.items;
+  labels = map side board.labels.items;
+  nevers = map sides board.nevers.items;
+}
+
+abbrev pub around : Within → Around
+around within = record { draft = draft within.board.now; name = name_bytes within.name.now }
+
+-- ---- places
+
 abbrev pub place : Source → Place
 place source = record {
   tokens = with_token source.token (left source.tokens);
-  devices = entries_of source.devices;
-  bytes = entries_of source.bytes;
   nodes = source.nodes;
+  range = source.range;
 }
-
--- the plan so far, and the place after it
-abbrev pub so_far : Reader → Contents
-so_far reader = builder_contents reader.builder
-
-abbrev pub ahead : Reader → Place
-ahead reader = place reader.source
 
 -- the place before this token
 abbrev pub before : Token → Place → Place
@@ -49,6 +110,10 @@ abbrev pub FindsOut : {X A : Type 0} → (X → A) → (X → ℕ) → Result X 
 FindsOut view line (Ok x) given after = given ≡ Ok (view x, line x, after)
 FindsOut view line (Err e) given after = Refuses given e
 
+-- an item is read, and the draft with it
+abbrev pub adds : (Draft → Place → Reads BriefItem) → Draft → Place → Result (Draft × Place) PlanError
+adds item plan at = item plan at >>= λ read. Ok (with_item plan read.0, read.1)
+
 -- ---- parts of messages, where a path has so much room, and where they stand in so many copies
 
 -- one more node with its token on this line, and the room below it
@@ -56,40 +121,40 @@ abbrev pub node_at : ℕ → ℕ → ℕ → Place → Reads ℕ
 node_at room copies line at =
     if nat_lt 0 room then (counted copies line at >>= λ node. Ok (room - 1, node)) else Err (TooLong line)
 
-abbrev pub refused_at : ℕ → ℕ → Place → Reads TailTree
-refused_at room copies = refused_by (frame_in room 0 copies)
+abbrev pub refused_at : Around → ℕ → ℕ → Place → Reads BriefTail
+refused_at around room copies = refused_by around.draft (frame_in around room 0 copies)
 
-abbrev pub next_at : ℕ → ℕ → Place → Reads TailTree
-next_at room copies = next_by (frame_in room 0 copies)
+abbrev pub next_at : Around → ℕ → ℕ → Place → Reads BriefTail
+next_at around room copies = next_by around.draft (frame_in around room 0 copies)
 
-abbrev pub payload_at : ℕ → ℕ → Place → Reads PayloadTree
-payload_at room copies = payload_by (frame_in room 0 copies) (byte_in room 0 copies)
+abbrev pub payload_at : Around → ℕ → ℕ → Place → Reads BriefBytes
+payload_at around room copies = payload_by around.draft (frame_in around room 0 copies) (byte_in around room 0 copies)
 
 -- after `write`
-abbrev pub write_at : ℕ → ℕ → Place → Reads FrameTree
-write_at room copies at = do
-  to ← to_at at
+abbrev pub write_at : Around → ℕ → ℕ → Place → Reads BriefFrame
+write_at around room copies at = do
+  to ← to_at around.draft at
   node ← node_at room copies to.1 to.2
-  refused ← refused_at node.0 copies node.1
-  acked ← payload_at node.0 copies refused.1
-  Ok (write to.0 acked.0 refused.0, acked.1)
+  refused ← refused_at around node.0 copies node.1
+  acked ← payload_at around node.0 copies refused.1
+  Ok (write_to to.0 refused.0 acked.0, acked.1)
 
 -- after `read`
-abbrev pub read_at : ℕ → ℕ → Place → Reads FrameTree
-read_at room copies at = do
-  to ← to_at at
+abbrev pub read_at : Around → ℕ → ℕ → Place → Reads BriefFrame
+read_at around room copies at = do
+  to ← to_at around.draft at
   node ← node_at room copies to.1 to.2
   count ← count_at node.0 node.1
-  refused ← refused_at node.0 copies count.1
-  after ← next_at (node.0 - greatest_of count.0) copies refused.1
-  Ok (read to.0 count.0 after.0 refused.0, after.1)
+  refused ← refused_at around node.0 copies count.1
+  after ← next_at around (node.0 - greatest_of count.0) copies refused.1
+  Ok (read_from to.0 count.0 refused.0 after.0, after.1)
 
 -- data bytes
-abbrev pub bytes_at : ℕ → ℕ → Place → Reads PayloadTree
-bytes_at room copies at = do
-  found ← data_at at
+abbrev pub bytes_at : Around → ℕ → ℕ → Place → Reads BriefBytes
+bytes_at around room copies at = do
+  found ← data_at around.draft at
   node ← node_at room copies found.1 found.2
-  more ← more_at node.0 copies node.1
-  refused ← refused_at (node.0 - more.0) (copies * suc more.0) more.1
-  acked ← payload_at (node.0 - more.0) copies refused.1
-  Ok (repeated (suc more.0) found.0 acked.0 refused.0, acked.1)
+  often ← often_at around node.0 copies node.1
+  refused ← refused_at around (node.0 - often.0.1) (copies * suc often.0.1) often.1
+  acked ← payload_at around (node.0 - often.0.1) copies refused.1
+  Ok (data_byte found.0 often.0.0 refused.0 acked.0, acked.1)

@@ -42,7 +42,7 @@ abbrev token_by : Option Keyword → List ℕ → Token
 token_by (Some k) bytes = keyword k
 token_by None bytes = word bytes
 
--- the token of these bytes, a maximal run of letters, digits, `_` and `.`
+-- the token of these bytes, a maximal run of letters, digits, `_`, `.` and `/`
 unfoldable pub token_of_word : List ℕ → Token
 token_of_word bytes = token_by (keyword_of bytes) bytes
 
@@ -57,7 +57,7 @@ pub data Class : Type 0 where
   stray_byte : Class
 
 abbrev pub is_word_part : ℕ → Bool
-is_word_part byte = is_name_byte byte || byte == code "."
+is_word_part byte = is_name_byte byte || byte == code "." || byte == code "/"
 
 abbrev pub sign_of : ℕ → Option Sign
 sign_of byte =

@@ -1,6 +1,9 @@
--- What a word says that spells out an address or a data byte: in base 2 after `0b`, in base 16 after `0x`.
-use Rattle.std.specs.Prelude.{ℕ, ◌+◌, ◌*◌, Bool, ◌&&◌, ◌==◌, nat_lt, List, [], ◌∷◌, ◌++◌, map, Option, Some, None, codes, if◌then◌else◌}
+-- What a word says by itself: an address or a data byte, in base 2 after `0b`, in base 16 after `0x`; a number or a range
+-- after `*`; and a label.
+use Rattle.std.specs.Prelude.{ℕ, ◌+◌, ◌*◌, Bool, true, false, ◌&&◌, not, ◌==◌, nat_le, nat_lt, List, [], ◌∷◌, ◌++◌, length, map, take, drop}
+use Rattle.std.specs.Prelude.{Option, Some, None, codes, if◌then◌else◌}
 use Rattle.std.specs.Char.{digit_value}
+use Rattle.std.specs.List.{prefix_len}
 use Rattle.message_tree.specs.Bits.{bits_below}
 use Rattle.message_tree.specs.Codes.{code}
 use Rattle.message_tree.specs.declared.bits.Address.{Address}
@@ -8,7 +11,11 @@ use Rattle.message_tree.specs.declared.bits.Bit.{Bit}
 use Rattle.message_tree.specs.declared.bits.Bit.TheVariants.{Zero, One, Either}
 use Rattle.message_tree.specs.declared.bits.Pattern.{Pattern}
 use Rattle.plan_text.specs.Canonical.{bit_symbol}
+use Rattle.plan_core.specs.Names.{is_name}
 use Rattle.plan_text.specs.Values.{address_of, pattern_of, pattern_by}
+use Rattle.plan_text.specs.Words.{is_digits, number, around_dots}
+use Rattle.brief_text.specs.Names.{is_brief_word}
+use Rattle.brief_text.specs.Trees.{Side}
 
 -- the four bits of a digit, as a plan text has them: those of `X` are open
 unfoldable pub digit_bits : ℕ → Option (List ℕ)
@@ -68,3 +75,59 @@ known_number n [] = Some n
 known_number n (Zero ∷ bits) = known_number (n * 2) bits
 known_number n (One ∷ bits) = known_number (n * 2 + 1) bits
 known_number n (Either ∷ bits) = None
+
+-- ---- repetitions
+
+-- what stands after `*`: a number, or LO and HI around `..`
+pub data Repetition : Type 0 where
+  so_often : (n : ℕ) → Repetition
+  from_to : (least greatest : ℕ) → Repetition
+
+abbrev pub range_by : Option (List ℕ × List ℕ) → Option Repetition
+range_by (Some ends) =
+    if is_digits ends.0 && is_digits ends.1 then Some (from_to (number ends.0) (number ends.1)) else None
+range_by None = None
+
+unfoldable pub repetition_by : List ℕ → Option Repetition
+repetition_by bytes = if is_digits bytes then Some (so_often (number bytes)) else range_by (around_dots bytes)
+
+-- a byte stands 1 to 255 times
+abbrev pub is_countable : ℕ → Bool
+is_countable n = nat_le 1 n && nat_le n 255
+
+-- LO may be 0
+abbrev pub is_range : ℕ → ℕ → Bool
+is_range least greatest = is_countable greatest && nat_le least greatest
+
+-- ---- labels
+
+-- a name of briefs
+abbrev pub is_brief_name : List ℕ → Bool
+is_brief_name bytes = is_name bytes && not (is_brief_word bytes)
+
+abbrev pub is_no_slash : ℕ → Bool
+is_no_slash byte = not (byte == code "/")
+
+abbrev pub halves_at : ℕ → List ℕ → Option (List ℕ × List ℕ)
+halves_at slash bytes = if nat_lt slash (length bytes) then Some (take slash bytes, drop (slash + 1) bytes) else None
+
+-- what stands before and after the first `/`
+unfoldable pub around_slash : List ℕ → Option (List ℕ × List ℕ)
+around_slash bytes = halves_at (prefix_len is_no_slash bytes) bytes
+
+-- what a `never` names: a controller by its name, or what it sends by a label of 32 characters at most
+abbrev pub whole_side : Bool → List ℕ → Option Side
+whole_side true name = Some (record { controller = name; label = None })
+whole_side false name = None
+
+abbrev pub label_side : Bool → List ℕ × List ℕ → Option Side
+label_side true halves = Some (record { controller = halves.0; label = Some halves.1 })
+label_side false halves = None
+
+abbrev pub side_from : Option (List ℕ × List ℕ) → List ℕ → Option Side
+side_from None bytes = whole_side (is_name bytes) bytes
+side_from (Some halves) bytes =
+    label_side (nat_le (length bytes) 32 && is_brief_name halves.0 && is_brief_name halves.1) halves
+
+unfoldable pub side_by : List ℕ → Option Side
+side_by bytes = side_from (around_slash bytes) bytes

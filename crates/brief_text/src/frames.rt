@@ -1,19 +1,28 @@
-// The grammar of messages, a function for each of its rules.
+// The grammar of messages, a function for each of its rules: the tree of a message.
 
-ghost use Rattle.std.specs.Prelude.{◌≡◌, ◌≤◌, ◌+◌, ◌*◌, suc, IfOk};
+ghost use Rattle.std.specs.Prelude.{◌≡◌, ◌≤◌, ◌+◌, ◌*◌, suc, is_some, None, IfOk, IfSome, OnOk};
 ghost use Rattle.message_tree.specs.Counts.{greatest_of};
-ghost use Rattle.message_tree.specs.Trees.{frame_tree, payload_tree, tail_tree};
+ghost use Rattle.plan_core.specs.NameBytes.{name_bytes};
 ghost use Rattle.plan_core.specs.declared.limits.TheConstants.{MOST_BYTES, MOST_NODES};
-ghost use Rattle.brief_text.specs.Frames.{frames_at, count_at, more_at, repeated};
+ghost use Rattle.plan_text.specs.Words.{number};
+ghost use Rattle.brief_text.specs.Frames.{Around, frames_at, count_at, often_at, often_by, further};
+ghost use Rattle.brief_text.specs.Words.{so_often, from_to, is_range};
 ghost use Rattle.brief_text.specs.Places.{past, close_in};
+ghost use Rattle.brief_text.specs.Standing.{brief_frame, brief_bytes, brief_tail};
 
+use crate::boards::Board;
+use crate::numbers::Digits;
 use crate::sources::Source;
 use crate::symbols::{Keyword, Sign, Symbol};
-use message_tree::{Count, Frame, Pattern, Payload, Tail};
+use crate::syntax::{DataSyntax, FrameSyntax, Lengths, Often, TailSyntax};
+use crate::traces::Wanted;
+use crate::words::{Repetition, repetition_of};
+use message_tree::Count;
+use plan_core::Name;
 use plan_core::limits::{MOST_BYTES, MOST_NODES};
 use plan_text::PlanError;
+use plan_text::places::Over;
 use plan_text::words::count_ends;
-use std::alloc::{AllocError, Global};
 
 /// How much a message may still grow at a place.
 #[derive(Clone, Copy)]
@@ -25,135 +34,173 @@ pub(crate) struct Room {
     ghost copies_fit: { copies ≤ MOST_NODES },
 }
 
+/// The message in which a part of it stands: what briefs have before it, and its name.
+#[derive(Clone, Copy)]
+pub(crate) struct Within<'a> {
+    pub(crate) board: &'a Board,
+    pub(crate) name: &'a Name,
+}
+
+/// How often a data byte stands, and how many more of it that are at most.
+#[derive(Clone, Copy)]
+struct Repeated {
+    often: Often,
+    more: u32,
+}
+
 impl Source<'_> {
-    ghost use Rattle.brief_text.specs.Standing.{place, Gives, node_at, next_at, refused_at, payload_at};
+    ghost use Rattle.brief_text.specs.Standing.{place, around, times_of, Gives, node_at, next_at, refused_at, payload_at};
     ghost use Rattle.brief_text.specs.Standing.{write_at, read_at, bytes_at};
     ghost use Rattle.plan_text.specs.Places.{Passes};
 
     /// The frames of a whole message.
-    pub(crate) fn message_frames(&mut self) -> Result<Frame, PlanError>
-        ensures { Gives frame_tree result (frames_at MOST_BYTES 1 (record (place self.old) { nodes = 0 }))
-            (place self.new) }
+    pub(crate) fn message_frames(&mut self, within: Within<'_>) -> Result<FrameSyntax, PlanError>
+        ensures { Gives brief_frame result (frames_at (around within.entry) MOST_BYTES 1
+            (record (place self.old) { nodes = 0; range = None })) (place self.new) }
     {
         self.nodes = 0;
-        self.frames(Room {
-            bytes: MOST_BYTES,
-            copies: 1,
-        })
+        self.range = None;
+        self.frames(
+            within,
+            Room {
+                bytes: MOST_BYTES,
+                copies: 1,
+            },
+        )
     }
 
     // frame frame*
     #[cycle(message)]
-    fn frames(&mut self, room: Room) -> Result<Frame, PlanError>
-        ensures { Gives frame_tree result (frames_at room.bytes room.copies (place self.old)) (place self.new) }
+    fn frames(&mut self, within: Within<'_>, room: Room) -> Result<FrameSyntax, PlanError>
+        ensures { Gives brief_frame result (frames_at (around within.entry) room.bytes room.copies (place self.old)) (place self.new) }
     {
-        let token = self.next();
+        let token = self.next(Wanted::Frame);
         match token.symbol {
-            Symbol::Keyword(Keyword::Write) => self.write(room),
-            Symbol::Keyword(Keyword::Read) => self.read(room),
+            Symbol::Keyword(Keyword::Write) => self.write(within, room),
+            Symbol::Keyword(Keyword::Read) => self.read(within, room),
             _ => Err(token.unexpected()),
         }
     }
 
     // to refused? ( data refused? )* frame*
     #[cycle(message)]
-    fn write(&mut self, room: Room) -> Result<Frame, PlanError>
-        ensures { Gives frame_tree result (write_at room.bytes room.copies (place self.old)) (place self.new) }
+    fn write(&mut self, within: Within<'_>, room: Room) -> Result<FrameSyntax, PlanError>
+        ensures { Gives brief_frame result (write_at (around within.entry) room.bytes room.copies (place self.old)) (place self.new) }
     {
-        let to = self.to()?;
+        let to = self.to(within.board, Wanted::Target)?;
         let below = self.node(room, to.line)?;
-        let refused = self.refused(below)?;
-        let acked = self.payload(below)?;
-        Ok(Frame::Write {
-            address: to.value,
-            acked: Box::new(self.alloc, acked)?,
+        let refused = self.refused(within, below, true)?;
+        let acked = self.payload(within, below)?;
+        Ok(FrameSyntax::Write {
+            to: to.value,
             refused,
+            acked: Box::new(self.alloc, acked)?,
         })
     }
 
     // to COUNT refused? frame*
     #[cycle(message)]
-    fn read(&mut self, room: Room) -> Result<Frame, PlanError>
-        ensures { Gives frame_tree result (read_at room.bytes room.copies (place self.old)) (place self.new) }
+    fn read(&mut self, within: Within<'_>, room: Room) -> Result<FrameSyntax, PlanError>
+        ensures { Gives brief_frame result (read_at (around within.entry) room.bytes room.copies (place self.old)) (place self.new) }
     {
-        let to = self.to()?;
+        let to = self.to(within.board, Wanted::Target)?;
         let below = self.node(room, to.line)?;
         let count = self.count(below.bytes)?;
-        let after_refusal = self.refused(below)?;
-        let after = self.following(Room {
-            bytes: below.bytes - count.greatest() as u32,
-            copies: below.copies,
-        })?;
-        Ok(Frame::Read {
-            address: to.value,
+        let refused = self.refused(within, below, false)?;
+        let after = self.following(
+            within,
+            Room {
+                bytes: below.bytes - count.greatest() as u32,
+                copies: below.copies,
+            },
+        )?;
+        Ok(FrameSyntax::Read {
+            to: to.value,
             count,
+            refused,
             after,
-            refused: after_refusal,
         })
     }
 
     // ( data refused? )* frame*
     #[cycle(message)]
-    fn payload(&mut self, room: Room) -> Result<Payload, PlanError>
-        ensures { Gives payload_tree result (payload_at room.bytes room.copies (place self.old)) (place self.new) }
+    fn payload(&mut self, within: Within<'_>, room: Room) -> Result<DataSyntax, PlanError>
+        ensures { Gives brief_bytes result (payload_at (around within.entry) room.bytes room.copies (place self.old)) (place self.new) }
     {
         match self.token.symbol {
-            Symbol::Word(_) => self.bytes(room),
-            Symbol::Keyword(Keyword::Any) => self.bytes(room),
-            _ => Ok(Payload::Last(self.following(room)?)),
+            Symbol::Word(_) => self.bytes(within, room),
+            Symbol::Keyword(Keyword::Any) => self.bytes(within, room),
+            _ => Ok(DataSyntax::Last(self.following(within, room)?)),
         }
     }
 
     // data refused? ( data refused? )* frame*
     #[cycle(message)]
-    fn bytes(&mut self, room: Room) -> Result<Payload, PlanError>
-        ensures { Gives payload_tree result (bytes_at room.bytes room.copies (place self.old)) (place self.new) }
+    fn bytes(&mut self, within: Within<'_>, room: Room) -> Result<DataSyntax, PlanError>
+        ensures { Gives brief_bytes result (bytes_at (around within.entry) room.bytes room.copies (place self.old)) (place self.new) }
     {
-        let data = self.data()?;
+        let data = self.data(within.board)?;
         let first = self.node(room, data.line)?;
-        let more = self.more(first)?;
-        let below = first.bytes - more;
-        let refused = self.refused(Room {
-            bytes: below,
-            copies: first.copies * (more + 1),
-        })?;
-        let acked = self.payload(Room {
-            bytes: below,
-            copies: first.copies,
-        })?;
-        Ok(repeated(self.alloc, more, data.value, acked, refused)?)
+        let repeated = self.often(within, first)?;
+        let below = first.bytes - repeated.more;
+        let refused = self.refused(
+            within,
+            Room {
+                bytes: below,
+                copies: first.copies * (repeated.more + 1),
+            },
+            true,
+        )?;
+        let acked = self.payload(
+            within,
+            Room {
+                bytes: below,
+                copies: first.copies,
+            },
+        )?;
+        Ok(DataSyntax::Byte {
+            bits: data.value,
+            often: repeated.often,
+            refused,
+            acked: Box::new(self.alloc, acked)?,
+        })
     }
 
     // frame*
     #[cycle(message)]
-    fn following(&mut self, room: Room) -> Result<Tail, PlanError>
-        ensures { Gives tail_tree result (next_at room.bytes room.copies (place self.old)) (place self.new) }
+    fn following(&mut self, within: Within<'_>, room: Room) -> Result<TailSyntax, PlanError>
+        ensures { Gives brief_tail result (next_at (around within.entry) room.bytes room.copies (place self.old)) (place self.new) }
     {
         match self.token.symbol {
             Symbol::Keyword(Keyword::Write | Keyword::Read) => {
-                let frame = self.frames(room)?;
-                Ok(Tail::Again(Box::new(self.alloc, frame)?))
+                let frame = self.frames(within, room)?;
+                Ok(TailSyntax::Frames(Box::new(self.alloc, frame)?))
             }
-            _ => Ok(Tail::Stop),
+            _ => Ok(TailSyntax::Stop),
         }
     }
 
-    // refused?, where refused is: else stop | else ( frame frame* )
+    // refused?, where refused is: else stop | else ( frame frame* ); after it data bytes may follow or not
     #[cycle(message)]
-    fn refused(&mut self, room: Room) -> Result<Tail, PlanError>
-        ensures { Gives tail_tree result (refused_at room.bytes room.copies (place self.old)) (place self.new) }
+    fn refused(
+        &mut self,
+        within: Within<'_>,
+        room: Room,
+        bytes: bool,
+    ) -> Result<TailSyntax, PlanError>
+        ensures { Gives brief_tail result (refused_at (around within.entry) room.bytes room.copies (place self.old)) (place self.new) }
     {
         let Symbol::Keyword(Keyword::Else) = self.token.symbol else {
-            return Ok(Tail::Stop);
+            return Ok(TailSyntax::Stop);
         };
-        self.next();
-        let token = self.next();
+        self.next(Wanted::Else);
+        let token = self.next(Wanted::Refusal { bytes });
         match token.symbol {
-            Symbol::Keyword(Keyword::Stop) => Ok(Tail::Stop),
+            Symbol::Keyword(Keyword::Stop) => Ok(TailSyntax::Stop),
             Symbol::Sign(Sign::Open) => {
-                let frame = self.frames(room)?;
-                self.close()?;
-                Ok(Tail::Again(Box::new(self.alloc, frame)?))
+                let frame = self.frames(within, room)?;
+                self.close(bytes)?;
+                Ok(TailSyntax::Frames(Box::new(self.alloc, frame)?))
             }
             _ => Err(token.unexpected()),
         }
@@ -167,6 +214,7 @@ impl Source<'_> {
         ensures copies { IfOk result (λ below. (below.copies ≡ room.copies) × (room.copies ≤ self.new.nodes)) }
     {
         if room.bytes == 0 || self.nodes + room.copies > MOST_NODES {
+            self.over = Some(over(1, room.bytes, self.nodes + room.copies));
             return Err(PlanError::TooLong(line));
         }
         self.nodes += room.copies;
@@ -181,7 +229,7 @@ impl Source<'_> {
         ensures read { Gives (λ it. it) result (count_at room (place self.old)) (place self.new) }
         ensures fits { IfOk result (λ it. greatest_of it ≤ room) }
     {
-        let token = self.next();
+        let token = self.next(Wanted::Count);
         let Symbol::Word(word) = token.symbol else {
             return Err(token.unexpected());
         };
@@ -192,36 +240,110 @@ impl Source<'_> {
             return Err(PlanError::BadCount(token.line));
         };
         if count.greatest() as u32 > room {
+            self.over = Some(Over::Bytes(count.greatest() as u32 - room));
             return Err(PlanError::TooLong(token.line));
         }
         Ok(count)
     }
 
-    // ( * NUMBER )?, as how many more there are of the byte before it, which has a node already.
-    fn more(&mut self, room: Room) -> Result<u32, PlanError>
+    // ( * NUMBER | * RANGE )?, after a byte that has a node already.
+    fn often(&mut self, within: Within<'_>, room: Room) -> Result<Repeated, PlanError>
         requires { room.copies ≤ self.old.nodes }
-        ensures read { Gives (λ it. it) result (more_at room.bytes room.copies (place self.old)) (place self.new) }
-        ensures fits { IfOk result (λ it. (it ≤ room.bytes) × (it ≤ 254) × (room.copies * (it + 1) ≤ MOST_NODES)) }
+        ensures read { Gives (λ it. (times_of it.often, it.more)) result (often_at (around within.entry) room.bytes room.copies (place self.old)) (place self.new) }
+        ensures fits { IfOk result (λ it. (it.more ≤ room.bytes) × (it.more ≤ 254) × (room.copies * (it.more + 1) ≤ MOST_NODES)) }
     {
         let Symbol::Sign(Sign::Star) = self.token.symbol else {
-            return Ok(0);
+            return Ok(Repeated {
+                often: Often::Times(1),
+                more: 0,
+            });
         };
-        self.next();
-        let times = self.number()?;
-        let more = times.value as u32 - 1;
-        let nodes = room.copies * more;
-        if more > room.bytes || self.nodes + nodes > MOST_NODES {
-            return Err(PlanError::TooLong(times.line));
+        let ranges = self.range.is_none();
+        self.next(Wanted::Star);
+        let token = self.next(Wanted::Times { ranges });
+        let Symbol::Word(word) = token.symbol else {
+            return Err(token.unexpected());
+        };
+        match repetition_of(word) {
+            None => Err(token.unexpected()),
+            Some(Repetition::Number(number)) => self.so_often(number, room, token.line),
+            Some(Repetition::Range(least, greatest)) => {
+                self.ranged(within, least, greatest, room, token.line)
+            }
         }
-        self.nodes += nodes;
-        Ok(more)
     }
 
-    // )
-    fn close(&mut self) -> Result<(), PlanError>
+    // The byte stands as often as the number on this line says.
+    fn so_often(&mut self, digits: Digits<'_>, room: Room, line: u64) -> Result<Repeated, PlanError>
+        requires { room.copies ≤ self.old.nodes }
+        ensures read { (a : Around) → Gives (λ it. (times_of it.often, it.more)) result
+            (often_by a room.bytes room.copies (so_often (number digits.entry.word.now)) line (place self.old)) (place self.new) }
+        ensures fits { IfOk result (λ it. (it.more ≤ room.bytes) × (it.more ≤ 254) × (room.copies * (it.more + 1) ≤ MOST_NODES)) }
+    {
+        match digits.value() {
+            None | Some(0) => Err(PlanError::BadCount(line)),
+            Some(times) => {
+                let more = times as u32 - 1;
+                self.further(more, room, line)?;
+                Ok(Repeated {
+                    often: Often::Times(times),
+                    more,
+                })
+            }
+        }
+    }
+
+    // The byte stands as often as the range on this line says, of which a message has one.
+    fn ranged(
+        &mut self,
+        within: Within<'_>,
+        least: Digits<'_>,
+        greatest: Digits<'_>,
+        room: Room,
+        line: u64,
+    ) -> Result<Repeated, PlanError>
+        requires { room.copies ≤ self.old.nodes }
+        ensures read { Gives (λ it. (times_of it.often, it.more)) result
+            (often_by (around within.entry) room.bytes room.copies
+            (from_to (number least.entry.word.now) (number greatest.entry.word.now)) line (place self.old)) (place self.new) }
+        ensures fits { IfOk result (λ it. (it.more ≤ room.bytes) × (it.more ≤ 254) × (room.copies * (it.more + 1) ≤ MOST_NODES)) }
+    {
+        if self.range.is_some() {
+            return Err(PlanError::Unexpected(line));
+        }
+        let Some(range) = lengths(least, greatest) else {
+            return Err(PlanError::BadCount(line));
+        };
+        within.board.range_refusal(within.name, range, line)?;
+        self.range = Some(range);
+        let more = range.greatest as u32 - 1;
+        self.further(more, room, line)?;
+        Ok(Repeated {
+            often: Often::Ranged,
+            more,
+        })
+    }
+
+    // So many more bytes on a path, with the token on this line that says so.
+    fn further(&mut self, more: u32, room: Room, line: u64) -> Result<(), PlanError>
+        requires { more ≤ 254 }
+        ensures read { Passes result (further room.bytes room.copies more line (place self.old)) (place self.new) }
+        ensures fits { OnOk result ((more ≤ room.bytes) × (self.old.nodes + room.copies * more ≤ MOST_NODES)) }
+    {
+        let nodes = room.copies * more;
+        if more > room.bytes || self.nodes + nodes > MOST_NODES {
+            self.over = Some(over(more, room.bytes, self.nodes + nodes));
+            return Err(PlanError::TooLong(line));
+        }
+        self.nodes += nodes;
+        Ok(())
+    }
+
+    // ), after which data bytes may follow or not
+    fn close(&mut self, bytes: bool) -> Result<(), PlanError>
         ensures { Passes result (past close_in (place self.old)) (place self.new) }
     {
-        let token = self.next();
+        let token = self.next(Wanted::Close { bytes });
         match token.symbol {
             Symbol::Sign(Sign::Close) => Ok(()),
             _ => Err(token.unexpected()),
@@ -229,37 +351,26 @@ impl Source<'_> {
     }
 }
 
-// The byte and so many more of it, each with the same after its refusal.
-fn repeated(
-    alloc: Global,
-    more: u32,
-    bits: Pattern,
-    acked: Payload,
-    refused: Tail,
-) -> Result<Payload, AllocError>
-    ensures { IfOk result (λ it. payload_tree it ≡ repeated (suc more) bits (payload_tree acked) (tail_tree refused)) }
-{
-    let mut payload = acked;
-    for _ in 0..more {
-        let refused = copied(alloc, &refused)?;
-        payload = Payload::Byte {
-            bits,
-            acked: Box::new(alloc, payload)?,
-            refused,
-        };
+// How much a message is too long with so many more bytes on a path that has room for so many, and so many nodes in all.
+fn over(more: u32, room: u32, nodes: u32) -> Over {
+    if more > room {
+        Over::Bytes(more.saturating_sub(room))
+    } else {
+        Over::Nodes(nodes.saturating_sub(MOST_NODES))
     }
-    Ok(Payload::Byte {
-        bits,
-        acked: Box::new(alloc, payload)?,
-        refused,
-    })
 }
 
-fn copied(alloc: Global, tail: &Tail) -> Result<Tail, AllocError>
-    ensures { IfOk result (λ it. tail_tree it ≡ tail_tree tail.now) }
+// The range with these ends: its greatest is 1 to 255.
+fn lengths(least: Digits<'_>, greatest: Digits<'_>) -> Option<Lengths>
+    ensures form { is_some result ≡ is_range (number least.entry.word.now) (number greatest.entry.word.now) }
+    ensures ends { IfSome result (λ it. (it.least ≡ number least.entry.word.now) ×
+        (it.greatest ≡ number greatest.entry.word.now)) }
 {
-    match tail {
-        Tail::Stop => Ok(Tail::Stop),
-        Tail::Again(frame) => Ok(Tail::Again(Box::new(alloc, frame.copy(alloc)?)?)),
+    let least = least.value()?;
+    let greatest = greatest.value()?;
+    if greatest >= 1 && least <= greatest {
+        Some(Lengths { least, greatest })
+    } else {
+        None
     }
 }

@@ -1,29 +1,34 @@
-// The items of a brief, a function for each of them, and the plan that they make up.
+// The items of a brief, a function for each of them, and the plan that all make up.
 
-ghost use Rattle.std.specs.Prelude.{◌≡◌, ◌⊎◌, [], map, true, false, not, Some, None, Ok, Err, IfOk, IfErr, OnOk, MatchResult, is_some};
+ghost use Rattle.std.specs.Prelude.{◌≡◌, ◌⊎◌, ℕ, List, [], map, true, false, not, Some, None, Ok, Err, IfOk, IfErr, OnOk, MatchResult, is_some};
 ghost use Rattle.std.specs.Map.{lookup};
 ghost use Rattle.std.specs.Str.{bytes_eq};
-ghost use Rattle.plan_core.specs.Building.{list_refusal};
 ghost use Rattle.plan_core.specs.Contents.{Contents};
 ghost use Rattle.plan_core.specs.NameBytes.{name_bytes};
 ghost use Rattle.plan_core.specs.PlanContents.{plan_contents};
 ghost use Rattle.plan_core.specs.declared.builder.BuildError.{BuildError};
-ghost use Rattle.plan_text.specs.Places.{Refuses};
+ghost use Rattle.plan_text.specs.Places.{Refuses, Passes};
 ghost use Rattle.plan_text.specs.Reader.{refused_at};
-ghost use Rattle.brief_text.specs.Briefs.{brief_read, after_head, is_end, Means, IsRefused};
-ghost use Rattle.brief_text.specs.Items.{device_at, byte_at, message_at, controller_at, sendings_from, interrupt_at};
-ghost use Rattle.brief_text.specs.Items.{never_at, item_at};
+ghost use Rattle.brief_text.specs.Briefs.{brief_read, text_read, items_in, after_head, is_end, Means, IsRefused};
+ghost use Rattle.brief_text.specs.Items.{device_at, byte_at, message_at, controller_at, listed_from, interrupt_at, never_at};
+ghost use Rattle.brief_text.specs.Items.{item_at};
+ghost use Rattle.brief_text.specs.Judging.{all_of};
 ghost use Rattle.brief_text.specs.Reading.{left};
-ghost use Rattle.brief_text.specs.Standing.{entries_of};
+ghost use Rattle.brief_text.specs.Standing.{draft, place, adds, entries_of};
 ghost use Rattle.brief_text.specs.Tokens.{tokens_of};
 
+use crate::boards::{Board, Never};
+use crate::frames::Within;
 use crate::naming::Named;
-use crate::sources::{NameFound, Source};
+use crate::sources::Source;
+use crate::splitting::push_all;
 use crate::symbols::{Keyword, Symbol};
+use crate::syntax::NameFound;
 use crate::tokens::Tokens;
+use crate::traces::Wanted;
 use crate::words::known_address;
-use plan_core::{BuildError, Builder, Name, Plan};
-use plan_text::PlanError;
+use plan_core::{BuildError, Name, Plan};
+use plan_text::{PlanError, Refused};
 use std::alloc::Global;
 
 /// Reads a brief, and answers the plan that it means or its first refusal. `print_plan` of plan_text writes the text of
@@ -44,190 +49,220 @@ pub fn expand_brief(alloc: Global, text: &[u8]) -> Result<Plan, PlanError>
     ensures refusals { (due : PlanError) → IsRefused text.now due →
         MatchResult result (λ it. ⊥) (λ e. (e ≡ PlanError.NoMemory) ⊎ (e ≡ due)) }
 {
+    match expand_brief_at(alloc, text) {
+        Ok(plan) => Ok(plan),
+        Err(refused) => Err(refused.error),
+    }
+}
+
+/// The same, with the place of the refusal.
+///
+/// # Errors
+///
+/// As those of `expand_brief`.
+pub fn expand_brief_at(alloc: Global, text: &[u8]) -> Result<Plan, Refused>
+    // What is answered is right.
+    ensures meant { IfOk result (λ plan. Means text.now (plan_contents plan)) }
+    ensures refused { IfErr result (λ e. (e.error ≡ PlanError.NoMemory) ⊎ IsRefused text.now e.error) }
+    // What is right is answered, unless an allocation fails.
+    ensures plans { (plan : Contents) → Means text.now plan →
+        MatchResult result (λ it. plan_contents it ≡ plan) (λ e. e.error ≡ PlanError.NoMemory) }
+    ensures refusals { (due : PlanError) → IsRefused text.now due →
+        MatchResult result (λ it. ⊥) (λ e. (e.error ≡ PlanError.NoMemory) ⊎ (e.error ≡ due)) }
+{
     read(alloc, text)
 }
 
 // The same, by the definition of reading.
-fn read(alloc: Global, text: &[u8]) -> Result<Plan, PlanError>
+#[tactic(auto, unfolding(crate::specs::Briefs::brief_read))]
+fn read(alloc: Global, text: &[u8]) -> Result<Plan, Refused>
     ensures read { IfOk result (λ plan. brief_read text.now ≡ Ok (plan_contents plan)) }
-    ensures refused { IfErr result (Refuses (brief_read text.now)) }
+    ensures refused { IfErr result (λ e. Refuses (brief_read text.now) e.error) }
+{
+    let mut board = Board::new(alloc);
+    read_text(alloc, &mut board, text)?;
+    match board.finish() {
+        Ok(plan) => Ok(plan),
+        Err(_) => Err(Refused::memory()),
+    }
+}
+
+/// The items of a text go into the board.
+pub(crate) fn read_text(alloc: Global, board: &mut Board, text: &[u8]) -> Result<(), Refused>
+    ensures read { OnOk result (text_read (draft board.old) text.now ≡ Ok (draft board.new)) }
+    ensures refused { IfErr result (λ e. Refuses (text_read (draft board.old) text.now) e.error) }
 {
     let tokens = after_head(text)?;
-    let mut reader = Reader {
-        source: Source::new(alloc, tokens),
-        builder: Builder::new(alloc),
-    };
-    for _ in 0..text.len() {
-        if !reader.item()? {
-            return Ok(reader.builder.finish());
+    let mut source = Source::new(alloc, tokens);
+    match read_items(&mut source, board, text.len()) {
+        Ok(()) => Ok(()),
+        Err(error) => Err(source.refusal(error)),
+    }
+}
+
+// So many items at most, up to the end of the text.
+fn read_items(source: &mut Source<'_>, board: &mut Board, most: usize) -> Result<(), PlanError>
+    ensures { Passes result (items_in most (draft board.old) (place source.old)) (draft board.new) }
+{
+    for _ in 0..most {
+        if !read_item(source, board)? {
+            return Ok(());
         }
     }
-    Err(reader.source.token.unexpected())
+    Err(source.token.unexpected())
 }
 
 // `brief` and `1`: the tokens after them.
-fn after_head(text: &[u8]) -> Result<Tokens<'_>, PlanError>
+fn after_head(text: &[u8]) -> Result<Tokens<'_>, Refused>
     ensures rest { IfOk result (λ rest. after_head (tokens_of 1 text.now) ≡ Ok (left rest)) }
-    ensures refused { IfErr result (λ e. after_head (tokens_of 1 text.now) ≡ Err e) }
+    ensures refused { IfErr result (λ e. after_head (tokens_of 1 text.now) ≡ Err e.error) }
 {
     let mut tokens = Tokens::new(text);
     let first = tokens.next();
     let Symbol::Keyword(Keyword::Brief) = first.symbol else {
-        return Err(first.no_version());
+        return Err(tokens.refused(first.no_version()));
     };
     let second = tokens.next();
     match second.symbol {
         Symbol::Word(b"1") => Ok(tokens),
-        _ => Err(second.no_version()),
+        _ => Err(tokens.refused(second.no_version())),
     }
 }
 
-// A brief of which some items have been read.
-#[derive(Drop)]
-struct Reader<'a> {
-    source: Source<'a>,
-    builder: Builder,
+// An item. It answers whether there was one before the end of the text.
+#[tactic(auto, unfolding(crate::specs::Items::item_at))]
+fn read_item(source: &mut Source<'_>, board: &mut Board) -> Result<bool, PlanError>
+    ensures read { IfOk result (λ more. more ≡ true →
+        adds item_at (draft board.old) (place source.old) ≡ Ok (draft board.new, place source.new)) }
+    ensures more { IfOk result (λ more. is_end (place source.old).tokens ≡ not more) }
+    ensures same { IfOk result (λ more. more ≡ false → draft board.new ≡ draft board.old) }
+    ensures refused { IfErr result (Refuses (adds item_at (draft board.old) (place source.old))) }
+    ensures further { IfErr result (λ e. is_end (place source.old).tokens ≡ false) }
+{
+    let token = source.next(Wanted::Item);
+    match token.symbol {
+        Symbol::End => return Ok(false),
+        Symbol::Keyword(Keyword::Device) => device(source, board)?,
+        Symbol::Keyword(Keyword::Byte) => byte(source, board)?,
+        Symbol::Keyword(Keyword::Message) => message(source, board)?,
+        Symbol::Keyword(Keyword::Controller) => controller(source, board)?,
+        Symbol::Keyword(Keyword::Interrupt) => interrupt(source, board)?,
+        Symbol::Keyword(Keyword::Never) => never(source, board)?,
+        _ => return Err(token.unexpected()),
+    }
+    Ok(true)
 }
 
-impl<'a> Reader<'a> {
-    ghost use Rattle.plan_text.specs.Places.{Passes};
-    ghost use Rattle.brief_text.specs.Standing.{so_far, ahead, Gives};
+// NAME ADDRESS ;
+#[tactic(auto, unfolding(crate::specs::Items::device_at, crate::specs::Drafts::with_item))]
+fn device(source: &mut Source<'_>, board: &mut Board) -> Result<(), PlanError>
+    ensures { Passes result (adds device_at (draft board.old) (place source.old)) (draft board.new, place source.new) }
+{
+    let named = source.name()?;
+    once(&board.devices, &named)?;
+    let address = source.address()?;
+    source.semicolon()?;
+    board.uses.device(&named, board.file, address.value)?;
+    board.devices.add(named.name, address.value)?;
+    Ok(())
+}
 
-    // An item. It answers whether there was one before the end of the text.
-    #[tactic(auto, unfolding(crate::specs::Items::item_at))]
-    fn item(&mut self) -> Result<bool, PlanError>
-        ensures read { IfOk result (λ more. more ≡ true →
-            item_at (so_far self.old) (ahead self.old) ≡ Ok (so_far self.new, ahead self.new)) }
-        ensures more { IfOk result (λ more. is_end (ahead self.old).tokens ≡ not more) }
-        ensures same { IfOk result (λ more. more ≡ false → so_far self.new ≡ so_far self.old) }
-        ensures refused { IfErr result (Refuses (item_at (so_far self.old) (ahead self.old))) }
-        ensures further { IfErr result (λ e. is_end (ahead self.old).tokens ≡ false) }
-    {
-        let token = self.source.next();
-        match token.symbol {
-            Symbol::End => return Ok(false),
-            Symbol::Keyword(Keyword::Device) => self.device()?,
-            Symbol::Keyword(Keyword::Byte) => self.byte()?,
-            Symbol::Keyword(Keyword::Message) => self.message()?,
-            Symbol::Keyword(Keyword::Controller) => self.controller()?,
-            Symbol::Keyword(Keyword::Interrupt) => self.interrupt()?,
-            Symbol::Keyword(Keyword::Never) => self.never()?,
-            _ => return Err(token.unexpected()),
+// NAME DATA ;
+#[tactic(auto, unfolding(crate::specs::Items::byte_at, crate::specs::Drafts::with_item))]
+fn byte(source: &mut Source<'_>, board: &mut Board) -> Result<(), PlanError>
+    ensures { Passes result (adds byte_at (draft board.old) (place source.old)) (draft board.new, place source.new) }
+{
+    let named = source.name()?;
+    once(&board.bytes, &named)?;
+    let bits = source.pattern()?;
+    source.semicolon()?;
+    board.uses.byte(&named, board.file)?;
+    board.bytes.add(named.name, bits.value)?;
+    Ok(())
+}
+
+// NAME frame frame* ;
+#[tactic(auto, unfolding(crate::specs::Items::message_at, crate::specs::Drafts::with_item))]
+fn message(source: &mut Source<'_>, board: &mut Board) -> Result<(), PlanError>
+    ensures { Passes result (adds message_at (draft board.old) (place source.old)) (draft board.new, place source.new) }
+{
+    let named = source.name()?;
+    allowed(board.message_refusal(&named.name), named.line)?;
+    let frames = source.message_frames(Within {
+        board,
+        name: &named.name,
+    })?;
+    source.semicolon()?;
+    board.uses.frame(&frames);
+    board.add_messages(named, source.range, &frames)?;
+    Ok(())
+}
+
+// NAME NAME* ;
+#[tactic(auto, unfolding(crate::specs::Items::controller_at, crate::specs::Drafts::with_item))]
+fn controller(source: &mut Source<'_>, board: &mut Board) -> Result<(), PlanError>
+    ensures { Passes result (adds controller_at (draft board.old) (place source.old)) (draft board.new, place source.new) }
+{
+    let named = source.name()?;
+    allowed(board.controller_refusal(&named.name)?, named.line)?;
+    let messages = listed(source, board)?;
+    board.add_controller(named, messages)?;
+    Ok(())
+}
+
+// NAME* ; with the messages that these names stand for.
+fn listed(source: &mut Source<'_>, board: &Board) -> Result<Vec<Name>, PlanError>
+    ensures read { IfOk result (λ it. (names : List (List ℕ)) ×
+        (listed_from (draft board.now) [] (place source.old).tokens (place source.old) ≡ Ok (names, place source.new)) ×
+        (map name_bytes it.items ≡ all_of (draft board.now) names)) }
+    ensures refused { IfErr result
+        (Refuses (listed_from (draft board.now) [] (place source.old).tokens (place source.old))) }
+{
+    let mut messages = Vec::new(source.alloc);
+    'names: loop {
+        let token = source.next(Wanted::Sending);
+        if token.is_semicolon() {
+            return Ok(messages);
         }
-        Ok(true)
-    }
-
-    // NAME ADDRESS ;
-    #[tactic(auto, unfolding(crate::specs::Items::device_at))]
-    fn device(&mut self) -> Result<(), PlanError>
-        ensures { Passes result (device_at (so_far self.old) (ahead self.old)) (so_far self.new, ahead self.new) }
-    {
-        let named = self.source.name()?;
-        once(&self.source.devices, &named)?;
-        let address = self.source.address()?;
-        self.source.semicolon()?;
-        self.source.add_device(named.name, address.value)?;
-        Ok(())
-    }
-
-    // NAME DATA ;
-    #[tactic(auto, unfolding(crate::specs::Items::byte_at))]
-    fn byte(&mut self) -> Result<(), PlanError>
-        ensures { Passes result (byte_at (so_far self.old) (ahead self.old)) (so_far self.new, ahead self.new) }
-    {
-        let named = self.source.name()?;
-        once(&self.source.bytes, &named)?;
-        let bits = self.source.pattern()?;
-        self.source.semicolon()?;
-        self.source.add_byte(named.name, bits.value)?;
-        Ok(())
-    }
-
-    // NAME frame frame* ;
-    #[tactic(auto, unfolding(crate::specs::Items::message_at))]
-    fn message(&mut self) -> Result<(), PlanError>
-        ensures { Passes result (message_at (so_far self.old) (ahead self.old)) (so_far self.new, ahead self.new) }
-    {
-        let named = self.source.name()?;
-        allowed(self.builder.message_name_refusal(&named.name), named.line)?;
-        let frames = self.source.message_frames()?;
-        self.source.semicolon()?;
-        self.builder.add_message(named.name, frames)?;
-        Ok(())
-    }
-
-    // NAME NAME* ;
-    #[tactic(auto, unfolding(crate::specs::Items::controller_at))]
-    fn controller(&mut self) -> Result<(), PlanError>
-        ensures { Passes result (controller_at (so_far self.old) (ahead self.old)) (so_far self.new, ahead self.new) }
-    {
-        let named = self.source.name()?;
+        let name = source.name_of(token)?;
+        let further = board.named(&name)?;
         allowed(
-            self.builder.controller_name_refusal(&named.name),
-            named.line,
+            board.listing_refusal(messages.as_slice(), &name, further.as_slice()),
+            token.line,
         )?;
-        let messages = self.sendings()?;
-        self.builder
-            .add_controller(named.name, messages.as_slice())?;
-        Ok(())
+        push_all(source.alloc, &mut messages, further.as_slice())?;
     }
+}
 
-    // NAME* ; with the names of messages that one controller may send.
-    fn sendings(&mut self) -> Result<Vec<Name>, PlanError>
-        ensures read { Gives (λ it. map name_bytes it.items) result
-            (sendings_from (so_far self.old) [] (ahead self.old).tokens (ahead self.old)) (ahead self.new) }
-        ensures known { IfOk result (λ it. list_refusal (so_far self.old) [] (map name_bytes it.items) ≡ None) }
-        ensures same { so_far self.new ≡ so_far self.old }
-    {
-        let mut messages = Vec::new(self.source.alloc);
-        'names: loop {
-            let token = self.source.next();
-            if token.is_semicolon() {
-                return Ok(messages);
-            }
-            let message = self.source.name_of(token)?;
-            allowed(
-                self.builder.sending_refusal(messages.as_slice(), &message),
-                token.line,
-            )?;
-            messages.push(message)?;
-        }
-    }
+// NAME to ;
+#[tactic(auto, unfolding(crate::specs::Items::interrupt_at, crate::specs::Drafts::with_item))]
+fn interrupt(source: &mut Source<'_>, board: &mut Board) -> Result<(), PlanError>
+    ensures { Passes result (adds interrupt_at (draft board.old) (place source.old)) (draft board.new, place source.new) }
+{
+    let named = source.name()?;
+    allowed(board.builder.interrupt_refusal(&named.name), named.line)?;
+    let to = source.to(board, Wanted::KnownTarget)?;
+    let Some(address) = known_address(&board.address(&to.value)) else {
+        return Err(PlanError::Unexpected(to.line));
+    };
+    source.semicolon()?;
+    board.uses.address(&to.value);
+    board.add_interrupt(named.name, address)?;
+    Ok(())
+}
 
-    // NAME to ;
-    #[tactic(auto, unfolding(crate::specs::Items::interrupt_at))]
-    fn interrupt(&mut self) -> Result<(), PlanError>
-        ensures { Passes result (interrupt_at (so_far self.old) (ahead self.old)) (so_far self.new, ahead self.new) }
-    {
-        let named = self.source.name()?;
-        allowed(self.builder.interrupt_refusal(&named.name), named.line)?;
-        let to = self.source.to()?;
-        let Some(address) = known_address(&to.value) else {
-            return Err(PlanError::Unexpected(to.line));
-        };
-        self.source.semicolon()?;
-        self.builder.add_interrupt(named.name, address)?;
-        Ok(())
-    }
-
-    // NAME NAME ;
-    #[tactic(auto, unfolding(crate::specs::Items::never_at))]
-    fn never(&mut self) -> Result<(), PlanError>
-        ensures { Passes result (never_at (so_far self.old) (ahead self.old)) (so_far self.new, ahead self.new) }
-    {
-        let first = self.source.name()?;
-        if !self.builder.has_controller(&first.name) {
-            return Err(PlanError::Unknown(first.line));
-        }
-        let second = self.source.name()?;
-        allowed(
-            self.builder.never_refusal(&first.name, &second.name),
-            second.line,
-        )?;
-        self.source.semicolon()?;
-        self.builder.add_never(&first.name, &second.name)?;
-        Ok(())
-    }
+// party party ;
+#[tactic(auto, unfolding(crate::specs::Items::never_at, crate::specs::Drafts::with_item))]
+fn never(source: &mut Source<'_>, board: &mut Board) -> Result<(), PlanError>
+    ensures { Passes result (adds never_at (draft board.old) (place source.old)) (draft board.new, place source.new) }
+{
+    let first = source.party()?;
+    allowed(board.name_first(&first)?, first.line)?;
+    let second = source.party()?;
+    allowed(board.name_second(&first, &second)?, second.line)?;
+    source.semicolon()?;
+    board.nevers.push(Never { first, second })?;
+    Ok(())
 }
 
 // The refusal of a name on this line, where there is one.

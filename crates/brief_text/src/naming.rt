@@ -1,8 +1,9 @@
-// The devices and the data bytes of a brief, by their names.
+// Values by their names.
 
-ghost use Rattle.std.specs.Prelude.{◌≡◌, [], ◌∷◌, ◌++◌, None, OnOk};
+ghost use Rattle.std.specs.Prelude.{◌≡◌, [], ◌∷◌, ◌++◌, None, is_some, IfOk, OnOk};
 ghost use Rattle.std.specs.Map.{lookup};
 ghost use Rattle.std.specs.Str.{bytes_eq};
+ghost use Rattle.plan_core.specs.Building.{has_name};
 ghost use Rattle.plan_core.specs.NameBytes.{name_bytes};
 
 use indexmap::IndexMap;
@@ -40,5 +41,22 @@ impl<T: Copy> Named<T> {
     {
         self.entries.insert(name, value)?;
         Ok(())
+    }
+}
+
+/// The same name, in memory of its own.
+pub(crate) fn copied(alloc: Global, name: &Name) -> Result<Name, AllocError>
+    ensures { IfOk result (λ it. name_bytes it ≡ name_bytes name.now) }
+{
+    spelled(alloc, name.as_str())
+}
+
+/// The name that this text spells. It has the form of a name by then.
+pub(crate) fn spelled(alloc: Global, text: &str) -> Result<Name, AllocError>
+    ensures { IfOk result (λ it. name_bytes it ≡ text.now) }
+{
+    match Name::new(alloc, text) {
+        Ok(name) => Ok(name),
+        Err(_) => Err(AllocError),
     }
 }

@@ -1,27 +1,27 @@
 // What is left of a brief, and what one token or two say there.
 
-ghost use Rattle.std.specs.Prelude.{◌≡◌, ◌≤◌, ◌<◌, ◌++◌, ◌∷◌, [], ℕ, None, IfOk, OnOk};
-ghost use Rattle.std.specs.Map.{lookup};
-ghost use Rattle.std.specs.Str.{bytes_eq};
-ghost use Rattle.message_tree.specs.declared.bits.Address.{Address};
-ghost use Rattle.message_tree.specs.declared.bits.Pattern.{Pattern};
+ghost use Rattle.std.specs.Prelude.{◌≡◌, ◌≤◌, ◌⊎◌, IfOk, IfErr, None, true, false};
 ghost use Rattle.plan_core.specs.NameBytes.{name_bytes};
 ghost use Rattle.plan_core.specs.declared.limits.TheConstants.{MOST_NODES};
 ghost use Rattle.plan_text.specs.Places.{Passes};
-ghost use Rattle.brief_text.specs.Items.{address_in, pattern_in};
-ghost use Rattle.brief_text.specs.Places.{Place, token_as, name_in, end_in, past, number_at, to_at, data_at};
+ghost use Rattle.brief_text.specs.Items.{address_in, pattern_in, side_in};
+ghost use Rattle.brief_text.specs.Words.{is_brief_name};
+ghost use Rattle.brief_text.specs.Reading.{unexpected_at};
+ghost use Rattle.brief_text.specs.Places.{Place, token_as, name_in, end_in, past, to_at, data_at};
 
-use crate::naming::Named;
+use crate::boards::Board;
 use crate::symbols::{Keyword, Sign, Symbol, Token};
+use crate::syntax::{Lengths, NameFound, Party, Value};
 use crate::tokens::Tokens;
-use crate::words::{address, data};
+use crate::traces::{Trace, Wanted};
+use crate::words::{address, around_slash, data, is_brief_word};
 use message_tree::{Address, Pattern};
 use plan_core::{Name, NameError};
-use plan_text::PlanError;
-use plan_text::words::{is_digits, number};
-use std::alloc::{AllocError, Global};
+use plan_text::places::Over;
+use plan_text::{PlanError, Refused};
+use std::alloc::Global;
 
-/// What is left of a brief, with its names of devices and data bytes, and how many nodes of the message have been read.
+/// What is left of a brief, and what the message that is read has so far.
 #[derive(Drop)]
 pub(crate) struct Source<'a> {
     pub(crate) alloc: Global,
@@ -29,72 +29,58 @@ pub(crate) struct Source<'a> {
     pub(crate) token: Token<'a>,
     /// What follows it.
     pub(crate) tokens: Tokens<'a>,
-    pub(crate) devices: Named<Address>,
-    pub(crate) bytes: Named<Pattern>,
+    /// How many headers and data bytes the message has, as a plan has them.
     pub(crate) nodes: u32,
+    /// The range of one of its bytes.
+    pub(crate) range: Option<Lengths>,
+    // for refusals: the token that was taken last, and by how much the message is too long
+    trace: Trace,
+    pub(crate) over: Option<Over>,
     ghost nodes_fit: { nodes ≤ MOST_NODES },
 }
 
 /// What a token says, with its line.
-#[derive(Clone, Copy)]
-pub(crate) struct Found<T: Copy> {
-    pub(crate) value: T,
-    pub(crate) line: u64,
-}
-
-/// A name, with the line of its token.
 #[derive(Drop)]
-pub(crate) struct NameFound {
-    pub(crate) name: Name,
+pub(crate) struct Found<T: Drop> {
+    pub(crate) value: T,
     pub(crate) line: u64,
 }
 
 impl<'a> Source<'a> {
     ghost use Rattle.brief_text.specs.Reading.{left};
-    ghost use Rattle.brief_text.specs.Standing.{place, before, FindsOut};
+    ghost use Rattle.brief_text.specs.Standing.{place, before, draft, said, side, FindsOut};
 
-    /// The whole of these tokens, with no names.
+    /// The whole of these tokens.
     pub(crate) fn new(alloc: Global, mut tokens: Tokens<'a>) -> Self
-        ensures { place result ≡ record { tokens = left tokens.entry; devices = []; bytes = []; nodes = 0 } }
+        ensures { place result ≡ record { tokens = left tokens.entry; nodes = 0; range = None } }
     {
         Source {
             alloc,
             token: tokens.next(),
             tokens,
-            devices: Named::new(alloc),
-            bytes: Named::new(alloc),
             nodes: 0,
+            range: None,
+            trace: Trace::new(),
+            over: None,
         }
     }
 
-    /// The next token.
-    pub(crate) fn next(&mut self) -> Token<'a>
+    /// The next token, which is to be this.
+    pub(crate) fn next(&mut self, wanted: Wanted) -> Token<'a>
         ensures place { place self.old ≡ before result (place self.new) }
         ensures first { result ≡ self.old.token }
     {
         let token = self.token;
+        self.trace = self.trace.taken(token, self.tokens.spot(), wanted);
         self.token = self.tokens.next();
         token
     }
 
-    /// A further device, of a name that no other has.
-    pub(crate) fn add_device(&mut self, name: Name, address: Address) -> Result<(), AllocError>
-        requires { lookup (bytes_eq (name_bytes name)) (place self.old).devices ≡ None }
-        ensures { OnOk result (place self.new ≡ record (place self.old) {
-          devices = (place self.old).devices ++ (name_bytes name, address) ∷ [];
-        }) }
+    /// The refusal of the token that was taken last.
+    pub(crate) fn refusal(&self, error: PlanError) -> Refused
+        ensures { result.error ≡ error }
     {
-        self.devices.add(name, address)
-    }
-
-    /// A further data byte with a name, which no other has.
-    pub(crate) fn add_byte(&mut self, name: Name, bits: Pattern) -> Result<(), AllocError>
-        requires { lookup (bytes_eq (name_bytes name)) (place self.old).bytes ≡ None }
-        ensures { OnOk result (place self.new ≡ record (place self.old) {
-          bytes = (place self.old).bytes ++ (name_bytes name, bits) ∷ [];
-        }) }
-    {
-        self.bytes.add(name, bits)
+        self.trace.refused(error, self.tokens.text(), self.over)
     }
 
     /// NAME
@@ -102,7 +88,7 @@ impl<'a> Source<'a> {
         ensures { FindsOut (λ it. name_bytes it.name) (λ it. it.line) result (token_as name_in (place self.old))
             (place self.new) }
     {
-        let token = self.next();
+        let token = self.next(Wanted::Name);
         let name = self.name_of(token)?;
         Ok(NameFound {
             name,
@@ -133,7 +119,7 @@ impl<'a> Source<'a> {
         ensures { FindsOut (λ it. it.value) (λ it. it.line) result (token_as address_in (place self.old))
             (place self.new) }
     {
-        let token = self.next();
+        let token = self.next(Wanted::Address);
         let Symbol::Word(word) = token.symbol else {
             return Err(token.unexpected());
         };
@@ -151,7 +137,7 @@ impl<'a> Source<'a> {
         ensures { FindsOut (λ it. it.value) (λ it. it.line) result (token_as pattern_in (place self.old))
             (place self.new) }
     {
-        let token = self.next();
+        let token = self.next(Wanted::Byte);
         let Symbol::Word(word) = token.symbol else {
             return Err(token.unexpected());
         };
@@ -164,73 +150,105 @@ impl<'a> Source<'a> {
         })
     }
 
-    /// ADDRESS, or the NAME of a device
-    pub(crate) fn to(&mut self) -> Result<Found<Address>, PlanError>
-        ensures { FindsOut (λ it. it.value) (λ it. it.line) result (to_at (place self.old)) (place self.new) }
+    /// ADDRESS, or the NAME of a device, which is to be this.
+    pub(crate) fn to(
+        &mut self,
+        board: &Board,
+        wanted: Wanted,
+    ) -> Result<Found<Value<Address>>, PlanError>
+        ensures { FindsOut (λ it. said it.value) (λ it. it.line) result (to_at (draft board.now) (place self.old))
+            (place self.new) }
     {
-        let token = self.next();
+        let token = self.next(wanted);
         let Symbol::Word(word) = token.symbol else {
             return Err(token.unexpected());
         };
-        let value = match address(word) {
-            Some(value) => value,
-            None => {
-                let name = self.name_of(token)?;
-                let Some(value) = self.devices.get(&name) else {
-                    return Err(PlanError::Unknown(token.line));
-                };
-                value
-            }
-        };
-        Ok(Found {
-            value,
-            line: token.line,
-        })
+        let line = token.line;
+        if let Some(address) = address(word) {
+            let value = Value::Spelled(address);
+            return Ok(Found { value, line });
+        }
+        let name = self.name_of(token)?;
+        if !board.has_device(&name) {
+            return Err(PlanError::Unknown(line));
+        }
+        let value = Value::Named(NameFound { name, line });
+        Ok(Found { value, line })
     }
 
     /// DATA, `any`, or the NAME of a data byte
-    pub(crate) fn data(&mut self) -> Result<Found<Pattern>, PlanError>
-        ensures { FindsOut (λ it. it.value) (λ it. it.line) result (data_at (place self.old)) (place self.new) }
+    pub(crate) fn data(&mut self, board: &Board) -> Result<Found<Value<Pattern>>, PlanError>
+        ensures { FindsOut (λ it. said it.value) (λ it. it.line) result (data_at (draft board.now) (place self.old))
+            (place self.new) }
     {
-        let token = self.next();
-        let value = match token.symbol {
-            Symbol::Keyword(Keyword::Any) => Pattern::new(0, 0),
-            Symbol::Word(word) => match data(word) {
-                Some(value) => value,
-                None => {
-                    let name = self.name_of(token)?;
-                    let Some(value) = self.bytes.get(&name) else {
-                        return Err(PlanError::Unknown(token.line));
-                    };
-                    value
+        let token = self.next(Wanted::Data);
+        let line = token.line;
+        match token.symbol {
+            Symbol::Keyword(Keyword::Any) => {
+                let value = Value::Spelled(Pattern::new(0, 0));
+                Ok(Found { value, line })
+            }
+            Symbol::Word(word) => {
+                if let Some(bits) = data(word) {
+                    let value = Value::Spelled(bits);
+                    return Ok(Found { value, line });
                 }
-            },
-            _ => return Err(token.unexpected()),
-        };
-        Ok(Found {
-            value,
-            line: token.line,
-        })
+                let name = self.name_of(token)?;
+                if !board.has_byte(&name) {
+                    return Err(PlanError::Unknown(line));
+                }
+                let value = Value::Named(NameFound { name, line });
+                Ok(Found { value, line })
+            }
+            _ => Err(token.unexpected()),
+        }
     }
 
-    /// NUMBER
-    pub(crate) fn number(&mut self) -> Result<Found<u8>, PlanError>
-        ensures read { FindsOut (λ it. it.value) (λ it. it.line) result (number_at (place self.old)) (place self.new) }
-        ensures some { IfOk result (λ it. 0 < it.value) }
+    /// A controller by its NAME, or what one sends by its label
+    pub(crate) fn party(&mut self) -> Result<Party, PlanError>
+        ensures { FindsOut side (λ it. it.line) result (token_as side_in (place self.old)) (place self.new) }
     {
-        let token = self.next();
+        let token = self.next(Wanted::Party);
         let Symbol::Word(word) = token.symbol else {
             return Err(token.unexpected());
         };
-        if !is_digits(word) {
+        let line = token.line;
+        let Some((controller, label)) = around_slash(word) else {
+            let controller = self.name_of(token)?;
+            return Ok(Party {
+                controller,
+                label: None,
+                line,
+            });
+        };
+        if word.len() > 32 {
             return Err(token.unexpected());
         }
-        match number(word) {
-            None | Some(0) => Err(PlanError::BadCount(token.line)),
-            Some(value) => Ok(Found {
-                value,
-                line: token.line,
-            }),
+        let controller = self.half(controller, token)?;
+        let label = self.half(label, token)?;
+        Ok(Party {
+            controller,
+            label: Some(label),
+            line,
+        })
+    }
+
+    // A NAME that is one half of this token.
+    fn half(&self, half: &[u8], token: Token<'_>) -> Result<Name, PlanError>
+        ensures name { IfOk result (λ it. (name_bytes it ≡ half.now) × (is_brief_name half.now ≡ true)) }
+        ensures refused { IfErr result (λ e. (e ≡ PlanError.NoMemory) ⊎
+            ((is_brief_name half.now ≡ false) × (e ≡ unexpected_at token.entry))) }
+    {
+        let Ok(text) = str::from_utf8(half) else {
+            return Err(token.unexpected());
+        };
+        if is_brief_word(text) {
+            return Err(token.unexpected());
+        }
+        match Name::new(self.alloc, text) {
+            Ok(name) => Ok(name),
+            Err(NameError::BadName) => Err(token.unexpected()),
+            Err(NameError::NoMemory) => Err(PlanError::NoMemory),
         }
     }
 
@@ -238,7 +256,7 @@ impl<'a> Source<'a> {
     pub(crate) fn semicolon(&mut self) -> Result<(), PlanError>
         ensures { Passes result (past end_in (place self.old)) (place self.new) }
     {
-        let token = self.next();
+        let token = self.next(Wanted::End);
         match token.symbol {
             Symbol::Sign(Sign::Semicolon) => Ok(()),
             _ => Err(token.unexpected()),

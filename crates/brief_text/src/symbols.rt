@@ -35,7 +35,7 @@ pub(crate) enum Sign {
 /// What stands at one place of a brief, after the white space and the comments before it.
 #[derive(Clone, Copy)]
 pub(crate) enum Symbol<'a> {
-    /// A maximal run of letters, digits, `_` and `.` that is a keyword.
+    /// A maximal run of letters, digits, `_`, `.` and `/` that is a keyword.
     Keyword(Keyword),
     /// Another such run.
     Word(&'a [u8]),

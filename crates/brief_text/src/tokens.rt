@@ -6,12 +6,18 @@ ghost use Rattle.std.specs.List.{prefix_len};
 ghost use Rattle.brief_text.specs.Tokens.{tokens_of, is_word_part, raw_tokens, in_comment};
 
 use crate::symbols::{Symbol, Token, sign_of, word_symbol};
+use plan_text::places::Spot;
+use plan_text::{Expected, PlanError, Refused};
 
 /// What is left of a brief.
 #[derive(Drop)]
 pub(crate) struct Tokens<'a> {
     rest: &'a [u8],
     line: u64,
+    // for refusals: the whole text, and how many of its bytes are left before the last token, and after the one before it
+    text: &'a [u8],
+    start: usize,
+    before: usize,
     ghost lines_fit: { line + length rest.now < 2 ^ 64 },
 }
 
@@ -25,6 +31,9 @@ impl<'a> Tokens<'a> {
         Tokens {
             rest: text,
             line: 1,
+            text,
+            start: text.len(),
+            before: text.len(),
         }
     }
 
@@ -32,7 +41,9 @@ impl<'a> Tokens<'a> {
     pub(crate) fn next(&mut self) -> Token<'a>
         ensures { left self.old ≡ with_token result (left self.new) }
     {
+        self.before = self.rest.len();
         self.skip_blank();
+        self.start = self.rest.len();
         let line = self.line;
         let symbol = match self.rest {
             [] => Symbol::End,
@@ -52,6 +63,27 @@ impl<'a> Tokens<'a> {
             }
         };
         Token { symbol, line }
+    }
+
+    /// The whole text.
+    pub(crate) fn text(&self) -> &'a [u8] {
+        self.text
+    }
+
+    /// Where the last token stands.
+    pub(crate) fn spot(&self) -> Spot {
+        Spot {
+            before: self.before,
+            start: self.start,
+            end: self.rest.len(),
+        }
+    }
+
+    /// The refusal of the token that was taken last, in the place of `brief` or of the `1` after it.
+    pub(crate) fn refused(&self, error: PlanError) -> Refused
+        ensures { result.error ≡ error }
+    {
+        Refused::at(error, self.text, self.spot(), Expected::Version, None)
     }
 
     // Skips white space and comments. It stops before a foreign byte also inside a comment.
@@ -107,5 +139,5 @@ fn comment_end(bytes: &[u8]) -> usize
 fn is_part_of_word(byte: u8) -> bool
     ensures { result ≡ is_word_part byte }
 {
-    byte.is_ascii_alphanumeric() || byte == b'_' || byte == b'.'
+    byte.is_ascii_alphanumeric() || byte == b'_' || byte == b'.' || byte == b'/'
 }

@@ -1,11 +1,18 @@
-// What a word spells out: an address or a data byte.
+// What a word says by itself: an address or a data byte, what stands after `*`, and the halves of a label.
 
-ghost use Rattle.std.specs.Prelude.{◌≡◌, ◌≢◌, ◌<◌, ◌++◌, ℕ, List, map, IfSome, MatchOption, None, Some};
+ghost use Rattle.std.specs.Prelude.{◌≡◌, ◌≢◌, ◌<◌, ◌≤◌, ◌++◌, ℕ, List, map, length, IfSome, MatchOption, None, Some};
+ghost use Rattle.std.specs.List.{prefix_len};
+ghost use Rattle.std.specs.Option.{option_map};
 ghost use Rattle.message_tree.specs.Bits.{bits_below};
 ghost use Rattle.message_tree.specs.Patterns.{address_bits};
 ghost use Rattle.plan_text.specs.Canonical.{bit_symbol};
-ghost use Rattle.brief_text.specs.Words.{data_by, address_by, digit_bits, hex_bits, known_number};
+ghost use Rattle.plan_text.specs.Words.{around_dots};
+ghost use Rattle.brief_text.specs.Names.{is_brief_word};
+ghost use Rattle.brief_text.specs.Reading.{repetition_said};
+ghost use Rattle.brief_text.specs.Words.{data_by, address_by, digit_bits, hex_bits, known_number, repetition_by, range_by};
+ghost use Rattle.brief_text.specs.Words.{around_slash, is_no_slash};
 
+use crate::numbers::{Digits, digits_of};
 use message_tree::{Address, Bit, Pattern};
 use plan_text::words;
 
@@ -100,4 +107,75 @@ fn digit(byte: u8) -> Option<Mask>
         known: 15,
         value: value as u8,
     })
+}
+
+/// What stands after `*`: a number, or the ends of a range.
+#[derive(Clone, Copy)]
+pub(crate) enum Repetition<'a> {
+    Number(Digits<'a>),
+    Range(Digits<'a>, Digits<'a>),
+}
+
+/// What a word says after `*`.
+#[tactic(auto, unfolding(crate::specs::Words::repetition_by))]
+pub(crate) fn repetition_of(word: &[u8]) -> Option<Repetition<'_>>
+    ensures { option_map repetition_said result ≡ repetition_by word.now }
+{
+    match digits_of(word) {
+        Some(number) => Some(Repetition::Number(number)),
+        None => range(word),
+    }
+}
+
+// Two numbers around `..`.
+fn range(word: &[u8]) -> Option<Repetition<'_>>
+    ensures { option_map repetition_said result ≡ range_by (around_dots word.now) }
+{
+    let (least, greatest) = around_dots(word)?;
+    match (digits_of(least), digits_of(greatest)) {
+        (Some(least), Some(greatest)) => Some(Repetition::Range(least, greatest)),
+        _ => None,
+    }
+}
+
+// What stands before and after the first `.`, where another `.` follows it directly.
+fn around_dots(word: &[u8]) -> Option<(&[u8], &[u8])>
+    ensures { MatchOption result (around_dots word.now ≡ None)
+        (λ ends. around_dots word.now ≡ Some (ends.0.now, ends.1.now)) }
+{
+    let dot = word.iter().position(|byte| *byte == b'.')?;
+    let (before, rest) = word.split_at(dot);
+    match rest {
+        [b'.', b'.', after @ ..] => Some((before, after)),
+        _ => None,
+    }
+}
+
+/// What stands before and after the first `/`.
+#[tactic(auto, unfolding(crate::specs::Words::around_slash))]
+pub(crate) fn around_slash(word: &[u8]) -> Option<(&[u8], &[u8])>
+    ensures { MatchOption result (around_slash word.now ≡ None)
+        (λ halves. around_slash word.now ≡ Some (halves.0.now, halves.1.now)) }
+{
+    let slash = slash_of(word);
+    if slash < word.len() {
+        Some((&word[..slash], &word[slash + 1..]))
+    } else {
+        None
+    }
+}
+
+// How many bytes stand before the first `/`.
+fn slash_of(word: &[u8]) -> usize
+    ensures place { result ≡ prefix_len is_no_slash word.now }
+    ensures within { result ≤ length word.now }
+{
+    word.iter().take_while(|byte| **byte != b'/').count()
+}
+
+/// Whether this is a word of briefs and none of plans.
+pub(crate) fn is_brief_word(name: &str) -> bool
+    ensures { result ≡ is_brief_word name.now }
+{
+    matches!(name, "brief" | "device" | "byte" | "any")
 }

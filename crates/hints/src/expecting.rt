@@ -34,7 +34,7 @@ const PLAN_NUMBERS: [(&str, &str); 4] = [
 ];
 
 // The same of a brief.
-const BRIEF_WORDS: [(&str, &str); 17] = [
+const BRIEF_WORDS: [(&str, &str); 18] = [
     ("device", "'device'"),
     ("byte", "'byte'"),
     ("message", "'message'"),
@@ -47,12 +47,13 @@ const BRIEF_WORDS: [(&str, &str); 17] = [
     ("stop", "'stop'"),
     ("(", "'('"),
     (")", "')'"),
-    ("*", "'*' and a number"),
+    ("*", "'*' and a number, or a range as '1..4'"),
     (";", "';'"),
     (
         "a",
         "a name (a letter, then letters, digits and '_', 32 at most)",
     ),
+    ("a/a", "a label (a controller, '/' and its message)"),
     ("any", "'any'"),
     (
         "0b0000000x",

@@ -1,5 +1,6 @@
 // The pieces of a line of a plan, each of which may be what is refused.
 
+use crate::languages::Language;
 use std::alloc::{AllocError, Global};
 
 /// A word, a `;`, or a character that belongs to no token: where it begins in the text, and where it ends.
@@ -10,7 +11,12 @@ pub(crate) struct Piece {
 }
 
 /// The pieces of a line that begins at this place of its text, outside of comments.
-pub(crate) fn pieces(alloc: Global, line: &[u8], from: usize) -> Result<Vec<Piece>, AllocError> {
+pub(crate) fn pieces(
+    alloc: Global,
+    language: Language,
+    line: &[u8],
+    from: usize,
+) -> Result<Vec<Piece>, AllocError> {
     let mut found: Vec<Piece> = Vec::new(alloc);
     let mut is_in_word = false;
     let mut start = from;
@@ -19,7 +25,7 @@ pub(crate) fn pieces(alloc: Global, line: &[u8], from: usize) -> Result<Vec<Piec
             break;
         }
         let end = start.saturating_add(1);
-        let is_letter = is_of_a_word(*byte);
+        let is_letter = is_of_a_word(language, *byte);
         if is_in_word && is_letter {
             if let Some(word) = found.last_mut() {
                 word.end = end;
@@ -33,9 +39,10 @@ pub(crate) fn pieces(alloc: Global, line: &[u8], from: usize) -> Result<Vec<Piec
     Ok(found)
 }
 
-// The letters of words, and the dots of ranges.
-fn is_of_a_word(byte: u8) -> bool {
-    byte.is_ascii_alphanumeric() || byte == b'_' || byte == b'.'
+// The letters of words, the dots of ranges, and what stands between the names of a label.
+fn is_of_a_word(language: Language, byte: u8) -> bool {
+    let is_slash = byte == b'/' && matches!(language, Language::Brief);
+    byte.is_ascii_alphanumeric() || byte == b'_' || byte == b'.' || is_slash
 }
 
 fn is_blank(byte: u8) -> bool {

@@ -8,7 +8,7 @@ use crate::marking::{first_line, last_line, push_marked};
 use crate::pieces::{Piece, last_line_number, line_start, pieces};
 use crate::starters::push_starters;
 use crate::values::Hints;
-use crate::wording::of_text;
+use crate::wording::{LABEL_TWICE, of_text};
 use crate::words::push_word;
 use brief_text::{brief_word, expand_brief};
 use dump_tokens::reading::part;
@@ -197,6 +197,14 @@ fn push_read(alloc: Global, lines: &mut Lines, refused: Refused, text: &[u8]) {
     }
 }
 
+// What a refusal means at this token.
+fn words_at(refused: Refused, at: &[u8]) -> &'static str {
+    match refused.refusal {
+        PlanError::Twice(_) if at.contains(&b'/') => LABEL_TWICE,
+        _ => refused.words,
+    }
+}
+
 // The place of the refusal, and what could stand there.
 fn push_place(alloc: Global, lines: &mut Lines, refused: Refused, text: &[u8], place: Piece) {
     let line = refused.line;
@@ -211,7 +219,7 @@ fn push_place(alloc: Global, lines: &mut Lines, refused: Refused, text: &[u8], p
     }
     let is_unexpected = matches!(refused.refusal, PlanError::Unexpected(_));
     if !is_unexpected || !push_asked(alloc, lines, refused.language, before, at) {
-        lines.say(refused.words);
+        lines.say(words_at(refused, at));
     }
 }
 
@@ -263,7 +271,7 @@ fn found_place(alloc: Global, text: &[u8], refused: Refused) -> Result<Option<Pi
         return Ok(None);
     };
     let rest = first_line(text.get(start..).unwrap_or(&[]));
-    let pieces = pieces(alloc, rest, start)?;
+    let pieces = pieces(alloc, refused.language, rest, start)?;
     let place = first_refused(alloc, text, pieces.as_slice(), refused)?;
     if place.is_some() || refused.line != last_line_number(text) {
         return Ok(place);

@@ -11,13 +11,17 @@ pub(crate) fn of_text(language: Language, refusal: PlanError) -> Option<&'static
     }
 }
 
+/// What P7 means at a label of a brief.
+pub(crate) const LABEL_TWICE: &str =
+    "this stands there already, or both are of one controller, whose messages never start together";
+
 fn of_brief(refusal: PlanError) -> Option<&'static str> {
     match refusal {
         PlanError::NotAscii(_) => Some("a brief is ASCII, in its comments too"),
         PlanError::Version(_) => Some("a brief begins with 'brief 1'"),
         PlanError::BadCount(_) => {
             Some(
-                "expected here: a number from 1 to 255; after 'read' also two of them as '2..4', the smaller first",
+                "expected here: a number from 1 to 255; after 'read' or '*' also two of them as '2..4', the smaller first (after '*' it may be 0)",
             )
         }
         PlanError::Unknown(_) => {

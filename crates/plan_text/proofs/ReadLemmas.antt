@@ -6,6 +6,7 @@ use Rattle.plan_core.specs.PlanContents.{plan_contents}
 use Rattle.plan_core.specs.declared.plans.Plan.{Plan}
 use Rattle.plan_text.specs.declared.errors.PlanError.{PlanError}
 use Rattle.plan_text.specs.declared.errors.PlanError.TheVariants.{NoMemory}
+use Rattle.plan_text.specs.declared.places.Refused.{Refused}
 use Rattle.plan_text.specs.Grammar.{Spells}
 use Rattle.plan_text.specs.Refusals.{First}
 use Rattle.plan_text.specs.Reader.{text_read}
@@ -25,18 +26,18 @@ answered text = by_result (text_read text) refl
     by_result (Err e) h = inr (e, h)
 
 module _ (text : List ℕ) where
-  pub spelled : (r : Result Plan PlanError) → IfOk r (λ p. text_read text ≡ Ok (plan_contents p)) → IfOk r (λ p. Spells text (plan_contents p))
+  pub spelled : (r : Result Plan Refused) → IfOk r (λ p. text_read text ≡ Ok (plan_contents p)) → IfOk r (λ p. Spells text (plan_contents p))
   spelled (Ok p) h = text_takes text (plan_contents p) h
   spelled (Err e) h = tt
 
-  pub plans : (r : Result Plan PlanError) → IfOk r (λ p. text_read text ≡ Ok (plan_contents p)) → IfErr r (λ e. (e ≡ NoMemory) ⊎ First text e)
-      → (plan : Contents) → Spells text plan → MatchResult r (λ it. plan_contents it ≡ plan) (λ e. e ≡ NoMemory)
+  pub plans : (r : Result Plan Refused) → IfOk r (λ p. text_read text ≡ Ok (plan_contents p)) → IfErr r (λ e. (e.error ≡ NoMemory) ⊎ First text e.error)
+      → (plan : Contents) → Spells text plan → MatchResult r (λ it. plan_contents it ≡ plan) (λ e. e.error ≡ NoMemory)
   plans (Ok p) read refused plan s = ok_is (plan_contents p) plan (sym read ∙ text_again text plan s)
   plans (Err e) read (inl memory) plan s = memory
-  plans (Err e) read (inr first) plan s = absurd (spelled_not_refused text plan e s first)
+  plans (Err e) read (inr first) plan s = absurd (spelled_not_refused text plan e.error s first)
 
-  pub refusals : (r : Result Plan PlanError) → IfOk r (λ p. text_read text ≡ Ok (plan_contents p)) → IfErr r (λ e. (e ≡ NoMemory) ⊎ First text e)
-      → (due : PlanError) → First text due → MatchResult r (λ it. ⊥) (λ e. (e ≡ NoMemory) ⊎ (e ≡ due))
+  pub refusals : (r : Result Plan Refused) → IfOk r (λ p. text_read text ≡ Ok (plan_contents p)) → IfErr r (λ e. (e.error ≡ NoMemory) ⊎ First text e.error)
+      → (due : PlanError) → First text due → MatchResult r (λ it. ⊥) (λ e. (e.error ≡ NoMemory) ⊎ (e.error ≡ due))
   refusals (Ok p) read refused due f = spelled_not_refused text (plan_contents p) due (text_takes text (plan_contents p) read) f
   refusals (Err e) read (inl memory) due f = inl memory
-  refusals (Err e) read (inr first) due f = inr (first_same text e due first f)
+  refusals (Err e) read (inr first) due f = inr (first_same text e.error due first f)

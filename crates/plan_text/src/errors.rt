@@ -39,6 +39,23 @@ pub enum PlanError {
     NoMemory,
 }
 
+impl PlanError {
+    /// The line of its place, where it has one.
+    pub fn line(self) -> Option<u64> {
+        match self {
+            PlanError::NotAscii(line)
+            | PlanError::Version(line)
+            | PlanError::Unexpected(line)
+            | PlanError::BadCount(line)
+            | PlanError::TooLong(line)
+            | PlanError::TooMany(line)
+            | PlanError::Twice(line)
+            | PlanError::Unknown(line) => Some(line),
+            PlanError::NoMemory => None,
+        }
+    }
+}
+
 impl From<AllocError> for PlanError {
     ghost from_gives = { λ _ e. e ≡ NoMemory };
 

@@ -9,10 +9,11 @@ ghost use Rattle.plan_core.specs.declared.builder.BuildError.{BuildError};
 ghost use Rattle.plan_text.specs.Grammar.{Spells};
 ghost use Rattle.plan_text.specs.Places.{Refuses};
 ghost use Rattle.plan_text.specs.Reader.{text_read, message_at, controller_at, sendings_from, interrupt_at, never_at};
-ghost use Rattle.plan_text.specs.Reader.{item_at, is_end, refused_at};
+ghost use Rattle.plan_text.specs.Reader.{item_at, items_at, is_end, refused_at};
 ghost use Rattle.plan_text.specs.Refusals.{First};
 
 use crate::errors::PlanError;
+use crate::places::{Expected, Kind, Refused};
 use crate::sources::Source;
 use crate::symbols::{Keyword, Symbol};
 use crate::versions::{Version, read_version};
@@ -35,13 +36,34 @@ pub fn read_plan(alloc: Global, text: &[u8]) -> Result<Plan, PlanError>
     ensures refusals { (due : PlanError) → First text.now due →
         MatchResult result (λ it. ⊥) (λ e. (e ≡ PlanError.NoMemory) ⊎ (e ≡ due)) }
 {
+    match read_plan_at(alloc, text) {
+        Ok(plan) => Ok(plan),
+        Err(refused) => Err(refused.error),
+    }
+}
+
+/// The same, with the place of the refusal.
+///
+/// # Errors
+///
+/// As those of `read_plan`.
+pub fn read_plan_at(alloc: Global, text: &[u8]) -> Result<Plan, Refused>
+    // What is answered is right.
+    ensures spelled { IfOk result (λ plan. Spells text.now (plan_contents plan)) }
+    ensures refused { IfErr result (λ e. (e.error ≡ PlanError.NoMemory) ⊎ First text.now e.error) }
+    // What is right is answered, unless an allocation fails.
+    ensures plans { (plan : Contents) → Spells text.now plan →
+        MatchResult result (λ it. plan_contents it ≡ plan) (λ e. e.error ≡ PlanError.NoMemory) }
+    ensures refusals { (due : PlanError) → First text.now due →
+        MatchResult result (λ it. ⊥) (λ e. (e.error ≡ PlanError.NoMemory) ⊎ (e.error ≡ due)) }
+{
     read(alloc, text)
 }
 
 // The same, by the definition of reading.
-fn read(alloc: Global, text: &[u8]) -> Result<Plan, PlanError>
+fn read(alloc: Global, text: &[u8]) -> Result<Plan, Refused>
     ensures read { IfOk result (λ plan. text_read text.now ≡ Ok (plan_contents plan)) }
-    ensures refused { IfErr result (Refuses (text_read text.now)) }
+    ensures refused { IfErr result (λ e. Refuses (text_read text.now) e.error) }
 {
     let (version, tokens) = read_version(text)?;
     let mut reader = Reader {
@@ -49,8 +71,10 @@ fn read(alloc: Global, text: &[u8]) -> Result<Plan, PlanError>
         version,
         builder: Builder::new(alloc),
     };
-    while reader.item()? {}
-    Ok(reader.builder.finish())
+    match reader.items() {
+        Ok(()) => Ok(reader.builder.finish()),
+        Err(error) => Err(reader.source.refused(error)),
+    }
 }
 
 // A plan text of which some items have been read.
@@ -64,6 +88,15 @@ struct Reader<'a> {
 impl<'a> Reader<'a> {
     ghost use Rattle.plan_text.specs.Places.{so_far, ahead, Passes, Gives};
 
+    // All items.
+    fn items(&mut self) -> Result<(), PlanError>
+        ensures read { OnOk result (items_at self.old.version (so_far self.old) (ahead self.old) ≡ Ok (so_far self.new)) }
+        ensures refused { IfErr result (Refuses (items_at self.old.version (so_far self.old) (ahead self.old))) }
+    {
+        while self.item()? {}
+        Ok(())
+    }
+
     // message NAME frame ; | controller NAME NAME* ; | interrupt NAME ADDR7 ; | never NAME NAME ;
     // It answers whether there was an item before the end of the text.
     #[tactic(auto, unfolding(crate::specs::Reader::item_at))]
@@ -76,7 +109,8 @@ impl<'a> Reader<'a> {
         ensures further { IfErr result (λ e. is_end (ahead self.old).tokens ≡ false) }
         ensures version { self.new.version ≡ self.old.version }
     {
-        let token = self.source.next();
+        let never = self.version == Version::Two;
+        let token = self.source.next(Expected::Item { never });
         match token.symbol {
             Symbol::End => return Ok(false),
             Symbol::Keyword(Keyword::Message) => self.message()?,
@@ -94,7 +128,7 @@ impl<'a> Reader<'a> {
         ensures read { Passes result (message_at (so_far self.old) (ahead self.old)) (so_far self.new, ahead self.new) }
         ensures version { self.new.version ≡ self.old.version }
     {
-        let named = self.source.name()?;
+        let named = self.source.name(Expected::Name(Kind::Message))?;
         allowed(self.builder.message_name_refusal(&named.name), named.line)?;
         let frame = self.source.message_frame()?;
         self.source.semicolon()?;
@@ -109,7 +143,7 @@ impl<'a> Reader<'a> {
             (so_far self.new, ahead self.new) }
         ensures version { self.new.version ≡ self.old.version }
     {
-        let named = self.source.name()?;
+        let named = self.source.name(Expected::Name(Kind::Controller))?;
         allowed(
             self.builder.controller_name_refusal(&named.name),
             named.line,
@@ -129,7 +163,7 @@ impl<'a> Reader<'a> {
     {
         let mut messages = Vec::new(self.source.alloc);
         'names: loop {
-            let token = self.source.next();
+            let token = self.source.next(Expected::Sending);
             if let Symbol::Semicolon = token.symbol {
                 return Ok(messages);
             }
@@ -149,7 +183,7 @@ impl<'a> Reader<'a> {
             (so_far self.new, ahead self.new) }
         ensures version { self.new.version ≡ self.old.version }
     {
-        let named = self.source.name()?;
+        let named = self.source.name(Expected::Name(Kind::Interrupt))?;
         allowed(self.builder.interrupt_refusal(&named.name), named.line)?;
         let address = self.source.interrupt_address()?;
         self.source.semicolon()?;
@@ -163,11 +197,11 @@ impl<'a> Reader<'a> {
         ensures read { Passes result (never_at (so_far self.old) (ahead self.old)) (so_far self.new, ahead self.new) }
         ensures version { self.new.version ≡ self.old.version }
     {
-        let first = self.source.name()?;
+        let first = self.source.name(Expected::Controller)?;
         if !self.builder.has_controller(&first.name) {
             return Err(PlanError::Unknown(first.line));
         }
-        let second = self.source.name()?;
+        let second = self.source.name(Expected::Controller)?;
         allowed(
             self.builder.never_refusal(&first.name, &second.name),
             second.line,

@@ -5,14 +5,16 @@
 //! a function for each rule of the grammar of a message, `items` one for each kind of item. `specs/Reader.antt` defines
 //! what a text is read as, and each function that reads is proved equal to its rule there. `laws` says that this is what
 //! the grammar spells, of every text that it has one reading, and of every plan that its canonical spelling is one of its
-//! spellings.
+//! spellings. For people `places` has where a text is refused, and `given` the names before that.
 #![tactic(auto)]
 
 pub mod briefs;
 pub mod errors;
+pub mod given;
 mod items;
 pub mod laws;
 mod messages;
+pub mod places;
 pub mod print;
 mod sources;
 mod symbols;
@@ -22,5 +24,6 @@ pub mod words;
 
 pub use briefs::NoBrief;
 pub use errors::PlanError;
-pub use items::read_plan;
+pub use items::{read_plan, read_plan_at};
+pub use places::{Expected, Language, Place, Refused};
 pub use print::print_plan;

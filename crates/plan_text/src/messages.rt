@@ -7,6 +7,7 @@ ghost use Rattle.plan_core.specs.declared.limits.TheConstants.{MOST_BYTES};
 ghost use Rattle.plan_text.specs.Reader.{token_as, address_in, frame_at, count_at, else_at};
 
 use crate::errors::PlanError;
+use crate::places::{Expected, Over};
 use crate::sources::Source;
 use crate::symbols::{Keyword, Symbol, Token};
 use crate::words::{address, count_ends, pattern};
@@ -31,7 +32,7 @@ impl Source<'_> {
     fn frame(&mut self, room: u32) -> Result<Frame, PlanError>
         ensures { Gives frame_tree result (frame_at room (place self.old)) (place self.new) }
     {
-        let token = self.next();
+        let token = self.next(Expected::Frame);
         match token.symbol {
             Symbol::Keyword(Keyword::Write) => self.write(room),
             Symbol::Keyword(Keyword::Read) => self.read(room),
@@ -90,7 +91,7 @@ impl Source<'_> {
     fn payload_by_token(&mut self, room: u32) -> Result<Payload, PlanError>
         ensures { Gives payload_tree result (payload_at room (place self.old)) (place self.new) }
     {
-        let token = self.next();
+        let token = self.next(Expected::Payload);
         match token.symbol {
             Symbol::Word(word) => {
                 let Some(bits) = pattern(word) else {
@@ -135,7 +136,7 @@ impl Source<'_> {
     fn tail(&mut self, room: u32) -> Result<Tail, PlanError>
         ensures { Gives tail_tree result (tail_at room (place self.old)) (place self.new) }
     {
-        let token = self.next();
+        let token = self.next(Expected::Tail);
         self.tail_from(token, room)
     }
 
@@ -159,7 +160,7 @@ impl Source<'_> {
         ensures { Finds (λ it. it.address) (λ it. it.line) result (token_as address_in (place self.old))
             (place self.new) }
     {
-        let token = self.next();
+        let token = self.next(Expected::Address);
         let Symbol::Word(word) = token.symbol else {
             return Err(token.unexpected());
         };
@@ -178,6 +179,11 @@ impl Source<'_> {
         ensures less { IfOk result (λ below. room ≡ below + 1) }
     {
         if room == 0 || self.nodes >= MOST_NODES {
+            self.over = Some(if room == 0 {
+                Over::Bytes(1)
+            } else {
+                Over::Nodes(1)
+            });
             return Err(PlanError::TooLong(line));
         }
         self.nodes += 1;
@@ -189,7 +195,8 @@ impl Source<'_> {
         ensures read { Gives (λ it. it) result (count_at room (place self.old)) (place self.new) }
         ensures fits { IfOk result (λ it. greatest_of it ≤ room) }
     {
-        let token = self.next();
+        let ranges = self.tokens.has_dots();
+        let token = self.next(Expected::Count { ranges });
         let Symbol::Word(word) = token.symbol else {
             return Err(token.unexpected());
         };
@@ -200,6 +207,7 @@ impl Source<'_> {
             return Err(PlanError::BadCount(token.line));
         };
         if count.greatest() as u32 > room {
+            self.over = Some(Over::Bytes(count.greatest() as u32 - room));
             return Err(PlanError::TooLong(token.line));
         }
         Ok(count)
@@ -209,7 +217,7 @@ impl Source<'_> {
     fn else_word(&mut self) -> Result<(), PlanError>
         ensures { Passes result (else_at (place self.old)) (place self.new) }
     {
-        let token = self.next();
+        let token = self.next(Expected::Else);
         match token.symbol {
             Symbol::Keyword(Keyword::Else) => Ok(()),
             _ => Err(token.unexpected()),

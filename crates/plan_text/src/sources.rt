@@ -7,6 +7,7 @@ ghost use Rattle.plan_text.specs.Reader.{Place, token_as, name_in, known_address
 ghost use Rattle.plan_text.specs.Reading.{left};
 
 use crate::errors::PlanError;
+use crate::places::{Expected, Over, Refused};
 use crate::symbols::{Symbol, Token};
 use crate::tokens::Tokens;
 use crate::words::known_address;
@@ -19,6 +20,9 @@ pub(crate) struct Source<'a> {
     pub(crate) alloc: Global,
     pub(crate) tokens: Tokens<'a>,
     pub(crate) nodes: u32,
+    // for refusals: what the last token was to be, and by how much the message is too long
+    expected: Expected,
+    pub(crate) over: Option<Over>,
     ghost nodes_fit: { nodes ≤ MOST_NODES },
 }
 
@@ -40,22 +44,32 @@ impl<'a> Source<'a> {
             alloc,
             tokens,
             nodes: 0,
+            expected: Expected::Version,
+            over: None,
         }
     }
 
-    /// The next token.
-    pub(crate) fn next(&mut self) -> Token<'a>
+    /// The next token, which is to be this.
+    pub(crate) fn next(&mut self, expected: Expected) -> Token<'a>
         ensures { place self.old ≡ before result (place self.new) }
     {
+        self.expected = expected;
         self.tokens.next()
     }
 
-    /// NAME
-    pub(crate) fn name(&mut self) -> Result<Named, PlanError>
+    /// The refusal of the token that was taken last.
+    pub(crate) fn refused(&self, error: PlanError) -> Refused
+        ensures { result.error ≡ error }
+    {
+        self.tokens.refused(error, self.expected, self.over)
+    }
+
+    /// NAME, which is to be this.
+    pub(crate) fn name(&mut self, expected: Expected) -> Result<Named, PlanError>
         ensures { Finds (λ it. name_bytes it.name) (λ it. it.line) result (token_as name_in (place self.old))
             (place self.new) }
     {
-        let token = self.next();
+        let token = self.next(expected);
         let name = self.name_of(token)?;
         Ok(Named {
             name,
@@ -86,7 +100,7 @@ impl<'a> Source<'a> {
         ensures read { Gives (λ it. it) result (known_address_at (place self.old)) (place self.new) }
         ensures small { IfOk result (λ it. it < 128) }
     {
-        let token = self.next();
+        let token = self.next(Expected::KnownAddress);
         let Symbol::Word(word) = token.symbol else {
             return Err(token.unexpected());
         };
@@ -100,7 +114,7 @@ impl<'a> Source<'a> {
     pub(crate) fn semicolon(&mut self) -> Result<(), PlanError>
         ensures { Passes result (end_at (place self.old)) (place self.new) }
     {
-        let token = self.next();
+        let token = self.next(Expected::Semicolon);
         match token.symbol {
             Symbol::Semicolon => Ok(()),
             _ => Err(token.unexpected()),

@@ -9,6 +9,8 @@ ghost use Rattle.plan_text.specs.Tokens.{Dots, tokens_of, dots_now, one_later, i
 ghost use Rattle.plan_text.specs.Tokens.{next, word, keyword};
 ghost use Rattle.plan_text.specs.declared.symbols.Keyword.TheVariants as keywords;
 
+use crate::errors::PlanError;
+use crate::places::{Expected, Over, Refused, Spot};
 use crate::symbols::{Symbol, Token, word_symbol};
 use crate::words::pattern;
 use message_tree::Pattern;
@@ -26,6 +28,10 @@ pub(crate) struct Tokens<'a> {
     rest: &'a [u8],
     line: u64,
     dots: bool,
+    // for refusals: the whole text, and how many of its bytes are left before the last token, and after the one before it
+    text: &'a [u8],
+    start: usize,
+    before: usize,
     ghost lines_fit: { line + length rest.now < 2 ^ 64 },
 }
 
@@ -41,6 +47,9 @@ impl<'a> Tokens<'a> {
             rest: text,
             line: 1,
             dots: false,
+            text,
+            start: text.len(),
+            before: text.len(),
         }
     }
 
@@ -59,7 +68,9 @@ impl<'a> Tokens<'a> {
         ensures left { left self.old ≡ with_token result (left self.new) }
         ensures dots { self.new.dots ≡ self.old.dots }
     {
+        self.before = self.rest.len();
         self.skip_blank();
+        self.start = self.rest.len();
         let line = self.line;
         let symbol = match self.rest {
             [] => Symbol::End,
@@ -95,6 +106,8 @@ impl<'a> Tokens<'a> {
             return None;
         };
         let bits = pattern(word)?;
+        self.before = self.rest.len();
+        self.start = self.before.saturating_sub(1);
         self.rest = rest;
         Some(DataByte {
             bits,
@@ -116,6 +129,28 @@ impl<'a> Tokens<'a> {
         };
         self.rest = rest;
         true
+    }
+
+    /// Whether `.` counts as a part of words, as in the second version.
+    pub(crate) fn has_dots(&self) -> bool {
+        self.dots
+    }
+
+    /// The refusal of the token that was taken last, where this was expected. A message may be too long by so much.
+    pub(crate) fn refused(
+        &self,
+        error: PlanError,
+        expected: Expected,
+        over: Option<Over>,
+    ) -> Refused
+        ensures { result.error ≡ error }
+    {
+        let spot = Spot {
+            before: self.before,
+            start: self.start,
+            end: self.rest.len(),
+        };
+        Refused::at(error, self.text, spot, expected, over)
     }
 
     // Skips white space and comments. It stops before a foreign byte also inside a comment.

@@ -6,7 +6,7 @@ ghost use Rattle.plan_text.specs.Reader.{version_of, version_at, after_one};
 ghost use Rattle.plan_text.specs.Reading.{left};
 ghost use Rattle.plan_text.specs.Tokens.{tokens_of, no_dots};
 
-use crate::errors::PlanError;
+use crate::places::{Expected, Refused};
 use crate::symbols::{Keyword, Symbol};
 use crate::tokens::Tokens;
 
@@ -20,19 +20,19 @@ pub(crate) enum Version {
 }
 
 /// Reads `plan` and the version, and gives the tokens after them.
-pub(crate) fn read_version(text: &[u8]) -> Result<(Version, Tokens<'_>), PlanError>
+pub(crate) fn read_version(text: &[u8]) -> Result<(Version, Tokens<'_>), Refused>
     ensures version { IfOk result (λ it. version_at (tokens_of no_dots 1 text.now) ≡ Ok it.0) }
     ensures rest { IfOk result (λ it. left it.1 ≡ after_one (after_one (tokens_of (dots_of it.0) 1 text.now))) }
-    ensures refused { IfErr result (λ e. version_at (tokens_of no_dots 1 text.now) ≡ Err e) }
+    ensures refused { IfErr result (λ e. version_at (tokens_of no_dots 1 text.now) ≡ Err e.error) }
 {
     let mut tokens = Tokens::new(text);
     let first = tokens.next();
     let Symbol::Keyword(Keyword::Plan) = first.symbol else {
-        return Err(first.no_version());
+        return Err(tokens.refused(first.no_version(), Expected::Version, None));
     };
     let second = tokens.next();
     let Symbol::Word(word) = second.symbol else {
-        return Err(second.no_version());
+        return Err(tokens.refused(second.no_version(), Expected::Version, None));
     };
     match version_of(word) {
         Some(Version::One) => Ok((Version::One, tokens)),
@@ -40,7 +40,7 @@ pub(crate) fn read_version(text: &[u8]) -> Result<(Version, Tokens<'_>), PlanErr
             tokens.allow_dots();
             Ok((Version::Two, tokens))
         }
-        None => Err(second.no_version()),
+        None => Err(tokens.refused(second.no_version(), Expected::Version, None)),
     }
 }
 

@@ -10,8 +10,8 @@ use Rattle.run_parts.specs.declared.errors.RunError.{RunError}
 use Rattle.run_parts.specs.declared.errors.RunError.TheVariants as error
 
 -- the text spells this plan, or it is a brief that means it
-abbrev pub Gives : List ℕ → Contents → Type 0
-Gives text plan = Spells text plan ⊎ Means text plan
+abbrev pub GivesPlan : List ℕ → Contents → Type 0
+GivesPlan text plan = Spells text plan ⊎ Means text plan
 
 -- whether the refusal says that the text does not begin as it should
 abbrev pub is_version : PlanError → Bool

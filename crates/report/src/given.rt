@@ -5,7 +5,7 @@ ghost use Rattle.plan_core.specs.PlanContents.{plan_contents};
 ghost use Rattle.report.specs.Found.{Finds};
 ghost use Rattle.brief_text.specs.Briefs.{Means};
 ghost use Rattle.plan_text.specs.Refusals.{First};
-ghost use Rattle.report.specs.Given.{Gives, IsNeither, RefusesGiven, is_version};
+ghost use Rattle.report.specs.Given.{GivesPlan, IsNeither, RefusesGiven, is_version};
 ghost use Rattle.run_parts.specs.Runs.{ReadsText, HaltsAtText};
 
 use brief_text::expand_brief;
@@ -23,7 +23,7 @@ use std::alloc::Global;
 /// `Read` where the reader failed or gave no end, and `Plan` with the first refusal of the plan text or of the brief: P2 of the
 /// plan text where it begins as neither. `NoMemory` where an allocation fails.
 pub fn find_given<I: Input>(alloc: Global, text: &mut I) -> Result<Plan, RunError>
-    ensures found { IfOk result (λ it. Finds (ReadsText I.reader) Gives text.old (plan_contents it) text.new) }
+    ensures found { IfOk result (λ it. Finds (ReadsText I.reader) GivesPlan text.old (plan_contents it) text.new) }
     ensures stops { IfErr result (λ error. HaltsAtText I.reader RefusesGiven text.old error text.new) }
 {
     let text = read_within(alloc, text, READS)?;
@@ -32,7 +32,7 @@ pub fn find_given<I: Input>(alloc: Global, text: &mut I) -> Result<Plan, RunErro
 }
 
 fn plan_of(alloc: Global, text: &[u8]) -> Result<Plan, PlanError>
-    ensures given { IfOk result (λ it. Gives text.now (plan_contents it)) }
+    ensures given { IfOk result (λ it. GivesPlan text.now (plan_contents it)) }
     ensures refused { IfErr result (λ e. (e ≡ PlanError.NoMemory) ⊎ IsNeither text.now e) }
 {
     match read_plan(alloc, text) {

@@ -66,6 +66,15 @@ pub struct Header {
     pub scale: Option<Scale>,
     /// Whether the `$end` of `$enddefinitions` has come.
     pub is_whole: bool,
+    // whether something stands there that cannot
+    is_wrong: bool,
+}
+
+impl Header {
+    /// Whether the dump does not say what one step of its time is. Where something is wrong, its reader tells of that first.
+    pub(crate) fn lacks_scale(self) -> bool {
+        self.scale.is_none() && !self.is_wrong
+    }
 }
 
 /// The definitions so far. It answers that no more tokens are wanted where they end, or where something stands that cannot
@@ -85,6 +94,7 @@ pub(crate) struct Definitions<L> {
     is_cut: bool,
     timescale: Vec<u8>,
     is_whole: bool,
+    is_wrong: bool,
 }
 
 impl<L: Listing> Definitions<L> {
@@ -102,6 +112,7 @@ impl<L: Listing> Definitions<L> {
             is_cut: false,
             timescale: Vec::new(alloc),
             is_whole: false,
+            is_wrong: false,
         }
     }
 
@@ -113,6 +124,7 @@ impl<L: Listing> Definitions<L> {
         let header = Header {
             scale: scale_of(self.timescale.as_slice()),
             is_whole: self.is_whole,
+            is_wrong: self.is_wrong,
         };
         (self.listing, header)
     }
@@ -190,9 +202,9 @@ impl<L: Listing> Sink for Definitions<L> {
                 self.timescale.extend_from_slice(token)?;
             }
             Some(Part::Defined) => self.is_whole = true,
-            Some(Part::Wrong) => return Ok(false),
+            Some(Part::Wrong) => self.is_wrong = true,
             _ => {}
         }
-        Ok(!self.is_whole)
+        Ok(!self.is_whole && !self.is_wrong)
     }
 }

@@ -61,7 +61,7 @@ impl<'a, 'l, J: Input> Dump<'a, 'l, J> {
     /// Whether the definitions were read, have both lines, and do not say what the numbers of the dump count.
     pub fn lacks_scale(&self) -> bool {
         match &self.picked {
-            Some(picked) => picked.has_both() && picked.scale.is_none(),
+            Some(picked) => picked.has_both() && picked.lacks_scale,
             None => false,
         }
     }

@@ -5,7 +5,7 @@ use crate::blocks::{Blocks, read_all};
 use crate::buses::Bus;
 use crate::candidates::{Candidates, Choosing, is_like_line};
 use crate::codes::Codes;
-use crate::definitions::{Found, Listing};
+use crate::definitions::{Found, Header, Listing};
 use crate::lasting::Lasting;
 use crate::levels::Levels;
 use dump_tokens::reading::Reading;
@@ -220,7 +220,7 @@ pub struct SignalDump<'a, J> {
     again: Again<'a, J>,
     codes: Codes,
     declared: Declared,
-    scale: Option<Scale>,
+    header: Header,
 }
 
 impl<'a, J: Input> SignalDump<'a, J> {
@@ -241,13 +241,13 @@ impl<'a, J: Input> SignalDump<'a, J> {
             again,
             codes,
             declared,
-            scale: header.scale,
+            header,
         })
     }
 
     /// Whether the definitions have a signal of one bit, and do not say what the numbers of the dump count.
     pub fn lacks_scale(&self) -> bool {
-        !self.declared.entries.is_empty() && self.scale.is_none()
+        !self.declared.entries.is_empty() && self.header.lacks_scale()
     }
 
     /// Reads the dump to its end, and finds its signals, within these limits. What is wrong with a dump that is refused is told
@@ -267,9 +267,9 @@ impl<'a, J: Input> SignalDump<'a, J> {
             again,
             codes,
             declared,
-            scale,
+            header,
         } = self;
-        let mut changes = Changes::new(alloc, codes, &declared, limits, scale)?;
+        let mut changes = Changes::new(alloc, codes, &declared, limits, header.scale)?;
         if let Err(error) = read_all(alloc, &mut Watched::new(again), &mut changes) {
             *wrong = changes.reader.take_wrong();
             return Err(error);

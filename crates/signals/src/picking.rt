@@ -1,7 +1,7 @@
 // The two lines of a bus, found among the signals of a dump by what people say of them.
 
 use crate::beginning::{Again, read_beginning};
-use crate::definitions::{Found, Listing};
+use crate::definitions::{Found, Header, Listing};
 use dump_tokens::Scale;
 use run_parts::{Input, RunError};
 use std::alloc::{AllocError, Global};
@@ -13,6 +13,7 @@ pub struct Picked {
     scl: Option<String>,
     sda: Option<String>,
     pub scale: Option<Scale>,
+    pub(crate) lacks_scale: bool,
 }
 
 impl Picked {
@@ -77,7 +78,7 @@ pub fn pick<'a, J: Input>(
         scope,
     };
     let (again, picker, header) = read_beginning(alloc, vcd, picker)?;
-    Ok((again, picker.into_picked(header.scale)))
+    Ok((again, picker.into_picked(header)))
 }
 
 // What is looked for among the signals.
@@ -97,12 +98,13 @@ struct Sought<'a> {
 }
 
 impl Picker<'_> {
-    fn into_picked(self, scale: Option<Scale>) -> Picked {
+    fn into_picked(self, header: Header) -> Picked {
         let Picker { scl, sda, .. } = self;
         Picked {
             scl: scl.into_code(),
             sda: sda.into_code(),
-            scale,
+            scale: header.scale,
+            lacks_scale: header.lacks_scale(),
         }
     }
 }

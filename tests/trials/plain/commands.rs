@@ -14,6 +14,7 @@ use super::plans::items_of;
 use super::seats::Bench;
 use super::wires::symbols;
 use super::words::Refusal;
+use super::writing::written;
 use std::fmt::Display;
 
 /// What a command answers: its status, what it writes, and why it is refused, where it is: what
@@ -262,11 +263,15 @@ pub fn expand(brief: &[u8]) -> Answer {
     }
 }
 
-/// `twire brief PLAN`, with the canonical spelling of the plan in place of a brief.
+/// `twire brief PLAN`. A brief that does not mean the plan is said to be none.
 pub fn brief(plan: &[u8]) -> Answer {
     match items_of(&String::from_utf8_lossy(plan)) {
         Ok(items) if has_brief_word(&items) => Answer::refused("brief name"),
-        Ok(items) => Answer::written(0, items.to_string()),
+        Ok(items) => {
+            let brief = written(&items);
+            let is_meant = spelling(brief.as_bytes()) == items.to_string();
+            if is_meant { Answer::written(0, brief) } else { Answer::refused("brief text") }
+        }
         Err(refusal) => Answer::refused(refusal),
     }
 }

@@ -29,6 +29,7 @@ mod tests;
 mod texts;
 mod wires;
 mod words;
+mod writing;
 
 pub use certificates::{read_certificate, Certificate, Wrong};
 pub use commands::{

@@ -33,10 +33,10 @@ pub struct Controller<'a> {
 pub const MOST_NODES: u32 = 4096;
 pub const MOST_BYTES: u32 = 256;
 const MOST_COUNT: u32 = 255;
-const MOST_MESSAGES: usize = 256;
-const MOST_CONTROLLERS: usize = 32;
-const MOST_INTERRUPTS: usize = 32;
-const MOST_SENDINGS: usize = 512;
+pub const MOST_MESSAGES: usize = 256;
+pub const MOST_CONTROLLERS: usize = 32;
+pub const MOST_INTERRUPTS: usize = 32;
+pub const MOST_SENDINGS: usize = 512;
 
 /// The items of the plan that the text spells, or its first refusal.
 pub fn items_of(text: &str) -> Result<Items<'_>, Refusal> {

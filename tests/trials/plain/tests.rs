@@ -3,6 +3,7 @@
 //! of the pages on formats are cases of the trials.
 
 use super::benches::{play_on, Answers, Player};
+use super::briefs::expansion_of;
 use super::captures::{events_of, explains, samples_of, transactions_of, Until};
 use super::commands::{capture, certify, check, expand, seats, verify};
 use super::dumps::{changes_of, DumpRefusal};
@@ -498,4 +499,48 @@ fn generated_dumps_with_wrong_tokens_are_refused_in_each_way() {
     }
     // Each answer is common.
     assert!(counts.iter().all(|count| *count > 10), "{counts:?}");
+}
+
+// What several briefs mean, or the number of the brief that is refused, and its refusal.
+const SEVERAL: [(&[&str], Result<&str, (usize, &str)>); 13] = [
+    (
+        &[
+            "brief 1 device eeprom 0x50 ;",
+            "brief 1\nmessage page write eeprom any*1..1 ;\nmessage get read eeprom 1 ;\ncontroller bmc page get ;",
+            "brief 1 controller pch get ; never bmc/page pch ;",
+        ],
+        Ok("plan 2\nmessage page_1 write 1010000 xxxxxxxx stop else stop else stop ;\n\
+            message get read 1010000 1 stop else stop ;\ncontroller bmc get ;\ncontroller bmc_page page_1 ;\n\
+            controller pch get ;\nnever bmc bmc_page ;\nnever bmc_page pch ;\n"),
+    ),
+    (&["brief 1", "brief 1"], Ok("plan 2\n")),
+    (&[], Ok("plan 2\n")),
+    // each file is a whole brief
+    (&["brief 1", "controller a ;"], Err((1, "P2 line 1"))),
+    (&["brief 1", ""], Err((1, "P2 line 1"))),
+    (&["brief", "1"], Err((0, "P2 line 1"))),
+    (&["brief 1\ncontroller a\n", "brief 1 ;"], Err((0, "P3 line 3"))),
+    (&["brief 1\nbrief 1"], Err((0, "P3 line 2"))),
+    // names, limits and splits hold across all of them
+    (&["brief 1 device d 0x01 ;", "brief 1\ndevice d 0x01 ;"], Err((1, "P7 line 2"))),
+    (&["brief 1 controller a d ;", "brief 1 message d read 0x01 1 ;"], Err((0, "P8 line 1"))),
+    (
+        &["brief 1 message f write 0x01 any*1..255 ;", "brief 1\n\nmessage g write 0x01 any*1..2 ;"],
+        Err((1, "P6 line 3")),
+    ),
+    (
+        &["brief 1 message m read 0x01 1 ; controller a m ; controller b ; never a/m b ;", "brief 1 controller a_m ;"],
+        Err((1, "P7 line 1")),
+    ),
+    // the first is judged before the next is read
+    (&["brief 1 controller a d ;", "plan 1"], Err((0, "P8 line 1"))),
+];
+
+#[test]
+fn several_briefs_make_one_plan() {
+    for (briefs, wanted) in SEVERAL {
+        let found = expansion_of(briefs).map_err(|(number, refusal)| (number, refusal.to_string()));
+        let wanted = wanted.map(String::from).map_err(|(number, refusal)| (number, refusal.to_string()));
+        assert_eq!(found, wanted, "{briefs:?}");
+    }
 }

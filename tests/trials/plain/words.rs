@@ -94,7 +94,9 @@ impl Language {
             return sign;
         }
         let has_dots = self.has_dots(before);
-        let is_in_word = |c: char| c.is_ascii_alphanumeric() || c == '_' || has_dots && c == '.';
+        let has_strokes = self == Language::Brief;
+        let is_in_word =
+            |c: char| c.is_ascii_alphanumeric() || c == '_' || has_dots && c == '.' || has_strokes && c == '/';
         let rest = text.trim_start_matches(is_in_word);
         text.strip_suffix(rest).unwrap_or(text)
     }
@@ -119,6 +121,21 @@ impl<'a> Reading<'a> {
             Ok(line)
         });
         Reading { language, words, at: 0, ending }
+    }
+
+    /// These words of a brief, of which none has been read.
+    pub fn of(words: Vec<Word<'a>>) -> Reading<'a> {
+        Reading { language: Language::Brief, words, at: 0, ending: Ok(0) }
+    }
+
+    /// How many words have been read.
+    pub fn place(&self) -> usize {
+        self.at
+    }
+
+    /// The words from this place on that have been read.
+    pub fn words_from(&self, place: usize) -> Vec<Word<'a>> {
+        self.words[place..self.at].to_vec()
     }
 
     /// Whether all words have been read.

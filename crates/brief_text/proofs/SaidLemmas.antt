@@ -1,0 +1,60 @@
+-- A text that says items that fit is read again.
+use Rattle.std.proofs.Common.{◌≡◌, ℕ, zero, suc, ◌<◌, false, List, [], ◌∷◌, None, length, refl, ap, sym, arith, Option}
+use Rattle.std.specs.Prelude.{Ok}
+use Rattle.plan_core.specs.Contents.{Contents}
+use Rattle.plan_text.specs.Tokens.{text_end}
+use Rattle.plan_text.proofs.TakesLemmas.{bind_ok, ok_is}
+use Rattle.brief_text.specs.declared.syntax.Lengths.{Lengths}
+use Rattle.brief_text.specs.Briefs.{is_end, items_in, after_head, text_read, brief_read, Means}
+use Rattle.brief_text.specs.Drafts.{Draft, no_items, with_item}
+use Rattle.brief_text.specs.Fitting.{MakeUp, Says}
+use Rattle.brief_text.specs.Grammar.{SpellsItem, SpellsItems}
+use Rattle.brief_text.specs.Splitting.{plan_meant}
+use Rattle.brief_text.specs.Tokens.{Tokens, tokens_of}
+use Rattle.brief_text.specs.Tokens as tokens
+use Rattle.brief_text.specs.Trees.{BriefItem, device, byte, message, controller, interrupt, never_both}
+use Rattle.brief_text.proofs.AgainLemmas.{spot}
+use Rattle.brief_text.proofs.ItemAgainLemmas.{item_again}
+use Rattle.brief_text.proofs.ItemTakesLemmas.{item_takes}
+use Rattle.brief_text.proofs.SaysLemmas.{text_takes}
+use Rattle.brief_text.proofs.SizeLemmas.{tokens_small}
+use Rattle.brief_text.proofs.ValueLemmas.{size}
+
+not_end : (item : BriefItem) (from to : Tokens) → SpellsItem item from to → is_end from ≡ false
+not_end (device name address) from to s = ap is_end s.1.1
+not_end (byte name bits) from to s = ap is_end s.1.1
+not_end (message name range frame) from to s = ap is_end s.1.1
+not_end (controller name messages) from to s = ap is_end s.1.1
+not_end (interrupt name target) from to s = ap is_end s.1.1
+not_end (never_both first second) from to s = ap is_end s.1.1
+
+-- there may be more items than there are tokens
+items_again : (items : List BriefItem) (most : ℕ) (draft after : Draft) (nodes : ℕ) (p : Option Lengths) (from : Tokens) (line : ℕ) → SpellsItems items from (tokens.last text_end line) → MakeUp draft items after → size from < most → items_in most draft (spot from nodes p) ≡ Ok after
+unfolding items_in
+items_again items zero draft after nodes p from line s made some = absurd (omega arith)
+items_again [] (suc most) draft after nodes p from line s made some = rw (sym s, made) refl
+items_again (item ∷ items) (suc most) draft after nodes p from line s made some =
+    let first = item_again draft nodes p from s.0 item made.0 s.1 in
+    let t = item_takes draft (spot from nodes p) (item, spot s.0 first.later first.range) first.is in
+    rw (not_end item from s.0 s.1, first.is)
+    (items_again items most (with_item draft item) after first.later first.range s.0 line s.2 made.1 (omega (arith, t.fewer)))
+
+pub text_again : (text : List ℕ) (draft after : Draft) → Says text draft after → text_read draft text ≡ Ok after
+unfolding text_read
+text_again text draft after said =
+    let s = said.spelled.whole in
+    let small = tokens_small 1 text in
+    let first = ap size s.1.1 in
+    let second = ap size s.2.1.1 in
+    let head : after_head (tokens_of 1 text) ≡ Ok s.2.0 = rw (s.1.1, s.2.1.1) refl in
+    rw head (items_again said.items (length text) draft after 0 None s.2.0 said.spelled.line s.2.2 said.made (omega (arith, small, first, second)))
+
+pub said_meant : (text : List ℕ) (draft : Draft) → Says text no_items draft → Means text (plan_meant draft)
+unfolding brief_read
+said_meant text draft said = rw (text_again text no_items draft said) refl
+
+pub meant_said : (text : List ℕ) (plan : Contents) → Means text plan → (draft : Draft) × Says text no_items draft × (plan ≡ plan_meant draft)
+unfolding brief_read
+meant_said text plan e =
+    let x = bind_ok (text_read no_items text) (λ draft. Ok (plan_meant draft)) plan e in
+    (x.0, text_takes text no_items x.0 x.1, sym (ok_is (plan_meant x.0) plan x.2))

@@ -1,0 +1,154 @@
+-- What the items of briefs make up so far, and what each item adds to it.
+use Rattle.std.specs.Prelude.{ℕ, zero, suc, ◌-◌, Bool, true, false, ◌&&◌, not, List, [], ◌∷◌, ◌++◌, map, Option, Some, None, is_some, unwrap_or}
+use Rattle.std.specs.Prelude.{codes, decimal, if◌then◌else◌}
+use Rattle.std.specs.List.{flat_map, list_any, range_with_len}
+use Rattle.std.specs.Map.{lookup}
+use Rattle.std.specs.Str.{bytes_eq}
+use Rattle.message_tree.specs.declared.bits.Address.{Address}
+use Rattle.message_tree.specs.declared.bits.Pattern.{Pattern}
+use Rattle.message_tree.specs.Patterns.{address_bits}
+use Rattle.message_tree.specs.Trees.{FrameTree, write, read, PayloadTree, last, TailTree, stop, again}
+use Rattle.message_tree.specs.Trees as trees
+use Rattle.plan_core.specs.Building.{with_message, with_interrupt}
+use Rattle.plan_core.specs.Contents.{Contents, empty}
+use Rattle.plan_text.specs.Values.{address_by}
+use Rattle.brief_text.specs.declared.syntax.Lengths.{Lengths}
+use Rattle.brief_text.specs.Trees.{Said, spelled, named, Times, times, ranged, BriefFrame, write_to, read_from, BriefBytes}
+use Rattle.brief_text.specs.Trees.{data_byte, no_more, BriefTail, stop_here, go_on, Side, BriefItem, device, byte, message}
+use Rattle.brief_text.specs.Trees.{controller, interrupt, never_both}
+use Rattle.brief_text.specs.Words.{any_byte, known_number}
+
+pub record Draft : Type 0 where
+  pub devices : List (List ℕ × Address)
+  pub bytes : List (List ℕ × Pattern)
+  -- the messages, those of families too, and the interrupts; it has no controllers yet
+  pub plan : Contents
+  -- each family with its LO and HI
+  pub families : List (List ℕ × Lengths)
+  -- each controller with the names of all messages that it lists
+  pub controllers : List (List ℕ × List (List ℕ))
+  -- the labels in the order in which they were first named, and the `never` items as they are written
+  pub labels : List Side
+  pub nevers : List (Side × Side)
+
+abbrev pub no_items : Draft
+no_items = record { devices = []; bytes = []; plan = empty; families = []; controllers = []; labels = []; nevers = [] }
+
+-- ---- names
+
+-- the value with this name, the first of them; `or` where there is none
+abbrev pub value_or : {A : Type 0} → A → List (List ℕ × A) → Said A → A
+value_or or entries (spelled value) = value
+value_or or entries (named name) = unwrap_or (lookup (bytes_eq name) entries) or
+
+abbrev pub any_address : Address
+any_address = address_by 0 0
+
+abbrev pub address_said : Draft → Said Address → Address
+address_said draft to = value_or any_address draft.devices to
+
+abbrev pub bits_said : Draft → Said Pattern → Pattern
+bits_said draft bits = value_or any_byte draft.bytes bits
+
+-- the number of an address, which is known in all bits
+abbrev pub number_said : Draft → Said Address → ℕ
+number_said draft to = unwrap_or (known_number 0 (address_bits (address_said draft to))) 0
+
+-- `page_7` of the family `page`
+abbrev pub member_name : List ℕ → ℕ → List ℕ
+member_name name n = name ++ codes "_" ++ decimal n
+
+-- LO, and so on to HI
+abbrev pub lengths : Lengths → List ℕ
+lengths range = range_with_len range.least (suc range.greatest - range.least)
+
+abbrev pub members : List ℕ → Lengths → List (List ℕ)
+members name range = map (member_name name) (lengths range)
+
+-- the messages that a name stands for: all of the family with this name, or the message with it
+abbrev pub members_or : List ℕ → Option Lengths → List (List ℕ)
+members_or name (Some range) = members name range
+members_or name None = name ∷ []
+
+abbrev pub stands_for : Draft → List ℕ → List (List ℕ)
+stands_for draft name = members_or name (lookup (bytes_eq name) draft.families)
+
+-- ---- messages: names are looked up, repetitions are written out, and the byte of a range stands n times
+
+-- so many times the same byte, each with the same after it where it is not acknowledged
+abbrev pub repeated : ℕ → Pattern → PayloadTree → TailTree → PayloadTree
+repeated zero bits acked refused = acked
+repeated (suc n) bits acked refused = trees.byte bits (repeated n bits acked refused) refused
+
+abbrev pub how_often : ℕ → Times → ℕ
+how_often n (times m) = m
+how_often n ranged = n
+
+abbrev mutual
+  pub frame_meant : Draft → ℕ → BriefFrame → FrameTree
+  frame_meant draft n (write_to to refused acked) =
+      write (address_said draft to) (bytes_meant draft n acked) (tail_meant draft n refused)
+  frame_meant draft n (read_from to count refused after) =
+      read (address_said draft to) count (tail_meant draft n after) (tail_meant draft n refused)
+
+  pub bytes_meant : Draft → ℕ → BriefBytes → PayloadTree
+  bytes_meant draft n (data_byte bits often refused acked) =
+      repeated (how_often n often) (bits_said draft bits) (bytes_meant draft n acked) (tail_meant draft n refused)
+  bytes_meant draft n (no_more tail) = last (tail_meant draft n tail)
+
+  pub tail_meant : Draft → ℕ → BriefTail → TailTree
+  tail_meant draft n stop_here = stop
+  tail_meant draft n (go_on frame) = again (frame_meant draft n frame)
+
+abbrev pub member_meant : Draft → List ℕ → BriefFrame → ℕ → List ℕ × FrameTree
+member_meant draft name frame n = (member_name name n, frame_meant draft n frame)
+
+abbrev pub family_meant : Draft → List ℕ → Lengths → BriefFrame → List (List ℕ × FrameTree)
+family_meant draft name range frame = map (member_meant draft name frame) (lengths range)
+
+-- the messages that a message makes: itself, or those of its family
+abbrev pub messages_meant : Draft → List ℕ → Option Lengths → BriefFrame → List (List ℕ × FrameTree)
+messages_meant draft name None frame = (name, frame_meant draft 1 frame) ∷ []
+messages_meant draft name (Some range) frame = family_meant draft name range frame
+
+-- ---- items
+
+-- the plan with these messages
+abbrev pub with_messages : Contents → List (List ℕ × FrameTree) → Contents
+with_messages plan [] = plan
+with_messages plan (first ∷ messages) = with_messages (with_message plan first.0 first.1) messages
+
+abbrev pub with_family : Draft → List ℕ → Option Lengths → List (List ℕ × Lengths)
+with_family draft name None = draft.families
+with_family draft name (Some range) = draft.families ++ (name, range) ∷ []
+
+abbrev pub same_label : Option (List ℕ) → Option (List ℕ) → Bool
+same_label None None = true
+same_label (Some label) (Some other) = bytes_eq label other
+same_label label other = false
+
+abbrev pub same_side : Side → Side → Bool
+same_side side other = bytes_eq side.controller other.controller && same_label side.label other.label
+
+-- the side has a label that has not been named yet
+abbrev pub is_new_label : Draft → Side → Bool
+is_new_label draft side = is_some side.label && not (list_any (λ other. same_side other side) draft.labels)
+
+abbrev pub with_label : Draft → Side → Draft
+with_label draft side = if is_new_label draft side then record draft { labels = draft.labels ++ side ∷ [] } else draft
+
+abbrev pub with_never_both : Draft → Side → Side → Draft
+with_never_both draft first second = record (with_label (with_label draft first) second) { nevers = draft.nevers ++ (first, second) ∷ [] }
+
+-- the draft with an item
+unfoldable pub with_item : Draft → BriefItem → Draft
+with_item draft (device name address) = record draft { devices = draft.devices ++ (name, address) ∷ [] }
+with_item draft (byte name bits) = record draft { bytes = draft.bytes ++ (name, bits) ∷ [] }
+with_item draft (message name range frame) = record draft {
+  plan = with_messages draft.plan (messages_meant draft name range frame);
+  families = with_family draft name range;
+}
+with_item draft (controller name messages) =
+    record draft { controllers = draft.controllers ++ (name, flat_map (stands_for draft) messages) ∷ [] }
+with_item draft (interrupt name to) = record draft { plan = with_interrupt draft.plan name (number_said draft to) }
+with_item draft (never_both first second) = with_never_both draft first second

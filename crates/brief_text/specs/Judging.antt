@@ -1,0 +1,115 @@
+-- What is refused of a name, of a range and of a label where it stands, by what the items before it make up.
+use Rattle.std.specs.Prelude.{◌≡◌, ℕ, ◌+◌, Bool, true, false, ◌&&◌, ◌||◌, not, nat_le, nat_lt, List, ◌++◌, length, map, Option}
+use Rattle.std.specs.Prelude.{Some, None, is_some, Result, Ok, Err, if◌then◌else◌}
+use Rattle.std.specs.List.{flat_map, list_any, sum_by}
+use Rattle.std.specs.Map.{keys_of, lookup}
+use Rattle.std.specs.Str.{bytes_eq}
+use Rattle.plan_core.specs.Building.{has_name, message_name_refusal}
+use Rattle.plan_core.specs.declared.builder.BuildError.{BuildError}
+use Rattle.plan_core.specs.declared.builder.BuildError.TheVariants.{Twice, Unknown, TooMany}
+use Rattle.plan_core.specs.declared.limits.TheConstants.{MOST_MESSAGES, MOST_CONTROLLERS, MOST_SENDINGS}
+use Rattle.plan_text.specs.declared.errors.PlanError.{PlanError}
+use Rattle.plan_text.specs.declared.errors.PlanError.TheVariants as errors
+use Rattle.brief_text.specs.declared.syntax.Lengths.{Lengths}
+use Rattle.brief_text.specs.Drafts.{Draft, member_name, members, stands_for, same_side, is_new_label, with_label}
+use Rattle.brief_text.specs.Splitting.{parts, side_name}
+use Rattle.brief_text.specs.Trees.{Side, BriefItem, device, byte, message}
+
+-- a name stands once among those of its kind
+abbrev pub named_refusal : {A : Type 0} → List (List ℕ × A) → List ℕ → Option BuildError
+named_refusal entries name = if is_some (lookup (bytes_eq name) entries) then Some Twice else None
+
+-- ---- messages and families, whose names are of one kind
+
+-- a family, or a message, that of a family too
+abbrev pub is_family : Draft → List ℕ → Bool
+is_family draft name = is_some (lookup (bytes_eq name) draft.families)
+
+abbrev pub is_message : Draft → List ℕ → Bool
+is_message draft name = is_family draft name || has_name name draft.plan.messages
+
+unfoldable pub message_refusal_of : Draft → List ℕ → Option BuildError
+message_refusal_of draft name =
+    if is_family draft name then Some Twice else message_name_refusal draft.plan name
+
+-- `NAME_HI` has no more characters than a name may have, none of the messages stands already, and the plan has room
+abbrev pub range_refusal : {A : Type 0} → Draft → List ℕ → Lengths → ℕ → A → Result A PlanError
+range_refusal draft name range line x =
+    if nat_lt 32 (length (member_name name range.greatest)) then Err (errors.Unexpected line)
+    else if list_any (is_message draft) (members name range) then Err (errors.Twice line)
+    else if nat_lt MOST_MESSAGES (length draft.plan.messages + length (members name range)) then Err (errors.TooMany line)
+    else Ok x
+
+-- what has a name among devices, bytes or families has a name of its own
+abbrev pub IsNew : Draft → BriefItem → Type 0
+IsNew draft (device name address) = named_refusal draft.devices name ≡ None
+IsNew draft (byte name bits) = named_refusal draft.bytes name ≡ None
+IsNew draft (message name (Some range) frame) = is_family draft name ≡ false
+IsNew draft item = Unit {0}
+
+-- ---- controllers, and what they list
+
+-- the names of controllers, and those that labels take
+abbrev pub taken_names : Draft → List (List ℕ)
+taken_names draft = keys_of draft.controllers ++ map side_name draft.labels
+
+abbrev pub is_taken : Draft → List ℕ → Bool
+is_taken draft name = list_any (bytes_eq name) (taken_names draft)
+
+unfoldable pub controller_refusal_of : Draft → List ℕ → Option BuildError
+controller_refusal_of draft name =
+    if is_taken draft name then Some Twice
+    else if nat_le MOST_CONTROLLERS (length (parts draft)) then Some TooMany
+    else None
+
+-- the messages that these names stand for
+abbrev pub all_of : Draft → List (List ℕ) → List (List ℕ)
+all_of draft names = flat_map (stands_for draft) names
+
+abbrev pub have_one_of : List (List ℕ) → List (List ℕ) → Bool
+have_one_of listed names = list_any (λ name. list_any (λ other. bytes_eq other name) listed) names
+
+abbrev pub sendings : Draft → ℕ
+sendings draft = sum_by (λ c. length c.1) draft.controllers
+
+-- a further name in the list of a controller, which has these messages already
+unfoldable pub listing_refusal : Draft → List (List ℕ) → List ℕ → Option BuildError
+listing_refusal draft listed name =
+    if not (is_message draft name) then Some Unknown
+    else if have_one_of listed (stands_for draft name) then Some Twice
+    else if nat_lt MOST_SENDINGS (sendings draft + length listed + length (stands_for draft name)) then Some TooMany
+    else None
+
+-- ---- `never`
+
+abbrev pub lists_one : Draft → Option (List (List ℕ)) → Option (List ℕ) → Bool
+lists_one draft None label = false
+lists_one draft (Some listed) None = true
+lists_one draft (Some listed) (Some label) = have_one_of listed (stands_for draft label)
+
+-- there is this controller, and it lists the message of the label, or one of its family
+abbrev pub is_side : Draft → Side → Bool
+is_side draft side = lists_one draft (lookup (bytes_eq side.controller) draft.controllers) side.label
+
+-- a new label takes the name of its part, and may make one controller more
+abbrev pub part_refusal : Draft → Side → Option BuildError
+part_refusal draft side =
+    if not (is_new_label draft side) then None
+    else if is_taken draft (side_name side) then Some Twice
+    else if nat_lt MOST_CONTROLLERS (length (parts (with_label draft side))) then Some TooMany
+    else None
+
+abbrev pub are_sides : Side → Side → Side × Side → Bool
+are_sides first second never =
+    (same_side never.0 first && same_side never.1 second) || (same_side never.0 second && same_side never.1 first)
+
+unfoldable pub first_refusal : Draft → Side → Option BuildError
+first_refusal draft first = if is_side draft first then part_refusal draft first else Some Unknown
+
+-- after the first, whose label has been named
+unfoldable pub second_refusal : Draft → Side → Side → Option BuildError
+second_refusal draft first second =
+    if bytes_eq first.controller second.controller then Some Twice
+    else if not (is_side draft second) then Some Unknown
+    else if list_any (are_sides first second) draft.nevers then Some Twice
+    else part_refusal draft second

@@ -1,0 +1,277 @@
+// What a message means: names are looked up, repetitions are written out, and a family is its messages.
+
+ghost use Rattle.std.specs.Prelude.{◌≡◌, ◌<◌, ◌≤◌, ◌++◌, length, map, None, codes, decimal, false, IfOk, IfSome, OnOk};
+ghost use Rattle.std.specs.Map.{lookup};
+ghost use Rattle.std.specs.Str.{bytes_eq};
+ghost use Rattle.std.specs.String.{string_bytes};
+ghost use Rattle.message_tree.specs.Trees.{frame_tree, payload_tree, tail_tree};
+ghost use Rattle.plan_core.specs.Building.{with_message};
+ghost use Rattle.plan_core.specs.NameBytes.{name_bytes};
+ghost use Rattle.brief_text.specs.Judging.{is_family};
+ghost use Rattle.brief_text.specs.Trees.{message};
+ghost use Rattle.brief_text.specs.Drafts.{frame_meant, bytes_meant, tail_meant, repeated, how_often, member_name, members};
+ghost use Rattle.brief_text.specs.Drafts.{with_messages, with_item, messages_meant, family_meant, lengths};
+ghost use Rattle.brief_text.specs.Standing.{brief_frame, brief_bytes, brief_tail, times_of, draft};
+
+use crate::boards::Board;
+use crate::naming::{copied as named_alike, spelled};
+use crate::origins::Spot;
+use crate::syntax::{DataSyntax, FrameSyntax, Lengths, NameFound, Often, TailSyntax};
+use message_tree::{Frame, Pattern, Payload, Tail};
+use plan_core::Name;
+use plan_core::limits::MOST_MESSAGES;
+use std::alloc::{AllocError, Global};
+
+/// A message of the plan.
+#[derive(Drop)]
+struct Message {
+    name: Name,
+    frame: Frame,
+}
+
+impl Board {
+    ghost use Rattle.brief_text.specs.Meanings.{message_of};
+
+    /// Adds a message, or the messages of a family, whose name no other family has.
+    #[tactic(auto, unfolding(crate::specs::Drafts::with_item))]
+    pub(crate) fn add_messages(
+        &mut self,
+        named: NameFound,
+        range: Option<Lengths>,
+        frames: &FrameSyntax,
+    ) -> Result<(), AllocError>
+        requires { IfSome range (λ it. is_family (draft self.old) (name_bytes named.name) ≡ false) }
+        ensures { OnOk result (draft self.new ≡
+            with_item (draft self.old) (message (name_bytes named.name) range (brief_frame frames.now))) }
+    {
+        let messages = self.messages_meant(&named.name, range, frames)?;
+        self.push_messages(messages, named.line)?;
+        match range {
+            None => Ok(()),
+            Some(range) => self.families.add(named.name, range),
+        }
+    }
+
+    // The messages that these frames make.
+    fn messages_meant(
+        &self,
+        name: &Name,
+        range: Option<Lengths>,
+        frames: &FrameSyntax,
+    ) -> Result<Vec<Message>, AllocError>
+        ensures { IfOk result (λ it. map message_of it.items ≡
+            messages_meant (draft self.now) (name_bytes name.now) range (brief_frame frames.now)) }
+    {
+        match range {
+            None => self.one_meant(name, frames),
+            Some(range) => self.family_meant(name, range, frames),
+        }
+    }
+
+    fn one_meant(&self, name: &Name, frames: &FrameSyntax) -> Result<Vec<Message>, AllocError>
+        ensures { IfOk result (λ it. map message_of it.items ≡
+            messages_meant (draft self.now) (name_bytes name.now) None (brief_frame frames.now)) }
+    {
+        let mut messages = Vec::new(self.alloc);
+        let frame = self.frame(1, frames)?;
+        let name = named_alike(self.alloc, name)?;
+        messages.push(Message { name, frame })?;
+        Ok(messages)
+    }
+
+    fn family_meant(
+        &self,
+        name: &Name,
+        range: Lengths,
+        frames: &FrameSyntax,
+    ) -> Result<Vec<Message>, AllocError>
+        ensures { IfOk result (λ it. map message_of it.items ≡
+            family_meant (draft self.now) (name_bytes name.now) range (brief_frame frames.now)) }
+    {
+        let mut messages = Vec::new(self.alloc);
+        for k in 0..count(range) {
+            let n = range.least as u32 + k;
+            let frame = self.frame(n, frames)?;
+            let name = member(self.alloc, name, n)?;
+            messages.push(Message { name, frame })?;
+        }
+        Ok(messages)
+    }
+
+    // These messages go into the plan. They stand on this line.
+    fn push_messages(&mut self, messages: Vec<Message>, line: u64) -> Result<(), AllocError>
+        ensures { OnOk result (draft self.new ≡ record (draft self.old) {
+          plan = with_messages (draft self.old).plan (map message_of messages.items);
+        }) }
+    {
+        let mut left = messages;
+        while !left.is_empty() {
+            let message = left.remove(0);
+            self.push_message(message, line)?;
+        }
+        Ok(())
+    }
+
+    // A message goes into the plan. None is refused: all that a plan asks has been judged where it stands.
+    #[tactic(auto, using(crate::proofs::MessageLemmas::one_more_message))]
+    fn push_message(&mut self, message: Message, line: u64) -> Result<(), AllocError>
+        ensures { OnOk result (draft self.new ≡ record (draft self.old) {
+          plan = with_message (draft self.old).plan (name_bytes message.name) (frame_tree message.frame);
+        }) }
+    {
+        if self.messages >= MOST_MESSAGES {
+            return Err(AllocError);
+        }
+        let file = self.file;
+        self.spots.push(Spot { file, line })?;
+        match self.builder.message(message.name, message.frame) {
+            Ok(()) => {
+                self.messages += 1;
+                Ok(())
+            }
+            Err(_) => Err(AllocError),
+        }
+    }
+
+    /// The messages of a family.
+    pub(crate) fn members(&self, name: &Name, range: Lengths) -> Result<Vec<Name>, AllocError>
+        ensures { IfOk result (λ it. map name_bytes it.items ≡ members (name_bytes name.now) range) }
+    {
+        let mut members = Vec::new(self.alloc);
+        for k in 0..count(range) {
+            members.push(member(self.alloc, name, range.least as u32 + k)?)?;
+        }
+        Ok(members)
+    }
+
+    #[cycle(meaning)]
+    fn frame(&self, n: u32, frame: &FrameSyntax) -> Result<Frame, AllocError>
+        ensures { IfOk result (λ it. frame_tree it ≡ frame_meant (draft self.now) n (brief_frame frame.now)) }
+    {
+        match frame {
+            FrameSyntax::Write { to, refused, acked } => {
+                let acked = self.data(n, acked)?;
+                let refused = self.tail(n, refused)?;
+                Ok(Frame::Write {
+                    address: self.address(to),
+                    acked: Box::new(self.alloc, acked)?,
+                    refused,
+                })
+            }
+            FrameSyntax::Read {
+                to,
+                count,
+                refused,
+                after,
+            } => {
+                let after = self.tail(n, after)?;
+                let refused = self.tail(n, refused)?;
+                Ok(Frame::Read {
+                    address: self.address(to),
+                    count: *count,
+                    after,
+                    refused,
+                })
+            }
+        }
+    }
+
+    #[cycle(meaning)]
+    fn data(&self, n: u32, data: &DataSyntax) -> Result<Payload, AllocError>
+        ensures { IfOk result (λ it. payload_tree it ≡ bytes_meant (draft self.now) n (brief_bytes «data».now)) }
+    {
+        match data {
+            DataSyntax::Byte {
+                bits,
+                often,
+                refused,
+                acked,
+            } => {
+                let acked = self.data(n, acked)?;
+                let refused = self.tail(n, refused)?;
+                repeated(self.alloc, often.times(n), self.bits(bits), acked, refused)
+            }
+            DataSyntax::Last(tail) => Ok(Payload::Last(self.tail(n, tail)?)),
+        }
+    }
+
+    #[cycle(meaning)]
+    fn tail(&self, n: u32, tail: &TailSyntax) -> Result<Tail, AllocError>
+        ensures { IfOk result (λ it. tail_tree it ≡ tail_meant (draft self.now) n (brief_tail tail.now)) }
+    {
+        match tail {
+            TailSyntax::Stop => Ok(Tail::Stop),
+            TailSyntax::Frames(frame) => {
+                let frame = self.frame(n, frame)?;
+                Ok(Tail::Again(Box::new(self.alloc, frame)?))
+            }
+        }
+    }
+}
+
+impl Often {
+    // How often the byte stands where that of the range stands n times.
+    fn times(self, n: u32) -> u32
+        ensures { result ≡ how_often n (times_of self) }
+    {
+        match self {
+            Often::Times(times) => times as u32,
+            Often::Ranged => n,
+        }
+    }
+}
+
+// How many messages a family has.
+fn count(range: Lengths) -> u32
+    ensures count { result ≡ length (lengths range) }
+    ensures small { result ≤ 256 }
+{
+    (range.greatest as u32 + 1).saturating_sub(range.least as u32)
+}
+
+// The name of the message of a family that has n bytes.
+fn member(alloc: Global, name: &Name, n: u32) -> Result<Name, AllocError>
+    ensures { IfOk result (λ it. name_bytes it ≡ member_name (name_bytes name.now) n) }
+{
+    spelled(alloc, member_text(alloc, name, n)?.as_str())
+}
+
+/// The text of that name, which may be too long for one.
+pub(crate) fn member_text(alloc: Global, name: &Name, n: u32) -> Result<String, AllocError>
+    ensures { IfOk result (λ it. string_bytes it ≡ member_name (name_bytes name.now) n) }
+{
+    let mut text = String::from_str(alloc, name.as_str())?;
+    write!(text, "_{n}")?;
+    Ok(text)
+}
+
+// So many times the byte, each with the same where it is not acknowledged.
+fn repeated(
+    alloc: Global,
+    times: u32,
+    bits: Pattern,
+    acked: Payload,
+    refused: Tail,
+) -> Result<Payload, AllocError>
+    ensures { IfOk result (λ it. payload_tree it ≡ repeated times bits (payload_tree acked) (tail_tree refused)) }
+{
+    let mut payload = acked;
+    for _ in 0..times {
+        let refused = copied(alloc, &refused)?;
+        payload = Payload::Byte {
+            bits,
+            acked: Box::new(alloc, payload)?,
+            refused,
+        };
+    }
+    Ok(payload)
+}
+
+fn copied(alloc: Global, tail: &Tail) -> Result<Tail, AllocError>
+    ensures { IfOk result (λ it. tail_tree it ≡ tail_tree tail.now) }
+{
+    match tail {
+        Tail::Stop => Ok(Tail::Stop),
+        Tail::Again(frame) => Ok(Tail::Again(Box::new(alloc, frame.copy(alloc)?)?)),
+    }
+}

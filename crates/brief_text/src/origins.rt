@@ -1,0 +1,46 @@
+// Where what stands in a plan comes from: for people, who know the briefs and not the plan.
+
+use crate::lint::{Device, NamedByte};
+use crate::syntax::Party;
+use plan_core::Name;
+
+/// A place in briefs.
+#[derive(Clone, Copy, PartialEq, Eq, Debug, Drop)]
+pub struct Spot {
+    /// The number of the brief, from 0 on.
+    pub file: u32,
+    /// The line in it, from 1 on.
+    pub line: u64,
+}
+
+/// What a controller of a plan is in the briefs: a controller, or what one of its labels stands for.
+#[derive(Drop)]
+pub struct ControllerOrigin {
+    /// The controller.
+    pub controller: Name,
+    /// The label of the part, as `set` in `bmc/set`; nothing where it is the controller itself, or what is left of it.
+    pub label: Option<Name>,
+    /// Where the controller stands.
+    pub spot: Spot,
+}
+
+/// Where the controllers and the messages of a plan come from, by their numbers in the plan.
+#[derive(Drop)]
+pub struct Origins {
+    pub controllers: Vec<ControllerOrigin>,
+    /// Where each message stands. Those of a family stand where the family stands.
+    pub messages: Vec<Spot>,
+    /// The devices and the data bytes with names, in the order of the briefs.
+    pub devices: Vec<Device>,
+    pub bytes: Vec<NamedByte>,
+}
+
+impl ControllerOrigin {
+    pub(crate) fn new(party: Party, spot: Spot) -> Self {
+        ControllerOrigin {
+            controller: party.controller,
+            label: party.label,
+            spot,
+        }
+    }
+}

@@ -1,0 +1,134 @@
+// Which token was taken last, and what could stand there: for refusals alone.
+
+ghost use Rattle.std.specs.Prelude.{◌≡◌};
+
+use crate::symbols::{Keyword, Sign, Symbol, Token};
+use plan_text::places::{Further, Kind, Over, Spot};
+use plan_text::{Expected, PlanError, Refused};
+
+/// What a token is to be, where it is taken.
+#[derive(Clone, Copy)]
+pub(crate) enum Wanted {
+    Item,
+    Name,
+    Sending,
+    Party,
+    Address,
+    Byte,
+    KnownTarget,
+    Frame,
+    Target,
+    Count,
+    Data,
+    Star,
+    Times { ranges: bool },
+    Else,
+    /// What stands after `else`, where data bytes may follow that.
+    Refusal { bytes: bool },
+    Close { bytes: bool },
+    End,
+}
+
+/// The token that was taken last, and what it and the one before it were to be.
+#[derive(Clone, Copy)]
+pub(crate) struct Trace {
+    spot: Spot,
+    wanted: Wanted,
+    before: Wanted,
+    // in how many brackets the token stands
+    depth: u32,
+    // what the item gives a name to
+    item: Kind,
+}
+
+impl Trace {
+    /// Nothing was taken.
+    pub(crate) fn new() -> Trace {
+        Trace {
+            spot: Spot {
+                before: 0,
+                start: 0,
+                end: 0,
+            },
+            wanted: Wanted::Item,
+            before: Wanted::Item,
+            depth: 0,
+            item: Kind::Message,
+        }
+    }
+
+    /// After this token, which stands here and is to be this.
+    pub(crate) fn taken(self, token: Token<'_>, spot: Spot, wanted: Wanted) -> Trace {
+        let depth = match (wanted, token.symbol) {
+            (Wanted::Refusal { .. }, Symbol::Sign(Sign::Open)) => self.depth.saturating_add(1),
+            (Wanted::Close { .. }, Symbol::Sign(Sign::Close)) => self.depth.saturating_sub(1),
+            _ => self.depth,
+        };
+        Trace {
+            spot,
+            wanted,
+            before: self.wanted,
+            depth,
+            item: match wanted {
+                Wanted::Item => kind_of(token).unwrap_or(self.item),
+                _ => self.item,
+            },
+        }
+    }
+
+    /// The refusal of the token that was taken last. A message may be too long by so much.
+    pub(crate) fn refused(&self, error: PlanError, text: &[u8], over: Option<Over>) -> Refused
+        ensures { result.error ≡ error }
+    {
+        Refused::at(error, text, self.spot, self.expected(), over)
+    }
+
+    fn expected(&self) -> Expected {
+        match self.wanted {
+            Wanted::Item => Expected::BriefItem,
+            Wanted::Name => Expected::Name(self.item),
+            Wanted::Sending => Expected::Sending,
+            Wanted::Party => Expected::Party,
+            Wanted::Address => Expected::BriefAddress,
+            Wanted::Byte => Expected::BriefByte,
+            Wanted::KnownTarget => Expected::KnownTarget,
+            Wanted::Frame => Expected::Frame,
+            Wanted::Target => Expected::Target,
+            Wanted::Count => Expected::Count { ranges: true },
+            Wanted::Times { ranges } => Expected::Times { ranges },
+            Wanted::Refusal { .. } => Expected::Refusal,
+            // what is taken where it stands is never refused
+            Wanted::Star | Wanted::Else => Expected::Semicolon,
+            Wanted::Data | Wanted::Close { .. } | Wanted::End => self.further(),
+        }
+    }
+
+    // What can follow the token before, where that is a part of a message.
+    fn further(&self) -> Expected {
+        let (times, refusal, bytes) = match self.before {
+            Wanted::Target | Wanted::Times { .. } => (false, true, true),
+            Wanted::Data => (true, true, true),
+            Wanted::Count => (false, true, false),
+            Wanted::Refusal { bytes } | Wanted::Close { bytes } => (false, false, bytes),
+            _ => return Expected::Semicolon,
+        };
+        Expected::Further(Further {
+            times,
+            refusal,
+            bytes,
+            is_inner: self.depth != 0,
+        })
+    }
+}
+
+/// What an item that begins with this token gives a name to.
+pub(crate) fn kind_of(token: Token<'_>) -> Option<Kind> {
+    match token.symbol {
+        Symbol::Keyword(Keyword::Device) => Some(Kind::Device),
+        Symbol::Keyword(Keyword::Byte) => Some(Kind::Byte),
+        Symbol::Keyword(Keyword::Message) => Some(Kind::Message),
+        Symbol::Keyword(Keyword::Controller) => Some(Kind::Controller),
+        Symbol::Keyword(Keyword::Interrupt) => Some(Kind::Interrupt),
+        _ => None,
+    }
+}
