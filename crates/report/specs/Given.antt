@@ -1,11 +1,12 @@
 -- A plan that is given as a plan text, or as a brief.
-use Rattle.std.specs.Prelude.{◌≡◌, ◌⊎◌, ℕ, Bool, true, false, List}
+use Rattle.std.specs.Prelude.{◌≡◌, ◌⊎◌, ℕ, Bool, true, false, List, Ok, Err}
 use Rattle.plan_core.specs.Contents.{Contents}
 use Rattle.plan_text.specs.Grammar.{Spells}
 use Rattle.plan_text.specs.Refusals.{First}
 use Rattle.plan_text.specs.declared.errors.PlanError.{PlanError}
 use Rattle.plan_text.specs.declared.errors.PlanError.TheVariants.{Version}
-use Rattle.brief_text.specs.Briefs.{Means, IsRefused}
+use Rattle.brief_text.specs.Briefs.{Means, IsRefused, text_read}
+use Rattle.brief_text.specs.Drafts.{Draft}
 use Rattle.run_parts.specs.declared.errors.RunError.{RunError}
 use Rattle.run_parts.specs.declared.errors.RunError.TheVariants as error
 
@@ -40,3 +41,15 @@ abbrev pub RefusesGiven : List ℕ → RunError → Type 0
 RefusesGiven text (error.Plan e) = IsNeither text e
 RefusesGiven text error.NoMemory = Unit {0}
 RefusesGiven text _ = ⊥
+
+-- ---- a further brief
+
+-- after what stood before, the text is a brief that adds its items
+abbrev pub Adds : Draft → List ℕ → Draft → Type 0
+Adds before text after = text_read before text ≡ Ok after
+
+-- its first refusal there is the answer, but for out of memory
+abbrev pub RefusesFurther : Draft → List ℕ → RunError → Type 0
+RefusesFurther before text (error.Plan e) = text_read before text ≡ Err e
+RefusesFurther before text error.NoMemory = Unit {0}
+RefusesFurther before text _ = ⊥

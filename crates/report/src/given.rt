@@ -1,19 +1,88 @@
-// A plan that is given as a plan text, or as a brief.
+// A plan that is given as a plan text, or as one brief or several.
 
-ghost use Rattle.std.specs.Prelude.{◌≡◌, ◌⊎◌, true, IfOk, IfErr};
+ghost use Rattle.std.specs.Prelude.{◌≡◌, true, IfOk, IfErr};
 ghost use Rattle.plan_core.specs.PlanContents.{plan_contents};
-ghost use Rattle.report.specs.Found.{Finds};
-ghost use Rattle.brief_text.specs.Briefs.{Means};
 ghost use Rattle.plan_text.specs.Refusals.{First};
-ghost use Rattle.report.specs.Given.{GivesPlan, IsNeither, RefusesGiven, is_version};
+ghost use Rattle.brief_text.specs.Briefs.{Means};
+ghost use Rattle.brief_text.specs.Splitting.{plan_meant};
+ghost use Rattle.brief_text.specs.Together.{together};
+ghost use Rattle.report.specs.Found.{Finds};
+ghost use Rattle.report.specs.Given.{GivesPlan, RefusesGiven, Adds, RefusesFurther, is_version};
+ghost use Rattle.run_parts.specs.RunErrors.{run_error};
 ghost use Rattle.run_parts.specs.Runs.{ReadsText, HaltsAtText};
+ghost use Rattle.run_parts.specs.declared.errors.RunError.TheVariants.{NoMemory};
 
-use brief_text::expand_brief;
+use brief_text::{Briefs, Origins};
 use plan_core::Plan;
-use plan_text::{PlanError, read_plan};
+use plan_text::{Language, Place, PlanError, Refused, read_plan_at};
 use run_parts::devices::reading::READS;
 use run_parts::{Input, RunError, read_within};
-use std::alloc::Global;
+use std::alloc::{AllocError, Global};
+
+/// A plan, and where its parts stand in the briefs that mean it. A plan text has none.
+#[derive(Drop)]
+pub struct GivenPlan {
+    pub plan: Plan,
+    pub origins: Option<Origins>,
+}
+
+/// A text that was refused, for people.
+#[derive(Drop)]
+pub struct RefusedText {
+    pub text: Vec<u8>,
+    pub language: Language,
+    pub place: Place,
+    /// Which of the briefs that give the plan it is, from 0 on.
+    pub file: u32,
+}
+
+/// Why there is no plan.
+#[derive(Drop)]
+pub struct NoPlan {
+    pub error: RunError,
+    /// The text that was refused, where one was.
+    pub text: Option<RefusedText>,
+}
+
+impl NoPlan {
+    // The refusal of this text.
+    fn refused(text: Vec<u8>, language: Language, file: u32, refused: Refused) -> NoPlan
+        ensures { result.error ≡ run_error refused.error }
+    {
+        let Refused { error, place } = refused;
+        NoPlan {
+            error: RunError::from(error),
+            text: match place {
+                Some(place) => Some(RefusedText {
+                    text,
+                    language,
+                    place,
+                    file,
+                }),
+                None => None,
+            },
+        }
+    }
+}
+
+impl From<RunError> for NoPlan {
+    ghost from_gives = { λ error e. e.error ≡ error };
+
+    fn from(error: RunError) -> NoPlan {
+        NoPlan { error, text: None }
+    }
+}
+
+impl From<AllocError> for NoPlan {
+    ghost from_gives = { λ _ e. e.error ≡ NoMemory };
+
+    fn from(_error: AllocError) -> NoPlan {
+        NoPlan {
+            error: RunError::NoMemory,
+            text: None,
+        }
+    }
+}
 
 /// The plan that the text which the reader gives spells, or, where it does not begin as a plan text, the one that it means as a
 /// brief.
@@ -22,36 +91,85 @@ use std::alloc::Global;
 ///
 /// `Read` where the reader failed or gave no end, and `Plan` with the first refusal of the plan text or of the brief: P2 of the
 /// plan text where it begins as neither. `NoMemory` where an allocation fails.
-pub fn find_given<I: Input>(alloc: Global, text: &mut I) -> Result<Plan, RunError>
-    ensures found { IfOk result (λ it. Finds (ReadsText I.reader) GivesPlan text.old (plan_contents it) text.new) }
-    ensures stops { IfErr result (λ error. HaltsAtText I.reader RefusesGiven text.old error text.new) }
+pub fn find_given<I: Input>(alloc: Global, text: &mut I) -> Result<GivenPlan, NoPlan>
+    ensures found { IfOk result (λ it. Finds (ReadsText I.reader) GivesPlan text.old (plan_contents it.plan) text.new) }
+    ensures stops { IfErr result (λ e. HaltsAtText I.reader RefusesGiven text.old e.error text.new) }
 {
     let text = read_within(alloc, text, READS)?;
-    let found = plan_of(alloc, text.as_slice())?;
-    Ok(found)
+    given_in(alloc, text)
 }
 
-fn plan_of(alloc: Global, text: &[u8]) -> Result<Plan, PlanError>
-    ensures given { IfOk result (λ it. GivesPlan text.now (plan_contents it)) }
-    ensures refused { IfErr result (λ e. (e ≡ PlanError.NoMemory) ⊎ IsNeither text.now e) }
+/// The briefs, with a further one that the reader gives. It has this number among those that give the plan.
+///
+/// # Errors
+///
+/// `Read` where the reader failed or gave no end, and `Plan` with the first refusal of this brief after those before it.
+/// `NoMemory` where an allocation fails.
+pub fn find_further<I: Input>(
+    alloc: Global,
+    briefs: Briefs,
+    file: u32,
+    text: &mut I,
+) -> Result<Briefs, NoPlan>
+    ensures found { IfOk result (λ it. Finds (ReadsText I.reader) (Adds (together briefs)) text.old (together it) text.new) }
+    ensures stops { IfErr result (λ e.
+        HaltsAtText I.reader (RefusesFurther (together briefs)) text.old e.error text.new) }
 {
-    match read_plan(alloc, text) {
-        Ok(plan) => Ok(plan),
-        Err(refusal) if is_version(refusal) => meant_by(alloc, text, refusal),
-        Err(refusal) => Err(refusal),
+    let text = read_within(alloc, text, READS)?;
+    added(briefs, file, text)
+}
+
+/// The plan that the items of all briefs make up.
+///
+/// # Errors
+///
+/// `NoMemory` where an allocation fails.
+pub fn given_by(briefs: Briefs) -> Result<GivenPlan, AllocError>
+    ensures { IfOk result (λ it. plan_contents it.plan ≡ plan_meant (together briefs)) }
+{
+    let origins = briefs.origins()?;
+    Ok(GivenPlan {
+        plan: briefs.plan()?,
+        origins: Some(origins),
+    })
+}
+
+fn given_in(alloc: Global, text: Vec<u8>) -> Result<GivenPlan, NoPlan>
+    ensures given { IfOk result (λ it. GivesPlan text.items (plan_contents it.plan)) }
+    ensures refused { IfErr result (λ e. RefusesGiven text.items e.error) }
+{
+    match read_plan_at(alloc, text.as_slice()) {
+        Ok(plan) => Ok(GivenPlan {
+            plan,
+            origins: None,
+        }),
+        Err(refused) if is_version(refused.error) => meant_by(alloc, text, refused),
+        Err(refused) => Err(NoPlan::refused(text, Language::Plan, 0, refused)),
     }
 }
 
 // The plan that the text means as a brief, where as a plan text it is refused so.
-fn meant_by(alloc: Global, text: &[u8], head: PlanError) -> Result<Plan, PlanError>
-    requires { is_version head ≡ true }
-    ensures meant { IfOk result (λ it. Means text.now (plan_contents it)) }
-    ensures refused { First text.now head → IfErr result (λ e. (e ≡ PlanError.NoMemory) ⊎ IsNeither text.now e) }
+fn meant_by(alloc: Global, text: Vec<u8>, head: Refused) -> Result<GivenPlan, NoPlan>
+    requires { is_version head.error ≡ true }
+    ensures meant { IfOk result (λ it. Means text.items (plan_contents it.plan)) }
+    ensures refused { First text.items head.error → IfErr result (λ e. RefusesGiven text.items e.error) }
 {
-    match expand_brief(alloc, text) {
-        Ok(plan) => Ok(plan),
-        Err(refusal) if is_version(refusal) => Err(head),
-        Err(refusal) => Err(refusal),
+    match Briefs::new(alloc).with_at(text.as_slice()) {
+        Ok(briefs) => Ok(given_by(briefs)?),
+        Err(refused) if is_version(refused.error) => {
+            Err(NoPlan::refused(text, Language::Plan, 0, head))
+        }
+        Err(refused) => Err(NoPlan::refused(text, Language::Brief, 0, refused)),
+    }
+}
+
+fn added(briefs: Briefs, file: u32, text: Vec<u8>) -> Result<Briefs, NoPlan>
+    ensures added { IfOk result (λ it. Adds (together briefs) text.items (together it)) }
+    ensures refused { IfErr result (λ e. RefusesFurther (together briefs) text.items e.error) }
+{
+    match briefs.with_at(text.as_slice()) {
+        Ok(briefs) => Ok(briefs),
+        Err(refused) => Err(NoPlan::refused(text, Language::Brief, file, refused)),
     }
 }
 

@@ -221,7 +221,7 @@ fn on_report<F: Read + Seek + Drop>(
 ) -> Result<Hints, AllocError> {
     let Closing { remark, output, .. } = closing;
     match remark {
-        Remark::Nothing | Remark::Refused(_) => Ok(Hints::new(alloc)),
+        Remark::Nothing | Remark::Refused(_) | Remark::Text(_) => Ok(Hints::new(alloc)),
         Remark::Hints(hints) => Ok(hints),
         Remark::Certificate(fault) => on_certificate(alloc, read.other, fault),
         Remark::Fault => on_fault(alloc, output),

@@ -52,7 +52,7 @@ pub fn check<R: Files + Print + Eprint + Clock + AllocGlobal + Threads + Sync, I
         return Err(Halt::Run(RunError::Workers));
     }
     let gate = Comparing::new(rt, extras.watcher);
-    let plan = find_given(rt.alloc(), plan)?;
+    let plan = find_given(rt.alloc(), plan)?.plan;
     let checked = check_found(rt, rt.alloc(), plan, look.workers, &gate)?;
     let status = tell_checked(rt.alloc(), &checked, out, look.explain, extras.style())?;
     if let Some(canvas) = canvas {
@@ -132,7 +132,7 @@ pub fn verify<I: Input, J: Input, O: Output>(
     explain: bool,
     extras: Extras,
 ) -> Result<Ended, Halt> {
-    let plan = find_given(alloc, plan)?;
+    let plan = find_given(alloc, plan)?.plan;
     if explain {
         return verify_kept(alloc, &plan, cert, out, extras);
     }
@@ -191,7 +191,7 @@ pub fn order<R: AllocGlobal + Threads + Sync, I: Input, O: Output>(
     style: Style,
 ) -> Result<Ended, Halt> {
     let alloc = rt.alloc();
-    let plan = find_given(alloc, plan)?;
+    let plan = find_given(alloc, plan)?.plan;
     let checked = check_found(rt, alloc, plan, 1, &NoGate)?;
     let order = order_of(alloc, &checked.plan, &checked.faults)?;
     write_ordered(alloc, &checked, &order, out, style)?;

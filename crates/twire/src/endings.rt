@@ -4,7 +4,7 @@ use certificate::CertFault;
 use dump_tokens::Window;
 use explain::Seen;
 use hints::Hints;
-use report::{RunError, Status};
+use report::{NoPlan, RefusedText, RunError, Status};
 use std::alloc::AllocError;
 use std::io;
 use vcd_read::Wrong;
@@ -39,6 +39,8 @@ pub enum Remark {
     Recording(Recorded),
     /// What is wrong with a dump that is refused.
     Refused(Wrong),
+    /// The text of a plan or of a brief that is refused.
+    Text(RefusedText),
 }
 
 /// What is made of a dump.
@@ -60,6 +62,14 @@ impl Remark {
         match hints {
             Ok(hints) => Remark::Hints(hints),
             Err(_) => Remark::Nothing,
+        }
+    }
+
+    /// The text of a plan or of a brief that is refused, where one is.
+    pub fn text(text: Option<RefusedText>) -> Remark {
+        match text {
+            Some(text) => Remark::Text(text),
+            None => Remark::Nothing,
         }
     }
 
@@ -86,6 +96,8 @@ pub enum Halt {
     Run(RunError),
     /// The same of a run over a dump, with what is wrong where that is refused.
     Dump(RunError, Option<Wrong>),
+    /// There is no plan. The text is there where one was refused.
+    Text(RunError, Option<RefusedText>),
     /// A time was given with a unit, and the dump does not say what its numbers count.
     NoTimescale,
     /// The report was written, and the file for waves was not, for this reason of the system.
@@ -95,6 +107,13 @@ pub enum Halt {
 impl From<RunError> for Halt {
     fn from(error: RunError) -> Halt {
         Halt::Run(error)
+    }
+}
+
+impl From<NoPlan> for Halt {
+    fn from(none: NoPlan) -> Halt {
+        let NoPlan { error, text } = none;
+        Halt::Text(error, text)
     }
 }
 

@@ -28,7 +28,7 @@ pub fn write_page_alone<R: AllocGlobal + Threads + Sync, I: Input, O: Output>(
     plan: &mut I,
     out: &mut O,
 ) -> Result<Ended, Halt> {
-    let plan = find_given(rt.alloc(), plan)?;
+    let plan = find_given(rt.alloc(), plan)?.plan;
     let checked = check_found(rt, rt.alloc(), plan, 1, &NoGate)?;
     write_page(rt.alloc(), title, &checked, None, out)?;
     Ok(Ended::quietly(status_of(&checked)))
@@ -43,7 +43,7 @@ pub fn write_page_with<R: AllocGlobal + Threads + Sync, I: Input, J: Input, O: O
     out: &mut O,
     bus: Bus<'_>,
 ) -> Result<Ended, Halt> {
-    let plan = find_given(rt.alloc(), plan)?;
+    let plan = find_given(rt.alloc(), plan)?.plan;
     let checked = check_found(rt, rt.alloc(), plan, 1, &NoGate)?;
     let mut written = Watched::new(Vec::new(rt.alloc()));
     let (recording, seen) = recording_of(rt, &checked.plan, vcd, &mut written, bus)?;

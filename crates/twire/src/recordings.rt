@@ -84,7 +84,7 @@ pub fn explain_capture<R: AllocGlobal + Threads + Sync, I: Input, J: Input, O: O
     capture: Capture<'_>,
     style: Style,
 ) -> Result<Ended, Halt> {
-    let plan = find_given(rt.alloc(), plan)?;
+    let plan = find_given(rt.alloc(), plan)?.plan;
     let (status, seen) = capture_by(rt, &plan, vcd, out, capture, style)?;
     Ok(Ended {
         status,

@@ -49,7 +49,7 @@ pub fn bench_alone<
     extras: Extras,
     canvas: Option<Canvas<'_>>,
 ) -> Result<Ended, Halt> {
-    let plan = find_given(rt.alloc(), plan)?;
+    let plan = find_given(rt.alloc(), plan)?.plan;
     let cert = certificate_of(rt.alloc(), &plan)?;
     bench_plan(rt, plan, cert.as_slice(), out, play, extras, canvas)
 }
@@ -75,7 +75,7 @@ pub fn bench<
     extras: Extras,
     canvas: Option<Canvas<'_>>,
 ) -> Result<Ended, Halt> {
-    let plan = find_given(rt.alloc(), plan)?;
+    let plan = find_given(rt.alloc(), plan)?.plan;
     bench_with(rt, plan, cert, out, play, extras, canvas)
 }
 

@@ -28,8 +28,8 @@ impl Rewriting {
         out: &mut O,
     ) -> Result<Ended, Halt> {
         let status = match self {
-            Rewriting::Certify => certify_found(alloc, &find_given(alloc, text)?, out),
-            Rewriting::Print => print_found(alloc, &find_given(alloc, text)?, out),
+            Rewriting::Certify => certify_found(alloc, &find_given(alloc, text)?.plan, out),
+            Rewriting::Print => print_found(alloc, &find_given(alloc, text)?.plan, out),
             Rewriting::Brief => run_brief(alloc, text, out),
             Rewriting::Expand => run_expand(alloc, text, out),
         }?;

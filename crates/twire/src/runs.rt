@@ -270,6 +270,7 @@ fn finish<R: Files + Print + Eprint + Clock + AllocGlobal>(
         Err(Halt::Dump(error, wrong)) => {
             (Err(error), Remark::refused(wrong), files.output, None)
         }
+        Err(Halt::Text(error, text)) => (Err(error), Remark::text(text), files.output, None),
         Err(Halt::Undrawn(error, reason)) => (Err(error), Remark::Nothing, files.wave, reason),
         Err(Halt::NoTimescale) => return no_timescale(rt, extras),
     };
