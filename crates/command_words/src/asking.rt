@@ -418,11 +418,7 @@ fn refuse_input_twice(matches: &ArgMatches<'_>) -> Result<(), Fault> {
             inputs = inputs.saturating_add(inputs_in(matches, name));
         }
     }
-    if inputs > 1 {
-        Err(INPUT_TWICE)
-    } else {
-        Ok(())
-    }
+    if inputs > 1 { Err(INPUT_TWICE) } else { Ok(()) }
 }
 
 // How often this argument is standard input.

@@ -219,7 +219,8 @@ const PAGE: Entry = Entry {
     usage: None,
     after_help: AFTER_PAGE_HELP,
     arguments: &[
-        PLAN, WITH, RECORDED, SCL, SDA, SCOPE, SCL_CODE, SDA_CODE, MIN_PULSE, FROM, TO, TIMES, OUTPUT,
+        PLAN, WITH, RECORDED, SCL, SDA, SCOPE, SCL_CODE, SDA_CODE, MIN_PULSE, FROM, TO, TIMES,
+        OUTPUT,
     ],
 };
 

@@ -42,7 +42,7 @@ pub use devices::{
     Named, on_closed_input, on_fault, on_memory, on_no_answers, on_no_timescale, on_no_waves,
     on_opening, on_reading, on_workers, on_writing,
 };
-pub use paths::{file_word, visible};
+pub use paths::{file_word, shown, visible};
 pub use plans::{on_brief, on_no_brief, on_plan};
 pub use safety::on_safe;
 pub use starters::on_starters;

@@ -26,6 +26,8 @@ pub struct About<'a> {
     pub names: Names<'a>,
     /// That command, a file, an option and a file, as they can be given once more. Some may be empty.
     pub words: [&'a str; 4],
+    /// Further files of a brief.
+    pub further: &'a [&'a str],
 }
 
 impl<'a> About<'a> {
@@ -40,6 +42,7 @@ impl<'a> About<'a> {
             starters,
             names: names_of(no_lines(), ""),
             words: ["", "", "", ""],
+            further: &[],
         }
     }
 
@@ -49,7 +52,13 @@ impl<'a> About<'a> {
             starters: "",
             names,
             words,
+            further: &[],
         }
+    }
+
+    /// The same with further files of a brief.
+    pub fn with(self, further: &'a [&'a str]) -> About<'a> {
+        About { further, ..self }
     }
 }
 
@@ -115,7 +124,7 @@ pub fn advise<R: Eprint + AllocGlobal, F: Read + Seek + Drop>(
     closing: Closing<'_>,
 ) {
     let about = closing.about;
-    let command = made(rt.alloc(), command_of(rt.alloc(), &about.words));
+    let command = made(rt.alloc(), command_of(rt.alloc(), about));
     let vcd = made(rt.alloc(), file_word(rt.alloc(), about.names.vcd));
     let names = Names {
         command: command.as_str(),
@@ -146,12 +155,16 @@ pub fn no_timescale<R: Clock + Eprint + AllocGlobal>(rt: &R, extras: Extras) -> 
     2
 }
 
-// A command, a file, an option and a file, to be given once more with other options.
-fn command_of(alloc: Global, words: &[&str; 4]) -> Result<String, AllocError> {
-    let [command, first, option, second] = *words;
+// A command, files, an option and a file, to be given once more with other options.
+fn command_of(alloc: Global, about: About<'_>) -> Result<String, AllocError> {
+    let [command, first, option, second] = about.words;
     let mut text = Text::new(alloc);
     text.push(command);
     push_file(alloc, &mut text, first);
+    for file in about.further {
+        text.push(" --with");
+        push_file(alloc, &mut text, file);
+    }
     if !option.is_empty() {
         text.push(" ");
         text.push(option);

@@ -9,6 +9,7 @@ use crate::endings::{Ended, Halt, Remark};
 use crate::outputs::Style;
 use crate::progress::Comparing;
 use crate::runs::Extras;
+use crate::sources::Sources;
 use cert_check::{Answer, check_certificate};
 use explain::{Mistake, Paint, Reasons, explain_answer, explain_check, mistake_of, reasons_of};
 use hints::on_safe;
@@ -17,7 +18,7 @@ use order::{Order, order_of, order_report};
 use plan_core::Plan;
 use report::{
     Answered, Checked, Input, NoGate, Output, RunError, Status, answer_line, check_found,
-    check_report, find_given, read_within, status_of_answer, verify_found,
+    check_report, read_within, status_of_answer, verify_found,
 };
 use run_parts::devices::reading::READS;
 use run_parts::write_lines;
@@ -42,7 +43,7 @@ pub struct Look<'a> {
 /// Checks the plan that the reader gives. The canvas is for the waves, where they are wanted.
 pub fn check<R: Files + Print + Eprint + Clock + AllocGlobal + Threads + Sync, I: Input, O: Output>(
     rt: &R,
-    plan: &mut I,
+    plans: &mut Sources<I>,
     out: &mut O,
     look: Look<'_>,
     extras: Extras,
@@ -52,7 +53,7 @@ pub fn check<R: Files + Print + Eprint + Clock + AllocGlobal + Threads + Sync, I
         return Err(Halt::Run(RunError::Workers));
     }
     let gate = Comparing::new(rt, extras.watcher);
-    let plan = find_given(rt.alloc(), plan)?.plan;
+    let plan = plans.find(rt.alloc())?.plan;
     let checked = check_found(rt, rt.alloc(), plan, look.workers, &gate)?;
     let status = tell_checked(rt.alloc(), &checked, out, look.explain, extras.style())?;
     if let Some(canvas) = canvas {
@@ -126,13 +127,13 @@ pub fn status_of(checked: &Checked) -> Status {
 /// explained the certificate is kept, and else it is judged as it comes.
 pub fn verify<I: Input, J: Input, O: Output>(
     alloc: Global,
-    plan: &mut I,
+    plans: &mut Sources<I>,
     cert: &mut J,
     out: &mut O,
     explain: bool,
     extras: Extras,
 ) -> Result<Ended, Halt> {
-    let plan = find_given(alloc, plan)?.plan;
+    let plan = plans.find(alloc)?.plan;
     if explain {
         return verify_kept(alloc, &plan, cert, out, extras);
     }
@@ -186,12 +187,12 @@ pub fn tell_answer<O: Output>(
 /// Says who wins arbitration in each pair of the plan that the reader gives.
 pub fn order<R: AllocGlobal + Threads + Sync, I: Input, O: Output>(
     rt: &R,
-    plan: &mut I,
+    plans: &mut Sources<I>,
     out: &mut O,
     style: Style,
 ) -> Result<Ended, Halt> {
     let alloc = rt.alloc();
-    let plan = find_given(alloc, plan)?.plan;
+    let plan = plans.find(alloc)?.plan;
     let checked = check_found(rt, alloc, plan, 1, &NoGate)?;
     let order = order_of(alloc, &checked.plan, &checked.faults)?;
     write_ordered(alloc, &checked, &order, out, style)?;

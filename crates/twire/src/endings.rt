@@ -81,6 +81,14 @@ impl Remark {
         }
     }
 
+    /// The text of a plan or of a brief that is refused.
+    pub fn refused_text(&self) -> Option<&RefusedText> {
+        match self {
+            Remark::Text(text) => Some(text),
+            _ => None,
+        }
+    }
+
     /// What is wrong with the dump.
     pub fn wrong(&self) -> Option<&Wrong> {
         match self {

@@ -3,6 +3,7 @@
 use crate::checking::status_of;
 use crate::endings::{Ended, Halt, Recorded, Remark};
 use crate::recordings::{halted, open};
+use crate::sources::Sources;
 use capture_check::Transaction;
 use decoding::{ExplainedSink, Explaining};
 use dump_tokens::Bus;
@@ -13,7 +14,6 @@ use plan_core::Plan;
 use plan_text::print_plan;
 use report::{
     Checked, Input, NoGate, Output, RunError, Status, Watched, check_found, check_report,
-    find_given,
 };
 use run_parts::write_lines;
 use signals::Dump;
@@ -25,10 +25,10 @@ use std::thread::Threads;
 pub fn write_page_alone<R: AllocGlobal + Threads + Sync, I: Input, O: Output>(
     rt: &R,
     title: &str,
-    plan: &mut I,
+    plans: &mut Sources<I>,
     out: &mut O,
 ) -> Result<Ended, Halt> {
-    let plan = find_given(rt.alloc(), plan)?.plan;
+    let plan = plans.find(rt.alloc())?.plan;
     let checked = check_found(rt, rt.alloc(), plan, 1, &NoGate)?;
     write_page(rt.alloc(), title, &checked, None, out)?;
     Ok(Ended::quietly(status_of(&checked)))
@@ -38,12 +38,12 @@ pub fn write_page_alone<R: AllocGlobal + Threads + Sync, I: Input, O: Output>(
 pub fn write_page_with<R: AllocGlobal + Threads + Sync, I: Input, J: Input, O: Output>(
     rt: &R,
     title: &str,
-    plan: &mut I,
+    plans: &mut Sources<I>,
     vcd: &mut J,
     out: &mut O,
     bus: Bus<'_>,
 ) -> Result<Ended, Halt> {
-    let plan = find_given(rt.alloc(), plan)?.plan;
+    let plan = plans.find(rt.alloc())?.plan;
     let checked = check_found(rt, rt.alloc(), plan, 1, &NoGate)?;
     let mut written = Watched::new(Vec::new(rt.alloc()));
     let (recording, seen) = recording_of(rt, &checked.plan, vcd, &mut written, bus)?;

@@ -2,14 +2,14 @@
 
 use crate::endings::{Ended, Halt, Recorded, Remark};
 use crate::outputs::Style;
+use crate::sources::Sources;
 use decoding::Explaining;
 use dump_tokens::{Bus, BusLines, Limits, Quiet};
 use explain::{CaptureLines, DecodeLines, Layout, Paint, Seen, Selection};
 use objects::{CaptureObjects, DecodeObjects, write_signals};
 use plan_core::Plan;
 use report::{
-    CaptureCounts, CaptureReport, Input, Output, RunError, Status, Telling, find_given,
-    live_capture,
+    CaptureCounts, CaptureReport, Input, Output, RunError, Status, Telling, live_capture,
 };
 use run_parts::write_lines;
 use signals::{Dump, Learned, Listed, Sights, SignalDump, brief_of, needs_picking};
@@ -78,13 +78,13 @@ pub fn halted<J: Input>(mut dump: Dump<'_, '_, J>, error: RunError) -> Halt {
 /// judged before the second reader is called.
 pub fn explain_capture<R: AllocGlobal + Threads + Sync, I: Input, J: Input, O: Output>(
     rt: &R,
-    plan: &mut I,
+    plans: &mut Sources<I>,
     vcd: &mut J,
     out: &mut O,
     capture: Capture<'_>,
     style: Style,
 ) -> Result<Ended, Halt> {
-    let plan = find_given(rt.alloc(), plan)?.plan;
+    let plan = plans.find(rt.alloc())?.plan;
     let (status, seen) = capture_by(rt, &plan, vcd, out, capture, style)?;
     Ok(Ended {
         status,

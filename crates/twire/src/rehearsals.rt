@@ -7,6 +7,7 @@ use crate::drawings::{Canvas, draw_outcome};
 use crate::endings::{Ended, Halt, Remark};
 use crate::outputs::Style;
 use crate::runs::Extras;
+use crate::sources::Sources;
 use bench_run::{NoGate, Outcome, Rehearsal, outcome_report, rehearse, status_of_outcome};
 use bus_bench::opening::MOST_SLOTS;
 use explain::{Paint, explain_answer, explain_rehearsal, mistake_of};
@@ -14,7 +15,7 @@ use hints::on_no_answers;
 use message_tree::Item;
 use objects::write_rehearsal;
 use plan_core::Plan;
-use report::{Input, Output, RunError, find_given, read_within};
+use report::{Input, Output, RunError, read_within};
 use run_parts::devices::reading::READS;
 use run_parts::write_lines;
 use std::alloc::{AllocError, Global};
@@ -43,13 +44,13 @@ pub fn bench_alone<
     O: Output,
 >(
     rt: &R,
-    plan: &mut I,
+    plans: &mut Sources<I>,
     out: &mut O,
     play: Play<'_>,
     extras: Extras,
     canvas: Option<Canvas<'_>>,
 ) -> Result<Ended, Halt> {
-    let plan = find_given(rt.alloc(), plan)?.plan;
+    let plan = plans.find(rt.alloc())?.plan;
     let cert = certificate_of(rt.alloc(), &plan)?;
     bench_plan(rt, plan, cert.as_slice(), out, play, extras, canvas)
 }
@@ -68,14 +69,14 @@ pub fn bench<
     O: Output,
 >(
     rt: &R,
-    plan: &mut I,
+    plans: &mut Sources<I>,
     cert: &mut J,
     out: &mut O,
     play: Play<'_>,
     extras: Extras,
     canvas: Option<Canvas<'_>>,
 ) -> Result<Ended, Halt> {
-    let plan = find_given(rt.alloc(), plan)?.plan;
+    let plan = plans.find(rt.alloc())?.plan;
     bench_with(rt, plan, cert, out, play, extras, canvas)
 }
 

@@ -1,12 +1,11 @@
-// Runs over one text that write another one.
+// Runs that write a text in another form.
 
 use crate::endings::{Ended, Halt, Remark};
-use report::{
-    Input, Output, Status, certify_found, find_given, print_found, run_brief, run_expand,
-};
+use crate::sources::Sources;
+use report::{Input, Output, Status, certify_found, print_found, run_brief};
 use std::alloc::Global;
 
-/// A run over one text that writes another one.
+/// A run that writes a text in another form.
 #[derive(Clone, Copy)]
 pub enum Rewriting {
     Certify,
@@ -16,22 +15,22 @@ pub enum Rewriting {
 }
 
 impl Rewriting {
-    /// The run: over a plan or a brief to certify and to print, and else over the one that it rewrites.
+    /// The run: over what gives a plan to certify and to print, and else over briefs to expand or a plan text.
     ///
     /// # Errors
     ///
-    /// Those of the runs of `report`, in the same order.
+    /// Those of the parts of `report`, in the same order.
     pub fn run<I: Input, O: Output>(
         self,
         alloc: Global,
-        text: &mut I,
+        sources: &mut Sources<I>,
         out: &mut O,
     ) -> Result<Ended, Halt> {
         let status = match self {
-            Rewriting::Certify => certify_found(alloc, &find_given(alloc, text)?.plan, out),
-            Rewriting::Print => print_found(alloc, &find_given(alloc, text)?.plan, out),
-            Rewriting::Brief => run_brief(alloc, text, out),
-            Rewriting::Expand => run_expand(alloc, text, out),
+            Rewriting::Certify => certify_found(alloc, &sources.find(alloc)?.plan, out),
+            Rewriting::Print => print_found(alloc, &sources.find(alloc)?.plan, out),
+            Rewriting::Brief => run_brief(alloc, &mut sources.first, out),
+            Rewriting::Expand => print_found(alloc, &sources.find_in_briefs(alloc)?.plan, out),
         }?;
         Ok(Ended {
             status,

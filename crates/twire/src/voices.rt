@@ -1,6 +1,6 @@
 // What goes to standard error: refusals, and hints for people.
 
-use hints::Hints;
+use hints::{Hints, shown};
 use objects::{hint_objects, refusal_object, timescale_object};
 use report::RunError;
 use std::alloc::{AllocError, Global};
@@ -26,10 +26,12 @@ impl Voice {
     }
 }
 
-/// Writes the line of a refusal, and answers its status. An object also has what is wrong with a dump.
+/// Writes the line of a refusal, and answers its status. It names the file, where several gave the plan. An object also has
+/// what is wrong with a dump.
 pub fn refused<R: Eprint + AllocGlobal>(
     rt: &R,
     error: RunError,
+    file: Option<&str>,
     wrong: Option<&Wrong>,
     voice: Voice,
 ) -> u8 {
@@ -37,10 +39,21 @@ pub fn refused<R: Eprint + AllocGlobal>(
         Voice::Objects => say_refusal(rt, refusal_object(rt.alloc(), error, wrong)),
         // Where standard error takes nothing the status is all that is left.
         _ => {
-            let _ = eprintln!(rt; "refused {error}");
+            let _ = match file {
+                Some(file) => eprintln!(rt; "refused {error} of {}", path_of(rt.alloc(), file)),
+                None => eprintln!(rt; "refused {error}"),
+            };
         }
     }
     2
+}
+
+// A path as it can stand in a line, of which nothing is shown where there is no memory for it.
+fn path_of(alloc: Global, path: &str) -> String {
+    match shown(alloc, path) {
+        Ok(path) => path,
+        Err(_) => String::new(alloc),
+    }
 }
 
 // Where there is no memory for the object of a refusal, that is refused.
