@@ -12,6 +12,7 @@ mod checks;
 mod decodes;
 mod listed;
 mod orders;
+mod places;
 mod refusals;
 mod transactions;
 mod writing;

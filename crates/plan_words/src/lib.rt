@@ -10,7 +10,7 @@ use growing_text::Text;
 use plan_core::{Participant, Plan};
 use std::alloc::{AllocError, Global};
 
-/// The files of the briefs that mean a plan, as they were given.
+/// The files of the briefs that mean a plan, as the command line names them.
 #[derive(Clone, Copy)]
 pub struct BriefFiles<'a> {
     pub first: &'a str,
@@ -18,11 +18,15 @@ pub struct BriefFiles<'a> {
 }
 
 impl<'a> BriefFiles<'a> {
-    /// The file of the brief with this number, from 0 on.
+    /// The file of the brief with this number, from 0 on, or what stands for standard input.
     pub fn of(self, number: u32) -> Option<&'a str> {
-        match number.checked_sub(1) {
-            None => Some(self.first),
-            Some(after) => self.further.get(after as usize).copied(),
+        let path = match number.checked_sub(1) {
+            None => self.first,
+            Some(after) => *self.further.get(after as usize)?,
+        };
+        match path {
+            "-" | "/dev/stdin" => Some("<stdin>"),
+            _ => Some(path),
         }
     }
 }
@@ -119,6 +123,14 @@ impl<'a> PlanWords<'a> {
             }
         }
         text.finish()
+    }
+
+    /// Whether this controller of the plan is what a label stands for.
+    pub fn is_part(self, controller: u32) -> bool {
+        match self.origin(controller) {
+            Some(origin) => origin.label.is_some(),
+            None => false,
+        }
     }
 
     /// Whether these two controllers of the plan are parts of one controller.

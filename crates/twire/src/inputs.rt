@@ -6,6 +6,7 @@ use crate::runs::Extras;
 use crate::sources::Sources;
 use crate::voices::refused;
 use hints::Named;
+use plan_words::BriefFiles;
 use report::{Input as _, Opened, RunError, Watched};
 use std::fs::{self, Metadata, OpenFile};
 use std::io;
@@ -39,6 +40,14 @@ impl<'a> NamedSources<'a> {
         }
     }
 
+    /// The same as people know them.
+    pub fn files(self) -> BriefFiles<'a> {
+        BriefFiles {
+            first: self.first.path,
+            further: self.further,
+        }
+    }
+
     fn further_one(self, path: &'a str) -> Named<'a> {
         Named {
             argument: self.argument,
@@ -50,12 +59,12 @@ impl<'a> NamedSources<'a> {
 
 /// Opens files for reading, in this order, and says which they are. A path as `/dev/fd/3`, or standard input that is closed, may
 /// come to name the first file once that is open, so what later paths name is looked for before.
-pub fn open_sources<'a, R: Files + Input + Eprint + Clock + AllocGlobal>(
+pub fn open_sources<'a, 'n, R: Files + Input + Eprint + Clock + AllocGlobal>(
     rt: &'a R,
-    named: NamedSources<'_>,
+    named: NamedSources<'n>,
     ids: &mut Vec<FileId>,
     extras: Extras,
-) -> Option<Sources<Source<'a, R, R::File, R::Reader>>> {
+) -> Option<Sources<'n, Source<'a, R, R::File, R::Reader>>> {
     for path in named.further {
         if !is_there(rt, named.further_one(path), extras) {
             return None;
@@ -70,19 +79,23 @@ pub fn open_sources<'a, R: Files + Input + Eprint + Clock + AllocGlobal>(
             return None;
         }
     }
-    Some(Sources { first, further })
+    Some(Sources {
+        first,
+        further,
+        files: named.files(),
+    })
 }
 
 /// The same, and a second text after them.
-pub fn open_both<'a, R: Files + Input + Eprint + Clock + AllocGlobal>(
+pub fn open_both<'a, 'n, R: Files + Input + Eprint + Clock + AllocGlobal>(
     rt: &'a R,
-    named: NamedSources<'_>,
+    named: NamedSources<'n>,
     second: Named<'_>,
     ids: &mut Vec<FileId>,
     extras: Extras,
 ) -> Option<
     (
-        Sources<Source<'a, R, R::File, R::Reader>>,
+        Sources<'n, Source<'a, R, R::File, R::Reader>>,
         Source<'a, R, R::File, R::Reader>,
     ),
 > {
@@ -242,12 +255,13 @@ pub struct Inputs<'a, F> {
 /// What a run has read that is over these texts, and over a second one.
 pub fn inputs_of<'a, R: Files + Clock + Eprint, S: io::Read + Drop>(
     named: NamedSources<'a>,
-    sources: Sources<Source<'_, R, R::File, S>>,
+    sources: Sources<'_, Source<'_, R, R::File, S>>,
     second: Option<(Named<'a>, Source<'_, R, R::File, S>)>,
 ) -> Inputs<'a, R::File> {
     let Sources {
         mut first,
         mut further,
+        ..
     } = sources;
     let (mut last, mut error) = (named.first, reading_error(&mut first));
     for (path, text) in named.further.iter().zip(further.iter_mut()) {

@@ -23,7 +23,7 @@ impl Rewriting {
     pub fn run<I: Input, O: Output>(
         self,
         alloc: Global,
-        sources: &mut Sources<I>,
+        sources: &mut Sources<'_, I>,
         out: &mut O,
     ) -> Result<Ended, Halt> {
         let status = match self {

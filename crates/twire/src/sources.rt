@@ -1,17 +1,21 @@
 // What a run is over.
 
-use brief_text::Briefs;
+use brief_text::{Briefs, Origins};
+use plan_core::Plan;
+use plan_words::{BriefFiles, PlanWords};
 use report::{GivenPlan, Input, NoPlan, find_further, find_given, given_by};
 use std::alloc::Global;
 
 /// The text that a run is over, or the briefs that give its plan, one after another.
 #[derive(Drop)]
-pub struct Sources<I> {
+pub struct Sources<'a, I> {
     pub first: I,
     pub further: Vec<I>,
+    /// What people call these.
+    pub files: BriefFiles<'a>,
 }
 
-impl<I: Input> Sources<I> {
+impl<'a, I: Input> Sources<'a, I> {
     /// The plan that these give: that of one text, which may be a plan text or a brief, or that of several briefs. Each is read
     /// and judged before the next one is read.
     ///
@@ -38,5 +42,13 @@ impl<I: Input> Sources<I> {
             briefs = find_further(alloc, briefs, file, text)?;
         }
         Ok(given_by(briefs)?)
+    }
+
+    /// The plan that these give, in the words of people.
+    pub fn words<'p>(&self, plan: &'p Plan, origins: &'p Option<Origins>) -> PlanWords<'p>
+    where
+        'a: 'p,
+    {
+        PlanWords::new(plan, origins.as_ref(), self.files)
     }
 }
