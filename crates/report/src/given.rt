@@ -1,13 +1,13 @@
 // A plan that is given as a plan text, or as one brief or several.
 
-ghost use Rattle.std.specs.Prelude.{◌≡◌, true, IfOk, IfErr};
+ghost use Rattle.std.specs.Prelude.{◌≡◌, ◌⊎◌, true, IfOk, IfErr};
 ghost use Rattle.plan_core.specs.PlanContents.{plan_contents};
 ghost use Rattle.plan_text.specs.Refusals.{First};
 ghost use Rattle.brief_text.specs.Briefs.{Means};
 ghost use Rattle.brief_text.specs.Splitting.{plan_meant};
 ghost use Rattle.brief_text.specs.Together.{together};
 ghost use Rattle.report.specs.Found.{Finds};
-ghost use Rattle.report.specs.Given.{GivesPlan, RefusesGiven, Adds, RefusesFurther, is_version};
+ghost use Rattle.report.specs.Given.{GivesPlan, IsNeither, RefusesGiven, Adds, RefusesFurther, is_version};
 ghost use Rattle.run_parts.specs.RunErrors.{run_error};
 ghost use Rattle.run_parts.specs.Runs.{ReadsText, HaltsAtText};
 ghost use Rattle.run_parts.specs.declared.errors.RunError.TheVariants.{NoMemory};
@@ -44,18 +44,25 @@ pub struct NoPlan {
     pub text: Option<RefusedText>,
 }
 
+// How a text is refused, as a plan or as a brief.
+#[derive(Clone, Copy)]
+struct Refusal {
+    language: Language,
+    refused: Refused,
+}
+
 impl NoPlan {
-    // The refusal of this text.
-    fn refused(text: Vec<u8>, language: Language, file: u32, refused: Refused) -> NoPlan
-        ensures { result.error ≡ run_error refused.error }
+    // The refusal of this text, which has this number among those that give the plan.
+    fn refused(text: Vec<u8>, file: u32, refusal: Refusal) -> NoPlan
+        ensures { result.error ≡ run_error refusal.refused.error }
     {
-        let Refused { error, place } = refused;
+        let Refused { error, place } = refusal.refused;
         NoPlan {
             error: RunError::from(error),
             text: match place {
                 Some(place) => Some(RefusedText {
                     text,
-                    language,
+                    language: refusal.language,
                     place,
                     file,
                 }),
@@ -96,7 +103,10 @@ pub fn find_given<I: Input>(alloc: Global, text: &mut I) -> Result<GivenPlan, No
     ensures stops { IfErr result (λ e. HaltsAtText I.reader RefusesGiven text.old e.error text.new) }
 {
     let text = read_within(alloc, text, READS)?;
-    given_in(alloc, text)
+    match plan_of(alloc, text.as_slice()) {
+        Ok(given) => Ok(given),
+        Err(refusal) => Err(NoPlan::refused(text, 0, refusal)),
+    }
 }
 
 /// The briefs, with a further one that the reader gives. It has this number among those that give the plan.
@@ -116,7 +126,10 @@ pub fn find_further<I: Input>(
         HaltsAtText I.reader (RefusesFurther (together briefs)) text.old e.error text.new) }
 {
     let text = read_within(alloc, text, READS)?;
-    added(briefs, file, text)
+    match briefs.with_at(text.as_slice()) {
+        Ok(briefs) => Ok(briefs),
+        Err(refused) => Err(NoPlan::refused(text, file, in_brief(refused))),
+    }
 }
 
 /// The plan that the items of all briefs make up.
@@ -134,42 +147,53 @@ pub fn given_by(briefs: Briefs) -> Result<GivenPlan, AllocError>
     })
 }
 
-fn given_in(alloc: Global, text: Vec<u8>) -> Result<GivenPlan, NoPlan>
-    ensures given { IfOk result (λ it. GivesPlan text.items (plan_contents it.plan)) }
-    ensures refused { IfErr result (λ e. RefusesGiven text.items e.error) }
+fn plan_of(alloc: Global, text: &[u8]) -> Result<GivenPlan, Refusal>
+    ensures given { IfOk result (λ it. GivesPlan text.now (plan_contents it.plan)) }
+    ensures refused { IfErr result (λ e.
+        (e.refused.error ≡ PlanError.NoMemory) ⊎ IsNeither text.now e.refused.error) }
 {
-    match read_plan_at(alloc, text.as_slice()) {
+    match read_plan_at(alloc, text) {
         Ok(plan) => Ok(GivenPlan {
             plan,
             origins: None,
         }),
         Err(refused) if is_version(refused.error) => meant_by(alloc, text, refused),
-        Err(refused) => Err(NoPlan::refused(text, Language::Plan, 0, refused)),
+        Err(refused) => Err(in_plan(refused)),
     }
 }
 
 // The plan that the text means as a brief, where as a plan text it is refused so.
-fn meant_by(alloc: Global, text: Vec<u8>, head: Refused) -> Result<GivenPlan, NoPlan>
+fn meant_by(alloc: Global, text: &[u8], head: Refused) -> Result<GivenPlan, Refusal>
     requires { is_version head.error ≡ true }
-    ensures meant { IfOk result (λ it. Means text.items (plan_contents it.plan)) }
-    ensures refused { First text.items head.error → IfErr result (λ e. RefusesGiven text.items e.error) }
+    ensures meant { IfOk result (λ it. Means text.now (plan_contents it.plan)) }
+    ensures refused { First text.now head.error → IfErr result (λ e.
+        (e.refused.error ≡ PlanError.NoMemory) ⊎ IsNeither text.now e.refused.error) }
 {
-    match Briefs::new(alloc).with_at(text.as_slice()) {
-        Ok(briefs) => Ok(given_by(briefs)?),
-        Err(refused) if is_version(refused.error) => {
-            Err(NoPlan::refused(text, Language::Plan, 0, head))
-        }
-        Err(refused) => Err(NoPlan::refused(text, Language::Brief, 0, refused)),
+    match Briefs::new(alloc).with_at(text) {
+        Ok(briefs) => match given_by(briefs) {
+            Ok(given) => Ok(given),
+            Err(_) => Err(in_brief(Refused::memory())),
+        },
+        Err(refused) if is_version(refused.error) => Err(in_plan(head)),
+        Err(refused) => Err(in_brief(refused)),
     }
 }
 
-fn added(briefs: Briefs, file: u32, text: Vec<u8>) -> Result<Briefs, NoPlan>
-    ensures added { IfOk result (λ it. Adds (together briefs) text.items (together it)) }
-    ensures refused { IfErr result (λ e. RefusesFurther (together briefs) text.items e.error) }
+fn in_plan(refused: Refused) -> Refusal
+    ensures { result.refused ≡ refused }
 {
-    match briefs.with_at(text.as_slice()) {
-        Ok(briefs) => Ok(briefs),
-        Err(refused) => Err(NoPlan::refused(text, Language::Brief, file, refused)),
+    Refusal {
+        language: Language::Plan,
+        refused,
+    }
+}
+
+fn in_brief(refused: Refused) -> Refusal
+    ensures { result.refused ≡ refused }
+{
+    Refusal {
+        language: Language::Brief,
+        refused,
     }
 }
 

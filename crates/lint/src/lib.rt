@@ -1,0 +1,164 @@
+//! What is allowed in briefs, and is likely a mistake. Nothing of it decides anything, and no clause speaks of it.
+#![tactic(auto)]
+
+use brief_text::{Device, NamedByte, Origins, Spot};
+use message_tree::{Address, Bit};
+use plan_core::Plan;
+use std::alloc::{AllocError, Global};
+
+/// What is likely a mistake.
+#[derive(Clone, Copy)]
+pub enum Oddity<'a> {
+    /// The second device has the address of the first, in all bits.
+    SameAddress(&'a Device, &'a Device),
+    /// UM10204, 3.1.12 reserves the address: its first four bits are 0000 or 1111.
+    ReservedAddress(&'a Device),
+    /// No message and no interrupt names the device.
+    UnusedDevice(&'a Device),
+    /// No message names the data byte.
+    UnusedByte(&'a NamedByte),
+    /// No controller lists these messages: so many, from this one of the plan on. They stand in one place, as a family does.
+    Unsent { first: u32, count: u32, spot: Spot },
+    /// The controller of this number in the plan lists no message.
+    Idle { controller: u32, spot: Spot },
+}
+
+/// What is likely a mistake in the briefs that mean this plan: first of their devices, then of bytes, messages, and controllers,
+/// each in the order of the briefs.
+///
+/// # Errors
+///
+/// Where an allocation fails.
+pub fn oddities<'a>(
+    alloc: Global,
+    plan: &Plan,
+    origins: &'a Origins,
+) -> Result<Vec<Oddity<'a>>, AllocError> {
+    let mut found = Vec::new(alloc);
+    push_devices(&mut found, origins.devices.as_slice())?;
+    push_bytes(&mut found, origins.bytes.as_slice())?;
+    push_messages(&mut found, plan, origins.messages.as_slice())?;
+    push_controllers(&mut found, plan, origins)?;
+    Ok(found)
+}
+
+fn push_devices<'a>(
+    found: &mut Vec<Oddity<'a>>,
+    devices: &'a [Device],
+) -> Result<(), AllocError> {
+    let mut before = 0usize;
+    for device in devices {
+        if let Some(first) = with_address(devices.get(..before).unwrap_or(&[]), device.address) {
+            found.push(Oddity::SameAddress(first, device))?;
+        }
+        if is_reserved(device.address) {
+            found.push(Oddity::ReservedAddress(device))?;
+        }
+        if !device.is_used {
+            found.push(Oddity::UnusedDevice(device))?;
+        }
+        before = before.saturating_add(1);
+    }
+    Ok(())
+}
+
+// The first of these devices that has this address.
+fn with_address(devices: &[Device], address: Address) -> Option<&Device> {
+    for device in devices {
+        if device.address == address {
+            return Some(device);
+        }
+    }
+    None
+}
+
+// Whether the first four bits, which are sent first, are 0000 or 1111.
+fn is_reserved(address: Address) -> bool {
+    begins_with(address, Bit::Zero) || begins_with(address, Bit::One)
+}
+
+fn begins_with(address: Address, bit: Bit) -> bool {
+    for place in 0..4u8 {
+        if address.bit(place) != bit {
+            return false;
+        }
+    }
+    true
+}
+
+fn push_bytes<'a>(
+    found: &mut Vec<Oddity<'a>>,
+    bytes: &'a [NamedByte],
+) -> Result<(), AllocError> {
+    for byte in bytes {
+        if !byte.is_used {
+            found.push(Oddity::UnusedByte(byte))?;
+        }
+    }
+    Ok(())
+}
+
+// Messages that no controller lists, those of one place together.
+fn push_messages(
+    found: &mut Vec<Oddity<'_>>,
+    plan: &Plan,
+    spots: &[Spot],
+) -> Result<(), AllocError> {
+    let mut open: Option<(u32, u32, Spot)> = None;
+    let mut message = 0u32;
+    for spot in spots {
+        if is_sent(plan, message) {
+            push_unsent(found, open)?;
+            open = None;
+        } else {
+            open = match open {
+                Some((first, count, place)) if place == *spot => {
+                    Some((first, count.saturating_add(1), place))
+                }
+                before => {
+                    push_unsent(found, before)?;
+                    Some((message, 1, *spot))
+                }
+            };
+        }
+        message = message.saturating_add(1);
+    }
+    push_unsent(found, open)
+}
+
+fn push_unsent(
+    found: &mut Vec<Oddity<'_>>,
+    open: Option<(u32, u32, Spot)>,
+) -> Result<(), AllocError> {
+    if let Some((first, count, spot)) = open {
+        found.push(Oddity::Unsent { first, count, spot })?;
+    }
+    Ok(())
+}
+
+fn is_sent(plan: &Plan, message: u32) -> bool {
+    for k in 0..plan.controllers() {
+        if plan.controller_messages(k).contains(&message) {
+            return true;
+        }
+    }
+    false
+}
+
+fn push_controllers(
+    found: &mut Vec<Oddity<'_>>,
+    plan: &Plan,
+    origins: &Origins,
+) -> Result<(), AllocError> {
+    let mut controller = 0u32;
+    for origin in origins.controllers.as_slice() {
+        if controller < plan.controllers() && plan.controller_messages(controller).is_empty() {
+            found.push(Oddity::Idle {
+                controller,
+                spot: origin.spot,
+            })?;
+        }
+        controller = controller.saturating_add(1);
+    }
+    Ok(())
+}
