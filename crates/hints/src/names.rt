@@ -75,7 +75,10 @@ fn push_earlier(lines: &mut Lines, refused: &RefusedIn<'_>, names: &[NameAt<'_>]
         Some(Expected::Name(kind)) => {
             let what = called(kind);
             lines.part(format_args!("an earlier {what} has this name"));
-            push_line(lines, line_of(names, kind, word).or(line_of_maker(names, kind, word)));
+            push_line(
+                lines,
+                line_of(names, kind, word).or(line_of_maker(names, kind, word)),
+            );
         }
         Some(Expected::Sending) => {
             lines.say("this controller lists that already, or a part of it");
@@ -239,12 +242,7 @@ pub(crate) fn push_unknown(alloc: Global, lines: &mut Lines, refused: &RefusedIn
     }
 }
 
-fn push_absent(
-    alloc: Global,
-    lines: &mut Lines,
-    refused: &RefusedIn<'_>,
-    names: &[NameAt<'_>],
-) {
+fn push_absent(alloc: Global, lines: &mut Lines, refused: &RefusedIn<'_>, names: &[NameAt<'_>]) {
     let word = refused.token();
     match refused.place.expected {
         Some(Expected::Sending) => push_nearest(alloc, lines, refused, names, Kind::Message, word),

@@ -25,11 +25,7 @@ pub fn on_starters(alloc: Global, plan: &Plan, starters: &str) -> Result<Hints, 
     lines.finish()
 }
 
-fn refusal_of(
-    alloc: Global,
-    plan: &Plan,
-    starters: &str,
-) -> Result<Option<OpenError>, AllocError> {
+fn refusal_of(alloc: Global, plan: &Plan, starters: &str) -> Result<Option<OpenError>, AllocError> {
     let mut numbers = Vec::new(alloc);
     if !starters.is_empty() {
         for label in starters.split(',') {

@@ -79,10 +79,12 @@ fn as_brief<'a>(alloc: Global, refused: RefusedIn<'a>, head: &[u8]) -> Option<Re
         return None;
     }
     match expand_brief_at(alloc, head) {
-        Err(Refused {
-            error: error @ PlanError::Version(_),
-            place: Some(place),
-        }) => Some(RefusedIn {
+        Err(
+            Refused {
+                error: error @ PlanError::Version(_),
+                place: Some(place),
+            },
+        ) => Some(RefusedIn {
             error,
             place,
             language: Language::Brief,
@@ -133,17 +135,18 @@ enum Fault {
 impl Fault {
     fn span(self) -> Span {
         match self {
-            Fault::NoSemicolon(span)
-            | Fault::Range(span)
-            | Fault::Token(span)
-            | Fault::End(span) => span,
+            Fault::NoSemicolon(span) | Fault::Range(span) | Fault::Token(span) | Fault::End(span) =>
+                span,
         }
     }
 }
 
 fn fault_of(refused: &RefusedIn<'_>) -> Fault {
     let Place {
-        line, start, end, ..
+        line,
+        start,
+        end,
+        ..
     } = refused.place;
     let span = Span { line, start, end };
     if let Some(span) = missing_semicolon(refused) {
@@ -159,7 +162,8 @@ fn fault_of(refused: &RefusedIn<'_>) -> Fault {
 
 // The place after the token before, where `;` could stand and the refused token begins an item.
 fn missing_semicolon(refused: &RefusedIn<'_>) -> Option<Span> {
-    if !takes_semicolon(refused.place.expected?) || !begins_item(refused.language, refused.token())
+    if !takes_semicolon(refused.place.expected?)
+        || !begins_item(refused.language, refused.token())
     {
         return None;
     }

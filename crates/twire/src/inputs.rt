@@ -5,6 +5,7 @@ use crate::progress::{Count, Told, Watcher};
 use crate::runs::Extras;
 use crate::voices::refused;
 use hints::Named;
+use objects::Detail;
 use report::{Input as _, Opened, RunError, Watched};
 use std::fs::{self, Metadata, OpenFile};
 use std::io;
@@ -61,10 +62,10 @@ pub fn open<'a, R: Files + Input + Eprint + Clock + AllocGlobal>(
 fn unopened<R: Eprint + AllocGlobal>(rt: &R, file: Named<'_>, error: &io::Error, extras: Extras) {
     let voice = extras.voice();
     if error.kind() == io::ErrorKind::OutOfMemory {
-        refused(rt, RunError::NoMemory, None, voice);
+        refused(rt, RunError::NoMemory, Detail::Nothing, voice);
         return;
     }
-    refused(rt, RunError::Read, None, voice);
+    refused(rt, RunError::Read, Detail::Nothing, voice);
     if !extras.hints {
         return;
     }
@@ -164,9 +165,7 @@ pub fn identity_of(found: io::Result<Metadata>) -> Option<FileId> {
 pub struct Inputs<'a, F> {
     pub last: Named<'a>,
     pub error: Option<io::Error>,
-    /// The file of a plan or of a brief.
-    pub plan: Option<F>,
-    /// The file of a certificate or of a capture.
+    /// The file of a certificate or of a capture, where one was read.
     pub other: Option<F>,
 }
 
@@ -175,18 +174,10 @@ pub fn one_read<'a, R: Files + Clock + Eprint, S: io::Read + Drop>(
     named: Named<'a>,
     mut source: Source<'_, R, R::File, S>,
 ) -> Inputs<'a, R::File> {
-    let error = reading_error(&mut source);
-    let file = file_of(source);
-    let (plan, other) = if named.what == "capture" {
-        (None, file)
-    } else {
-        (file, None)
-    };
     Inputs {
         last: named,
-        error,
-        plan,
-        other,
+        error: reading_error(&mut source),
+        other: file_of(source),
     }
 }
 
@@ -205,7 +196,6 @@ pub fn both_read<'a, R: Files + Clock + Eprint, S: io::Read + Drop>(
     Inputs {
         last,
         error,
-        plan: file_of(one),
         other: file_of(two),
     }
 }

@@ -10,7 +10,7 @@ use crate::runs::Extras;
 use bench_run::{NoGate, Outcome, Rehearsal, outcome_report, rehearse, status_of_outcome};
 use bus_bench::opening::MOST_SLOTS;
 use explain::{Paint, explain_answer, explain_rehearsal, mistake_of};
-use hints::on_no_answers;
+use hints::{Hints, on_no_answers, on_starters};
 use message_tree::Item;
 use objects::write_rehearsal;
 use plan_core::Plan;
@@ -98,7 +98,28 @@ fn bench_with<
     }
 }
 
+// What is to be said of starters that are refused is found before the rehearsal, which keeps the plan.
 fn bench_plan<R: Files + Print + Eprint + AllocGlobal + Threads + Wait + Clock + Sync, O: Output>(
+    rt: &R,
+    plan: Plan,
+    cert: &[u8],
+    out: &mut O,
+    play: Play<'_>,
+    extras: Extras,
+    canvas: Option<Canvas<'_>>,
+) -> Result<Ended, Halt> {
+    let hints = if extras.hints {
+        on_starters(rt.alloc(), &plan, play.starters)?
+    } else {
+        Hints::new(rt.alloc())
+    };
+    match play_plan(rt, plan, cert, out, play, extras, canvas) {
+        Err(Halt::Run(error @ RunError::Bench(_))) => Err(Halt::Said(error, hints)),
+        ended => ended,
+    }
+}
+
+fn play_plan<R: Files + Print + Eprint + AllocGlobal + Threads + Wait + Clock + Sync, O: Output>(
     rt: &R,
     plan: Plan,
     cert: &[u8],

@@ -266,7 +266,6 @@ impl<'a> Over<'a> {
             Over::Learn { bus, .. } => {
                 About::recording(names_of(bus.lines, path), ["twire learn", path, "", ""])
             }
-            Over::Bench(play) => About::bench(play.starters),
             _ => About::plans(),
         }
     }
@@ -327,8 +326,7 @@ impl<'a> OverBoth<'a> {
                 let words = ["twire page", plan, "--capture", other];
                 About::recording(names_of(bus.lines, other), words)
             }
-            OverBoth::Bench(play) => About::bench(play.starters),
-            OverBoth::Verify { .. } => About::plans(),
+            OverBoth::Bench(_) | OverBoth::Verify { .. } => About::plans(),
         }
     }
 }
