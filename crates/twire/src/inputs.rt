@@ -6,6 +6,7 @@ use crate::runs::Extras;
 use crate::sources::Sources;
 use crate::voices::refused;
 use hints::Named;
+use objects::Detail;
 use plan_words::BriefFiles;
 use report::{Input as _, Opened, RunError, Watched};
 use std::fs::{self, Metadata, OpenFile};
@@ -75,7 +76,7 @@ pub fn open_sources<'a, 'n, R: Files + Input + Eprint + Clock + AllocGlobal>(
     for path in named.further {
         let file = open(rt, named.further_one(path), ids, extras)?;
         if further.push(file).is_err() {
-            refused(rt, RunError::NoMemory, None, None, extras.voice());
+            refused(rt, RunError::NoMemory, Detail::Nothing, extras.voice());
             return None;
         }
     }
@@ -138,10 +139,10 @@ fn open<'a, R: Files + Input + Eprint + Clock + AllocGlobal>(
 fn unopened<R: Eprint + AllocGlobal>(rt: &R, file: Named<'_>, error: &io::Error, extras: Extras) {
     let voice = extras.voice();
     if error.kind() == io::ErrorKind::OutOfMemory {
-        refused(rt, RunError::NoMemory, None, None, voice);
+        refused(rt, RunError::NoMemory, Detail::Nothing, voice);
         return;
     }
-    refused(rt, RunError::Read, None, None, voice);
+    refused(rt, RunError::Read, Detail::Nothing, voice);
     if !extras.hints {
         return;
     }
@@ -246,9 +247,7 @@ pub fn identity_of(found: io::Result<Metadata>) -> Option<FileId> {
 pub struct Inputs<'a, F> {
     pub last: Named<'a>,
     pub error: Option<io::Error>,
-    /// The file of a plan or of a brief, where one gives the plan.
-    pub plan: Option<F>,
-    /// The file of a certificate or of a capture.
+    /// The file of a certificate or of a capture, where one was read.
     pub other: Option<F>,
 }
 
@@ -270,38 +269,19 @@ pub fn inputs_of<'a, R: Files + Clock + Eprint, S: io::Read + Drop>(
         }
     }
     let Some((second, mut source)) = second else {
-        let (plan, other) = parts_of(named, first, None);
         return Inputs {
             last,
             error,
-            plan,
-            other,
+            other: file_of(first),
         };
     };
     if source.failed() {
         (last, error) = (second, reading_error(&mut source));
     }
-    let (plan, other) = parts_of(named, first, Some(source));
     Inputs {
         last,
         error,
-        plan,
-        other,
-    }
-}
-
-// The file that gives the plan alone, and that of a certificate or of a capture.
-fn parts_of<R, F: Drop, S: Drop>(
-    named: NamedSources<'_>,
-    first: Source<'_, R, F, S>,
-    second: Option<Source<'_, R, F, S>>,
-) -> (Option<F>, Option<F>) {
-    let first = file_of(first);
-    match second {
-        Some(second) if named.further.is_empty() => (first, file_of(second)),
-        Some(second) => (None, file_of(second)),
-        None if named.first.what == "capture" => (None, first),
-        None => (first, None),
+        other: file_of(source),
     }
 }
 

@@ -12,7 +12,7 @@ use crate::sources::Sources;
 use bench_run::{NoGate, Outcome, Rehearsal, outcome_report, rehearse, status_of_outcome};
 use bus_bench::opening::MOST_SLOTS;
 use explain::{Paint, explain_answer, explain_rehearsal, mistake_of};
-use hints::on_no_answers;
+use hints::{Hints, on_no_answers, on_starters};
 use message_tree::Item;
 use objects::write_rehearsal;
 use plan_core::Plan;
@@ -54,7 +54,7 @@ pub fn bench_alone<
 ) -> Result<Ended, Halt> {
     let GivenPlan { plan, origins } = plans.find(rt.alloc())?;
     let cert = certificate_of(rt.alloc(), &plan)?;
-    let outcome = outcome_of(rt, plan, cert.as_slice(), play)?;
+    let outcome = outcome_of(rt, plan, cert.as_slice(), play, extras)?;
     let words = plans.words(plan_of(&outcome), &origins);
     tell_outcome(
         rt,
@@ -91,7 +91,7 @@ pub fn bench<
 ) -> Result<Ended, Halt> {
     let GivenPlan { plan, origins } = plans.find(rt.alloc())?;
     let cert = read_within(rt.alloc(), cert, READS)?;
-    let outcome = outcome_of(rt, plan, cert.as_slice(), play)?;
+    let outcome = outcome_of(rt, plan, cert.as_slice(), play, extras)?;
     let words = plans.words(plan_of(&outcome), &origins);
     tell_outcome(
         rt,
@@ -113,8 +113,29 @@ fn plan_of(outcome: &Outcome) -> &Plan {
     }
 }
 
-// What comes of it.
+// What comes of it. What is to be said of starters that are refused is found before the rehearsal, which keeps the plan.
 fn outcome_of<R: AllocGlobal + Threads + Wait + Clock + Sync>(
+    rt: &R,
+    plan: Plan,
+    cert: &[u8],
+    play: Play<'_>,
+    extras: Extras,
+) -> Result<Outcome, Halt>
+    ensures { IfOk result HasWinners }
+{
+    let hints = if extras.hints {
+        on_starters(rt.alloc(), &plan, play.starters)?
+    } else {
+        Hints::new(rt.alloc())
+    };
+    match outcome_of_plan(rt, plan, cert, play) {
+        Ok(outcome) => Ok(outcome),
+        Err(error @ RunError::Bench(_)) => Err(Halt::Said(error, hints)),
+        Err(error) => Err(Halt::Run(error)),
+    }
+}
+
+fn outcome_of_plan<R: AllocGlobal + Threads + Wait + Clock + Sync>(
     rt: &R,
     plan: Plan,
     cert: &[u8],

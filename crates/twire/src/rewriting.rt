@@ -2,7 +2,15 @@
 
 use crate::endings::{Ended, Halt, Remark};
 use crate::sources::Sources;
-use report::{Input, Output, Status, certify_found, print_found, run_brief};
+use brief_text::brief_of;
+use hints::on_no_brief;
+use plan_core::Plan;
+use plan_text::{Language, NoBrief, Refused, read_plan_at};
+use report::{
+    Input, Output, RefusedText, RunError, Status, certify_found, print_found, read_within,
+};
+use run_parts::devices::reading::READS;
+use run_parts::write_lines;
 use std::alloc::Global;
 
 /// A run that writes a text in another form.
@@ -19,7 +27,8 @@ impl Rewriting {
     ///
     /// # Errors
     ///
-    /// Those of the parts of `report`, in the same order.
+    /// Those of the parts of `report`, in the same order, with the text that is refused, and with what is to be said of a plan
+    /// that has no brief.
     pub fn run<I: Input, O: Output>(
         self,
         alloc: Global,
@@ -27,11 +36,11 @@ impl Rewriting {
         out: &mut O,
     ) -> Result<Ended, Halt> {
         let status = match self {
-            Rewriting::Certify => certify_found(alloc, &sources.find(alloc)?.plan, out),
-            Rewriting::Print => print_found(alloc, &sources.find(alloc)?.plan, out),
-            Rewriting::Brief => run_brief(alloc, &mut sources.first, out),
-            Rewriting::Expand => print_found(alloc, &sources.find_in_briefs(alloc)?.plan, out),
-        }?;
+            Rewriting::Certify => certify_found(alloc, &sources.find(alloc)?.plan, out)?,
+            Rewriting::Print => print_found(alloc, &sources.find(alloc)?.plan, out)?,
+            Rewriting::Brief => write_brief(alloc, &mut sources.first, out)?,
+            Rewriting::Expand => print_found(alloc, &sources.find_in_briefs(alloc)?.plan, out)?,
+        };
         Ok(Ended {
             status,
             remark: self.remark(status),
@@ -43,5 +52,46 @@ impl Rewriting {
             (Rewriting::Certify, Status::Bad) => Remark::Fault,
             _ => Remark::Nothing,
         }
+    }
+}
+
+// Writes a brief of the plan that the reader gives.
+fn write_brief<I: Input, O: Output>(
+    alloc: Global,
+    text: &mut I,
+    out: &mut O,
+) -> Result<Status, Halt> {
+    let text = read_within(alloc, text, READS)?;
+    match read_plan_at(alloc, text.as_slice()) {
+        Ok(plan) => write_brief_of(alloc, &plan, out),
+        Err(refused) => Err(refused_plan(text, refused)),
+    }
+}
+
+fn refused_plan(text: Vec<u8>, refused: Refused) -> Halt {
+    let Refused { error, place } = refused;
+    let text = match place {
+        Some(place) => Some(RefusedText {
+            text,
+            language: Language::Plan,
+            place,
+            file: 0,
+        }),
+        None => None,
+    };
+    Halt::Text(RunError::from(error), text)
+}
+
+fn write_brief_of<O: Output>(alloc: Global, plan: &Plan, out: &mut O) -> Result<Status, Halt> {
+    match brief_of(alloc, plan) {
+        Ok(brief) => {
+            let status = write_lines(out, brief.as_slice(), Status::Good)?;
+            Ok(status)
+        }
+        Err(error @ NoBrief::Name) => {
+            let hints = on_no_brief(alloc, plan)?;
+            Err(Halt::Said(RunError::from(error), hints))
+        }
+        Err(error) => Err(Halt::Run(RunError::from(error))),
     }
 }

@@ -13,6 +13,7 @@ use crate::voices::{Voice, refused};
 use command_words::{Asked, Manner, Request, When, read_words};
 use explain::Paint;
 use hints::{Named, visible};
+use objects::Detail;
 use report::{RunError, Status, Watched};
 use std::env::{self, VarError};
 use std::io;
@@ -20,7 +21,6 @@ use std::rt::{Env, Files};
 use std::sync::Wait;
 use std::thread::Threads;
 use std::time::Clock;
-use vcd_read::Wrong;
 
 /// What people get beside the exact report: hints, colours in the report and in hints, and how far a long run is; or that
 /// reports, refusals and hints are objects, for programs.
@@ -74,7 +74,7 @@ pub fn run<R: Files + Env + Input + Print + Eprint + AllocGlobal + Threads + Wai
     match run_words(rt, terminals) {
         Ok(status) => status,
         // (before it is known whether objects are wanted)
-        Err(error) => refused(rt, error, None, None, Voice::Plain),
+        Err(error) => refused(rt, error, Detail::Nothing, Voice::Plain),
     }
 }
 
@@ -293,14 +293,14 @@ struct FilesWritten<'a> {
 
 // Writes the file of a run that is to write one, and answers the status of the run, with the line of a refusal, and hints
 // where they are wanted.
-fn finish<R: Files + Print + Eprint + Clock + AllocGlobal>(
+fn finish<'a, R: Files + Print + Eprint + Clock + AllocGlobal>(
     rt: &R,
     read: Inputs<'_, R::File>,
     mut out: Sheet<'_, R>,
     ended: Result<Ended, Halt>,
-    named: NamedSources<'_>,
-    files: FilesWritten<'_>,
-    about: About<'_>,
+    named: NamedSources<'a>,
+    files: FilesWritten<'a>,
+    about: About<'a>,
     extras: Extras,
 ) -> u8 {
     let (ended, remark, output, reason) = match ended {
@@ -310,16 +310,21 @@ fn finish<R: Files + Print + Eprint + Clock + AllocGlobal>(
             (Err(error), Remark::refused(wrong), files.output, None)
         }
         Err(Halt::Text(error, text)) => (Err(error), Remark::text(text), files.output, None),
+        Err(Halt::Said(error, hints)) => (Err(error), Remark::Hints(hints), files.output, None),
         Err(Halt::Undrawn(error, reason)) => (Err(error), Remark::Nothing, files.wave, reason),
         Err(Halt::NoTimescale) => return no_timescale(rt, extras),
     };
     let ended = out.settle(ended);
-    let file = remark.refused_text().and_then(|text| named.path(text.file));
-    let status = exit_code_of(rt, ended, file, remark.wrong(), extras);
+    let file = match &remark {
+        Remark::Text(text) => named.path(text.file),
+        _ => None,
+    };
+    let status = exit_code_of(rt, ended, remark.detail(file), extras);
     if extras.hints {
         let closing = Closing {
             ended,
             remark,
+            file,
             output,
             error: reason.or(out.into_error()),
             about,
@@ -334,8 +339,7 @@ fn finish<R: Files + Print + Eprint + Clock + AllocGlobal>(
 fn exit_code_of<R: Clock + Eprint + AllocGlobal>(
     rt: &R,
     ended: Result<Status, RunError>,
-    file: Option<&str>,
-    wrong: Option<&Wrong>,
+    detail: Detail<'_>,
     extras: Extras,
 ) -> u8 {
     extras.watcher.clear(rt);
@@ -343,7 +347,7 @@ fn exit_code_of<R: Clock + Eprint + AllocGlobal>(
         Ok(Status::Good) => 0,
         Ok(Status::Bad) => 1,
         Ok(Status::Refused) => 2,
-        Err(error) => refused(rt, error, file, wrong, extras.voice()),
+        Err(error) => refused(rt, error, detail, extras.voice()),
     }
 }
 

@@ -278,7 +278,6 @@ impl<'a> Over<'a> {
             Over::Learn { bus, .. } => {
                 About::recording(names_of(bus.lines, path), ["twire learn", path, "", ""])
             }
-            Over::Bench(play) => About::bench(play.starters),
             _ => About::plans(),
         }
     }
@@ -340,8 +339,7 @@ impl<'a> OverBoth<'a> {
                 let words = ["twire page", plan, "--capture", other];
                 About::recording(names_of(bus.lines, other), words).with(sources.further)
             }
-            OverBoth::Bench(play) => About::bench(play.starters),
-            OverBoth::Verify { .. } => About::plans(),
+            OverBoth::Bench(_) | OverBoth::Verify { .. } => About::plans(),
         }
     }
 }
