@@ -23,7 +23,7 @@ pub(crate) fn both_at<'a>(words: PlanWords<'a>, both: (u32, u32)) -> Option<[Opt
 /// Where the message and the controller of a participant stand. Nothing where no brief means the plan, and for an interrupt.
 pub(crate) fn one_at<'a>(words: PlanWords<'a>, p: u32) -> Option<[At<'a>; 2]> {
     let message = message_at(words, p)?;
-    let controller = at(words.controller_at(p)?);
+    let controller = line_of(words.controller_at(p)?);
     Some([message, controller])
 }
 
@@ -56,10 +56,10 @@ fn written_at(alloc: Global, place: Option<At<'_>>) -> Result<String, AllocError
 }
 
 fn message_at<'a>(words: PlanWords<'a>, p: u32) -> Option<At<'a>> {
-    Some(at(words.message_at(p)?))
+    Some(line_of(words.message_at(p)?))
 }
 
-fn at<'a>(place: FileLine<'a>) -> At<'a> {
+fn line_of<'a>(place: FileLine<'a>) -> At<'a> {
     let FileLine { file, line } = place;
     At { file, line }
 }
