@@ -133,13 +133,23 @@ fn by_controllers(
     between: &[(u32, u32)],
 ) -> Result<Vec<Never>, AllocError> {
     let mut nevers = Vec::new(alloc);
-    for (c, d) in between {
-        nevers.push(Never {
-            first: words.side(alloc, *c)?,
-            second: words.side(alloc, *d)?,
-        })?;
+    for never in between {
+        if !is_said_by(words, between, *never) {
+            nevers.push(Never {
+                first: words.side(alloc, never.0)?,
+                second: words.side(alloc, never.1)?,
+            })?;
+        }
     }
     Ok(nevers)
+}
+
+// Whether another one of these items means this one too.
+fn is_said_by(words: PlanWords<'_>, between: &[(u32, u32)], never: (u32, u32)) -> bool {
+    let (c, d) = never;
+    between.iter().any(|other| {
+        (other.0 != c || other.1 != d) && names_both(words, *other, c, d)
+    })
 }
 
 // How many pairs these items would leave out that no other one does.
