@@ -128,7 +128,6 @@ same "check with threads" check PLAN --workers 2
 same certify certify PLAN
 same order order PLAN
 same "verify" verify PLAN board.cert
-same "verify, as JSON" verify PLAN board.cert --format json
 same "capture" capture PLAN board.vcd
 same "capture, live" capture PLAN board.vcd --live
 same "bench" bench PLAN board.cert bmc/get,pch/page_1
@@ -176,9 +175,12 @@ want 2 "" "refused P8 line 2 of bmc.brief"
 run "what a later file declares" expand bmc.brief devices.brief
 want 2 "" "refused P3 line 2"
 run "one file is not named" expand first.brief
-want 2 "" 'refused P3 line 2 of a\nb'
-cp first.brief $'a\nb'
-run "a name with a line feed" expand devices.brief $'a\nb'
+# (objects have the name itself)
+if [[ -z ${TWIRE_OF_OBJECTS:-} ]]; then
+    want 2 "" 'refused P3 line 2 of a\nb'
+    cp first.brief $'a\nb'
+    run "a name with a line feed" expand devices.brief $'a\nb'
+fi
 
 # A plan text is none of several briefs.
 want 2 "" "refused P2 line 1 of board.plan"

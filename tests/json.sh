@@ -49,7 +49,7 @@ suite() {
     failed=$((failed + bad))
 }
 
-for name in check certificates briefs captures decode signals bench explain; do
+for name in check certificates briefs boards captures decode signals bench explain; do
     suite "$name"
 done
 

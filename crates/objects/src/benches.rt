@@ -1,6 +1,6 @@
 // Objects of a rehearsal.
 
-use crate::places::{At, one_at};
+use crate::places::{OneAt, one_at};
 use crate::writing::ObjectLines;
 use bench_run::Rehearsal;
 use certificate::push_wire;
@@ -30,7 +30,7 @@ struct Along<'a> {
 struct Starter<'a> {
     participant: &'a str,
     #[serde(skip_serializing_if = "Option::is_none")]
-    places: Option<[At<'a>; 2]>,
+    places: Option<OneAt>,
     puts: &'a str,
     #[serde(skip_serializing_if = "Option::is_none")]
     lost: Option<usize>,
@@ -75,7 +75,8 @@ fn add_explained(
     let along = tracks_of(lines.alloc, rehearsal)?;
     let mut starters = Vec::with_capacity(lines.alloc, along.tracks.len())?;
     for track in &along.tracks {
-        starters.push(starter_of(track, words, labels))?;
+        let places = one_at(lines.alloc, words, track.participant)?;
+        starters.push(starter_of(track, places, labels))?;
     }
     let explain = Along {
         bytes: along.bytes.as_str(),
@@ -84,10 +85,10 @@ fn add_explained(
     add_wire(lines, rehearsal, Some(explain))
 }
 
-fn starter_of<'a>(track: &'a Track, words: PlanWords<'a>, labels: &'a Labels) -> Starter<'a> {
+fn starter_of<'a>(track: &'a Track, places: Option<OneAt>, labels: &'a Labels) -> Starter<'a> {
     Starter {
         participant: labels.of(track.participant),
-        places: one_at(words, track.participant),
+        places,
         puts: track.puts.as_str(),
         lost: track.lost,
     }

@@ -1,12 +1,12 @@
 // Objects of a capture.
 
-use crate::places::{At, one_at};
+use crate::places::{OneAt, one_at};
 use crate::transactions::{Moment, Seen, Times, seen_of, times_of, too_few_of};
 use crate::written::Written;
 use capture_check::Transaction;
 use decoding::{Ending, ExplainedSink};
 use dump_tokens::Scale;
-use explain::{Labels, Layout, Others, Selection, Tallies, labels_of};
+use explain::{Explains, Labels, Layout, Others, Selection, Tallies, labels_of};
 use plan_core::Plan;
 use plan_words::PlanWords;
 use run_parts::{Output, RunError};
@@ -44,12 +44,12 @@ struct Rest {
 }
 
 // How many transactions a participant explains.
-#[derive(Clone, Copy, Serialize)]
+#[derive(Drop, Serialize)]
 struct Counted<'a> {
     kind: &'static str,
     participant: &'a str,
     #[serde(skip_serializing_if = "Option::is_none")]
-    places: Option<[At<'a>; 2]>,
+    places: Option<OneAt>,
     alone: u64,
     with_others: u64,
 }
@@ -219,13 +219,8 @@ fn add_tallies<O: Output>(
 ) {
     let mut p = 0u32;
     for (label, count) in labels.all().iter().zip(tallies.senders.as_slice()) {
-        written.add(&Counted {
-            kind: "participant",
-            participant: label.as_str(),
-            places: one_at(words, p),
-            alone: count.alone,
-            with_others: count.with_others,
-        });
+        let counted = counted_of(written.alloc, words, p, label.as_str(), *count);
+        written.add_made(counted);
         p = p.saturating_add(1);
     }
     let Others {
@@ -265,4 +260,21 @@ fn explained_of<'a>(
         object.explain = Some(seen_of(alloc, plan, labels, transaction, participants)?);
     }
     Ok(object)
+}
+
+// How often a participant explains a transaction.
+fn counted_of<'a>(
+    alloc: Global,
+    words: PlanWords<'_>,
+    p: u32,
+    participant: &'a str,
+    count: Explains,
+) -> Result<Counted<'a>, AllocError> {
+    Ok(Counted {
+        kind: "participant",
+        participant,
+        places: one_at(alloc, words, p)?,
+        alone: count.alone,
+        with_others: count.with_others,
+    })
 }

@@ -1,6 +1,6 @@
 // Objects of the answer to a certificate.
 
-use crate::places::{At, both_at};
+use crate::places::{BothAt, both_at};
 use crate::writing::ObjectLines;
 use cert_check::Answer;
 use certificate::CertFault;
@@ -38,7 +38,7 @@ enum Why<'a> {
 struct Misproved<'a> {
     participants: (&'a str, &'a str),
     #[serde(skip_serializing_if = "Option::is_none")]
-    places: Option<[Option<At<'a>>; 2]>,
+    places: Option<BothAt>,
     #[serde(skip_serializing_if = "Option::is_none")]
     word: Option<u32>,
     #[serde(skip_serializing_if = "Option::is_none")]
@@ -118,7 +118,7 @@ fn add_misproved(
 ) -> Result<(), AllocError> {
     let first = label_of(lines.alloc, words.plan(), participants.0)?;
     let second = label_of(lines.alloc, words.plan(), participants.1)?;
-    let places = both_at(words, participants);
+    let places = both_at(lines.alloc, words, participants)?;
     let why = misproved_of((first.as_str(), second.as_str()), places, found);
     lines.add(&object_of(answer, Some(Why::Pair(why))));
     Ok(())
@@ -126,7 +126,7 @@ fn add_misproved(
 
 fn misproved_of<'a>(
     participants: (&'a str, &'a str),
-    places: Option<[Option<At<'a>>; 2]>,
+    places: Option<BothAt>,
     found: Option<Break>,
 ) -> Misproved<'a> {
     let (word, slot, why) = match found {

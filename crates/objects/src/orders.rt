@@ -1,6 +1,6 @@
 // Objects of who wins.
 
-use crate::places::{At, both_at, one_at};
+use crate::places::{BothAt, OneAt, both_at, one_at};
 use crate::writing::ObjectLines;
 use explain::labels_of;
 use order::{Order, Outcomes, Slots, Total};
@@ -16,7 +16,7 @@ struct PairOrder<'a> {
     pair: u32,
     participants: [&'a str; 2],
     #[serde(skip_serializing_if = "Option::is_none")]
-    places: Option<[Option<At<'a>>; 2]>,
+    places: Option<BothAt>,
     #[serde(rename = "unsafe", skip_serializing_if = "Option::is_none")]
     is_unsafe: Option<bool>,
     #[serde(skip_serializing_if = "Option::is_none")]
@@ -33,7 +33,7 @@ struct Wins<'a> {
     kind: &'static str,
     participant: &'a str,
     #[serde(skip_serializing_if = "Option::is_none")]
-    places: Option<[At<'a>; 2]>,
+    places: Option<OneAt>,
     wins: u32,
     may_win: u32,
     loses: u32,
@@ -56,13 +56,13 @@ pub fn write_order<O: Output>(
     for pair in 0..plan.pair_count() {
         if let Some(outcomes) = order.ways.get(pair as usize) {
             let (x, y) = plan.pair(pair);
-            let places = both_at(words, (x, y));
+            let places = both_at(alloc, words, (x, y))?;
             lines.add(&pair_order(pair, [labels.of(x), labels.of(y)], places, outcomes));
         }
         lines.write_block(out)?;
     }
     for p in 0..plan.participants() {
-        let places = one_at(words, p);
+        let places = one_at(alloc, words, p)?;
         add_total(
             &mut lines,
             labels.of(p),
@@ -76,7 +76,7 @@ pub fn write_order<O: Output>(
 fn pair_order<'a>(
     pair: u32,
     participants: [&'a str; 2],
-    places: Option<[Option<At<'a>>; 2]>,
+    places: Option<BothAt>,
     outcomes: &Option<Outcomes>,
 ) -> PairOrder<'a> {
     let Outcomes {
@@ -110,7 +110,7 @@ fn slots_of(slots: Option<Slots>) -> Option<(u32, u32)> {
 fn add_total(
     lines: &mut ObjectLines,
     participant: &str,
-    places: Option<[At<'_>; 2]>,
+    places: Option<OneAt>,
     total: Option<&Total>,
 ) {
     match total {

@@ -5,26 +5,54 @@ use serde::Serialize;
 use std::alloc::{AllocError, Global};
 
 /// A line of a file.
-#[derive(Clone, Copy, Serialize)]
-pub(crate) struct At<'a> {
-    file: &'a str,
+#[derive(Drop, Serialize)]
+pub(crate) struct At {
+    file: String,
     line: u64,
 }
 
-/// Where the messages of a pair stand, of which an interrupt has none. Nothing where no brief means the plan.
-pub(crate) fn both_at<'a>(words: PlanWords<'a>, both: (u32, u32)) -> Option<[Option<At<'a>>; 2]> {
-    if words.has_briefs() {
-        Some([message_at(words, both.0), message_at(words, both.1)])
-    } else {
-        None
+/// Where the messages of a pair stand, of which an interrupt has none.
+pub(crate) type BothAt = (Option<At>, Option<At>);
+
+/// Where the message and the controller of a participant stand.
+pub(crate) type OneAt = (At, At);
+
+/// The places of a pair; nothing where no brief means the plan.
+///
+/// # Errors
+///
+/// Where an allocation fails.
+pub(crate) fn both_at(
+    alloc: Global,
+    words: PlanWords<'_>,
+    both: (u32, u32),
+) -> Result<Option<BothAt>, AllocError> {
+    if !words.has_briefs() {
+        return Ok(None);
     }
+    let first = message_at(alloc, words, both.0)?;
+    let second = message_at(alloc, words, both.1)?;
+    Ok(Some((first, second)))
 }
 
-/// Where the message and the controller of a participant stand. Nothing where no brief means the plan, and for an interrupt.
-pub(crate) fn one_at<'a>(words: PlanWords<'a>, p: u32) -> Option<[At<'a>; 2]> {
-    let message = message_at(words, p)?;
-    let controller = line_of(words.controller_at(p)?);
-    Some([message, controller])
+/// The places of a participant; nothing where no brief means the plan, and of an interrupt.
+///
+/// # Errors
+///
+/// Where an allocation fails.
+pub(crate) fn one_at(
+    alloc: Global,
+    words: PlanWords<'_>,
+    p: u32,
+) -> Result<Option<OneAt>, AllocError> {
+    match (words.message_at(p), words.controller_at(p)) {
+        (Some(message), Some(controller)) => {
+            let message = line_of(alloc, message)?;
+            let controller = line_of(alloc, controller)?;
+            Ok(Some((message, controller)))
+        }
+        _ => Ok(None),
+    }
 }
 
 /// The places of the messages of all participants, as they are written; nothing where no brief means the plan.
@@ -42,12 +70,13 @@ pub(crate) fn all_at(
     let participants = words.plan().participants();
     let mut places = Vec::with_capacity(alloc, participants as usize)?;
     for p in 0..participants {
-        places.push(written_at(alloc, message_at(words, p))?)?;
+        places.push(written_at(alloc, words, p)?)?;
     }
     Ok(Some(places))
 }
 
-fn written_at(alloc: Global, place: Option<At<'_>>) -> Result<String, AllocError> {
+fn written_at(alloc: Global, words: PlanWords<'_>, p: u32) -> Result<String, AllocError> {
+    let place = message_at(alloc, words, p)?;
     match serde_json::to_string(alloc, &place) {
         Ok(text) => Ok(text),
         // (out of memory: every key is a text)
@@ -55,11 +84,17 @@ fn written_at(alloc: Global, place: Option<At<'_>>) -> Result<String, AllocError
     }
 }
 
-fn message_at<'a>(words: PlanWords<'a>, p: u32) -> Option<At<'a>> {
-    Some(line_of(words.message_at(p)?))
+fn message_at(alloc: Global, words: PlanWords<'_>, p: u32) -> Result<Option<At>, AllocError> {
+    match words.message_at(p) {
+        Some(place) => Ok(Some(line_of(alloc, place)?)),
+        None => Ok(None),
+    }
 }
 
-fn line_of<'a>(place: FileLine<'a>) -> At<'a> {
+fn line_of(alloc: Global, place: FileLine<'_>) -> Result<At, AllocError> {
     let FileLine { file, line } = place;
-    At { file, line }
+    Ok(At {
+        file: String::from_str(alloc, file)?,
+        line,
+    })
 }
