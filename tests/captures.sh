@@ -314,8 +314,13 @@ fi
 # trial build cannot run below any limit.
 if { (ulimit -v 32768 && exec "$twire" --version); } >/dev/null 2>&1; then
     "$twire" capture plan long --summary >due
+    # (the first limit with which the program begins at all, from which on the system has loaded its libraries)
+    least=1000
+    until (ulimit -v "$least" && exec "$twire" --version) >/dev/null 2>&1; do
+        least=$((least + 100))
+    done
     shown=0 refused=0 other=
-    for ((limit = 4000; limit <= 24000; limit += 500)); do
+    for ((limit = least; limit <= least + 20000; limit += 500)); do
         (ulimit -v "$limit" && exec "$twire" capture plan long --summary --hints never) >report 2>err
         if [[ ! -s err ]] && cmp -s report due; then
             shown=$((shown + 1))

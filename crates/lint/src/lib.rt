@@ -42,10 +42,7 @@ pub fn oddities<'a>(
     Ok(found)
 }
 
-fn push_devices<'a>(
-    found: &mut Vec<Oddity<'a>>,
-    devices: &'a [Device],
-) -> Result<(), AllocError> {
+fn push_devices<'a>(found: &mut Vec<Oddity<'a>>, devices: &'a [Device]) -> Result<(), AllocError> {
     let mut before = 0usize;
     for device in devices {
         if let Some(first) = with_address(devices.get(..before).unwrap_or(&[]), device.address) {
@@ -86,10 +83,7 @@ fn begins_with(address: Address, bit: Bit) -> bool {
     true
 }
 
-fn push_bytes<'a>(
-    found: &mut Vec<Oddity<'a>>,
-    bytes: &'a [NamedByte],
-) -> Result<(), AllocError> {
+fn push_bytes<'a>(found: &mut Vec<Oddity<'a>>, bytes: &'a [NamedByte]) -> Result<(), AllocError> {
     for byte in bytes {
         if !byte.is_used {
             found.push(Oddity::UnusedByte(byte))?;

@@ -1,10 +1,17 @@
 -- A text that is a plan text, or a brief, or neither.
-use Rattle.std.proofs.Common.{◌≡◌, ◌⊎◌, ℕ, List, true, false, inl, inr}
+use Rattle.std.proofs.Common.{◌≡◌, ◌⊎◌, ℕ, List, true, false, inl, inr, ap, sym, subst, ◌∙◌, Result, Ok, Err, IfErr, IsErrAnd}
+use Rattle.plan_core.specs.Contents.{Contents}
+use Rattle.plan_text.specs.Places.{Refuses}
+use Rattle.plan_text.specs.Reader.{◌>>=◌}
 use Rattle.plan_text.specs.Refusals.{First}
 use Rattle.plan_text.specs.declared.errors.PlanError.{PlanError}
 use Rattle.plan_text.specs.declared.errors.PlanError.TheVariants as plan
-use Rattle.brief_text.specs.Briefs.{IsRefused}
-use Rattle.report.specs.Given.{IsNeither, no_plan, no_brief, no_head, RefusesGiven, is_version}
+use Rattle.brief_text.specs.Briefs.{Means, IsRefused, text_read, brief_read}
+use Rattle.brief_text.specs.Drafts.{Draft, no_items}
+use Rattle.brief_text.specs.Splitting.{plan_meant}
+use Rattle.report.specs.Given.{IsNeither, no_plan, no_brief, no_head, RefusesGiven, RefusesFurther, is_version}
+use Rattle.report.specs.declared.given.NoPlan.{NoPlan}
+use Rattle.run_parts.specs.declared.errors.RunError.{RunError}
 use Rattle.run_parts.specs.RunErrors.{run_error}
 
 pub refuses_given : (text : List ℕ) (e : PlanError) → (e ≡ plan.NoMemory) ⊎ IsNeither text e → RefusesGiven text (run_error e)
@@ -24,3 +31,20 @@ pub head_refused : (text : List ℕ) (head e : PlanError) → (e ≡ plan.NoMemo
 head_refused text head plan.NoMemory (inl none) version at_head first = cc
 head_refused text head e (inl none) version at_head first = cc
 head_refused text head e (inr refused) version at_head first = inr (no_head first at_head refused version)
+
+-- ---- one brief, and a further one
+
+pub means_read : (text : List ℕ) (draft after : Draft) (plan : Contents) → draft ≡ no_items → text_read draft text ≡ Ok after → plan ≡ plan_meant after → Means text plan
+unfolding brief_read
+means_read text draft after plan none read same =
+    ap (λ (r : Result Draft PlanError). r >>= λ draft. Ok (plan_meant draft)) (ap (λ (d : Draft). text_read d text) (sym none) ∙ read) ∙ ap Ok (sym same)
+
+pub refuses_further : (draft : Draft) (text : List ℕ) (e : PlanError) → Refuses (text_read draft text) e → RefusesFurther draft text (run_error e)
+refuses_further draft text plan.NoMemory h = tt
+refuses_further draft text e (inl same) = cc
+refuses_further draft text e (inr first) = first
+
+-- what holds of an error holds where the call answers that error
+pub on_no_plan : {X : Type 0} (r : Result X NoPlan) (error : RunError) (P : RunError → Type 0) → IsErrAnd r (λ e. e.error ≡ error) → P error → IfErr r (λ e. P e.error)
+on_no_plan (Ok x) error P h p = tt
+on_no_plan (Err e) error P h p = subst P (sym h) p

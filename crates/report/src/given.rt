@@ -128,7 +128,13 @@ pub fn find_further<I: Input>(
     let text = read_within(alloc, text, READS)?;
     match briefs.with_at(text.as_slice()) {
         Ok(briefs) => Ok(briefs),
-        Err(refused) => Err(NoPlan::refused(text, file, in_brief(refused))),
+        Err(refused) => {
+            let refusal = Refusal {
+                language: Language::Brief,
+                refused,
+            };
+            Err(NoPlan::refused(text, file, refusal))
+        }
     }
 }
 
@@ -158,7 +164,10 @@ fn plan_of(alloc: Global, text: &[u8]) -> Result<GivenPlan, Refusal>
             origins: None,
         }),
         Err(refused) if is_version(refused.error) => meant_by(alloc, text, refused),
-        Err(refused) => Err(in_plan(refused)),
+        Err(refused) => Err(Refusal {
+            language: Language::Plan,
+            refused,
+        }),
     }
 }
 
@@ -169,31 +178,23 @@ fn meant_by(alloc: Global, text: &[u8], head: Refused) -> Result<GivenPlan, Refu
     ensures refused { First text.now head.error → IfErr result (λ e.
         (e.refused.error ≡ PlanError.NoMemory) ⊎ IsNeither text.now e.refused.error) }
 {
-    match Briefs::new(alloc).with_at(text) {
+    let briefs = Briefs::new(alloc);
+    match briefs.with_at(text) {
         Ok(briefs) => match given_by(briefs) {
             Ok(given) => Ok(given),
-            Err(_) => Err(in_brief(Refused::memory())),
+            Err(_) => Err(Refusal {
+                language: Language::Brief,
+                refused: Refused::memory(),
+            }),
         },
-        Err(refused) if is_version(refused.error) => Err(in_plan(head)),
-        Err(refused) => Err(in_brief(refused)),
-    }
-}
-
-fn in_plan(refused: Refused) -> Refusal
-    ensures { result.refused ≡ refused }
-{
-    Refusal {
-        language: Language::Plan,
-        refused,
-    }
-}
-
-fn in_brief(refused: Refused) -> Refusal
-    ensures { result.refused ≡ refused }
-{
-    Refusal {
-        language: Language::Brief,
-        refused,
+        Err(refused) if is_version(refused.error) => Err(Refusal {
+            language: Language::Plan,
+            refused: head,
+        }),
+        Err(refused) => Err(Refusal {
+            language: Language::Brief,
+            refused,
+        }),
     }
 }
 

@@ -148,7 +148,7 @@ pub fn verify<I: Input, J: Input, O: Output>(
         let words = plans.words(&plan, &origins);
         return verify_kept(alloc, words, cert, out, extras);
     }
-    let Answered { plan, answer } = verify_found(alloc, plan, cert)?;
+    let Answered { plan, answer, .. } = verify_found(alloc, plan, cert)?;
     let words = plans.words(&plan, &origins);
     tell_answer(alloc, words, answer, None, out, extras)
 }

@@ -1,0 +1,19 @@
+use Rattle.std.proofs.Common.{subst, sym, ℕ, List}
+use Rattle.brief_text.specs.Together.{together}
+use Rattle.report.specs.Given.{RefusesFurther}
+use Rattle.report.proofs.GivenLemmas.{refuses_further, on_no_plan}
+use Rattle.run_parts.specs.Runs.{HaltsAtText, unread, refused}
+use Rattle.run_parts.specs.RunErrors.{run_error}
+use Rattle.run_parts.specs.declared.errors.RunError.{RunError}
+use Rattle.report.proofs.given.find_further.Goals as goal
+
+pub returns-in_err-text-clause-stops : goal.returns-in_err-text-clause-stops
+returns-in_err-text-clause-stops g c =
+    on_no_plan c.from_residual.result c.in_err-text.field-0.0 (λ e. HaltsAtText g.I.Input.reader (RefusesFurther (together c.args.briefs)) c.args.text.now e c.read_within.new.reader) c.from_residual.ensures.1 (unread c.in_err-text.ensures.stops)
+
+pub returns-in-Err-clause-stops : goal.returns-in-Err-clause-stops
+returns-in-Err-clause-stops g c =
+    let e = c.in-Err.refused.error in
+    let before = together c.args.briefs in
+    let first = subst (λ (t : List ℕ). RefusesFurther before t (run_error e)) c.as_slice.ensures.value (refuses_further before c.as_slice.result.now e c.in-Err.ensures.refused) in
+    subst (λ (e : RunError). HaltsAtText g.I.Input.reader (RefusesFurther before) c.args.text.now e c.read_within.new.reader) (sym c.refused.ensures) (refused c.in_ok-text.ensures.all first)
