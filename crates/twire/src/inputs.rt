@@ -66,11 +66,18 @@ pub fn open_sources<'a, 'n, R: Files + Input + Eprint + Clock + AllocGlobal>(
     ids: &mut Vec<FileId>,
     extras: Extras,
 ) -> Option<Sources<'n, Source<'a, R, R::File, R::Reader>>> {
-    for path in named.further {
-        if !is_there(rt, named.further_one(path), extras) {
-            return None;
-        }
+    if !are_there(rt, named, extras) {
+        return None;
     }
+    open_all(rt, named, ids, extras)
+}
+
+fn open_all<'a, 'n, R: Files + Input + Eprint + Clock + AllocGlobal>(
+    rt: &'a R,
+    named: NamedSources<'n>,
+    ids: &mut Vec<FileId>,
+    extras: Extras,
+) -> Option<Sources<'n, Source<'a, R, R::File, R::Reader>>> {
     let first = open(rt, named.first, ids, extras)?;
     let mut further = Vec::new(rt.alloc());
     for path in named.further {
@@ -100,12 +107,26 @@ pub fn open_both<'a, 'n, R: Files + Input + Eprint + Clock + AllocGlobal>(
         Source<'a, R, R::File, R::Reader>,
     ),
 > {
-    if !is_there(rt, second, extras) {
+    if !are_there(rt, named, extras) || !is_there(rt, second, extras) {
         return None;
     }
-    let sources = open_sources(rt, named, ids, extras)?;
+    let sources = open_all(rt, named, ids, extras)?;
     let second = open(rt, second, ids, extras)?;
     Some((sources, second))
+}
+
+// Whether the paths after the first one name something.
+fn are_there<R: Files + Eprint + AllocGlobal>(
+    rt: &R,
+    named: NamedSources<'_>,
+    extras: Extras,
+) -> bool {
+    for path in named.further {
+        if !is_there(rt, named.further_one(path), extras) {
+            return false;
+        }
+    }
+    true
 }
 
 // Whether this path names something. Where it does not, that is told.
