@@ -402,6 +402,98 @@ for it in "$examples"/*.plan; do
     done
 done
 
+# ---- A brief: its labels, its lines, and items that it can have.
+
+brief() {
+    printf '%s\n' "$@" >board.brief
+}
+brief 'brief 1' 'device sensor 0x48 ;' 'message set write sensor 0x01 any ;' \
+    'message get write sensor 0x01 read sensor 1 ;' 'message page write 0x50 any*1..2 ;' \
+    'controller bmc set page ;' 'controller pch get page ;' 'never bmc/set pch/page ;'
+pages="    slot 18, UM10204 3.1.8"
+want 1 "pair 2 bmc/page_1 pch_page/page_2: stop against data after 10100000l00000000l
+    bus         S 50 Wr A 00 A
+    bmc/page_1  S 50 Wr A xxxxxxxx A P         next: a STOP
+    pch/page_2  S 50 Wr A xxxxxxxx A xxxxxxxx  next: a data bit
+$pages: a STOP meets a data bit. Both send alike until here.
+    bmc/page_1 may send either bit before it in slot 9..16
+    pch/page_2 may send either bit before it in slot 9..16
+    see board.brief:5
+pair 4 bmc/page_2 pch_page/page_1: data against stop after 10100000l00000000l
+    bus         S 50 Wr A 00 A
+    bmc/page_2  S 50 Wr A xxxxxxxx A xxxxxxxx  next: a data bit
+    pch/page_1  S 50 Wr A xxxxxxxx A P         next: a STOP
+$pages: a data bit meets a STOP. Both send alike until here.
+    bmc/page_2 may send either bit before it in slot 9..16
+    pch/page_1 may send either bit before it in slot 9..16
+    see board.brief:5
+pair 6 bmc_set/set pch/get: data against restart after 10010000l00000001l
+    bus      S 48 Wr A 01 A
+    bmc/set  S 48 Wr A 01 A xxxxxxxx  next: a data bit
+    pch/get  S 48 Wr A 01 A Sr        next: a repeated START
+    slot 18, UM10204 3.1.8: a data bit meets a repeated START. Both send alike
+    until here.
+    see board.brief:3 and board.brief:4
+unsafe: 3 of 7 pairs
+    to mend each: a bit before its slot, known in both and different; or the
+    same shape from there on; or never bmc/page_1 pch/page_2 ; never bmc/page_2
+    pch/page_1 ; never bmc/set pch/get ; (leaves 3 pairs unchecked)
+    2 pairs were not checked: 'never' keeps their controllers apart" ""
+run "a brief with a controller that is split, and with a family" check --explain board.brief
+alike "a brief" check board.brief
+printf 'never bmc/page_1 pch/page_2 ; never bmc/page_2 pch/page_1 ; never bmc/set pch/get ;\n' >>board.brief
+want 0 "safe: 4 pairs
+    where targets acknowledge, decided in the header: 2, later: 0, at a read's
+    end: 0; alike to the end: 2
+    5 pairs were not checked: 'never' keeps their controllers apart" ""
+run "the items that are named mend the brief" check --explain board.brief
+
+# Controllers of one message are named themselves, and where there are many pairs all controllers.
+brief 'brief 1' 'message page write 0x50 any*1..3 ;' 'message get write 0x50 any read 0x50 1 ;' \
+    'controller bmc page get ;' 'controller pch page ;' 'controller seq get ;' 'never bmc/page_3 pch/page_1 ;'
+"$twire" check --explain --most 0 board.brief >out 2>err
+echo "$?" >status
+sed -i '/^pair/d; /not explained/d' out
+want 1 "unsafe: 14 of 18 pairs
+    to mend each: a bit before its slot, known in both and different; or the
+    same shape from there on; or never bmc pch ; never bmc seq ; never pch seq ;
+    (leaves 18 pairs unchecked)
+    1 pairs were not checked: 'never' keeps their controllers apart" ""
+compare "many pairs of a brief"
+
+# Several files.
+printf '%s\n' 'brief 1' 'message set write 0x48 0x01 any ;' 'message get write 0x48 0x01 read 0x48 1 ;' \
+    'controller bmc set ;' >first.brief
+printf '%s\n' 'brief 1' '' 'controller pch get ;' >second.brief
+want 1 "pair 0 bmc/set pch/get: data against restart after 10010000l00000001l
+    bus      S 48 Wr A 01 A
+    bmc/set  S 48 Wr A 01 A xxxxxxxx  next: a data bit
+    pch/get  S 48 Wr A 01 A Sr        next: a repeated START
+    slot 18, UM10204 3.1.8: a data bit meets a repeated START. Both send alike
+    until here.
+    see <stdin>:2 and <stdin>:3
+unsafe: 1 of 1 pairs
+    to mend it: a bit before that slot, known in both and different; or the same
+    shape from there on; or never bmc pch ; (leaves 1 pairs unchecked)" ""
+run "the first file is standard input" check --explain - --with second.brief <first.brief
+sed -i '/^message get/d' first.brief
+sed -i '2s/.*/message get write 0x48 0x01 read 0x48 1 ;/' second.brief
+sed -i 's/<stdin>:2 and <stdin>:3/first.brief:2 and second.brief:2/' want_out
+run "messages of two files" check --explain first.brief --with second.brief
+
+# Certificates, rehearsals and captures.
+brief 'brief 1' 'message set write 0x48 0x01 any ;' 'message get write 0x48 0x02 read 0x48 1 ;' \
+    'controller bmc set get ;' 'controller pch get ;' 'never bmc/get pch ;'
+"$twire" certify board.brief >c.cert
+sed -i 's/P[0-9]*/P1/' c.cert
+want 2 "wrong C5 pair 0
+    pair 0 is bmc/set and pch/get: what the certificate says of them is not so
+    see board.brief:2 and board.brief:3
+    it breaks off at word 2, in slot 9: no bit of this number is known in both
+    and different there
+    a plan that was changed wants a new certificate: twire certify PLAN" ""
+run "a certificate of a brief" verify --explain board.brief c.cert
+
 # ---- Long names and long messages.
 
 long=$(printf 'n%.0s' {1..32})

@@ -49,7 +49,7 @@ suite() {
     failed=$((failed + bad))
 }
 
-for name in check certificates briefs captures decode signals bench explain; do
+for name in check certificates briefs boards captures decode signals bench explain; do
     suite "$name"
 done
 
@@ -253,6 +253,51 @@ run "a rehearsal, explained" 0 '{"kind":"wire","wire":"10010000l00000001l0010000
 run "a rehearsal of an interrupt, explained" 0 '{"kind":"wire","wire":"01000011c","explain":{"bytes":"S 21 Rd (waits)","starters":[{"participant":"!sensor","puts":"1","lost":0},{"participant":"!keypad","puts":"01000011c"}]}}
 {"kind":"won","participants":["!keypad"]}' "" \
     bench --format json --explain --certify "$examples/interrupts.plan" '!sensor,!keypad'
+
+# Places in briefs: of a split controller, of a family, of two files, and none of an interrupt.
+printf '%s\n' 'brief 1' 'message set write 0x48 0x01 any ;' 'message get write 0x48 0x01 read 0x48 1 ;' \
+    'message page write 0x50 any*1..2 ;' 'controller bmc set page ;' >bmc.brief
+printf '%s\n' 'brief 1' 'controller pch get ; interrupt al 0x48 ;' 'never bmc/page pch ;' >'p"h.brief'
+board=(bmc.brief --with 'p"h.brief')
+set='{"file":"bmc.brief","line":2}' get='{"file":"bmc.brief","line":3}' page='{"file":"bmc.brief","line":4}'
+bmc='{"file":"bmc.brief","line":5}' pch='{"file":"p\"h.brief","line":2}'
+met='"participants":["bmc/set","pch/get"],"meet":["data","restart"],"after":"10010000l00000001l","places":['$set,$get']'
+run "an unsafe pair of two briefs" 1 '{"kind":"pair","pair":0,'"$met"'}
+{"kind":"plan","safe":false,"pairs":5,"unsafe_pairs":1}' "" check --format json "${board[@]}"
+run "an unsafe pair of two briefs, explained" 1 '{"kind":"pair","pair":0,'"$met"',"explain":{"slot":18,"rule":"UM10204 3.1.8","bus":"S 48 Wr A 01 A","bytes":["S 48 Wr A 01 A xxxxxxxx","S 48 Wr A 01 A Sr"],"open":[[],[]]}}
+{"kind":"plan","safe":false,"pairs":5,"unsafe_pairs":1,"explain":{"explained":1,"never":[["bmc/set","pch"]],"unchecked":1,"interrupts":[],"kept_apart":2}}' \
+    "" check --format json --explain "${board[@]}"
+"$twire" order --format json "${board[@]}" | sed -n '1,2p; /total/p' >out 2>err
+cat >want_out <<END
+{"kind":"order","pair":0,"participants":["bmc/set","pch/get"],"places":[$set,$get],"unsafe":true}
+{"kind":"order","pair":1,"participants":["bmc/set","!al"],"places":[$set,null],"first":[7,7]}
+{"kind":"total","participant":"bmc/set","places":[$set,$bmc],"wins":1,"may_win":0,"loses":0}
+{"kind":"total","participant":"bmc_page/page_1","places":[$page,$bmc],"wins":0,"may_win":0,"loses":1}
+{"kind":"total","participant":"bmc_page/page_2","places":[$page,$bmc],"wins":0,"may_win":0,"loses":1}
+{"kind":"total","participant":"pch/get","places":[$get,$pch],"wins":1,"may_win":0,"loses":0}
+{"kind":"total","participant":"!al","wins":2,"may_win":0,"loses":2}
+END
+: >want_err
+echo 1 | tee want_status >status
+compare "who wins in two briefs"
+run "participants of two briefs, counted" 1 '{"kind":"participant","participant":"bmc/set","places":['$set,$bmc'],"alone":0,"with_others":0}
+{"kind":"participant","participant":"bmc_page/page_1","places":['$page,$bmc'],"alone":0,"with_others":0}
+{"kind":"participant","participant":"bmc_page/page_2","places":['$page,$bmc'],"alone":0,"with_others":0}
+{"kind":"participant","participant":"pch/get","places":['$get,$pch'],"alone":0,"with_others":0}
+{"kind":"participant","participant":"!al","alone":0,"with_others":0}
+{"kind":"count","what":"unexplained","transactions":1}
+{"kind":"count","what":"cut","transactions":0}
+{"kind":"count","what":"unfinished","transactions":0}
+{"kind":"transactions","transactions":1,"unexplained":1}' "" capture --format json --summary "${board[@]}" "$dump"
+echo 'never bmc pch ;' >>'p"h.brief'
+run "a rehearsal of two briefs, explained" 0 '{"kind":"wire","wire":"10010000hs","explain":{"bytes":"S 48 Wr NA P","starters":[{"participant":"bmc/set","places":['$set,$bmc'],"puts":"10010000.s"},{"participant":"!al","puts":"10010001","lost":7}]}}
+{"kind":"won","participants":["bmc/set"]}' "" bench --format json --explain --certify "${board[@]}" 'bmc/set,!al'
+echo 'never bmc seq ;' >>'p"h.brief'
+"$twire" check --format json "${board[@]}" 2>&1 >out | sed 's/,"byte".*}/}/' >err
+echo '{"kind":"refusal","code":"P8","line":5,"file":"p\"h.brief"}' >want_err
+: >want_out
+echo 2 | tee want_status >status
+compare "a refusal in the second of two briefs"
 
 # The greatest time that a dump can have, which stays as it is.
 last=18446744073709551615

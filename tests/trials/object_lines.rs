@@ -61,7 +61,7 @@ fn told(fields: &mut Fields) -> Result<String, String> {
         "order" => order(fields)?,
         "total" => format!(
             "total {}: wins {}, may win {}, loses {}",
-            fields.text("participant")?,
+            participant(fields)?,
             fields.number("wins")?,
             fields.number("may_win")?,
             fields.number("loses")?
@@ -71,7 +71,7 @@ fn told(fields: &mut Fields) -> Result<String, String> {
         "too_few" => format!("too few: {} of {}", fields.number("transactions")?, fields.number("at_least")?),
         "participant" => format!(
             "{} {} alone, {} with others",
-            fields.text("participant")?,
+            participant(fields)?,
             fields.number("alone")?,
             fields.number("with_others")?
         ),
@@ -100,9 +100,35 @@ fn told(fields: &mut Fields) -> Result<String, String> {
 fn refusal(fields: &mut Fields) -> Result<String, String> {
     let code = fields.text("code")?;
     let line = fields.maybe("line", Value::into_number)?.map(|line| format!(" line {line}"));
+    let file = fields.maybe("file", Value::into_text)?.map(|file| format!(" of {file}"));
     let signal = fields.maybe("signal", Value::into_text)?.map(|signal| format!(" {signal}"));
     let place = place(fields, &code)?;
-    Ok(format!("refused {code}{}{}{place}", line.unwrap_or_default(), signal.unwrap_or_default()))
+    let [line, file, signal] = [line, file, signal].map(Option::unwrap_or_default);
+    Ok(format!("refused {code}{line}{file}{signal}{place}"))
+}
+
+// A participant, and where its message and its controller stand, where a brief was given.
+fn participant(fields: &mut Fields) -> Result<String, String> {
+    let label = fields.text("participant")?;
+    places(fields, label.starts_with('!'))?;
+    Ok(label)
+}
+
+// Two lines of files, where a brief was given. Interrupts have none.
+fn places(fields: &mut Fields, is_interrupt: bool) -> Result<(), String> {
+    let Some(places) = fields.maybe("places", Value::into_items)? else {
+        return Ok(());
+    };
+    only_if(places.len() == 2 && !is_interrupt, "there are two places of what stands in a brief")?;
+    for place in places {
+        if !matches!(place, Value::Null) {
+            let mut place = Fields::of(place)?;
+            place.text("file")?;
+            place.number("line")?;
+            place.end()?;
+        }
+    }
+    Ok(())
 }
 
 // What can stand in the place of a token of a dump that is refused, and what the end of a dump leaves open.
@@ -166,6 +192,7 @@ fn quoted(code: &str) -> String {
 fn order(fields: &mut Fields) -> Result<String, String> {
     let pair = fields.number("pair")?;
     let [x, y] = fields.two("participants")?;
+    places(fields, false)?;
     let head = format!("pair {pair} {x} {y}:");
     if let Some(is_unsafe) = fields.maybe("unsafe", Value::into_bool)? {
         return if is_unsafe { Ok(format!("{head} unsafe")) } else { Err("'unsafe' is false".to_owned()) };
@@ -188,6 +215,7 @@ fn pair(fields: &mut Fields) -> Result<String, String> {
     let [x, y] = fields.two("participants")?;
     let [one, other] = fields.two("meet")?;
     let wire = fields.text("after")?;
+    places(fields, false)?;
     if let Some(mut explain) = fields.explain()? {
         let slot = explain.number("slot")?;
         let rule = explain.text("rule")?;
@@ -279,6 +307,7 @@ fn explained_certificate(explain: &mut Fields, code: &str) -> Result<(), String>
     }
     only_if(code == "C5", "of this code nothing is explained")?;
     explain.two("participants")?;
+    places(explain, false)?;
     let word = explain.maybe("word", Value::into_number)?;
     if word.is_some() {
         explain.number("slot")?;
@@ -394,7 +423,7 @@ fn wire(fields: &mut Fields) -> Result<String, String> {
 
 // What it puts in each slot, up to the one in which it loses.
 fn explained_starter(mut starter: Fields, wire: &str) -> Result<(), String> {
-    starter.text("participant")?;
+    participant(&mut starter)?;
     let puts = starter.text("puts")?;
     let lost = starter.maybe("lost", Value::into_number)?;
     starter.end()?;

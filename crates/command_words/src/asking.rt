@@ -10,9 +10,10 @@ use std::alloc::{AllocError, Global};
 /// What a command line comes to.
 #[derive(Drop)]
 pub enum Asked<'a> {
-    /// A run, and how what it says is written.
+    /// A run, the files of the brief after the one that the request names, and how what the run says is written.
     Run {
         request: Request<'a>,
+        further: Vec<&'a str>,
         manner: Manner,
     },
     /// The help, for standard output.
@@ -175,7 +176,11 @@ fn told<'a>(alloc: Global, error: &Error) -> Result<Asked<'a>, AllocError> {
 fn parse<'a>(alloc: Global, words: &'a [String]) -> Result<Asked<'a>, Error> {
     let matches = program(alloc)?.try_get_matches_from(words)?;
     match asked_of(&matches) {
-        Ok(asked) => Ok(asked),
+        Ok((request, manner)) => Ok(Asked::Run {
+            request,
+            further: further_of(alloc, &matches)?,
+            manner,
+        }),
         Err(fault) => Err(error_of(alloc, fault)?),
     }
 }
@@ -184,14 +189,38 @@ fn error_of(alloc: Global, fault: &str) -> Result<Error, AllocError> {
     program(alloc)?.error(ErrorKind::ValueValidation, fault)
 }
 
-fn asked_of<'a>(matches: &ArgMatches<'a>) -> Result<Asked<'a>, Fault> {
+fn asked_of<'a>(matches: &ArgMatches<'a>) -> Result<(Request<'a>, Manner), Fault> {
     let Some((name, matches)) = matches.subcommand() else {
         return Err(TOO_MANY_WORDS);
     };
-    Ok(Asked::Run {
-        request: request_of(name, matches)?,
-        manner: manner_of(matches),
-    })
+    let request = request_of(name, matches)?;
+    refuse_input_twice(matches)?;
+    Ok((request, manner_of(matches)))
+}
+
+// The further files of the brief: words after the first one, or those of an option.
+fn further_of<'a>(alloc: Global, matches: &ArgMatches<'a>) -> Result<Vec<&'a str>, AllocError> {
+    let mut further = Vec::new(alloc);
+    if let Some((_, matches)) = matches.subcommand() {
+        push_given(&mut further, matches, "BRIEF", 1)?;
+        push_given(&mut further, matches, "with", 0)?;
+    }
+    Ok(further)
+}
+
+// What is given for this argument, without so many of the first.
+fn push_given<'a>(
+    files: &mut Vec<&'a str>,
+    matches: &ArgMatches<'a>,
+    name: &str,
+    without: usize,
+) -> Result<(), AllocError> {
+    if let Some(given) = matches.get_strs(name) {
+        for file in given.iter().skip(without) {
+            files.push(*file)?;
+        }
+    }
+    Ok(())
 }
 
 fn manner_of(matches: &ArgMatches<'_>) -> Manner {
@@ -213,7 +242,7 @@ fn when_of(word: Option<&str>) -> When {
 fn request_of<'a>(name: &str, matches: &ArgMatches<'a>) -> Result<Request<'a>, Fault> {
     match name {
         "check" => check_of(matches),
-        "verify" => verify_of(matches),
+        "verify" => Ok(verify_of(matches)),
         "order" => Ok(Request::Order {
             plan: word(matches, "PLAN"),
         }),
@@ -262,15 +291,12 @@ fn most_of(matches: &ArgMatches<'_>) -> Option<u32> {
     }
 }
 
-fn verify_of<'a>(matches: &ArgMatches<'a>) -> Result<Request<'a>, Fault> {
-    let plan = word(matches, "PLAN");
-    let cert = word(matches, "CERT");
-    refuse_input_twice(plan, cert)?;
-    Ok(Request::Verify {
-        plan,
-        cert,
+fn verify_of<'a>(matches: &ArgMatches<'a>) -> Request<'a> {
+    Request::Verify {
+        plan: word(matches, "PLAN"),
+        cert: word(matches, "CERT"),
         explain: matches.get_flag("explain"),
-    })
+    }
 }
 
 // What writes a text for further runs.
@@ -295,7 +321,7 @@ fn recorded_of<'a>(name: &str, matches: &ArgMatches<'a>) -> Result<Request<'a>, 
         return Err(fault);
     }
     match name {
-        "capture" => capture_of(matches, options.bus()),
+        "capture" => Ok(capture_of(matches, options.bus())),
         "decode" => Ok(Request::Decode {
             vcd: word(matches, "VCD"),
             bus: options.bus(),
@@ -306,22 +332,19 @@ fn recorded_of<'a>(name: &str, matches: &ArgMatches<'a>) -> Result<Request<'a>, 
             limits: options.limits(),
         }),
         "learn" => Ok(learn_of(matches, options.bus())),
-        _ => page_of(matches, options.bus()),
+        _ => Ok(page_of(matches, options.bus())),
     }
 }
 
-fn capture_of<'a>(matches: &ArgMatches<'a>, bus: Bus<'a>) -> Result<Request<'a>, Fault> {
-    let plan = word(matches, "PLAN");
-    let vcd = word(matches, "VCD");
-    refuse_input_twice(plan, vcd)?;
-    Ok(Request::Capture {
-        plan,
-        vcd,
+fn capture_of<'a>(matches: &ArgMatches<'a>, bus: Bus<'a>) -> Request<'a> {
+    Request::Capture {
+        plan: word(matches, "PLAN"),
+        vcd: word(matches, "VCD"),
         bus,
         explain: matches.get_flag("explain"),
         live: matches.get_flag("live"),
         stops: matches.get_flag("stop-at-unexplained"),
-    })
+    }
 }
 
 fn learn_of<'a>(matches: &ArgMatches<'a>, bus: Bus<'a>) -> Request<'a> {
@@ -333,25 +356,20 @@ fn learn_of<'a>(matches: &ArgMatches<'a>, bus: Bus<'a>) -> Request<'a> {
     }
 }
 
-fn page_of<'a>(matches: &ArgMatches<'a>, bus: Bus<'a>) -> Result<Request<'a>, Fault> {
-    let plan = word(matches, "PLAN");
-    let capture = matches.get_str("capture");
-    refuse_input_twice(plan, capture.unwrap_or(""))?;
-    Ok(Request::Page {
-        plan,
-        capture,
+fn page_of<'a>(matches: &ArgMatches<'a>, bus: Bus<'a>) -> Request<'a> {
+    Request::Page {
+        plan: word(matches, "PLAN"),
+        capture: matches.get_str("capture"),
         bus,
         output: output_of(matches),
-    })
+    }
 }
 
 fn bench_of<'a>(matches: &ArgMatches<'a>) -> Result<Request<'a>, Fault> {
-    let plan = word(matches, "PLAN");
     let (cert, starters) = cert_and_starters(matches)?;
-    refuse_input_twice(plan, cert.unwrap_or(""))?;
     let wave = wave_of(matches)?;
     Ok(Request::Bench {
-        plan,
+        plan: word(matches, "PLAN"),
         cert,
         starters,
         fill: matches.get_str("fill") == Some("1"),
@@ -389,12 +407,31 @@ fn are_bits(answers: &str) -> bool {
     answers.bytes().all(|byte| byte == b'0' || byte == b'1')
 }
 
-fn refuse_input_twice(one: &str, other: &str) -> Result<(), Fault> {
-    if is_input(one) && is_input(other) {
-        Err(INPUT_TWICE)
-    } else {
-        Ok(())
+// The arguments that name files to be read.
+const READ: [&str; 6] = ["PLAN", "BRIEF", "with", "CERT", "VCD", "capture"];
+
+// Among all files that a run reads. Starters may stand in the place of a certificate.
+fn refuse_input_twice(matches: &ArgMatches<'_>) -> Result<(), Fault> {
+    let mut inputs = 0u32;
+    for name in READ {
+        if name != "CERT" || !matches.get_flag("certify") {
+            inputs = inputs.saturating_add(inputs_in(matches, name));
+        }
     }
+    if inputs > 1 { Err(INPUT_TWICE) } else { Ok(()) }
+}
+
+// How often this argument is standard input.
+fn inputs_in(matches: &ArgMatches<'_>, name: &str) -> u32 {
+    let mut inputs = 0u32;
+    if let Some(given) = matches.get_strs(name) {
+        for path in given {
+            if is_input(path) {
+                inputs = inputs.saturating_add(1);
+            }
+        }
+    }
+    inputs
 }
 
 fn is_input(path: &str) -> bool {

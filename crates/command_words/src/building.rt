@@ -66,6 +66,9 @@ fn arguments<'a>(alloc: Global, list: &[Argument]) -> Result<Vec<Arg<'a>>, Alloc
 fn argument<'a>(alloc: Global, argument: Argument) -> Result<Arg<'a>, AllocError> {
     Ok(match argument {
         Argument::Word { id, help } => word(alloc, id, help),
+        Argument::Words { id, help } => word(alloc, id, help)
+            .num_args(1..)
+            .action(ArgAction::Append),
         Argument::WordUnless { id, flag, help } => {
             return Arg::new(alloc, id).help(help).required_unless_present(flag);
         }
@@ -98,6 +101,7 @@ fn argument<'a>(alloc: Global, argument: Argument) -> Result<Arg<'a>, AllocError
             help,
         } => number(alloc, id, value_name, default, help),
         Argument::File { id, short, help } => file(alloc, id, short, help),
+        Argument::Files { id, help } => option(alloc, id, "FILE", help).action(ArgAction::Append),
         Argument::Choice {
             id,
             value_name,

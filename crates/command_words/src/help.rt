@@ -316,9 +316,13 @@ TO' and data bytes, or 'read TO COUNT'. At the end of the last one it stops.
             target does not acknowledge it. 'else stop' is as no 'else'; with
             'else (' frames ')' these follow, by a repeated START
 
+Several files, each with its own 'brief 1', are one board: the plan is that of
+all their items, in this order. Other commands take further files by '--with'.
+
 Check, certify and keep the plan that is written ('-o FILE', which leaves the
 old file where the brief is refused). Refusals are those of 'twire check', with
-the line of the brief. Exit status: 0 written, 2 refused.";
+the line of the brief, and of several files with the name of the one. Exit
+status: 0 written, 2 refused.";
 
 pub const AFTER_BRIEF_HELP: &str = "\
 A brief is the short form of a plan, which 'twire help expand' shows. This one

@@ -25,6 +25,11 @@ pub enum Argument {
         id: &'static str,
         help: &'static str,
     },
+    /// Words, at least one of which has to be there.
+    Words {
+        id: &'static str,
+        help: &'static str,
+    },
     /// A word that has to be there, unless this flag is given.
     WordUnless {
         id: &'static str,
@@ -72,6 +77,11 @@ pub enum Argument {
     File {
         id: &'static str,
         short: char,
+        help: &'static str,
+    },
+    /// An option that names a file, and may be given several times.
+    Files {
+        id: &'static str,
         help: &'static str,
     },
     /// An option that takes one of these texts. Its help names them, and the default.
@@ -122,7 +132,7 @@ const CHECK: Entry = Entry {
     about: "Is a plan safe, whoever starts together and whatever targets answer?",
     usage: None,
     after_help: AFTER_CHECK_HELP,
-    arguments: &[PLAN, WORKERS, EXPLAIN, MOST, WAVE, PAIR],
+    arguments: &[PLAN, WITH, WORKERS, EXPLAIN, MOST, WAVE, PAIR],
 };
 
 const CERTIFY: Entry = Entry {
@@ -130,7 +140,7 @@ const CERTIFY: Entry = Entry {
     about: "Write the certificate of a plan: a proof for each pair, or a fault",
     usage: None,
     after_help: AFTER_CERTIFY_HELP,
-    arguments: &[PLAN, OUTPUT],
+    arguments: &[PLAN, WITH, OUTPUT],
 };
 
 const VERIFY: Entry = Entry {
@@ -138,7 +148,7 @@ const VERIFY: Entry = Entry {
     about: "Check a certificate against a plan, by a small checker of its own",
     usage: None,
     after_help: AFTER_VERIFY_HELP,
-    arguments: &[PLAN, CERT, EXPLAIN],
+    arguments: &[PLAN, CERT, WITH, EXPLAIN],
 };
 
 const ORDER: Entry = Entry {
@@ -146,7 +156,7 @@ const ORDER: Entry = Entry {
     about: "Say who wins arbitration, and in which slots, for each pair",
     usage: None,
     after_help: AFTER_ORDER_HELP,
-    arguments: &[PLAN],
+    arguments: &[PLAN, WITH],
 };
 
 const CAPTURE: Entry = Entry {
@@ -155,7 +165,7 @@ const CAPTURE: Entry = Entry {
     usage: None,
     after_help: AFTER_CAPTURE_HELP,
     arguments: &[
-        PLAN, VCD, SCL, SDA, SCOPE, SCL_CODE, SDA_CODE, MIN_PULSE, FROM, TO, AT_LEAST, TIMES,
+        PLAN, VCD, WITH, SCL, SDA, SCOPE, SCL_CODE, SDA_CODE, MIN_PULSE, FROM, TO, AT_LEAST, TIMES,
         SUMMARY, EXPLAIN, LIVE, STOPS,
     ],
 };
@@ -194,7 +204,7 @@ const BENCH: Entry = Entry {
     usage: Some(BENCH_USAGE),
     after_help: AFTER_BENCH_HELP,
     arguments: &[
-        PLAN, BENCH_CERT, STARTERS, CERTIFIED, FILL, ANSWERS, REST, EXPLAIN, WAVE,
+        PLAN, BENCH_CERT, STARTERS, WITH, CERTIFIED, FILL, ANSWERS, REST, EXPLAIN, WAVE,
     ],
 };
 
@@ -209,7 +219,8 @@ const PAGE: Entry = Entry {
     usage: None,
     after_help: AFTER_PAGE_HELP,
     arguments: &[
-        PLAN, RECORDED, SCL, SDA, SCOPE, SCL_CODE, SDA_CODE, MIN_PULSE, FROM, TO, TIMES, OUTPUT,
+        PLAN, WITH, RECORDED, SCL, SDA, SCOPE, SCL_CODE, SDA_CODE, MIN_PULSE, FROM, TO, TIMES,
+        OUTPUT,
     ],
 };
 
@@ -218,7 +229,7 @@ const EXPAND: Entry = Entry {
     about: "Write the plan that a brief means: a brief is its short form",
     usage: None,
     after_help: AFTER_EXPAND_HELP,
-    arguments: &[BRIEF_FILE, OUTPUT],
+    arguments: &[BRIEF_FILES, OUTPUT],
 };
 
 const PRINT: Entry = Entry {
@@ -226,7 +237,7 @@ const PRINT: Entry = Entry {
     about: "Write the canonical spelling of a plan",
     usage: None,
     after_help: AFTER_PRINT_HELP,
-    arguments: &[PLAN, OUTPUT],
+    arguments: &[PLAN, WITH, OUTPUT],
 };
 
 const BRIEF: Entry = Entry {
@@ -247,9 +258,14 @@ const PLAN_TEXT: Argument = Argument::Word {
     help: "The file with the plan; - is standard input",
 };
 
-const BRIEF_FILE: Argument = Argument::Word {
+const BRIEF_FILES: Argument = Argument::Words {
     id: "BRIEF",
-    help: "The file with the brief; - is standard input",
+    help: "The files with the brief, in order; - is standard input",
+};
+
+const WITH: Argument = Argument::Files {
+    id: "with",
+    help: "A further file of the brief; may be given again",
 };
 
 const CERT: Argument = Argument::Word {

@@ -2,6 +2,7 @@
 
 use crate::below::{begin_titled, pad, room_after};
 use crate::cells::{Cell, cells_of};
+use crate::labels::Labels;
 use crate::tracks::Track;
 use growing_text::{Lines, Text};
 use message_tree::Item;
@@ -14,11 +15,12 @@ const LABELS: usize = 22;
 /// wire, and for each starter what it puts in each slot, with `.` where it listens, up to the slot in which it loses.
 pub(crate) fn below_wire(
     alloc: Global,
+    labels: &Labels,
     wire: &[Item],
     tracks: &[Track],
 ) -> Result<String, AllocError> {
     let cells = cells_of(alloc, wire)?;
-    let columns = columns_for(tracks);
+    let columns = columns_for(labels, tracks);
     let mut lines = Lines::new(alloc);
     let mut rest = cells.as_slice();
     for _ in 0..cells.len() {
@@ -31,17 +33,19 @@ pub(crate) fn below_wire(
         tell_bytes(alloc, &mut lines, columns, wire, block);
         tell_wire(alloc, &mut lines, columns, wire, block);
         for track in tracks {
-            tell_track(alloc, &mut lines, columns, track, block, after.is_empty());
+            let label = labels.of(track.participant);
+            let is_last = after.is_empty();
+            tell_track(alloc, &mut lines, columns, label, track, block, is_last);
         }
         rest = after;
     }
     lines.finish()
 }
 
-fn columns_for(tracks: &[Track]) -> usize {
+fn columns_for(labels: &Labels, tracks: &[Track]) -> usize {
     let mut longest = 0usize;
     for track in tracks {
-        longest = longest.max(track.label.len());
+        longest = longest.max(labels.of(track.participant).len());
     }
     longest.saturating_add(2).clamp(6, LABELS)
 }
@@ -108,6 +112,7 @@ fn tell_track(
     alloc: Global,
     lines: &mut Lines,
     columns: usize,
+    label: &str,
     track: &Track,
     block: &[Cell],
     is_last: bool,
@@ -125,7 +130,7 @@ fn tell_track(
     if line.is_empty() {
         return;
     }
-    begin_titled(lines, track.label.as_str(), columns);
+    begin_titled(lines, label, columns);
     lines.words_made(line.finish());
     tell_fate(lines, track, block, is_last);
     lines.end();

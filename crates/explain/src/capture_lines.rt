@@ -1,7 +1,7 @@
 // The lines of a capture, as its transactions end.
 
 use crate::captures::{after_transaction, below_transaction};
-use crate::labels::{Labels, labels_of};
+use crate::labels::{Labels, called_by, labels_of};
 use crate::moments::push_times;
 use crate::paints::Paint;
 use crate::pulse_lines::pulse_line;
@@ -13,6 +13,7 @@ use decoding::{Ending, ExplainedSink};
 use dump_tokens::Quiet;
 use growing_text::Text;
 use plan_core::Plan;
+use plan_words::PlanWords;
 use run_parts::{Output, RunError};
 use std::alloc::{AllocError, Global};
 
@@ -35,6 +36,8 @@ pub struct CaptureLines<'a, O> {
     layout: Layout,
     selection: Selection,
     labels: Labels,
+    // those of people
+    called: Labels,
     // where transactions are counted, and not told
     tallies: Option<Tallies>,
     // whether the last transaction was told
@@ -43,25 +46,27 @@ pub struct CaptureLines<'a, O> {
 }
 
 impl<'a, O: Output> CaptureLines<'a, O> {
-    /// Nothing has been written of a capture that is explained by this plan.
+    /// Nothing has been written of a capture that is explained by the plan of these words.
     ///
     /// # Errors
     ///
     /// Where an allocation fails.
     pub fn new(
         alloc: Global,
-        plan: &Plan,
+        words: PlanWords<'_>,
         selection: Selection,
         layout: Layout,
         out: &'a mut O,
     ) -> Result<CaptureLines<'a, O>, AllocError> {
-        let labels = labels_of(alloc, plan)?;
-        let tallies = Tallies::wanted(alloc, plan, &selection)?;
+        let labels = labels_of(alloc, words.plan())?;
+        let called = called_by(alloc, words)?;
+        let tallies = Tallies::wanted(alloc, words.plan(), &selection)?;
         Ok(CaptureLines {
             written: Written::new(alloc, layout.live, out),
             layout,
             selection,
             labels,
+            called,
             tallies,
             was_told: false,
             has_stopped: false,
@@ -82,7 +87,7 @@ impl<'a, O: Output> CaptureLines<'a, O> {
             let below = below_transaction(
                 self.written.alloc,
                 plan,
-                &self.labels,
+                &self.called,
                 transaction,
                 !participants.is_empty(),
             );

@@ -2,10 +2,10 @@
 
 use crate::below::{begin, say, say_all};
 use crate::breaks::{Break, Reason};
-use crate::labels::label_of;
+use crate::faults::tell_places;
 use crate::mistakes::Mistake;
 use growing_text::{Lines, Text};
-use plan_core::Plan;
+use plan_words::PlanWords;
 use std::alloc::{AllocError, Global};
 
 const AFTER_A_CHANGE: &str = "a plan that was changed wants a new certificate: twire certify PLAN";
@@ -14,7 +14,7 @@ const AFTER_A_CHANGE: &str = "a plan that was changed wants a new certificate: t
 /// how many proofs and pairs there are; and what to do.
 pub(crate) fn below_mistake(
     alloc: Global,
-    plan: &Plan,
+    words: PlanWords<'_>,
     mistake: Mistake,
 ) -> Result<String, AllocError> {
     let mut lines = Lines::new(alloc);
@@ -24,7 +24,8 @@ pub(crate) fn below_mistake(
             participants,
             found,
         } => {
-            tell_pair(alloc, &mut lines, plan, pair, participants);
+            tell_pair(alloc, &mut lines, words, pair, participants);
+            tell_places(alloc, &mut lines, words, participants);
             if let Some(found) = found {
                 tell_break(&mut lines, found);
             }
@@ -36,16 +37,22 @@ pub(crate) fn below_mistake(
     lines.finish()
 }
 
-fn tell_pair(alloc: Global, lines: &mut Lines, plan: &Plan, pair: u32, participants: (u32, u32)) {
-    let mut words = Text::new(alloc);
-    words.push("pair ");
-    words.push_number(u64::from(pair));
-    words.push(" is ");
-    words.push_made(label_of(alloc, plan, participants.0));
-    words.push(" and ");
-    words.push_made(label_of(alloc, plan, participants.1));
-    words.push(": what the certificate says of them is not so");
-    say_all(lines, words);
+fn tell_pair(
+    alloc: Global,
+    lines: &mut Lines,
+    words: PlanWords<'_>,
+    pair: u32,
+    participants: (u32, u32),
+) {
+    let mut text = Text::new(alloc);
+    text.push("pair ");
+    text.push_number(u64::from(pair));
+    text.push(" is ");
+    text.push_made(words.label(alloc, participants.0));
+    text.push(" and ");
+    text.push_made(words.label(alloc, participants.1));
+    text.push(": what the certificate says of them is not so");
+    say_all(lines, text);
 }
 
 fn tell_break(lines: &mut Lines, found: Break) {

@@ -6,7 +6,7 @@ use crate::mends::Mends;
 use crate::plans::tell_apart;
 use crate::sending::deed;
 use growing_text::{Lines, Text};
-use plan_core::Plan;
+use plan_words::{FileLine, PlanWords};
 use std::alloc::{AllocError, Global};
 
 // How many columns the labels of rows have at most; a longer one has a line of its own.
@@ -22,37 +22,57 @@ const RANGES: usize = 6;
 const NAMED: usize = 6;
 
 /// What is said below the line of an unsafe pair: the bytes on the bus and those of both participants up to the slot in which
-/// they meet, what meets there, and which bits before it are open.
-pub(crate) fn below_pair(alloc: Global, meeting: &Meeting) -> Result<String, AllocError> {
+/// they meet, what meets there, which bits before it are open, and where the two stand in briefs.
+pub(crate) fn below_pair(
+    alloc: Global,
+    words: PlanWords<'_>,
+    both: (u32, u32),
+    meeting: &Meeting,
+) -> Result<String, AllocError> {
+    let first = words.label(alloc, both.0)?;
+    let second = words.label(alloc, both.1)?;
     let mut lines = Lines::new(alloc);
-    tell_sides(alloc, &mut lines, meeting);
+    tell_sides(
+        alloc,
+        &mut lines,
+        (first.as_str(), second.as_str()),
+        meeting,
+    );
+    tell_places(alloc, &mut lines, words, both);
     lines.finish()
 }
 
-fn tell_sides(alloc: Global, lines: &mut Lines, meeting: &Meeting) {
+fn tell_sides(alloc: Global, lines: &mut Lines, labels: (&str, &str), meeting: &Meeting) {
     let Meeting {
         bus,
         first,
         second,
         ..
     } = meeting;
-    let columns = first
-        .label
+    let columns = labels
+        .0
         .len()
-        .max(second.label.len())
+        .max(labels.1.len())
         .saturating_add(2)
         .clamp(5, LABELS);
     let width = first.bytes.len().max(second.bytes.len());
     row(lines, "bus", columns, bus.as_str());
-    tell_row(alloc, lines, columns, first, width);
-    tell_row(alloc, lines, columns, second, width);
+    tell_row(alloc, lines, columns, labels.0, first, width);
+    tell_row(alloc, lines, columns, labels.1, second, width);
     tell_reason(alloc, lines, meeting);
-    tell_open(alloc, lines, first);
-    tell_open(alloc, lines, second);
+    tell_open(alloc, lines, labels.0, first);
+    tell_open(alloc, lines, labels.1, second);
 }
 
 // What a participant does next stands below that of the other, where there is room for it.
-fn tell_row(alloc: Global, lines: &mut Lines, columns: usize, side: &Side, width: usize) {
+fn tell_row(
+    alloc: Global,
+    lines: &mut Lines,
+    columns: usize,
+    label: &str,
+    side: &Side,
+    width: usize,
+) {
     let mut words = Text::new(alloc);
     words.push(side.bytes.as_str());
     if width <= room_after(columns).saturating_sub(NEXT) {
@@ -61,7 +81,7 @@ fn tell_row(alloc: Global, lines: &mut Lines, columns: usize, side: &Side, width
     words.push("  next: ");
     words.push(deed(side.next));
     match words.finish() {
-        Ok(words) => row(lines, side.label.as_str(), columns, words.as_str()),
+        Ok(words) => row(lines, label, columns, words.as_str()),
         Err(_) => lines.cut(),
     }
 }
@@ -83,12 +103,12 @@ fn tell_reason(alloc: Global, lines: &mut Lines, meeting: &Meeting) {
     say_all(lines, words);
 }
 
-fn tell_open(alloc: Global, lines: &mut Lines, side: &Side) {
+fn tell_open(alloc: Global, lines: &mut Lines, label: &str, side: &Side) {
     if side.open.is_empty() {
         return;
     }
     let mut words = Text::new(alloc);
-    words.push(side.label.as_str());
+    words.push(label);
     words.push(" may send either bit before it in slot");
     for (k, range) in side.open.iter().enumerate() {
         if k < RANGES {
@@ -102,6 +122,40 @@ fn tell_open(alloc: Global, lines: &mut Lines, side: &Side) {
     say_all(lines, words);
 }
 
+/// Where the messages of two participants stand in briefs, if they do.
+pub(crate) fn tell_places(
+    alloc: Global,
+    lines: &mut Lines,
+    words: PlanWords<'_>,
+    both: (u32, u32),
+) {
+    let mut text = Text::new(alloc);
+    push_places(
+        &mut text,
+        words.message_at(both.0),
+        words.message_at(both.1),
+    );
+    if !text.is_empty() {
+        say_all(lines, text);
+    }
+}
+
+fn push_places(text: &mut Text, first: Option<FileLine<'_>>, second: Option<FileLine<'_>>) {
+    match (first, second) {
+        (Some(first), Some(second)) if first != second => {
+            text.push("see ");
+            first.push_to(text);
+            text.push(" and ");
+            second.push_to(text);
+        }
+        (Some(only), _) | (None, Some(only)) => {
+            text.push("see ");
+            only.push_to(text);
+        }
+        (None, None) => {}
+    }
+}
+
 fn push_range(words: &mut Text, range: (usize, usize)) {
     let (from, to) = range;
     words.push_number(from as u64);
@@ -111,21 +165,17 @@ fn push_range(words: &mut Text, range: (usize, usize)) {
     }
 }
 
-/// What is said below `unsafe: F of N pairs`: what mends one of these pairs, and the `never` items that keep the controllers
+/// What is said below `unsafe: F of N pairs`: what mends one of these pairs, and the `never` items that keep them
 /// apart, with how many pairs they leave unchecked; and that a pair with an interrupt is mended by a bit of the header alone.
-pub(crate) fn below_unsafe(
-    alloc: Global,
-    plan: &Plan,
-    mends: &Mends,
-) -> Result<String, AllocError> {
+pub(crate) fn below_unsafe(alloc: Global, mends: &Mends) -> Result<String, AllocError> {
     let mut lines = Lines::new(alloc);
-    tell_mends(alloc, &mut lines, plan, mends);
+    tell_mends(alloc, &mut lines, mends);
     tell_interrupted(&mut lines, mends.interrupted.as_slice());
     tell_apart(&mut lines, mends.kept_apart);
     lines.finish()
 }
 
-fn tell_mends(alloc: Global, lines: &mut Lines, plan: &Plan, mends: &Mends) {
+fn tell_mends(alloc: Global, lines: &mut Lines, mends: &Mends) {
     let mut words = Text::new(alloc);
     words.push(if mends.pairs == 1 {
         "to mend it: a bit before that slot,"
@@ -136,33 +186,26 @@ fn tell_mends(alloc: Global, lines: &mut Lines, plan: &Plan, mends: &Mends) {
     if mends.interrupted.len() < mends.pairs {
         words.push("; or the same shape from there on");
     }
-    push_nevers(&mut words, plan, mends);
+    push_nevers(&mut words, mends);
     say_all(lines, words);
 }
 
 // The items, and how many pairs they leave unchecked.
-fn push_nevers(words: &mut Text, plan: &Plan, mends: &Mends) {
+fn push_nevers(words: &mut Text, mends: &Mends) {
     if mends.nevers.is_empty() {
         return;
     }
     words.push("; or");
-    for (c, d) in &mends.nevers {
-        push_never(words, plan, (*c, *d));
+    for never in &mends.nevers {
+        words.push(" never ");
+        words.push(never.first.as_str());
+        words.push(" ");
+        words.push(never.second.as_str());
+        words.push(" ;");
     }
     words.push(" (leaves ");
     words.push_number(mends.unchecked);
     words.push(" pairs unchecked)");
-}
-
-fn push_never(words: &mut Text, plan: &Plan, never: (u32, u32)) {
-    let (c, d) = never;
-    if c < plan.controllers() && d < plan.controllers() {
-        words.push(" never ");
-        words.push(plan.controller_name(c).as_str());
-        words.push(" ");
-        words.push(plan.controller_name(d).as_str());
-        words.push(" ;");
-    }
 }
 
 // The first unsafe pairs that have an interrupt, and how many more there are.

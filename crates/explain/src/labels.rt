@@ -1,6 +1,7 @@
 // Labels of participants.
 
 use plan_core::Plan;
+use plan_words::PlanWords;
 use std::alloc::{AllocError, Global};
 
 /// The labels of all participants of a plan.
@@ -33,6 +34,20 @@ pub fn labels_of(alloc: Global, plan: &Plan) -> Result<Labels, AllocError> {
     let mut labels = Vec::with_capacity(alloc, plan.participants() as usize)?;
     for p in 0..plan.participants() {
         labels.push(plan.label(alloc, p)?)?;
+    }
+    Ok(Labels { labels })
+}
+
+/// The same in the words of people.
+///
+/// # Errors
+///
+/// Where an allocation fails.
+pub(crate) fn called_by(alloc: Global, words: PlanWords<'_>) -> Result<Labels, AllocError> {
+    let participants = words.plan().participants();
+    let mut labels = Vec::with_capacity(alloc, participants as usize)?;
+    for p in 0..participants {
+        labels.push(words.label(alloc, p)?)?;
     }
     Ok(Labels { labels })
 }

@@ -1,6 +1,5 @@
 // Where the two of an unsafe pair meet.
 
-use crate::labels::label_of;
 use crate::sending::{Followed, follow_wire};
 use crate::words::Words;
 use message_tree::Item;
@@ -17,11 +16,10 @@ pub enum Rule {
     Interrupts,
 }
 
-/// One of the two along the wire: its label, its bytes up to the end of the one in which the wire ends, the slots in which it
+/// One of the two along the wire: its bytes up to the end of the one in which the wire ends, the slots in which it
 /// may send either bit, as first and last ones, and what it does next.
 #[derive(Drop)]
 pub struct Side {
-    pub label: String,
     pub bytes: String,
     pub open: Vec<(usize, usize)>,
     pub next: Offered,
@@ -79,12 +77,10 @@ pub(crate) fn bytes_of(alloc: Global, wire: &[Item]) -> Result<String, AllocErro
 }
 
 fn side_of(alloc: Global, plan: &Plan, p: u32, wire: &[Item]) -> Result<Side, AllocError> {
-    let label = label_of(alloc, plan, p)?;
     let mut words = Words::new(alloc);
     let Followed { open, next } = follow_wire(alloc, plan, p, wire, &mut words);
     let bytes = words.finish()?;
     Ok(Side {
-        label,
         bytes,
         open: open.finish()?,
         next,

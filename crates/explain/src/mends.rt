@@ -4,9 +4,17 @@ ghost use Rattle.plan_core.specs.PlanContents.{plan_contents};
 ghost use Rattle.verdicts.specs.Faults.{AreFaults, fault_list};
 
 use mending::nevers_that_mend;
+use plan_core::limits::MOST_CONTROLLERS;
 use plan_core::{Participant, Plan};
+use plan_words::PlanWords;
 use std::alloc::{AllocError, Global};
 use verdicts::Faults;
+
+// How many items that name single messages are said at most.
+const ITEMS: usize = 4;
+
+// How many characters a label has at most.
+const LABEL: usize = 32;
 
 /// What mends an unsafe plan.
 #[derive(Drop)]
@@ -16,32 +24,157 @@ pub struct Mends {
     /// Those of them with an interrupt, which no shape and no `never` mends: an interrupt starts when it likes, and two equal
     /// headers are its fault.
     pub interrupted: Vec<u32>,
-    /// The `never` items that keep the controllers of all others apart, each as the numbers of two.
-    pub nevers: Vec<(u32, u32)>,
+    /// The `never` items that keep all others apart.
+    pub nevers: Vec<Never>,
     /// How many pairs these would leave unchecked.
     pub unchecked: u64,
-    /// How many pairs the `never` items of the plan leave out.
+    /// How many pairs of two controllers the `never` items of the plan leave out.
     pub kept_apart: u64,
 }
 
-/// What mends the plan, which has these faults.
+/// A `never` item: what it keeps apart, as it is written. Of a plan text these are controllers, and of a brief a controller may
+/// be one, or what one sends.
+#[derive(Drop)]
+pub struct Never {
+    pub first: String,
+    pub second: String,
+}
+
+/// What mends the plan, which has these faults, in these words of it.
 ///
 /// # Errors
 ///
 /// Where an allocation fails.
-pub(crate) fn mends_of(alloc: Global, plan: &Plan, faults: &Faults) -> Result<Mends, AllocError>
+pub(crate) fn mends_of(
+    alloc: Global,
+    plan: &Plan,
+    words: PlanWords<'_>,
+    faults: &Faults,
+) -> Result<Mends, AllocError>
     requires { AreFaults (plan_contents plan.now) (fault_list faults.now) }
 {
-    let nevers = nevers_that_mend(alloc, plan, faults)?;
-    let unchecked = pairs_apart(plan, nevers.as_slice());
+    let between = nevers_that_mend(alloc, plan, faults)?;
     let interrupted = interrupted_in(alloc, plan, faults)?;
+    let pairs = faults.len();
+    let few = pairs.saturating_sub(interrupted.len());
+    let (nevers, unchecked) = match by_messages(alloc, words, faults, few)? {
+        Some(nevers) => (nevers, few as u64),
+        None => (
+            by_controllers(alloc, words, between.as_slice())?,
+            left_out_by(words, between.as_slice()),
+        ),
+    };
     Ok(Mends {
-        pairs: faults.len(),
+        pairs,
         interrupted,
         nevers,
         unchecked,
-        kept_apart: kept_apart(plan),
+        kept_apart: kept_apart(words),
     })
+}
+
+// ---- what keeps the pairs apart
+
+// Items for single messages, where a brief has words for these, and they are few.
+fn by_messages(
+    alloc: Global,
+    words: PlanWords<'_>,
+    faults: &Faults,
+    few: usize,
+) -> Result<Option<Vec<Never>>, AllocError> {
+    let parts = (words.plan().controllers() as usize).saturating_add(few.saturating_mul(2));
+    if !words.has_briefs() || ITEMS < few || (MOST_CONTROLLERS as usize) < parts {
+        return Ok(None);
+    }
+    let mut nevers = Vec::new(alloc);
+    for k in 0..faults.len() {
+        let (pair, _) = faults.get(k);
+        if !has_interrupt(words.plan(), pair) {
+            let never = between_messages(alloc, words, pair)?;
+            if LABEL < never.first.len() || LABEL < never.second.len() {
+                return Ok(None);
+            }
+            nevers.push(never)?;
+        }
+    }
+    Ok(Some(nevers))
+}
+
+fn between_messages(alloc: Global, words: PlanWords<'_>, pair: u32) -> Result<Never, AllocError> {
+    let (first, second) = both_of(words.plan(), pair);
+    Ok(Never {
+        first: side_of(alloc, words, first)?,
+        second: side_of(alloc, words, second)?,
+    })
+}
+
+// A controller that has this message alone is named itself.
+fn side_of(alloc: Global, words: PlanWords<'_>, p: u32) -> Result<String, AllocError> {
+    match controller_of(words.plan(), p) {
+        Some(c) if sendings(words.plan(), c) == 1 && is_whole(words, c) => words.side(alloc, c),
+        _ => words.label(alloc, p),
+    }
+}
+
+// Whether this controller of the plan is one of the brief, of which no label is named.
+fn is_whole(words: PlanWords<'_>, c: u32) -> bool {
+    for d in 0..words.plan().controllers() {
+        if c != d && words.is_one(c, d) {
+            return false;
+        }
+    }
+    !words.is_part(c)
+}
+
+// Items for controllers, or for parts of them.
+fn by_controllers(
+    alloc: Global,
+    words: PlanWords<'_>,
+    between: &[(u32, u32)],
+) -> Result<Vec<Never>, AllocError> {
+    let mut nevers = Vec::new(alloc);
+    for never in between {
+        if !is_said_by(words, between, *never) {
+            nevers.push(Never {
+                first: words.side(alloc, never.0)?,
+                second: words.side(alloc, never.1)?,
+            })?;
+        }
+    }
+    Ok(nevers)
+}
+
+// Whether another one of these items means this one too.
+fn is_said_by(words: PlanWords<'_>, between: &[(u32, u32)], never: (u32, u32)) -> bool {
+    let (c, d) = never;
+    between.iter().any(|other| {
+        (other.0 != c || other.1 != d) && names_both(words, *other, c, d)
+    })
+}
+
+// How many pairs these items would leave out that no other one does.
+fn left_out_by(words: PlanWords<'_>, between: &[(u32, u32)]) -> u64 {
+    let plan = words.plan();
+    let mut pairs = 0u64;
+    for c in 0..plan.controllers() {
+        for d in 0..c {
+            let is_new = !is_never(plan, c, d) && !words.is_one(c, d);
+            if is_new && between.iter().any(|never| names_both(words, *never, c, d)) {
+                pairs = pairs.saturating_add(pairs_of(plan, c, d));
+            }
+        }
+    }
+    pairs
+}
+
+fn names_both(words: PlanWords<'_>, never: (u32, u32), c: u32, d: u32) -> bool {
+    let (one, other) = never;
+    names(words, one, c) && names(words, other, d) || names(words, one, d) && names(words, other, c)
+}
+
+// Whether what stands for the first means the second too: a controller means all its parts.
+fn names(words: PlanWords<'_>, named: u32, c: u32) -> bool {
+    named == c || !words.is_part(named) && words.is_one(named, c)
 }
 
 // The unsafe pairs with an interrupt.
@@ -58,27 +191,37 @@ fn interrupted_in(alloc: Global, plan: &Plan, faults: &Faults) -> Result<Vec<u32
 
 // Interrupts come after all sendings, so where a pair has one its second participant is one.
 fn has_interrupt(plan: &Plan, pair: u32) -> bool {
-    if plan.pair_count() <= pair {
-        return false;
-    }
-    let (_, second) = plan.pair(pair);
-    second < plan.participants() && matches!(plan.participant(second), Participant::Interrupt(_))
+    let (_, second) = both_of(plan, pair);
+    controller_of(plan, second).is_none()
 }
 
-fn pairs_apart(plan: &Plan, nevers: &[(u32, u32)]) -> u64 {
-    let mut pairs = 0u64;
-    for (c, d) in nevers {
-        pairs = pairs.saturating_add(pairs_of(plan, *c, *d));
+// The two of a pair.
+fn both_of(plan: &Plan, pair: u32) -> (u32, u32) {
+    if pair < plan.pair_count() {
+        plan.pair(pair)
+    } else {
+        (0, 0)
     }
-    pairs
 }
 
-/// How many pairs of sendings some `never` of the plan leaves out.
-pub(crate) fn kept_apart(plan: &Plan) -> u64 {
+// The controller of a participant that is no interrupt.
+fn controller_of(plan: &Plan, p: u32) -> Option<u32> {
+    if plan.participants() <= p {
+        return None;
+    }
+    match plan.participant(p) {
+        Participant::Sending { controller, .. } => Some(controller),
+        Participant::Interrupt(_) => None,
+    }
+}
+
+/// How many pairs of sendings some `never` of the plan leaves out, but for those of one controller, which a brief may split.
+pub(crate) fn kept_apart(words: PlanWords<'_>) -> u64 {
+    let plan = words.plan();
     let mut pairs = 0u64;
     for c in 0..plan.controllers() {
         for d in 0..c {
-            if is_never(plan, c, d) {
+            if is_never(plan, c, d) && !words.is_one(c, d) {
                 pairs = pairs.saturating_add(pairs_of(plan, c, d));
             }
         }

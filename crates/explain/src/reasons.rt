@@ -5,6 +5,7 @@ ghost use Rattle.verdicts.specs.Faults.{AreFaults, fault_list};
 
 use crate::mends::{Mends, mends_of};
 use crate::safety::{Safety, safety_of};
+use plan_words::PlanWords;
 use report::Checked;
 use std::alloc::{AllocError, Global};
 
@@ -15,18 +16,22 @@ pub enum Reasons {
     Unsafe(Mends),
 }
 
-/// What explains the verdict on a plan that was checked. Of a safe one the proof of each two senders is looked at once more.
+/// What explains the verdict on a plan that was checked, in these words of it. Of a safe one the proof of each two senders is looked at once more.
 ///
 /// # Errors
 ///
 /// Where an allocation fails.
-pub fn reasons_of(alloc: Global, checked: &Checked) -> Result<Reasons, AllocError>
+pub fn reasons_of(
+    alloc: Global,
+    checked: &Checked,
+    words: PlanWords<'_>,
+) -> Result<Reasons, AllocError>
     requires { AreFaults (plan_contents checked.now.plan) (fault_list checked.now.faults) }
 {
     let Checked { plan, faults } = checked;
     if faults.is_safe() {
-        Ok(Reasons::Safe(safety_of(alloc, plan)?))
+        Ok(Reasons::Safe(safety_of(alloc, words)?))
     } else {
-        Ok(Reasons::Unsafe(mends_of(alloc, plan, faults)?))
+        Ok(Reasons::Unsafe(mends_of(alloc, plan, words, faults)?))
     }
 }

@@ -4,6 +4,7 @@ use crate::mends::kept_apart;
 use certificate::Cert;
 use pair_walk::{Outcome, walk};
 use plan_core::Plan;
+use plan_words::PlanWords;
 use std::alloc::{AllocError, Global};
 
 // How many nodes a path of a proof has at most, as a certificate may have (C3).
@@ -16,7 +17,7 @@ pub struct Safety {
     pub decided: Decided,
     /// The messages that no controller lists.
     pub unsent: Vec<u32>,
-    /// How many pairs the `never` items of the plan leave out.
+    /// How many pairs of two controllers the `never` items of the plan leave out.
     pub kept_apart: u64,
 }
 
@@ -35,14 +36,15 @@ pub struct Decided {
 /// # Errors
 ///
 /// Where an allocation fails.
-pub(crate) fn safety_of(alloc: Global, plan: &Plan) -> Result<Safety, AllocError> {
+pub(crate) fn safety_of(alloc: Global, words: PlanWords<'_>) -> Result<Safety, AllocError> {
+    let plan = words.plan();
     let decided = decided_in(alloc, plan)?;
     let unsent = unsent_in(alloc, plan)?;
     Ok(Safety {
         pairs: plan.pair_count(),
         decided,
         unsent,
-        kept_apart: kept_apart(plan),
+        kept_apart: kept_apart(words),
     })
 }
 

@@ -1,6 +1,5 @@
 // What each starter puts along the wire of a rehearsal.
 
-use crate::labels::label_of;
 use crate::meetings::bytes_of;
 use crate::sending::pass;
 use bench_run::{Rehearsal, filled};
@@ -19,7 +18,8 @@ pub struct WireTracks {
 /// What a starter puts in each slot, up to the one in which it loses: the symbol of its item, and `.` where it listens.
 #[derive(Drop)]
 pub struct Track {
-    pub label: String,
+    /// The number of the starter.
+    pub participant: u32,
     pub puts: String,
     /// The slot in which it loses.
     pub lost: Option<usize>,
@@ -48,8 +48,7 @@ fn all_tracks(
     let mut tracks = Vec::with_capacity(alloc, starters.len())?;
     for p in starters {
         if *p < plan.participants() {
-            let label = label_of(alloc, plan, *p)?;
-            tracks.push(track_of(alloc, label, Place::start(plan.sends(*p)), wire, fill)?)?;
+            tracks.push(track_of(alloc, *p, Place::start(plan.sends(*p)), wire, fill)?)?;
         }
     }
     Ok(tracks)
@@ -57,14 +56,18 @@ fn all_tracks(
 
 fn track_of(
     alloc: Global,
-    label: String,
+    participant: u32,
     start: Place<'_>,
     wire: &[Item],
     fill: bool,
 ) -> Result<Track, AllocError> {
     let mut puts = String::new(alloc);
     let lost = push_puts(&mut puts, start, wire, fill)?;
-    Ok(Track { label, puts, lost })
+    Ok(Track {
+        participant,
+        puts,
+        lost,
+    })
 }
 
 // What is put while the wire shows these items, and the slot in which that loses.

@@ -90,6 +90,15 @@ fn push_visible(text: &mut Text, c: char) {
     }
 }
 
+/// A path in a line, as it was given, with what is hidden in it escaped.
+pub fn shown(alloc: Global, path: &str) -> Result<String, AllocError> {
+    let mut text = Text::new(alloc);
+    for c in path.chars() {
+        push_visible(&mut text, c);
+    }
+    text.finish()
+}
+
 /// A text of several lines, with all else that is hidden in it escaped.
 pub fn visible(alloc: Global, words: &str) -> Result<String, AllocError> {
     let mut text = Text::new(alloc);

@@ -3,17 +3,19 @@
 use crate::lines::Lines;
 use crate::values::Hints;
 use plan_core::Plan;
+use plan_words::PlanWords;
 use std::alloc::{AllocError, Global};
 
 // The most names that are told.
 const MOST: u32 = 10;
 
-/// What to say of a plan that is safe: the messages that no controller lists, the pairs that `never` leaves out, and that there
-/// are no pairs, where there are none.
-pub fn on_safe(alloc: Global, plan: &Plan) -> Result<Hints, AllocError> {
+/// What to say of a plan that is safe, in these words of it: the messages that no controller lists, the pairs that `never` leaves
+/// out, and that there are no pairs, where there are none.
+pub fn on_safe(alloc: Global, words: PlanWords<'_>) -> Result<Hints, AllocError> {
+    let plan = words.plan();
     let mut lines = Lines::new(alloc);
     push_unsent(&mut lines, plan);
-    push_nevers(&mut lines, plan);
+    push_nevers(alloc, &mut lines, words)?;
     if plan.pair_count() == 0 {
         lines.say(
             "the plan has no two participants that may start together: no pair was looked at",
@@ -60,19 +62,29 @@ fn is_sent(plan: &Plan, message: u32) -> bool {
     false
 }
 
-fn push_nevers(lines: &mut Lines, plan: &Plan) {
+// The items, but for those between parts of one controller, which a brief makes of its labels.
+fn push_nevers(alloc: Global, lines: &mut Lines, words: PlanWords<'_>) -> Result<(), AllocError> {
+    let plan = words.plan();
+    let (mut told, mut more) = (0u32, 0u32);
     for k in 0..plan.nevers() {
-        if k == MOST {
-            let more = plan.nevers().saturating_sub(MOST);
-            lines.say(format_args!("and {more} more items 'never'"));
-            return;
-        }
         let (one, other) = plan.never(k);
+        if words.is_one(one, other) {
+            continue;
+        }
+        if told == MOST {
+            more = more.saturating_add(1);
+            continue;
+        }
+        told = told.saturating_add(1);
         let count = sendings(plan, one).saturating_mul(sendings(plan, other));
-        let one = plan.controller_name(one).as_str();
-        let other = plan.controller_name(other).as_str();
+        let one = words.side(alloc, one)?;
+        let other = words.side(alloc, other)?;
         lines.say(format_args!("'never {one} {other} ;' leaves out pairs: {count}"));
     }
+    if more != 0 {
+        lines.say(format_args!("and {more} more items 'never'"));
+    }
+    Ok(())
 }
 
 fn sendings(plan: &Plan, controller: u32) -> usize {

@@ -3,60 +3,51 @@
 use crate::likeness::Nearest;
 use crate::lines::Lines;
 use crate::marking::push_name;
-use crate::plans::{Topic, say_of_plan};
 use crate::values::Hints;
 use plan_core::{Participant, Plan};
-use plays::OpenError;
+use plays::{OpenError, check_starters};
 use std::alloc::{AllocError, Global};
-use std::io::{Read, Seek};
 
-/// What to say after the refusal of these starters, labels that commas part. The file is that of the plan, where it can be
-/// read once more.
-pub fn on_starters<F: Read + Seek + Drop>(
-    alloc: Global,
-    file: Option<F>,
-    starters: &str,
-    refusal: OpenError,
-) -> Result<Hints, AllocError> {
-    say_of_plan(alloc, file, Topic::Starters(starters, refusal))
-}
-
-/// The same, with the plan, where it was read.
-pub(crate) fn push_starters(
-    alloc: Global,
-    lines: &mut Lines,
-    plan: Option<&Plan>,
-    starters: &str,
-    refusal: OpenError,
-) {
-    match refusal {
-        OpenError::NoStarter => push_none(alloc, lines, plan),
-        OpenError::Unknown => push_unknown(alloc, lines, plan, starters),
-        OpenError::SameController => push_same(alloc, lines, plan, starters),
-        OpenError::Never => push_never(lines, plan, starters),
-        OpenError::NoMemory => {}
+/// What to say of these starters, labels that commas part, where no bench is opened for them. Else there is nothing to say.
+///
+/// # Errors
+///
+/// Where an allocation fails.
+pub fn on_starters(alloc: Global, plan: &Plan, starters: &str) -> Result<Hints, AllocError> {
+    let mut lines = Lines::new(alloc);
+    match refusal_of(alloc, plan, starters)? {
+        Some(OpenError::NoStarter) => push_none(alloc, &mut lines, plan),
+        Some(OpenError::Unknown) => push_unknown(alloc, &mut lines, plan, starters),
+        Some(OpenError::SameController) => push_same(alloc, &mut lines, plan, starters),
+        Some(OpenError::Never) => push_never(&mut lines, plan, starters),
+        Some(OpenError::NoMemory) | None => {}
     }
+    lines.finish()
 }
 
-fn push_none(alloc: Global, lines: &mut Lines, plan: Option<&Plan>) {
+fn refusal_of(alloc: Global, plan: &Plan, starters: &str) -> Result<Option<OpenError>, AllocError> {
+    let mut numbers = Vec::new(alloc);
+    if !starters.is_empty() {
+        for label in starters.split(',') {
+            numbers.push(plan.find(label).unwrap_or(plan.participants()))?;
+        }
+    }
+    Ok(check_starters(plan, numbers.as_slice()).err())
+}
+
+fn push_none(alloc: Global, lines: &mut Lines, plan: &Plan) {
     lines.say("no starter is named: give labels, joined by commas");
-    if let Some(plan) = plan {
-        push_nearest(alloc, lines, plan, "");
-    }
+    push_nearest(alloc, lines, plan, "");
 }
 
 // The first label that the plan does not have, and those that are like it.
-fn push_unknown(alloc: Global, lines: &mut Lines, plan: Option<&Plan>, starters: &str) {
-    if let Some(plan) = plan {
-        if let Some(label) = first_absent(plan, starters) {
-            lines.part("no participant of the plan has the label '");
-            push_name(lines, label.as_bytes());
-            lines.say("'");
-            push_nearest(alloc, lines, plan, label);
-            return;
-        }
+fn push_unknown(alloc: Global, lines: &mut Lines, plan: &Plan, starters: &str) {
+    if let Some(label) = first_absent(plan, starters) {
+        lines.part("no participant of the plan has the label '");
+        push_name(lines, label.as_bytes());
+        lines.say("'");
+        push_nearest(alloc, lines, plan, label);
     }
-    lines.say("a label is 'controller/message' or '!interrupt', with names of the plan");
 }
 
 fn first_absent<'a>(plan: &Plan, starters: &'a str) -> Option<&'a str> {
@@ -100,11 +91,9 @@ fn add_label(
     Ok(())
 }
 
-fn push_same(alloc: Global, lines: &mut Lines, plan: Option<&Plan>, starters: &str) {
-    if let Some(plan) = plan {
-        if let Some((first, second)) = first_two(plan, starters, Clash::OneController) {
-            push_two(alloc, lines, plan, first, second);
-        }
+fn push_same(alloc: Global, lines: &mut Lines, plan: &Plan, starters: &str) {
+    if let Some((first, second)) = first_two(plan, starters, Clash::OneController) {
+        push_two(alloc, lines, plan, first, second);
     }
     lines.say("a controller starts one message at a time");
 }
@@ -135,14 +124,10 @@ fn push_label(alloc: Global, lines: &mut Lines, plan: &Plan, i: u32) {
     }
 }
 
-fn push_never(lines: &mut Lines, plan: Option<&Plan>, starters: &str) {
-    if let Some(plan) = plan {
-        if let Some((first, second)) = first_two(plan, starters, Clash::Never) {
-            push_item(lines, plan, first, second);
-            return;
-        }
+fn push_never(lines: &mut Lines, plan: &Plan, starters: &str) {
+    if let Some((first, second)) = first_two(plan, starters, Clash::Never) {
+        push_item(lines, plan, first, second);
     }
-    lines.say("two of these starters are of controllers that a 'never' of the plan keeps apart");
 }
 
 // The item that keeps these two apart.

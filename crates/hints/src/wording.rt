@@ -1,68 +1,74 @@
-// What is wrong, in words.
+// What the refusal of a text means, where that is no name and has a place of its own.
 
-use crate::languages::Language;
-use plan_text::PlanError;
+use crate::lines::Lines;
+use plan_core::limits::{
+    MOST_BYTES, MOST_CONTROLLERS, MOST_INTERRUPTS, MOST_MESSAGES, MOST_NODES, MOST_SENDINGS,
+};
+use plan_text::places::{Kind, Over};
+use plan_text::{Expected, Language};
 
-/// What the refusal of a text means. There is nothing to say of out of memory.
-pub(crate) fn of_text(language: Language, refusal: PlanError) -> Option<&'static str> {
+/// Of P1.
+pub(crate) fn foreign(language: Language) -> &'static str {
     match language {
-        Language::Plan => of_plan(refusal),
-        Language::Brief => of_brief(refusal),
+        Language::Plan => "a plan is ASCII, in its comments too",
+        Language::Brief => "a brief is ASCII, in its comments too",
     }
 }
 
-/// What P7 means at a label of a brief.
-pub(crate) const LABEL_TWICE: &str =
-    "this stands there already, or both are of one controller, whose messages never start together";
-
-fn of_brief(refusal: PlanError) -> Option<&'static str> {
-    match refusal {
-        PlanError::NotAscii(_) => Some("a brief is ASCII, in its comments too"),
-        PlanError::Version(_) => Some("a brief begins with 'brief 1'"),
-        PlanError::BadCount(_) => {
-            Some(
-                "expected here: a number from 1 to 255; after 'read' or '*' also two of them as '2..4', the smaller first (after '*' it may be 0)",
-            )
+/// Of P2.
+pub(crate) fn version(language: Language) -> &'static str {
+    match language {
+        Language::Plan => {
+            "a plan begins with 'plan 1', or with 'plan 2' where it has ranges of counts or 'never'"
         }
-        PlanError::Unknown(_) => {
-            Some(
-                "nothing before this place has this name: devices, bytes, messages and controllers come before what names them",
-            )
-        }
-        _ => of_plan(refusal),
+        Language::Brief => "a brief begins with 'brief 1'",
     }
 }
 
-fn of_plan(refusal: PlanError) -> Option<&'static str> {
-    match refusal {
-        PlanError::NotAscii(_) => Some("a plan is ASCII, in its comments too"),
-        PlanError::Version(_) => {
-            Some(
-                "a plan begins with 'plan 1', or with 'plan 2' where it has ranges of counts or 'never'",
-            )
+/// Of P4, where this was expected.
+pub(crate) fn bad_count(expected: Option<Expected>) -> &'static str {
+    match expected {
+        Some(Expected::Count { ranges: true }) => {
+            "a count is a number from 1 to 255, or two of them as '2..4', the smaller first"
         }
-        PlanError::Unexpected(_) => Some("something stands here that cannot stand in its place"),
-        PlanError::BadCount(_) => {
-            Some(
-                "a count is a number from 1 to 255; in 'plan 2' also two of them as '2..4', the smaller first",
-            )
+        Some(Expected::Times { ranges: false }) => "a number after '*' is 1 to 255",
+        Some(Expected::Times { ranges: true }) => {
+            "a number after '*' is 1 to 255; a range, as '1..4', has the smaller first, which may be 0"
         }
-        PlanError::TooLong(_) => {
-            Some(
-                "with this the message has more than 256 bytes on a path, or more than 4096 headers and data bytes",
-            )
-        }
-        PlanError::TooMany(_) => {
-            Some(
-                "a plan has at most 256 messages, 32 controllers, 32 interrupts, and 512 messages listed in controllers",
-            )
-        }
-        PlanError::Twice(_) => Some("this stands there already"),
-        PlanError::Unknown(_) => {
-            Some(
-                "nothing before this place has this name: messages come before the controllers that list them, controllers before 'never'",
-            )
-        }
-        PlanError::NoMemory => None,
+        _ => "a count is a number from 1 to 255",
     }
+}
+
+/// Says P5, of a message that is too long by so much.
+pub(crate) fn push_over(lines: &mut Lines, over: Option<Over>) {
+    match over {
+        Some(Over::Bytes(more)) => {
+            let bytes = more.saturating_add(MOST_BYTES);
+            lines.say(format_args!(
+                "with this a path of the message has {bytes} bytes, and may have {MOST_BYTES}"
+            ));
+        }
+        Some(Over::Nodes(more)) => {
+            let nodes = more.saturating_add(MOST_NODES);
+            lines.say(format_args!(
+                "with this the message has {nodes} headers and data bytes, and may have {MOST_NODES}"
+            ));
+        }
+        None => {}
+    }
+}
+
+/// Says P6, where this was expected.
+pub(crate) fn push_limit(lines: &mut Lines, expected: Option<Expected>) {
+    let (most, what) = match expected {
+        Some(Expected::Name(Kind::Controller)) => (MOST_CONTROLLERS, "controllers"),
+        Some(Expected::Party) => {
+            lines.part("with the controllers that labels make, ");
+            (MOST_CONTROLLERS, "controllers")
+        }
+        Some(Expected::Name(Kind::Interrupt)) => (MOST_INTERRUPTS, "interrupts"),
+        Some(Expected::Sending) => (MOST_SENDINGS, "messages listed in all its controllers"),
+        _ => (MOST_MESSAGES, "messages"),
+    };
+    lines.say(format_args!("a plan has at most {most} {what}"));
 }

@@ -1,63 +1,175 @@
 // Words that cannot stand where somebody put them, for a reason of their own.
 
-use crate::expecting::Asked;
-use crate::languages::Language;
 use crate::lines::Lines;
-use crate::pieces::has_only;
+use crate::texts::called;
+use plan_text::words::count_ends;
+use plan_text::{Expected, Language};
 
-/// Says why this word cannot stand in this place, where it is a word of the language in the place of a name, an address with
-/// its direction bit, or belongs to `plan 2` and the text is of `plan 1`.
-pub(crate) fn push_word(lines: &mut Lines, asked: &mut Asked<'_>, word: &[u8]) {
-    if let Some(words) = of_plan_2(asked, word) {
-        lines.say(words);
-        return;
-    }
-    if let Some(address) = without_direction(asked.language, word) {
-        if takes_address(asked) {
-            push_address(lines, address);
-            return;
-        }
-    }
-    if let Some(reserved) = asked.language.reserved(word) {
-        if asked.allows("a") {
-            let what = asked.language.name();
-            lines.say(format_args!("'{reserved}' is a word of every {what}, and cannot be a name"));
-        }
+/// What is said of a range in a plan of the first version.
+pub(crate) const RANGES: &str = "ranges, as '2..4', are of 'plan 2': let the text begin with that";
+
+/// Says why this word cannot stand there, where these words name what can.
+pub(crate) fn push_reason(
+    lines: &mut Lines,
+    language: Language,
+    expected: Expected,
+    words: &[&'static str],
+    word: &str,
+) {
+    if let Some(reason) = reason_of(expected, word) {
+        lines.say(reason);
+    } else if let Some(reason) = reason_of_bits(language, expected, word) {
+        lines.say(reason);
+    } else if let Some(address) = without_direction(language, expected, word) {
+        push_address(lines, address);
+    } else if let Some(known) = in_small_letters(words, word) {
+        lines.say(format_args!("words have small letters: {known}"));
+    } else if takes_name(expected) && is_name(word) {
+        let what = called(language);
+        lines.say(format_args!("'{word}' is a word of every {what}, and cannot be a name"));
     }
 }
 
-// What belongs to `plan 2`, where the text is of `plan 1`.
-fn of_plan_2(asked: &mut Asked<'_>, word: &[u8]) -> Option<&'static str> {
-    if let Language::Brief = asked.language {
-        None
-    } else if word == b"never".as_slice() && asked.allows("message") {
-        Some("'never' is of 'plan 2': let the text begin with that")
-    } else if is_range(word) && asked.allows("1") {
-        Some("ranges, as '2..4', are of 'plan 2': let the text begin with that")
+fn reason_of(expected: Expected, word: &str) -> Option<&'static str> {
+    match expected {
+        Expected::Item { never } => reason_of_item(never, word),
+        Expected::Further(_) => reason_of_further(word),
+        Expected::Times { ranges } if is_range(word) => Some(if ranges {
+            "with this range a message would have a name of more than 32 characters"
+        } else {
+            "a message has one range, and this would be its second"
+        }),
+        Expected::Party if word.contains('/') && word.len() > 32 => {
+            Some("a label has 32 characters at most")
+        }
+        _ => None,
+    }
+}
+
+fn reason_of_item(never: bool, word: &str) -> Option<&'static str> {
+    match word {
+        "never" if !never => Some("'never' is of 'plan 2': let the text begin with that"),
+        "device" | "byte" => Some("'device' and 'byte' are of briefs, which begin with 'brief 1'"),
+        _ => None,
+    }
+}
+
+fn reason_of_further(word: &str) -> Option<&'static str> {
+    match word {
+        "again" => Some("in a brief a further 'write' or 'read' repeats START by itself"),
+        "stop" => Some("in a brief a message stops where it ends: 'stop' follows 'else' alone"),
+        _ => None,
+    }
+}
+
+fn is_range(word: &str) -> bool {
+    word.contains('.') && count_ends(word.as_bytes()).is_some()
+}
+
+// Why these bits are none of this language, or of none that can stand there.
+fn reason_of_bits(language: Language, expected: Expected, word: &str) -> Option<&'static str> {
+    if !takes_bits(expected) {
+        return None;
+    }
+    if is_known(expected) && is_open(word) {
+        return Some("an interrupt has an address without open bits");
+    }
+    match language {
+        Language::Plan => reason_of_plan_bits(word),
+        Language::Brief => reason_of_brief_bits(word),
+    }
+}
+
+fn reason_of_plan_bits(word: &str) -> Option<&'static str> {
+    if word.starts_with("0x") || word.starts_with("0X") {
+        Some("a plan has bits alone: hex digits are of briefs")
+    } else if has_only(word, "01xX") && word.contains('X') {
+        Some(SMALL_X)
     } else {
         None
     }
 }
 
-// Two numbers with two dots between them.
-fn is_range(word: &[u8]) -> bool {
-    let mut was_dot = false;
-    for byte in word {
-        let is_dot = *byte == b'.';
-        if was_dot && is_dot {
-            return true;
-        }
-        was_dot = is_dot;
+const SMALL_X: &str = "an open bit is a small 'x'";
+
+fn reason_of_brief_bits(word: &str) -> Option<&'static str> {
+    if word.starts_with("0X") || word.starts_with("0B") {
+        return Some("hex digits begin with '0x' and bits with '0b', in small letters");
     }
-    false
+    if let Some(digits) = word.strip_prefix("0x") {
+        return digits
+            .contains('x')
+            .then_some("a hex digit whose bits are open is a capital 'X'");
+    }
+    if let Some(bits) = word.strip_prefix("0b") {
+        return (has_only(bits, "01xX") && bits.contains('X')).then_some(SMALL_X);
+    }
+    let is_bits = matches!(word.len(), 7 | 8) && has_only(word, "01x");
+    is_bits.then_some("bits in a brief begin with '0b'")
 }
 
-// Whether an address can stand here.
-fn takes_address(asked: &mut Asked<'_>) -> bool {
-    match asked.language {
-        Language::Plan => asked.allows("000000x") || asked.allows("0000001"),
-        Language::Brief => asked.allows("0b000000x") || asked.allows("0b0000001"),
+// Whether the word would be an address, were open bits allowed.
+fn is_open(word: &str) -> bool {
+    if let Some(digits) = word.strip_prefix("0x") {
+        return digits.len() == 2 && digits.contains('X');
     }
+    let bits = word.strip_prefix("0b").unwrap_or(word);
+    bits.len() == 7 && has_only(bits, "01x")
+}
+
+fn is_known(expected: Expected) -> bool {
+    matches!(expected, Expected::KnownAddress | Expected::KnownTarget)
+}
+
+fn takes_bits(expected: Expected) -> bool {
+    match expected {
+        Expected::Payload | Expected::BriefByte => true,
+        Expected::Further(further) => further.bytes,
+        _ => takes_address(expected),
+    }
+}
+
+fn takes_address(expected: Expected) -> bool {
+    matches!(
+        expected,
+        Expected::Address
+            | Expected::KnownAddress
+            | Expected::Target
+            | Expected::KnownTarget
+            | Expected::BriefAddress
+    )
+}
+
+fn takes_name(expected: Expected) -> bool {
+    matches!(
+        expected,
+        Expected::Name(_)
+            | Expected::Sending
+            | Expected::Controller
+            | Expected::Party
+            | Expected::Target
+            | Expected::KnownTarget
+    )
+}
+
+// Whether a word has the form of a name.
+fn is_name(word: &str) -> bool {
+    let [first, ..] = word.as_bytes() else {
+        return false;
+    };
+    first.is_ascii_alphabetic()
+        && word.len() <= 32
+        && word.chars().all(|c| c.is_ascii_alphanumeric() || c == '_')
+}
+
+// Which of these words it is, but for capital letters.
+fn in_small_letters(words: &[&'static str], word: &str) -> Option<&'static str> {
+    for known in words {
+        if known.trim_matches('\'').eq_ignore_ascii_case(word) {
+            return Some(*known);
+        }
+    }
+    None
 }
 
 // An address of seven bits.
@@ -77,8 +189,10 @@ fn push_address(lines: &mut Lines, address: Address<'_>) {
 }
 
 // The address whose header this word writes, with the direction bit at the end (UM10204, 3.1.10).
-fn without_direction(language: Language, word: &[u8]) -> Option<Address<'_>> {
-    let word = str::from_utf8(word).ok()?;
+fn without_direction(language: Language, expected: Expected, word: &str) -> Option<Address<'_>> {
+    if !takes_address(expected) {
+        return None;
+    }
     if let Language::Plan = language {
         return seven_bits("", word);
     }
@@ -90,7 +204,7 @@ fn without_direction(language: Language, word: &[u8]) -> Option<Address<'_>> {
 
 // The first seven of eight bits.
 fn seven_bits<'a>(before: &'static str, bits: &'a str) -> Option<Address<'a>> {
-    if bits.len() != 8 || !has_only(bits.as_bytes(), b"01x") {
+    if bits.len() != 8 || !has_only(bits, "01x") {
         return None;
     }
     Some(Address::Bits(before, bits.get(..7)?))
@@ -103,4 +217,13 @@ fn half(digits: &str) -> Option<Address<'_>> {
     }
     let value = u8::from_str_radix(digits, 16).ok()?;
     Some(Address::Number(value / 2))
+}
+
+fn has_only(word: &str, letters: &str) -> bool {
+    for letter in word.chars() {
+        if !letters.contains(letter) {
+            return false;
+        }
+    }
+    true
 }

@@ -1,9 +1,11 @@
 // Objects of a rehearsal.
 
+use crate::places::{OneAt, one_at};
 use crate::writing::ObjectLines;
 use bench_run::Rehearsal;
 use certificate::push_wire;
-use explain::{Track, labels_of, tracks_of};
+use explain::{Labels, Track, labels_of, tracks_of};
+use plan_words::PlanWords;
 use report::{Output, RunError};
 use serde::Serialize;
 use std::alloc::{AllocError, Global};
@@ -27,6 +29,8 @@ struct Along<'a> {
 #[derive(Drop, Serialize)]
 struct Starter<'a> {
     participant: &'a str,
+    #[serde(skip_serializing_if = "Option::is_none")]
+    places: Option<OneAt>,
     puts: &'a str,
     #[serde(skip_serializing_if = "Option::is_none")]
     lost: Option<usize>,
@@ -39,7 +43,7 @@ struct Won<'a> {
     participants: &'a [&'a str],
 }
 
-/// Writes the objects of a rehearsal, explained where that is wanted.
+/// Writes the objects of a rehearsal of the plan of these words, explained where that is wanted.
 ///
 /// # Errors
 ///
@@ -47,24 +51,32 @@ struct Won<'a> {
 pub fn write_rehearsal<O: Output>(
     alloc: Global,
     rehearsal: &Rehearsal,
+    words: PlanWords<'_>,
     is_explained: bool,
     out: &mut O,
 ) -> Result<(), RunError> {
+    let labels = labels_of(alloc, words.plan())?;
     let mut lines = ObjectLines::new(alloc);
     if is_explained {
-        add_explained(&mut lines, rehearsal)?;
+        add_explained(&mut lines, rehearsal, words, &labels)?;
     } else {
         add_wire(&mut lines, rehearsal, None)?;
     }
-    add_won(&mut lines, rehearsal)?;
+    add_won(&mut lines, rehearsal, &labels)?;
     lines.write_rest(out)
 }
 
-fn add_explained(lines: &mut ObjectLines, rehearsal: &Rehearsal) -> Result<(), AllocError> {
+fn add_explained(
+    lines: &mut ObjectLines,
+    rehearsal: &Rehearsal,
+    words: PlanWords<'_>,
+    labels: &Labels,
+) -> Result<(), AllocError> {
     let along = tracks_of(lines.alloc, rehearsal)?;
     let mut starters = Vec::with_capacity(lines.alloc, along.tracks.len())?;
     for track in &along.tracks {
-        starters.push(starter_of(track))?;
+        let places = one_at(lines.alloc, words, track.participant)?;
+        starters.push(starter_of(track, places, labels))?;
     }
     let explain = Along {
         bytes: along.bytes.as_str(),
@@ -73,9 +85,10 @@ fn add_explained(lines: &mut ObjectLines, rehearsal: &Rehearsal) -> Result<(), A
     add_wire(lines, rehearsal, Some(explain))
 }
 
-fn starter_of(track: &Track) -> Starter<'_> {
+fn starter_of<'a>(track: &'a Track, places: Option<OneAt>, labels: &'a Labels) -> Starter<'a> {
     Starter {
-        participant: track.label.as_str(),
+        participant: labels.of(track.participant),
+        places,
         puts: track.puts.as_str(),
         lost: track.lost,
     }
@@ -96,8 +109,11 @@ fn add_wire(
     Ok(())
 }
 
-fn add_won(lines: &mut ObjectLines, rehearsal: &Rehearsal) -> Result<(), AllocError> {
-    let labels = labels_of(lines.alloc, rehearsal.accepted.plan())?;
+fn add_won(
+    lines: &mut ObjectLines,
+    rehearsal: &Rehearsal,
+    labels: &Labels,
+) -> Result<(), AllocError> {
     let mut participants = Vec::with_capacity(lines.alloc, rehearsal.played.won.len())?;
     for p in &rehearsal.played.won {
         participants.push(labels.of(*p))?;

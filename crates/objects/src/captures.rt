@@ -1,12 +1,14 @@
 // Objects of a capture.
 
+use crate::places::{OneAt, one_at};
 use crate::transactions::{Moment, Seen, Times, seen_of, times_of, too_few_of};
 use crate::written::Written;
 use capture_check::Transaction;
 use decoding::{Ending, ExplainedSink};
 use dump_tokens::Scale;
-use explain::{Labels, Layout, Others, Selection, Tallies, labels_of};
+use explain::{Explains, Labels, Layout, Others, Selection, Tallies, labels_of};
 use plan_core::Plan;
+use plan_words::PlanWords;
 use run_parts::{Output, RunError};
 use serde::Serialize;
 use std::alloc::{AllocError, Global};
@@ -42,10 +44,12 @@ struct Rest {
 }
 
 // How many transactions a participant explains.
-#[derive(Clone, Copy, Serialize)]
+#[derive(Drop, Serialize)]
 struct Counted<'a> {
     kind: &'static str,
     participant: &'a str,
+    #[serde(skip_serializing_if = "Option::is_none")]
+    places: Option<OneAt>,
     alone: u64,
     with_others: u64,
 }
@@ -71,8 +75,9 @@ impl Count {
 
 /// Writes the objects of a capture.
 #[derive(Drop)]
-pub struct CaptureObjects<'a, O> {
+pub struct CaptureObjects<'a, 'w, O> {
     written: Written<'a, O>,
+    words: PlanWords<'w>,
     layout: Layout,
     selection: Selection,
     labels: Labels,
@@ -81,23 +86,24 @@ pub struct CaptureObjects<'a, O> {
     has_stopped: bool,
 }
 
-impl<'a, O: Output> CaptureObjects<'a, O> {
-    /// Nothing has been written of a capture that is explained by this plan.
+impl<'a, 'w, O: Output> CaptureObjects<'a, 'w, O> {
+    /// Nothing has been written of a capture that is explained by the plan of these words.
     ///
     /// # Errors
     ///
     /// Where an allocation fails.
     pub fn new(
         alloc: Global,
-        plan: &Plan,
+        words: PlanWords<'w>,
         selection: Selection,
         layout: Layout,
         out: &'a mut O,
-    ) -> Result<CaptureObjects<'a, O>, AllocError> {
-        let labels = labels_of(alloc, plan)?;
-        let tallies = Tallies::wanted(alloc, plan, &selection)?;
+    ) -> Result<CaptureObjects<'a, 'w, O>, AllocError> {
+        let labels = labels_of(alloc, words.plan())?;
+        let tallies = Tallies::wanted(alloc, words.plan(), &selection)?;
         Ok(CaptureObjects {
             written: Written::new(alloc, layout.live, out),
+            words,
             layout,
             selection,
             labels,
@@ -158,13 +164,14 @@ impl<'a, O: Output> CaptureObjects<'a, O> {
     fn end(self, explain: Option<Rest>) -> Result<Selection, RunError> {
         let CaptureObjects {
             mut written,
+            words,
             selection,
             labels,
             tallies,
             ..
         } = self;
         if let Some(tallies) = &tallies {
-            add_tallies(&mut written, tallies, &labels);
+            add_tallies(&mut written, words, tallies, &labels);
         }
         written.add(&Transactions {
             kind: "transactions",
@@ -180,7 +187,7 @@ impl<'a, O: Output> CaptureObjects<'a, O> {
     }
 }
 
-impl<O: Output> ExplainedSink for CaptureObjects<'_, O> {
+impl<O: Output> ExplainedSink for CaptureObjects<'_, '_, O> {
     ghost use Rattle.decoding.specs.Sinks.{any_sink};
 
     ghost sink = { λ plan. any_sink };
@@ -204,14 +211,17 @@ impl<O: Output> ExplainedSink for CaptureObjects<'_, O> {
     }
 }
 
-fn add_tallies<O: Output>(written: &mut Written<'_, O>, tallies: &Tallies, labels: &Labels) {
+fn add_tallies<O: Output>(
+    written: &mut Written<'_, O>,
+    words: PlanWords<'_>,
+    tallies: &Tallies,
+    labels: &Labels,
+) {
+    let mut p = 0u32;
     for (label, count) in labels.all().iter().zip(tallies.senders.as_slice()) {
-        written.add(&Counted {
-            kind: "participant",
-            participant: label.as_str(),
-            alone: count.alone,
-            with_others: count.with_others,
-        });
+        let counted = counted_of(written.alloc, words, p, label.as_str(), *count);
+        written.add_made(counted);
+        p = p.saturating_add(1);
     }
     let Others {
         unexplained,
@@ -250,4 +260,21 @@ fn explained_of<'a>(
         object.explain = Some(seen_of(alloc, plan, labels, transaction, participants)?);
     }
     Ok(object)
+}
+
+// How often a participant explains a transaction.
+fn counted_of<'a>(
+    alloc: Global,
+    words: PlanWords<'_>,
+    p: u32,
+    participant: &'a str,
+    count: Explains,
+) -> Result<Counted<'a>, AllocError> {
+    Ok(Counted {
+        kind: "participant",
+        participant,
+        places: one_at(alloc, words, p)?,
+        alone: count.alone,
+        with_others: count.with_others,
+    })
 }

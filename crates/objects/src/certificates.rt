@@ -1,10 +1,11 @@
 // Objects of the answer to a certificate.
 
+use crate::places::{BothAt, both_at};
 use crate::writing::ObjectLines;
 use cert_check::Answer;
 use certificate::CertFault;
 use explain::{Break, Mistake, Reason, label_of};
-use plan_core::Plan;
+use plan_words::PlanWords;
 use report::{Output, RunError};
 use serde::Serialize;
 use std::alloc::{AllocError, Global};
@@ -37,6 +38,8 @@ enum Why<'a> {
 struct Misproved<'a> {
     participants: (&'a str, &'a str),
     #[serde(skip_serializing_if = "Option::is_none")]
+    places: Option<BothAt>,
+    #[serde(skip_serializing_if = "Option::is_none")]
     word: Option<u32>,
     #[serde(skip_serializing_if = "Option::is_none")]
     slot: Option<u32>,
@@ -44,14 +47,14 @@ struct Misproved<'a> {
     why: Option<&'static str>,
 }
 
-/// Writes the object of the answer to a certificate of the plan, and what is wrong with it, where that was found.
+/// Writes the object of the answer to a certificate of the plan of these words, and what is wrong with it, where that was found.
 ///
 /// # Errors
 ///
 /// `Write` where the writer failed or took no bytes, and `NoMemory`, after which nothing was written.
 pub fn write_answer<O: Output>(
     alloc: Global,
-    plan: &Plan,
+    words: PlanWords<'_>,
     answer: Answer,
     mistake: Option<Mistake>,
     out: &mut O,
@@ -64,7 +67,7 @@ pub fn write_answer<O: Output>(
                 found,
                 ..
             },
-        ) => add_misproved(&mut lines, plan, answer, participants, found)?,
+        ) => add_misproved(&mut lines, words, answer, participants, found)?,
         Some(Mistake::Count { pairs, proofs }) => {
             lines.add(&object_of(answer, Some(Why::Count { pairs, proofs })));
         }
@@ -108,19 +111,24 @@ fn place(object: &mut Certificate<'_>, fault: CertFault) {
 
 fn add_misproved(
     lines: &mut ObjectLines,
-    plan: &Plan,
+    words: PlanWords<'_>,
     answer: Answer,
     participants: (u32, u32),
     found: Option<Break>,
 ) -> Result<(), AllocError> {
-    let first = label_of(lines.alloc, plan, participants.0)?;
-    let second = label_of(lines.alloc, plan, participants.1)?;
-    let why = misproved_of((first.as_str(), second.as_str()), found);
+    let first = label_of(lines.alloc, words.plan(), participants.0)?;
+    let second = label_of(lines.alloc, words.plan(), participants.1)?;
+    let places = both_at(lines.alloc, words, participants)?;
+    let why = misproved_of((first.as_str(), second.as_str()), places, found);
     lines.add(&object_of(answer, Some(Why::Pair(why))));
     Ok(())
 }
 
-fn misproved_of<'a>(participants: (&'a str, &'a str), found: Option<Break>) -> Misproved<'a> {
+fn misproved_of<'a>(
+    participants: (&'a str, &'a str),
+    places: Option<BothAt>,
+    found: Option<Break>,
+) -> Misproved<'a> {
     let (word, slot, why) = match found {
         Some(found) => (
             Some(found.word),
@@ -131,6 +139,7 @@ fn misproved_of<'a>(participants: (&'a str, &'a str), found: Option<Break>) -> M
     };
     Misproved {
         participants,
+        places,
         word,
         slot,
         why,

@@ -1,10 +1,12 @@
 // Objects of a check.
 
+use crate::places::all_at;
 use crate::writing::ObjectLines;
 use certificate::Fault;
 use explain::{Labels, Meeting, Mends, Reasons, Rule, Safety, labels_of, meeting_of};
 use growing_text::Text;
 use plan_core::Plan;
+use plan_words::PlanWords;
 use report::{Checked, Output, RunError};
 use serde::Serialize;
 use std::alloc::{AllocError, Global};
@@ -63,7 +65,7 @@ struct Decided {
     alike: u64,
 }
 
-/// Writes an object for each unsafe pair of a plan that was checked, and one for the plan. Where there are reasons, the last one
+/// Writes an object for each unsafe pair of a plan that was checked, and one for the plan. The words are those of the plan. Where there are reasons, the last one
 /// has them, and the first so many pairs are explained.
 ///
 /// # Errors
@@ -72,12 +74,14 @@ struct Decided {
 pub fn write_check<O: Output>(
     alloc: Global,
     checked: &Checked,
+    words: PlanWords<'_>,
     reasons: Option<&Reasons>,
     most: u32,
     out: &mut O,
 ) -> Result<(), RunError> {
     let Checked { plan, faults } = checked;
     let labels = labels_of(alloc, plan)?;
+    let places = all_at(alloc, words)?;
     let explained = match reasons {
         Some(_) => faults.len().min(most as usize),
         None => 0,
@@ -88,6 +92,9 @@ pub fn write_check<O: Output>(
         if pair < plan.pair_count() {
             let both = plan.pair(pair);
             add_pair(&mut lines.text, &labels, (pair, both), fault);
+            if let Some(places) = &places {
+                add_places(&mut lines.text, places.as_slice(), both);
+            }
             if k < explained {
                 add_met(&mut lines, plan, both, fault)?;
             }
@@ -112,6 +119,22 @@ fn add_pair(text: &mut Text, labels: &Labels, pair: (u32, (u32, u32)), fault: &F
         text.push_char(item.symbol());
     }
     text.push("\"");
+}
+
+// The field that says where the two stand.
+fn add_places(text: &mut Text, places: &[String], both: (u32, u32)) {
+    text.push(",\"places\":[");
+    push_place(text, places.get(both.0 as usize));
+    text.push(",");
+    push_place(text, places.get(both.1 as usize));
+    text.push("]");
+}
+
+fn push_place(text: &mut Text, place: Option<&String>) {
+    match place {
+        Some(place) => text.push(place.as_str()),
+        None => text.push("null"),
+    }
 }
 
 // A field with two words.
@@ -222,7 +245,7 @@ fn add_unsafe(
     mends: &Mends,
     explained: usize,
 ) -> Result<(), AllocError> {
-    let never = nevers_of(lines.alloc, &checked.plan, mends)?;
+    let never = nevers_of(lines.alloc, mends)?;
     let why = Mended {
         explained,
         never: never.as_slice(),
@@ -234,19 +257,10 @@ fn add_unsafe(
     Ok(())
 }
 
-fn nevers_of<'a>(
-    alloc: Global,
-    plan: &'a Plan,
-    mends: &Mends,
-) -> Result<Vec<[&'a str; 2]>, AllocError> {
+fn nevers_of<'a>(alloc: Global, mends: &'a Mends) -> Result<Vec<[&'a str; 2]>, AllocError> {
     let mut nevers = Vec::with_capacity(alloc, mends.nevers.len())?;
-    for (c, d) in &mends.nevers {
-        if *c < plan.controllers() && *d < plan.controllers() {
-            nevers.push([
-                plan.controller_name(*c).as_str(),
-                plan.controller_name(*d).as_str(),
-            ])?;
-        }
+    for never in &mends.nevers {
+        nevers.push([never.first.as_str(), never.second.as_str()])?;
     }
     Ok(nevers)
 }

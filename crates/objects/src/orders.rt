@@ -1,9 +1,10 @@
 // Objects of who wins.
 
+use crate::places::{BothAt, OneAt, both_at, one_at};
 use crate::writing::ObjectLines;
-use explain::{Labels, labels_of};
+use explain::labels_of;
 use order::{Order, Outcomes, Slots, Total};
-use plan_core::Plan;
+use plan_words::PlanWords;
 use run_parts::{Output, RunError};
 use serde::Serialize;
 use std::alloc::Global;
@@ -14,6 +15,8 @@ struct PairOrder<'a> {
     kind: &'static str,
     pair: u32,
     participants: [&'a str; 2],
+    #[serde(skip_serializing_if = "Option::is_none")]
+    places: Option<BothAt>,
     #[serde(rename = "unsafe", skip_serializing_if = "Option::is_none")]
     is_unsafe: Option<bool>,
     #[serde(skip_serializing_if = "Option::is_none")]
@@ -29,33 +32,43 @@ struct PairOrder<'a> {
 struct Wins<'a> {
     kind: &'static str,
     participant: &'a str,
+    #[serde(skip_serializing_if = "Option::is_none")]
+    places: Option<OneAt>,
     wins: u32,
     may_win: u32,
     loses: u32,
 }
 
-/// Writes an object for each pair of the plan, and one for each participant that can win or lose.
+/// Writes an object for each pair of the plan of these words, and one for each participant that can win or lose.
 ///
 /// # Errors
 ///
 /// `Write` where the writer failed or took no bytes, and `NoMemory`. A part of the objects may have been written.
 pub fn write_order<O: Output>(
     alloc: Global,
-    plan: &Plan,
+    words: PlanWords<'_>,
     order: &Order,
     out: &mut O,
 ) -> Result<(), RunError> {
+    let plan = words.plan();
     let labels = labels_of(alloc, plan)?;
     let mut lines = ObjectLines::new(alloc);
     for pair in 0..plan.pair_count() {
         if let Some(outcomes) = order.ways.get(pair as usize) {
             let (x, y) = plan.pair(pair);
-            lines.add(&pair_order(pair, [labels.of(x), labels.of(y)], outcomes));
+            let places = both_at(alloc, words, (x, y))?;
+            lines.add(&pair_order(pair, [labels.of(x), labels.of(y)], places, outcomes));
         }
         lines.write_block(out)?;
     }
     for p in 0..plan.participants() {
-        add_total(&mut lines, labels.of(p), order.totals.get(p as usize));
+        let places = one_at(alloc, words, p)?;
+        add_total(
+            &mut lines,
+            labels.of(p),
+            places,
+            order.totals.get(p as usize),
+        );
     }
     lines.write_rest(out)
 }
@@ -63,6 +76,7 @@ pub fn write_order<O: Output>(
 fn pair_order<'a>(
     pair: u32,
     participants: [&'a str; 2],
+    places: Option<BothAt>,
     outcomes: &Option<Outcomes>,
 ) -> PairOrder<'a> {
     let Outcomes {
@@ -74,6 +88,7 @@ fn pair_order<'a>(
         kind: "order",
         pair,
         participants,
+        places,
         is_unsafe: outcomes.is_none().then_some(true),
         both: slots_of(both),
         first: slots_of(first),
@@ -92,11 +107,17 @@ fn slots_of(slots: Option<Slots>) -> Option<(u32, u32)> {
     Some((earliest, latest))
 }
 
-fn add_total(lines: &mut ObjectLines, participant: &str, total: Option<&Total>) {
+fn add_total(
+    lines: &mut ObjectLines,
+    participant: &str,
+    places: Option<OneAt>,
+    total: Option<&Total>,
+) {
     match total {
         Some(total) if !total.is_empty() => lines.add(&Wins {
             kind: "total",
             participant,
+            places,
             wins: total.wins,
             may_win: total.may_win,
             loses: total.loses,

@@ -2,22 +2,35 @@
 
 use crate::writing::ObjectLines;
 use hints::{Hint, Hints};
-use plan_text::{NoBrief, PlanError};
+use plan_text::{Expected as InText, NoBrief, Place, PlanError};
 use plays::OpenError;
 use run_parts::RunError;
 use serde::Serialize;
 use std::alloc::{AllocError, Global};
 use vcd_read::{Expected, Opened, Signal, VcdError, Wrong};
 
+/// What is known of a refusal beside its code and its line.
+#[derive(Clone, Copy)]
+pub enum Detail<'a> {
+    Nothing,
+    /// The place in a plan or in a brief, and the name of its file where several give the plan.
+    Text(Place, Option<&'a str>),
+    /// What is wrong with a dump.
+    Dump(&'a Wrong),
+}
+
 #[derive(Clone, Copy, Serialize)]
-struct Refusal {
+struct Refusal<'a> {
     kind: &'static str,
     code: &'static str,
     #[serde(skip_serializing_if = "Option::is_none")]
     line: Option<u64>,
+    // of a plan or a brief, where several files give it
+    #[serde(skip_serializing_if = "Option::is_none")]
+    file: Option<&'a str>,
     #[serde(skip_serializing_if = "Option::is_none")]
     signal: Option<&'static str>,
-    // of a token of a dump: how many bytes stand before it, and in its line and one, and what could stand there
+    // of a token: how many bytes stand before it, and in its line and one, and what could stand there
     #[serde(skip_serializing_if = "Option::is_none")]
     byte: Option<u64>,
     #[serde(skip_serializing_if = "Option::is_none")]
@@ -36,7 +49,7 @@ struct Hinted<'a> {
     text: &'a str,
 }
 
-/// The object of a refusal: its code, and its place where it has one. Of a dump it also has what is wrong.
+/// The object of a refusal: its code, its line where it has one, and what else is known of it.
 ///
 /// # Errors
 ///
@@ -44,19 +57,56 @@ struct Hinted<'a> {
 pub fn refusal_object(
     alloc: Global,
     error: RunError,
-    wrong: Option<&Wrong>,
+    detail: Detail<'_>,
 ) -> Result<String, AllocError> {
     let refusal = refusal_of(error);
     object_of(
         alloc,
-        match wrong {
-            Some(wrong) => with_wrong(refusal, wrong),
-            None => refusal,
+        match detail {
+            Detail::Nothing => refusal,
+            Detail::Text(place, file) => with_place(refusal, place, file),
+            Detail::Dump(wrong) => with_wrong(refusal, wrong),
         },
     )
 }
 
-fn with_wrong(refusal: Refusal, wrong: &Wrong) -> Refusal {
+fn with_place<'a>(refusal: Refusal<'a>, place: Place, file: Option<&'a str>) -> Refusal<'a> {
+    Refusal {
+        file,
+        byte: Some(place.start as u64),
+        column: Some(place.column as u64),
+        expected: place.expected.map(text_word),
+        ..refusal
+    }
+}
+
+// What could stand in a place of a plan or of a brief.
+fn text_word(expected: InText) -> &'static str {
+    match expected {
+        InText::Version => "version",
+        InText::Item { .. } | InText::BriefItem => "item",
+        InText::Name(_) => "name",
+        InText::Sending => "sending",
+        InText::Controller => "controller",
+        InText::Semicolon => "semicolon",
+        InText::Frame => "frame",
+        InText::Address | InText::BriefAddress => "address",
+        InText::KnownAddress => "known address",
+        InText::Payload => "payload",
+        InText::Tail => "tail",
+        InText::Else => "else",
+        InText::Count { .. } => "count",
+        InText::Target => "target",
+        InText::KnownTarget => "known target",
+        InText::BriefByte => "byte",
+        InText::Times { .. } => "times",
+        InText::Refusal => "nack",
+        InText::Party => "side",
+        InText::Further(_) => "further",
+    }
+}
+
+fn with_wrong<'a>(refusal: Refusal<'a>, wrong: &Wrong) -> Refusal<'a> {
     match wrong {
         Wrong::Token(place) => Refusal {
             byte: Some(place.offset),
@@ -99,13 +149,13 @@ pub fn timescale_object(alloc: Global) -> Result<String, AllocError> {
     object_of(alloc, coded("timescale"))
 }
 
-fn object_of(alloc: Global, refusal: Refusal) -> Result<String, AllocError> {
+fn object_of(alloc: Global, refusal: Refusal<'_>) -> Result<String, AllocError> {
     let mut lines = ObjectLines::new(alloc);
     lines.add(&refusal);
     lines.finish()
 }
 
-fn refusal_of(error: RunError) -> Refusal {
+fn refusal_of(error: RunError) -> Refusal<'static> {
     match error {
         RunError::Plan(error) => of_text(error),
         RunError::Brief(error) => coded(match error {
@@ -128,7 +178,7 @@ fn refusal_of(error: RunError) -> Refusal {
     }
 }
 
-fn of_text(error: PlanError) -> Refusal {
+fn of_text(error: PlanError) -> Refusal<'static> {
     match error {
         PlanError::NotAscii(line) => placed("P1", line),
         PlanError::Version(line) => placed("P2", line),
@@ -142,7 +192,7 @@ fn of_text(error: PlanError) -> Refusal {
     }
 }
 
-fn of_dump(error: VcdError) -> Refusal {
+fn of_dump(error: VcdError) -> Refusal<'static> {
     match error {
         VcdError::NoSignal(signal) => Refusal {
             signal: Some(match signal {
@@ -158,11 +208,12 @@ fn of_dump(error: VcdError) -> Refusal {
     }
 }
 
-fn coded(code: &'static str) -> Refusal {
+fn coded(code: &'static str) -> Refusal<'static> {
     Refusal {
         kind: "refusal",
         code,
         line: None,
+        file: None,
         signal: None,
         byte: None,
         column: None,
@@ -171,7 +222,7 @@ fn coded(code: &'static str) -> Refusal {
     }
 }
 
-fn placed(code: &'static str, line: u64) -> Refusal {
+fn placed(code: &'static str, line: u64) -> Refusal<'static> {
     Refusal {
         line: Some(line),
         ..coded(code)

@@ -1,10 +1,10 @@
 // What a page shows, as JSON.
 
+use crate::pages::Page;
 use crate::pairs::{Pairs, Unsafe};
 use crate::parties::{Controllers, Interrupts, Messages, Nevers, Participants};
-use crate::recording::{Recorded, Recording};
+use crate::recording::Recorded;
 use crate::ways::{Way, Ways};
-use order::Order;
 use report::Checked;
 use serde::Serialize;
 use std::alloc::{AllocError, Global};
@@ -34,19 +34,14 @@ struct Verdict {
 }
 
 /// What was found of a plan, as JSON on one line.
-pub(crate) fn data_of(
-    alloc: Global,
-    checked: &Checked,
-    order: &Order,
-    recording: Option<&Recording>,
-) -> Result<String, AllocError> {
-    let ways = Ways::new(alloc, order)?;
+pub(crate) fn data_of(alloc: Global, page: &Page<'_>) -> Result<String, AllocError> {
+    let ways = Ways::new(alloc, page.order)?;
     let data = Data {
-        capture: match recording {
+        capture: match page.recording {
             Some(recording) => Some(recording.recorded()),
             None => None,
         },
-        ..all_of(alloc, checked, order, &ways)
+        ..all_of(alloc, page, &ways)
     };
     match serde_json::to_string(alloc, &data) {
         Ok(text) => Ok(text),
@@ -55,8 +50,9 @@ pub(crate) fn data_of(
     }
 }
 
-fn all_of<'a>(alloc: Global, checked: &'a Checked, order: &'a Order, ways: &'a Ways) -> Data<'a> {
-    let Checked { plan, faults } = checked;
+fn all_of<'a>(alloc: Global, page: &'a Page<'a>, ways: &'a Ways) -> Data<'a> {
+    let Checked { plan, faults } = page.checked;
+    let (words, order) = (page.words, page.order);
     Data {
         verdict: Verdict {
             safe: faults.is_safe(),
@@ -64,10 +60,14 @@ fn all_of<'a>(alloc: Global, checked: &'a Checked, order: &'a Order, ways: &'a W
             unsafe_pairs: faults.len(),
         },
         messages: Messages { alloc, plan },
-        controllers: Controllers(plan),
+        controllers: Controllers { alloc, words },
         interrupts: Interrupts { alloc, plan },
-        nevers: Nevers(plan),
-        participants: Participants { alloc, plan, order },
+        nevers: Nevers(words),
+        participants: Participants {
+            alloc,
+            words,
+            order,
+        },
         ways: ways.different.as_slice(),
         pairs: Pairs(ways.runs.as_slice()),
         faults: Unsafe { alloc, faults },

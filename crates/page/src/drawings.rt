@@ -226,12 +226,18 @@ function drawingOf(pair) {
 
 const withInterrupt = pair => [pair.first, pair.second].some(one => one.interrupt !== undefined);
 
+// How many characters a label has at most where a brief names it.
+const LONGEST = 32;
+
 // What makes a pair safe. An interrupt cannot be kept away by a never, and two equal headers are its fault.
 function mendingText(pair) {
   const parted = 'To mend it: let a bit before that slot be known in both and different, so that one of them loses first';
   if (withInterrupt(pair)) return parted + '.';
-  const controllers = [pair.first, pair.second].map(one => data.controllers[one.controller]);
-  return parted + '; or let both do the same from that slot on; or say never ' + controllers.join(' ')
+  const both = [pair.first, pair.second], other = parted + '; or let both do the same from that slot on; or say never ';
+  if (both.every(one => one.place && one.label.length <= LONGEST)) {
+    return other + both.map(one => one.label).join(' ') + ' ;, which leaves this pair unchecked.';
+  }
+  return other + both.map(one => data.controllers[one.controller]).join(' ')
     + ' ;, which leaves the pairs of the two unchecked.';
 }
 
@@ -248,6 +254,12 @@ function meetingText(pair, run) {
     : 'Slot ' + run.end + ': ' + winner + ' sends 0 and wins; the other one has lost.';
 }
 
+// Where the messages of the two stand in briefs.
+function placesOf(pair) {
+  const places = [...new Set([pair.first, pair.second].map(one => one.place).filter(place => place))];
+  return places.length > 0 ? element('p', {}, 'See ' + places.join(' and ') + '.') : null;
+}
+
 function shownPair(pair) {
   const { drawn, run } = drawingOf(pair);
   const before = wordsOf(run.slots.slice(0, run.end).map(slot => slot.wire));
@@ -256,6 +268,7 @@ function shownPair(pair) {
       element('b', { class: pair.way }, '\u00a0' + WAYS[pair.way][0] + '\u00a0')),
     element('p', {}, endText(pair) + '.'),
     element('p', { class: 'mono' }, before),
+    placesOf(pair),
     element('p', {}, meetingText(pair, run)),
     drawn, element('p', { class: 'open' }, run.slots.some(slot => slot.open.includes(true)) ? 'x: an open bit' : ''));
 }

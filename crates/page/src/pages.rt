@@ -9,6 +9,7 @@ use crate::style::STYLE;
 use crate::times::TIMES;
 use memchr::{memchr, memchr3};
 use order::Order;
+use plan_words::PlanWords;
 use report::Checked;
 use std::alloc::{AllocError, Global};
 
@@ -19,6 +20,8 @@ pub struct Page<'a> {
     pub title: &'a str,
     /// A plan and its faults.
     pub checked: &'a Checked,
+    /// The words of that plan.
+    pub words: PlanWords<'a>,
     /// Who wins in each pair of that plan.
     pub order: &'a Order,
     /// A recorded bus.
@@ -49,7 +52,7 @@ pub fn page_of(alloc: Global, page: &Page<'_>) -> Result<String, AllocError> {
     let mut html = String::new(alloc);
     push_head(&mut html, page.title)?;
     push_texts(&mut html, &page.texts)?;
-    let data = data_of(alloc, page.checked, page.order, page.recording)?;
+    let data = data_of(alloc, page)?;
     push_data(alloc, &mut html, data.as_str())?;
     push_script(&mut html)?;
     Ok(html)

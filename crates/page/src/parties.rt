@@ -1,9 +1,11 @@
 // Who takes part, as the page has it: all names, and what each participant sends.
 
 use crate::nodes::{Node, address, nodes_of};
+use growing_text::Text;
 use message_tree::Address;
 use order::{Order, Total};
 use plan_core::{Participant, Plan};
+use plan_words::PlanWords;
 use serde::{Described, Serialize, Serializer};
 use std::alloc::{AllocError, Global};
 
@@ -14,9 +16,12 @@ pub(crate) struct Messages<'a> {
     pub(crate) plan: &'a Plan,
 }
 
-/// The names of the controllers.
+/// The names of the controllers, as people write them in a `never`.
 #[derive(Clone, Copy)]
-pub(crate) struct Controllers<'a>(pub(crate) &'a Plan);
+pub(crate) struct Controllers<'a> {
+    pub(crate) alloc: Global,
+    pub(crate) words: PlanWords<'a>,
+}
 
 /// The interrupts of a plan.
 #[derive(Clone, Copy)]
@@ -25,15 +30,15 @@ pub(crate) struct Interrupts<'a> {
     pub(crate) plan: &'a Plan,
 }
 
-/// The numbers of the two controllers of each `never`.
+/// The numbers of the two controllers of each `never`, but for those between parts of one controller.
 #[derive(Clone, Copy)]
-pub(crate) struct Nevers<'a>(pub(crate) &'a Plan);
+pub(crate) struct Nevers<'a>(pub(crate) PlanWords<'a>);
 
 /// The participants, in the order of their numbers, with how often each wins.
 #[derive(Clone, Copy)]
 pub(crate) struct Participants<'a> {
     pub(crate) alloc: Global,
-    pub(crate) plan: &'a Plan,
+    pub(crate) words: PlanWords<'a>,
     pub(crate) order: &'a Order,
 }
 
@@ -52,6 +57,9 @@ struct Interrupt<'a> {
 #[derive(Drop, Serialize)]
 struct Party {
     label: String,
+    // where its message stands in a brief
+    #[serde(skip_serializing_if = "Option::is_none")]
+    place: Option<String>,
     #[serde(skip_serializing_if = "Option::is_none")]
     controller: Option<u32>,
     #[serde(skip_serializing_if = "Option::is_none")]
@@ -93,8 +101,11 @@ impl Described for Controllers<'_> {}
 impl Serialize for Controllers<'_> {
     fn serialize<S: Serializer>(&self, out: &mut S) -> Result<(), S::Error> {
         out.begin_seq(None)?;
-        for k in 0..self.0.controllers() {
-            self.0.controller_name(k).as_str().serialize(out)?;
+        for k in 0..self.words.plan().controllers() {
+            match self.words.side(self.alloc, k) {
+                Ok(name) => name.serialize(out)?,
+                Err(_) => return Err(out.custom("out of memory")),
+            }
         }
         out.end_seq()
     }
@@ -125,8 +136,12 @@ impl Described for Nevers<'_> {}
 impl Serialize for Nevers<'_> {
     fn serialize<S: Serializer>(&self, out: &mut S) -> Result<(), S::Error> {
         out.begin_seq(None)?;
-        for k in 0..self.0.nevers() {
-            self.0.never(k).serialize(out)?;
+        let plan = self.0.plan();
+        for k in 0..plan.nevers() {
+            let (one, other) = plan.never(k);
+            if !self.0.is_one(one, other) {
+                (one, other).serialize(out)?;
+            }
         }
         out.end_seq()
     }
@@ -137,11 +152,10 @@ impl Described for Participants<'_> {}
 impl Serialize for Participants<'_> {
     fn serialize<S: Serializer>(&self, out: &mut S) -> Result<(), S::Error> {
         out.begin_seq(None)?;
-        for p in 0..self.plan.participants() {
-            match self.plan.label(self.alloc, p) {
-                Ok(label) => taking_part(label, self.plan.participant(p), self.total(p)).serialize(
-                    out,
-                )?,
+        let plan = self.words.plan();
+        for p in 0..plan.participants() {
+            match self.party(p, plan.participant(p)) {
+                Ok(party) => party.serialize(out)?,
                 Err(_) => return Err(out.custom("out of memory")),
             }
         }
@@ -150,6 +164,12 @@ impl Serialize for Participants<'_> {
 }
 
 impl Participants<'_> {
+    fn party(&self, p: u32, participant: Participant) -> Result<Party, AllocError> {
+        let label = self.words.label(self.alloc, p)?;
+        let place = place_of(self.alloc, self.words, p)?;
+        Ok(taking_part(label, place, participant, self.total(p)))
+    }
+
     // How often the participant wins, where it can win or lose.
     fn total(&self, p: u32) -> Option<Counts> {
         let total = self.order.totals.get(p as usize)?;
@@ -169,7 +189,22 @@ impl Participants<'_> {
     }
 }
 
-fn taking_part(label: String, participant: Participant, total: Option<Counts>) -> Party {
+// Where the message of a participant stands.
+fn place_of(alloc: Global, words: PlanWords<'_>, p: u32) -> Result<Option<String>, AllocError> {
+    let Some(place) = words.message_at(p) else {
+        return Ok(None);
+    };
+    let mut text = Text::new(alloc);
+    place.push_to(&mut text);
+    Ok(Some(text.finish()?))
+}
+
+fn taking_part(
+    label: String,
+    place: Option<String>,
+    participant: Participant,
+    total: Option<Counts>,
+) -> Party {
     let (controller, message, interrupt) = match participant {
         Participant::Sending {
             controller,
@@ -179,6 +214,7 @@ fn taking_part(label: String, participant: Participant, total: Option<Counts>) -
     };
     Party {
         label,
+        place,
         controller,
         message,
         interrupt,

@@ -8,10 +8,11 @@ use dump_tokens::BusLines;
 use explain::Seen;
 use growing_text::Text;
 use hints::{
-    Hints, Named, Names, file_word, on_brief, on_bytes, on_certificate, on_choice, on_closed_input,
-    on_dump, on_fault, on_memory, on_no_brief, on_no_timescale, on_opening, on_plan, on_reading,
-    on_recording, on_signals, on_silence, on_starters, on_unexplained, on_workers, on_writing,
+    Hints, Named, Names, RefusedIn, file_word, on_bytes, on_certificate, on_choice,
+    on_closed_input, on_dump, on_fault, on_memory, on_no_timescale, on_opening, on_reading,
+    on_recording, on_signals, on_silence, on_text, on_unexplained, on_workers, on_writing,
 };
+use plan_text::PlanError;
 use report::{Probe, RunError, Status};
 use std::alloc::{AllocError, Global};
 use std::io::{self, Read, Seek};
@@ -20,36 +21,36 @@ use std::time::Clock;
 /// What hints say of a run beside its files.
 #[derive(Clone, Copy)]
 pub struct About<'a> {
-    /// Who started on a bench.
-    pub starters: &'a str,
     /// How the lines of a dump were to be found, without the command.
     pub names: Names<'a>,
     /// That command, a file, an option and a file, as they can be given once more. Some may be empty.
     pub words: [&'a str; 4],
+    /// Further files of a brief.
+    pub further: &'a [&'a str],
 }
 
 impl<'a> About<'a> {
     /// A run over plans alone.
     pub fn plans() -> About<'a> {
-        About::bench("")
-    }
-
-    /// A rehearsal with these starters.
-    pub fn bench(starters: &'a str) -> About<'a> {
         About {
-            starters,
             names: names_of(no_lines(), ""),
             words: ["", "", "", ""],
+            further: &[],
         }
     }
 
     /// A run over a dump.
     pub fn recording(names: Names<'a>, words: [&'a str; 4]) -> About<'a> {
         About {
-            starters: "",
             names,
             words,
+            further: &[],
         }
+    }
+
+    /// The same with further files of a brief.
+    pub fn with(self, further: &'a [&'a str]) -> About<'a> {
+        About { further, ..self }
     }
 }
 
@@ -81,12 +82,14 @@ pub fn no_lines() -> BusLines<'static> {
     }
 }
 
-/// How a run has ended, and what is to be said of what it has found. `output` is the file that was to be written in place of
+/// How a run has ended, and what is to be said of what it has found. `file` has the text that is refused, where several files
+/// give the plan. `output` is the file that was to be written in place of
 /// standard output, and `error` why it was not. Hints are written by this voice.
 #[derive(Drop)]
 pub struct Closing<'a> {
     pub ended: Result<Status, RunError>,
     pub remark: Remark,
+    pub file: Option<&'a str>,
     pub output: Option<&'a str>,
     pub error: Option<io::Error>,
     pub about: About<'a>,
@@ -115,7 +118,7 @@ pub fn advise<R: Eprint + AllocGlobal, F: Read + Seek + Drop>(
     closing: Closing<'_>,
 ) {
     let about = closing.about;
-    let command = made(rt.alloc(), command_of(rt.alloc(), &about.words));
+    let command = made(rt.alloc(), command_of(rt.alloc(), about));
     let vcd = made(rt.alloc(), file_word(rt.alloc(), about.names.vcd));
     let names = Names {
         command: command.as_str(),
@@ -130,7 +133,7 @@ pub fn advise<R: Eprint + AllocGlobal, F: Read + Seek + Drop>(
             voice,
         ),
         Err(error) => {
-            let hints = on_refusal(rt.alloc(), read, names, error, &closing);
+            let hints = on_refusal(rt.alloc(), read, names, error, closing);
             say(rt, hints, voice_of(error, voice));
         }
     }
@@ -146,12 +149,16 @@ pub fn no_timescale<R: Clock + Eprint + AllocGlobal>(rt: &R, extras: Extras) -> 
     2
 }
 
-// A command, a file, an option and a file, to be given once more with other options.
-fn command_of(alloc: Global, words: &[&str; 4]) -> Result<String, AllocError> {
-    let [command, first, option, second] = *words;
+// A command, files, an option and a file, to be given once more with other options.
+fn command_of(alloc: Global, about: About<'_>) -> Result<String, AllocError> {
+    let [command, first, option, second] = about.words;
     let mut text = Text::new(alloc);
     text.push(command);
     push_file(alloc, &mut text, first);
+    for file in about.further {
+        text.push(" --with");
+        push_file(alloc, &mut text, file);
+    }
     if !option.is_empty() {
         text.push(" ");
         text.push(option);
@@ -190,25 +197,53 @@ fn on_refusal<F: Read + Seek + Drop>(
     read: Inputs<'_, F>,
     names: Names<'_>,
     ended: RunError,
-    closing: &Closing<'_>,
+    closing: Closing<'_>,
 ) -> Result<Hints, AllocError> {
-    let Inputs {
-        last,
-        error,
-        plan,
-        other,
+    let Inputs { last, error, other } = read;
+    let Closing {
+        remark,
+        file,
+        output,
+        error: reason,
         ..
-    } = read;
+    } = closing;
     match ended {
-        RunError::Plan(refusal) if last.what == "brief" => on_brief(alloc, plan, refusal),
-        RunError::Plan(refusal) => on_plan(alloc, plan, refusal),
-        RunError::Brief(_) => on_no_brief(alloc, plan),
-        RunError::Vcd(refusal) => on_dump(alloc, other, names, refusal, closing.remark.wrong()),
-        RunError::Bench(refusal) => on_starters(alloc, plan, closing.about.starters, refusal),
+        RunError::Plan(refusal) => on_refused_text(alloc, refusal, &remark, file),
+        RunError::Brief(_) | RunError::Bench(_) => Ok(said(alloc, remark)),
+        RunError::Vcd(refusal) => on_dump(alloc, other, names, refusal, remark.wrong()),
         RunError::Read => on_reading(alloc, last, error.as_ref()),
-        RunError::Write => on_writing(alloc, closing.output, closing.error.as_ref()),
+        RunError::Write => on_writing(alloc, output, reason.as_ref()),
         RunError::Workers => on_workers(alloc),
         RunError::NoMemory => on_memory(alloc),
+    }
+}
+
+fn on_refused_text(
+    alloc: Global,
+    error: PlanError,
+    remark: &Remark,
+    file: Option<&str>,
+) -> Result<Hints, AllocError> {
+    let Remark::Text(refused) = remark else {
+        return Ok(Hints::new(alloc));
+    };
+    on_text(
+        alloc,
+        RefusedIn {
+            error,
+            place: refused.place,
+            language: refused.language,
+            text: refused.text.as_slice(),
+            file,
+        },
+    )
+}
+
+// What the run has to say.
+fn said(alloc: Global, remark: Remark) -> Hints {
+    match remark {
+        Remark::Hints(hints) => hints,
+        _ => Hints::new(alloc),
     }
 }
 

@@ -9,15 +9,16 @@ use crate::endings::{Ended, Halt, Remark};
 use crate::outputs::Style;
 use crate::progress::Comparing;
 use crate::runs::Extras;
+use crate::sources::Sources;
 use cert_check::{Answer, check_certificate};
 use explain::{Mistake, Paint, Reasons, explain_answer, explain_check, mistake_of, reasons_of};
 use hints::on_safe;
 use objects::{write_answer, write_check, write_order};
 use order::{Order, order_of, order_report};
-use plan_core::Plan;
+use plan_words::PlanWords;
 use report::{
-    Answered, Checked, Input, NoGate, Output, RunError, Status, answer_line, check_found,
-    check_report, find_given, read_within, status_of_answer, verify_found,
+    Answered, Checked, GivenPlan, Input, NoGate, Output, RunError, Status, answer_line,
+    check_found, check_report, read_within, status_of_answer, verify_found,
 };
 use run_parts::devices::reading::READS;
 use run_parts::write_lines;
@@ -42,7 +43,7 @@ pub struct Look<'a> {
 /// Checks the plan that the reader gives. The canvas is for the waves, where they are wanted.
 pub fn check<R: Files + Print + Eprint + Clock + AllocGlobal + Threads + Sync, I: Input, O: Output>(
     rt: &R,
-    plan: &mut I,
+    plans: &mut Sources<'_, I>,
     out: &mut O,
     look: Look<'_>,
     extras: Extras,
@@ -52,21 +53,29 @@ pub fn check<R: Files + Print + Eprint + Clock + AllocGlobal + Threads + Sync, I
         return Err(Halt::Run(RunError::Workers));
     }
     let gate = Comparing::new(rt, extras.watcher);
-    let plan = find_given(rt.alloc(), plan)?.plan;
+    let GivenPlan { plan, origins } = plans.find(rt.alloc())?;
     let checked = check_found(rt, rt.alloc(), plan, look.workers, &gate)?;
-    let status = tell_checked(rt.alloc(), &checked, out, look.explain, extras.style())?;
+    let words = plans.words(&checked.plan, &origins);
+    let status = tell_checked(
+        rt.alloc(),
+        &checked,
+        words,
+        out,
+        look.explain,
+        extras.style(),
+    )?;
     if let Some(canvas) = canvas {
         draw_fault(rt, &checked, look.pair, status, canvas)?;
     }
     Ok(Ended {
         status,
-        remark: remark_on(rt.alloc(), &checked, extras),
+        remark: remark_on(rt.alloc(), &checked, words, extras),
     })
 }
 
-fn remark_on(alloc: Global, checked: &Checked, extras: Extras) -> Remark {
+fn remark_on(alloc: Global, checked: &Checked, words: PlanWords<'_>, extras: Extras) -> Remark {
     if extras.hints && checked.faults.is_safe() {
-        Remark::hints(on_safe(alloc, &checked.plan))
+        Remark::hints(on_safe(alloc, words))
     } else {
         Remark::Nothing
     }
@@ -76,6 +85,7 @@ fn remark_on(alloc: Global, checked: &Checked, extras: Extras) -> Remark {
 fn tell_checked<O: Output>(
     alloc: Global,
     checked: &Checked,
+    words: PlanWords<'_>,
     out: &mut O,
     explain: Option<u32>,
     style: Style,
@@ -84,16 +94,17 @@ fn tell_checked<O: Output>(
 {
     match explain {
         Some(most) => {
-            let reasons = reasons_of(alloc, checked)?;
-            write_checked(alloc, checked, Some(&reasons), most, style, out)
+            let reasons = reasons_of(alloc, checked, words)?;
+            write_checked(alloc, checked, words, Some(&reasons), most, style, out)
         }
-        None => write_checked(alloc, checked, None, 0, style, out),
+        None => write_checked(alloc, checked, words, None, 0, style, out),
     }
 }
 
 fn write_checked<O: Output>(
     alloc: Global,
     checked: &Checked,
+    words: PlanWords<'_>,
     reasons: Option<&Reasons>,
     most: u32,
     style: Style,
@@ -101,12 +112,12 @@ fn write_checked<O: Output>(
 ) -> Result<Status, RunError> {
     let status = status_of(checked);
     match style {
-        Style::Objects => write_check(alloc, checked, reasons, most, out)?,
+        Style::Objects => write_check(alloc, checked, words, reasons, most, out)?,
         Style::Lines(Paint::Plain) if reasons.is_none() => {
             let report = check_report(alloc, checked)?;
             return write_lines(out, report.as_bytes(), status);
         }
-        Style::Lines(paint) => explain_check(alloc, checked, reasons, most, paint, out)?,
+        Style::Lines(paint) => explain_check(alloc, checked, words, reasons, most, paint, out)?,
     }
     Ok(status)
 }
@@ -126,37 +137,40 @@ pub fn status_of(checked: &Checked) -> Status {
 /// explained the certificate is kept, and else it is judged as it comes.
 pub fn verify<I: Input, J: Input, O: Output>(
     alloc: Global,
-    plan: &mut I,
+    plans: &mut Sources<'_, I>,
     cert: &mut J,
     out: &mut O,
     explain: bool,
     extras: Extras,
 ) -> Result<Ended, Halt> {
-    let plan = find_given(alloc, plan)?.plan;
+    let GivenPlan { plan, origins } = plans.find(alloc)?;
     if explain {
-        return verify_kept(alloc, &plan, cert, out, extras);
+        let words = plans.words(&plan, &origins);
+        return verify_kept(alloc, words, cert, out, extras);
     }
     let Answered { plan, answer, .. } = verify_found(alloc, plan, cert)?;
-    tell_answer(alloc, &plan, answer, None, out, extras)
+    let words = plans.words(&plan, &origins);
+    tell_answer(alloc, words, answer, None, out, extras)
 }
 
 fn verify_kept<J: Input, O: Output>(
     alloc: Global,
-    plan: &Plan,
+    words: PlanWords<'_>,
     cert: &mut J,
     out: &mut O,
     extras: Extras,
 ) -> Result<Ended, Halt> {
+    let plan = words.plan();
     let cert = read_within(alloc, cert, READS)?;
     let answer = check_certificate(alloc, plan, cert.as_slice())?;
     let mistake = mistake_of(alloc, plan, cert.as_slice(), answer)?;
-    tell_answer(alloc, plan, answer, mistake, out, extras)
+    tell_answer(alloc, words, answer, mistake, out, extras)
 }
 
-/// Writes the answer to a certificate of the plan, and what is wrong with it, where that was found.
+/// Writes the answer to a certificate of the plan of these words, and what is wrong with it, where that was found.
 pub fn tell_answer<O: Output>(
     alloc: Global,
-    plan: &Plan,
+    words: PlanWords<'_>,
     answer: Answer,
     mistake: Option<Mistake>,
     out: &mut O,
@@ -164,17 +178,17 @@ pub fn tell_answer<O: Output>(
 ) -> Result<Ended, Halt> {
     let status = status_of_answer(answer);
     match extras.style() {
-        Style::Objects => write_answer(alloc, plan, answer, mistake, out)?,
+        Style::Objects => write_answer(alloc, words, answer, mistake, out)?,
         Style::Lines(Paint::Plain) if mistake.is_none() => {
             let line = answer_line(alloc, answer)?;
             write_lines(out, line.as_bytes(), status)?;
         }
-        Style::Lines(paint) => explain_answer(alloc, plan, answer, mistake, paint, out)?,
+        Style::Lines(paint) => explain_answer(alloc, words, answer, mistake, paint, out)?,
     }
     Ok(Ended {
         status,
         remark: match answer {
-            Answer::Safe if extras.hints => Remark::hints(on_safe(alloc, plan)),
+            Answer::Safe if extras.hints => Remark::hints(on_safe(alloc, words)),
             Answer::Wrong(fault) => Remark::Certificate(fault),
             _ => Remark::Nothing,
         },
@@ -186,29 +200,30 @@ pub fn tell_answer<O: Output>(
 /// Says who wins arbitration in each pair of the plan that the reader gives.
 pub fn order<R: AllocGlobal + Threads + Sync, I: Input, O: Output>(
     rt: &R,
-    plan: &mut I,
+    plans: &mut Sources<'_, I>,
     out: &mut O,
     style: Style,
 ) -> Result<Ended, Halt> {
     let alloc = rt.alloc();
-    let plan = find_given(alloc, plan)?.plan;
+    let GivenPlan { plan, origins } = plans.find(alloc)?;
     let checked = check_found(rt, alloc, plan, 1, &NoGate)?;
     let order = order_of(alloc, &checked.plan, &checked.faults)?;
-    write_ordered(alloc, &checked, &order, out, style)?;
+    let words = plans.words(&checked.plan, &origins);
+    write_ordered(alloc, words, &order, out, style)?;
     Ok(Ended::quietly(status_of(&checked)))
 }
 
 fn write_ordered<O: Output>(
     alloc: Global,
-    checked: &Checked,
+    words: PlanWords<'_>,
     order: &Order,
     out: &mut O,
     style: Style,
 ) -> Result<(), RunError> {
     if let Style::Objects = style {
-        return write_order(alloc, &checked.plan, order, out);
+        return write_order(alloc, words, order, out);
     }
-    let report = order_report(alloc, &checked.plan, order)?;
+    let report = order_report(alloc, words.plan(), order)?;
     write_lines(out, report.as_bytes(), Status::Good)?;
     Ok(())
 }

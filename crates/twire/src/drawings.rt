@@ -18,7 +18,7 @@ use waves::{wave_of_bench, wave_of_check};
 pub struct Canvas<'a> {
     pub file: &'a str,
     pub extras: Extras,
-    pub read: FilesRead,
+    pub read: FilesRead<'a>,
 }
 
 /// Draws the fault of an unsafe pair of a plan that was checked.

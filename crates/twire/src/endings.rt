@@ -4,6 +4,7 @@ use certificate::CertFault;
 use dump_tokens::Window;
 use explain::Seen;
 use hints::Hints;
+use objects::Detail;
 use report::{NoPlan, RefusedText, RunError, Status};
 use std::alloc::AllocError;
 use std::io;
@@ -88,6 +89,15 @@ impl Remark {
             _ => None,
         }
     }
+
+    /// What is known of a refusal. A text that is refused stands in this file, where several give the plan.
+    pub fn detail<'a>(&'a self, file: Option<&'a str>) -> Detail<'a> {
+        match self {
+            Remark::Text(text) => Detail::Text(text.place, file),
+            Remark::Refused(wrong) => Detail::Dump(wrong),
+            _ => Detail::Nothing,
+        }
+    }
 }
 
 /// Why a run ends without its report, or without its waves.
@@ -98,6 +108,8 @@ pub enum Halt {
     Dump(RunError, Option<Wrong>),
     /// There is no plan. The text is there where one was refused.
     Text(RunError, Option<RefusedText>),
+    /// The same with what is to be said to people of the plan.
+    Said(RunError, Hints),
     /// A time was given with a unit, and the dump does not say what its numbers count.
     NoTimescale,
     /// The report was written, and the file for waves was not, for this reason of the system.

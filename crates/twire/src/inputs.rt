@@ -3,8 +3,11 @@
 use crate::advice::{advise_on_closed_input, advise_on_opening};
 use crate::progress::{Count, Told, Watcher};
 use crate::runs::Extras;
+use crate::sources::Sources;
 use crate::voices::refused;
 use hints::Named;
+use objects::Detail;
+use plan_words::BriefFiles;
 use report::{Input as _, Opened, RunError, Watched};
 use std::fs::{self, Metadata, OpenFile};
 use std::io;
@@ -17,38 +20,134 @@ const STANDARD_INPUT: &str = "/dev/stdin";
 /// What a path of the command line names: a file, or standard input.
 pub type Source<'a, R, F, S> = Opened<Watched<Told<'a, R, F>>, Watched<Told<'a, R, S>>>;
 
-/// A source, and which file it is.
-pub type Known<'a, R, F, S> = (Source<'a, R, F, S>, Option<FileId>);
+/// The files that a run is over, as the command line names them: one, or those that give a plan.
+#[derive(Clone, Copy)]
+pub struct NamedSources<'a> {
+    pub first: Named<'a>,
+    /// The paths of further briefs, and the argument that names them.
+    pub further: &'a [&'a str],
+    pub argument: &'static str,
+}
 
-/// Opens two files for reading, in this order. A path as `/dev/fd/3`, or standard input that is closed, may come to name the
-/// first file once that is open, so what the second path names is looked for before.
-pub fn open_both<'a, R: Files + Input + Eprint + Clock + AllocGlobal>(
+impl<'a> NamedSources<'a> {
+    /// The path of the file of this number, from 0 on, where there are several.
+    pub fn path(self, number: u32) -> Option<&'a str> {
+        if self.further.is_empty() {
+            return None;
+        }
+        match number.checked_sub(1) {
+            None => Some(self.first.path),
+            Some(after) => self.further.get(after as usize).copied(),
+        }
+    }
+
+    /// The same as people know them.
+    pub fn files(self) -> BriefFiles<'a> {
+        BriefFiles {
+            first: self.first.path,
+            further: self.further,
+        }
+    }
+
+    fn further_one(self, path: &'a str) -> Named<'a> {
+        Named {
+            argument: self.argument,
+            what: "brief",
+            path,
+        }
+    }
+}
+
+/// Opens files for reading, in this order, and says which they are. A path as `/dev/fd/3`, or standard input that is closed, may
+/// come to name the first file once that is open, so what later paths name is looked for before.
+pub fn open_sources<'a, 'n, R: Files + Input + Eprint + Clock + AllocGlobal>(
     rt: &'a R,
-    first: Named<'_>,
+    named: NamedSources<'n>,
+    ids: &mut Vec<FileId>,
+    extras: Extras,
+) -> Option<Sources<'n, Source<'a, R, R::File, R::Reader>>> {
+    if !are_there(rt, named, extras) {
+        return None;
+    }
+    open_all(rt, named, ids, extras)
+}
+
+fn open_all<'a, 'n, R: Files + Input + Eprint + Clock + AllocGlobal>(
+    rt: &'a R,
+    named: NamedSources<'n>,
+    ids: &mut Vec<FileId>,
+    extras: Extras,
+) -> Option<Sources<'n, Source<'a, R, R::File, R::Reader>>> {
+    let first = open(rt, named.first, ids, extras)?;
+    let mut further = Vec::new(rt.alloc());
+    for path in named.further {
+        let file = open(rt, named.further_one(path), ids, extras)?;
+        if further.push(file).is_err() {
+            refused(rt, RunError::NoMemory, Detail::Nothing, extras.voice());
+            return None;
+        }
+    }
+    Some(Sources {
+        first,
+        further,
+        files: named.files(),
+    })
+}
+
+/// The same, and a second text after them.
+pub fn open_both<'a, 'n, R: Files + Input + Eprint + Clock + AllocGlobal>(
+    rt: &'a R,
+    named: NamedSources<'n>,
     second: Named<'_>,
+    ids: &mut Vec<FileId>,
     extras: Extras,
 ) -> Option<
     (
-        Known<'a, R, R::File, R::Reader>,
-        Known<'a, R, R::File, R::Reader>,
+        Sources<'n, Source<'a, R, R::File, R::Reader>>,
+        Source<'a, R, R::File, R::Reader>,
     ),
 > {
-    if let Some(error) = missing(rt, second.path) {
-        unopened(rt, second, &error, extras);
+    if !are_there(rt, named, extras) || !is_there(rt, second, extras) {
         return None;
     }
-    let first = open(rt, first, extras)?;
-    let second = open(rt, second, extras)?;
-    Some((first, second))
+    let sources = open_all(rt, named, ids, extras)?;
+    let second = open(rt, second, ids, extras)?;
+    Some((sources, second))
 }
 
-/// Opens a file for reading. Where it cannot be opened, that is told.
-pub fn open<'a, R: Files + Input + Eprint + Clock + AllocGlobal>(
+// Whether the paths after the first one name something.
+fn are_there<R: Files + Eprint + AllocGlobal>(
+    rt: &R,
+    named: NamedSources<'_>,
+    extras: Extras,
+) -> bool {
+    for path in named.further {
+        if !is_there(rt, named.further_one(path), extras) {
+            return false;
+        }
+    }
+    true
+}
+
+// Whether this path names something. Where it does not, that is told.
+fn is_there<R: Files + Eprint + AllocGlobal>(rt: &R, file: Named<'_>, extras: Extras) -> bool {
+    match missing(rt, file.path) {
+        Some(error) => {
+            unopened(rt, file, &error, extras);
+            false
+        }
+        None => true,
+    }
+}
+
+// Opens a file for reading, and says which one it is. Where it cannot be opened, that is told.
+fn open<'a, R: Files + Input + Eprint + Clock + AllocGlobal>(
     rt: &'a R,
     file: Named<'_>,
+    ids: &mut Vec<FileId>,
     extras: Extras,
-) -> Option<Known<'a, R, R::File, R::Reader>> {
-    match opened(rt, file, extras.watcher) {
+) -> Option<Source<'a, R, R::File, R::Reader>> {
+    match opened(rt, file, ids, extras.watcher) {
         Ok(source) => Some(source),
         Err(error) => {
             unopened(rt, file, &error, extras);
@@ -61,10 +160,10 @@ pub fn open<'a, R: Files + Input + Eprint + Clock + AllocGlobal>(
 fn unopened<R: Eprint + AllocGlobal>(rt: &R, file: Named<'_>, error: &io::Error, extras: Extras) {
     let voice = extras.voice();
     if error.kind() == io::ErrorKind::OutOfMemory {
-        refused(rt, RunError::NoMemory, None, voice);
+        refused(rt, RunError::NoMemory, Detail::Nothing, voice);
         return;
     }
-    refused(rt, RunError::Read, None, voice);
+    refused(rt, RunError::Read, Detail::Nothing, voice);
     if !extras.hints {
         return;
     }
@@ -79,25 +178,31 @@ fn unopened<R: Eprint + AllocGlobal>(rt: &R, file: Named<'_>, error: &io::Error,
 fn opened<'a, R: Files + Input>(
     rt: &'a R,
     named: Named<'_>,
+    ids: &mut Vec<FileId>,
     watcher: Watcher,
-) -> io::Result<Known<'a, R, R::File, R::Reader>> {
+) -> io::Result<Source<'a, R, R::File, R::Reader>> {
     if !is_standard_input(named.path) {
         let file = fs::open(rt, named.path)?;
-        let id = identity_of(file.metadata());
+        push_id(ids, file.metadata())?;
         let count = Count::new(watcher, named.what, size_of(&file, watcher));
-        return Ok((Opened::File(Watched::new(Told::new(rt, file, count))), id));
+        return Ok(Opened::File(Watched::new(Told::new(rt, file, count))));
     }
     match missing(rt, named.path) {
         Some(error) => Err(error),
         None => {
-            let id = identity_of(fs::metadata(rt, STANDARD_INPUT));
+            push_id(ids, fs::metadata(rt, STANDARD_INPUT))?;
             let count = Count::new(watcher, named.what, None);
-            Ok((
-                Opened::Standard(Watched::new(Told::new(rt, rt.reader(), count))),
-                id,
-            ))
+            let input = Told::new(rt, rt.reader(), count);
+            Ok(Opened::Standard(Watched::new(input)))
         }
     }
+}
+
+fn push_id(ids: &mut Vec<FileId>, found: io::Result<Metadata>) -> io::Result<()> {
+    if let Some(id) = identity_of(found) {
+        ids.push(id)?;
+    }
+    Ok(())
 }
 
 // How many bytes a file has, where somebody is told how much of it was read.
@@ -132,22 +237,21 @@ pub type FileId = (u64, u64);
 
 /// Which files a run reads, as far as the system says.
 #[derive(Clone, Copy)]
-pub struct FilesRead {
-    pub first: Option<FileId>,
-    pub second: Option<FileId>,
+pub struct FilesRead<'a> {
+    pub ids: &'a [FileId],
 }
 
-impl FilesRead {
+impl FilesRead<'_> {
     /// Whether this is one of them.
     pub fn has(self, file: Option<FileId>) -> bool {
-        is_same(self.first, file) || is_same(self.second, file)
+        self.ids.iter().any(|id| is_same(*id, file))
     }
 }
 
-fn is_same(one: Option<FileId>, other: Option<FileId>) -> bool {
-    match (one, other) {
-        (Some(one), Some(other)) => one.0 == other.0 && one.1 == other.1,
-        _ => false,
+fn is_same(one: FileId, other: Option<FileId>) -> bool {
+    match other {
+        Some(other) => one.0 == other.0 && one.1 == other.1,
+        None => false,
     }
 }
 
@@ -164,49 +268,41 @@ pub fn identity_of(found: io::Result<Metadata>) -> Option<FileId> {
 pub struct Inputs<'a, F> {
     pub last: Named<'a>,
     pub error: Option<io::Error>,
-    /// The file of a plan or of a brief.
-    pub plan: Option<F>,
-    /// The file of a certificate or of a capture.
+    /// The file of a certificate or of a capture, where one was read.
     pub other: Option<F>,
 }
 
-/// What a run over one text has read.
-pub fn one_read<'a, R: Files + Clock + Eprint, S: io::Read + Drop>(
-    named: Named<'a>,
-    mut source: Source<'_, R, R::File, S>,
+/// What a run has read that is over these texts, and over a second one.
+pub fn inputs_of<'a, R: Files + Clock + Eprint, S: io::Read + Drop>(
+    named: NamedSources<'a>,
+    sources: Sources<'_, Source<'_, R, R::File, S>>,
+    second: Option<(Named<'a>, Source<'_, R, R::File, S>)>,
 ) -> Inputs<'a, R::File> {
-    let error = reading_error(&mut source);
-    let file = file_of(source);
-    let (plan, other) = if named.what == "capture" {
-        (None, file)
-    } else {
-        (file, None)
-    };
-    Inputs {
-        last: named,
-        error,
-        plan,
-        other,
+    let Sources {
+        mut first,
+        mut further,
+        ..
+    } = sources;
+    let (mut last, mut error) = (named.first, reading_error(&mut first));
+    for (path, text) in named.further.iter().zip(further.iter_mut()) {
+        if text.failed() {
+            (last, error) = (named.further_one(path), reading_error(text));
+        }
     }
-}
-
-/// What a run over two texts has read.
-pub fn both_read<'a, R: Files + Clock + Eprint, S: io::Read + Drop>(
-    first: Named<'a>,
-    mut one: Source<'_, R, R::File, S>,
-    second: Named<'a>,
-    mut two: Source<'_, R, R::File, S>,
-) -> Inputs<'a, R::File> {
-    let (last, error) = if two.failed() {
-        (second, reading_error(&mut two))
-    } else {
-        (first, reading_error(&mut one))
+    let Some((second, mut source)) = second else {
+        return Inputs {
+            last,
+            error,
+            other: file_of(first),
+        };
     };
+    if source.failed() {
+        (last, error) = (second, reading_error(&mut source));
+    }
     Inputs {
         last,
         error,
-        plan: file_of(one),
-        other: file_of(two),
+        other: file_of(source),
     }
 }
 

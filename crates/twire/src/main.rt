@@ -13,6 +13,7 @@ mod recordings;
 mod rehearsals;
 mod rewriting;
 mod runs;
+mod sources;
 mod tasks;
 mod versions;
 mod voices;

@@ -61,7 +61,7 @@ pub struct Sheet<'a, R: Files> {
     rt: &'a R,
     form: Form<'a>,
     // none of which is written
-    read: FilesRead,
+    read: FilesRead<'a>,
     target: Target<R::File>,
     error: Option<io::Error>,
     watcher: Watcher,
@@ -89,7 +89,7 @@ struct Part<F> {
 
 impl<'a, R: Files + Print + Eprint + Clock + AllocGlobal> Sheet<'a, R> {
     /// Nothing has been written yet.
-    pub fn new(rt: &'a R, form: Form<'a>, read: FilesRead, watcher: Watcher) -> Sheet<'a, R> {
+    pub fn new(rt: &'a R, form: Form<'a>, read: FilesRead<'a>, watcher: Watcher) -> Sheet<'a, R> {
         Sheet::telling(rt, form, read, watcher, None)
     }
 
@@ -97,7 +97,7 @@ impl<'a, R: Files + Print + Eprint + Clock + AllocGlobal> Sheet<'a, R> {
     pub fn telling(
         rt: &'a R,
         form: Form<'a>,
-        read: FilesRead,
+        read: FilesRead<'a>,
         watcher: Watcher,
         what: Option<&'static str>,
     ) -> Sheet<'a, R> {
@@ -210,7 +210,7 @@ fn count_of(form: Form<'_>, watcher: Watcher, what: Option<&'static str>) -> Opt
 fn begin<R: Files + AllocGlobal>(
     rt: &R,
     form: Form<'_>,
-    read: FilesRead,
+    read: FilesRead<'_>,
 ) -> io::Result<Target<R::File>> {
     match form {
         Form::File(path) => begin_file(rt, path, read),
@@ -221,7 +221,7 @@ fn begin<R: Files + AllocGlobal>(
     }
 }
 
-fn refuse_read(read: FilesRead, file: Option<FileId>) -> io::Result<()> {
+fn refuse_read(read: FilesRead<'_>, file: Option<FileId>) -> io::Result<()> {
     if read.has(file) {
         return Err(io::Error::new(ErrorKind::InvalidInput, "it is a file that was read"));
     }
@@ -232,7 +232,7 @@ fn refuse_read(read: FilesRead, file: Option<FileId>) -> io::Result<()> {
 fn begin_file<R: Files + AllocGlobal>(
     rt: &R,
     path: &str,
-    read: FilesRead,
+    read: FilesRead<'_>,
 ) -> io::Result<Target<R::File>> {
     match OpenOptions::new().write(true).open(rt, path) {
         Ok(old) => begin_over(rt, old, path, read),
@@ -245,7 +245,7 @@ fn begin_over<R: Files + AllocGlobal>(
     rt: &R,
     old: R::File,
     path: &str,
-    read: FilesRead,
+    read: FilesRead<'_>,
 ) -> io::Result<Target<R::File>> {
     let metadata = old.metadata()?;
     let (is_file, mode) = (metadata.is_file(), metadata.permissions());
@@ -299,7 +299,7 @@ fn is_no_link(kind: ErrorKind) -> bool {
 fn settle_part<R: Files, F: OpenFile>(
     rt: &R,
     part: &Part<F>,
-    read: FilesRead,
+    read: FilesRead<'_>,
     is_whole: bool,
 ) -> io::Result<()> {
     let put = if is_whole {
@@ -314,7 +314,7 @@ fn settle_part<R: Files, F: OpenFile>(
 }
 
 // Brings the new file to the disk and gives it its name.
-fn put<R: Files, F: OpenFile>(rt: &R, part: &Part<F>, read: FilesRead) -> io::Result<()> {
+fn put<R: Files, F: OpenFile>(rt: &R, part: &Part<F>, read: FilesRead<'_>) -> io::Result<()> {
     let path = part.path.as_str();
     refuse_read(read, identity_of(fs::metadata(rt, path)))?;
     part.file.sync_all()?;

@@ -3,6 +3,7 @@
 use crate::checking::status_of;
 use crate::endings::{Ended, Halt, Recorded, Remark};
 use crate::recordings::{halted, open};
+use crate::sources::Sources;
 use capture_check::Transaction;
 use decoding::{ExplainedSink, Explaining};
 use dump_tokens::Bus;
@@ -11,9 +12,9 @@ use order::{order_of, order_report};
 use page::{Page, Recording, Texts, page_of};
 use plan_core::Plan;
 use plan_text::print_plan;
+use plan_words::PlanWords;
 use report::{
-    Checked, Input, NoGate, Output, RunError, Status, Watched, check_found, check_report,
-    find_given,
+    Checked, GivenPlan, Input, NoGate, Output, RunError, Status, Watched, check_found, check_report,
 };
 use run_parts::write_lines;
 use signals::Dump;
@@ -25,12 +26,13 @@ use std::thread::Threads;
 pub fn write_page_alone<R: AllocGlobal + Threads + Sync, I: Input, O: Output>(
     rt: &R,
     title: &str,
-    plan: &mut I,
+    plans: &mut Sources<'_, I>,
     out: &mut O,
 ) -> Result<Ended, Halt> {
-    let plan = find_given(rt.alloc(), plan)?.plan;
+    let GivenPlan { plan, origins } = plans.find(rt.alloc())?;
     let checked = check_found(rt, rt.alloc(), plan, 1, &NoGate)?;
-    write_page(rt.alloc(), title, &checked, None, out)?;
+    let words = plans.words(&checked.plan, &origins);
+    write_page(rt.alloc(), title, &checked, words, None, out)?;
     Ok(Ended::quietly(status_of(&checked)))
 }
 
@@ -38,21 +40,22 @@ pub fn write_page_alone<R: AllocGlobal + Threads + Sync, I: Input, O: Output>(
 pub fn write_page_with<R: AllocGlobal + Threads + Sync, I: Input, J: Input, O: Output>(
     rt: &R,
     title: &str,
-    plan: &mut I,
+    plans: &mut Sources<'_, I>,
     vcd: &mut J,
     out: &mut O,
     bus: Bus<'_>,
 ) -> Result<Ended, Halt> {
-    let plan = find_given(rt.alloc(), plan)?.plan;
+    let GivenPlan { plan, origins } = plans.find(rt.alloc())?;
     let checked = check_found(rt, rt.alloc(), plan, 1, &NoGate)?;
+    let words = plans.words(&checked.plan, &origins);
     let mut written = Watched::new(Vec::new(rt.alloc()));
-    let (recording, seen) = recording_of(rt, &checked.plan, vcd, &mut written, bus)?;
+    let (recording, seen) = recording_of(rt, words, vcd, &mut written, bus)?;
     let capture = written.into_inner();
     let capture = Shown {
         recording: &recording,
         report: text_of(capture.as_slice()),
     };
-    write_page(rt.alloc(), title, &checked, Some(capture), out)?;
+    write_page(rt.alloc(), title, &checked, words, Some(capture), out)?;
     Ok(Ended {
         status: worse(status_of(&checked), seen),
         remark: Remark::Recording(Recorded::Other),
@@ -69,14 +72,14 @@ struct Shown<'a> {
 // What a dump shows, with its explained report, and the status of a run with that.
 fn recording_of<R: AllocGlobal + Threads + Sync, J: Input, O: Output>(
     rt: &R,
-    plan: &Plan,
+    words: PlanWords<'_>,
     vcd: &mut J,
     report: &mut O,
     bus: Bus<'_>,
 ) -> Result<(Recording, Status), Halt> {
     let mut dump = open(rt.alloc(), vcd, bus)?;
     let selection = Selection::new(bus.view, dump.scale());
-    match record(rt, plan, &mut dump, report, selection) {
+    match record(rt, words, &mut dump, report, selection) {
         Ok(recorded) => Ok(recorded),
         Err(error) => Err(halted(dump, error)),
     }
@@ -84,13 +87,13 @@ fn recording_of<R: AllocGlobal + Threads + Sync, J: Input, O: Output>(
 
 fn record<R: AllocGlobal + Threads + Sync, J: Input, O: Output>(
     rt: &R,
-    plan: &Plan,
+    words: PlanWords<'_>,
     dump: &mut Dump<'_, '_, J>,
     report: &mut O,
     selection: Selection,
 ) -> Result<(Recording, Status), RunError> {
     let alloc = rt.alloc();
-    let lines = CaptureLines::new(alloc, plan, selection, LAYOUT, report)?;
+    let lines = CaptureLines::new(alloc, words, selection, LAYOUT, report)?;
     let both = Both {
         lines,
         recording: Recording::new(alloc, selection),
@@ -98,7 +101,7 @@ fn record<R: AllocGlobal + Threads + Sync, J: Input, O: Output>(
     let mut explaining = Explaining {
         rt,
         alloc,
-        plan,
+        plan: words.plan(),
         sink: both,
     };
     let ended = dump.decode(alloc, &mut explaining);
@@ -144,6 +147,7 @@ fn write_page<'a, O: Output>(
     alloc: Global,
     title: &'a str,
     checked: &'a Checked,
+    words: PlanWords<'a>,
     capture: Option<Shown<'a>>,
     out: &mut O,
 ) -> Result<(), RunError> {
@@ -162,6 +166,7 @@ fn write_page<'a, O: Output>(
     let page = Page {
         title,
         checked,
+        words,
         order: &order,
         recording,
         texts,

@@ -2,14 +2,15 @@
 
 use crate::endings::{Ended, Halt, Recorded, Remark};
 use crate::outputs::Style;
+use crate::sources::Sources;
 use decoding::Explaining;
 use dump_tokens::{Bus, BusLines, Limits, Quiet};
 use explain::{CaptureLines, DecodeLines, Layout, Paint, Seen, Selection};
 use objects::{CaptureObjects, DecodeObjects, write_signals};
 use plan_core::Plan;
+use plan_words::PlanWords;
 use report::{
-    CaptureCounts, CaptureReport, Input, Output, RunError, Status, Telling, find_given,
-    live_capture,
+    CaptureCounts, CaptureReport, GivenPlan, Input, Output, RunError, Status, Telling, live_capture,
 };
 use run_parts::write_lines;
 use signals::{Dump, Learned, Listed, Sights, SignalDump, brief_of, needs_picking};
@@ -78,14 +79,15 @@ pub fn halted<J: Input>(mut dump: Dump<'_, '_, J>, error: RunError) -> Halt {
 /// judged before the second reader is called.
 pub fn explain_capture<R: AllocGlobal + Threads + Sync, I: Input, J: Input, O: Output>(
     rt: &R,
-    plan: &mut I,
+    plans: &mut Sources<'_, I>,
     vcd: &mut J,
     out: &mut O,
     capture: Capture<'_>,
     style: Style,
 ) -> Result<Ended, Halt> {
-    let plan = find_given(rt.alloc(), plan)?.plan;
-    let (status, seen) = capture_by(rt, &plan, vcd, out, capture, style)?;
+    let GivenPlan { plan, origins } = plans.find(rt.alloc())?;
+    let words = plans.words(&plan, &origins);
+    let (status, seen) = capture_by(rt, words, vcd, out, capture, style)?;
     Ok(Ended {
         status,
         remark: Remark::Recording(Recorded::Bus(capture.bus.view.window, seen)),
@@ -94,12 +96,13 @@ pub fn explain_capture<R: AllocGlobal + Threads + Sync, I: Input, J: Input, O: O
 
 fn capture_by<R: AllocGlobal + Threads + Sync, J: Input, O: Output>(
     rt: &R,
-    plan: &Plan,
+    words: PlanWords<'_>,
     vcd: &mut J,
     out: &mut O,
     capture: Capture<'_>,
     style: Style,
 ) -> Result<(Status, Seen), Halt> {
+    let plan = words.plan();
     let is_exact = capture.is_exact() && matches!(style, Style::Lines(Paint::Plain));
     if is_exact && !capture.reads_ahead() {
         return if capture.live {
@@ -112,7 +115,7 @@ fn capture_by<R: AllocGlobal + Threads + Sync, J: Input, O: Output>(
     let told = if is_exact && !capture.live {
         exact_dump(rt, plan, &mut dump, out)
     } else {
-        capture_dump(rt, plan, &mut dump, out, capture, style)
+        capture_dump(rt, words, &mut dump, out, capture, style)
     };
     match told {
         Ok(told) => Ok(told),
@@ -227,22 +230,22 @@ fn write_exactly<O: Output>(telling: Telling, out: &mut O) -> Result<(Status, Se
 // The report in another form.
 fn capture_dump<R: AllocGlobal + Threads + Sync, J: Input, O: Output>(
     rt: &R,
-    plan: &Plan,
+    words: PlanWords<'_>,
     dump: &mut Dump<'_, '_, J>,
     out: &mut O,
     capture: Capture<'_>,
     style: Style,
 ) -> Result<(Status, Seen), RunError> {
     let selection = match style {
-        Style::Objects => capture_objects(rt, plan, dump, out, capture)?,
-        Style::Lines(paint) => capture_lines(rt, plan, dump, out, capture, paint)?,
+        Style::Objects => capture_objects(rt, words, dump, out, capture)?,
+        Style::Lines(paint) => capture_lines(rt, words, dump, out, capture, paint)?,
     };
     Ok((selection.status(), selection.seen))
 }
 
 fn capture_lines<R: AllocGlobal + Threads + Sync, J: Input, O: Output>(
     rt: &R,
-    plan: &Plan,
+    words: PlanWords<'_>,
     dump: &mut Dump<'_, '_, J>,
     out: &mut O,
     capture: Capture<'_>,
@@ -250,11 +253,11 @@ fn capture_lines<R: AllocGlobal + Threads + Sync, J: Input, O: Output>(
 ) -> Result<Selection, RunError> {
     let alloc = rt.alloc();
     let selection = Selection::new(capture.bus.view, dump.scale());
-    let lines = CaptureLines::new(alloc, plan, selection, capture.layout(paint), out)?;
+    let lines = CaptureLines::new(alloc, words, selection, capture.layout(paint), out)?;
     let mut explaining = Explaining {
         rt,
         alloc,
-        plan,
+        plan: words.plan(),
         sink: lines,
     };
     let ended = dump.decode(alloc, &mut explaining);
@@ -267,18 +270,18 @@ fn capture_lines<R: AllocGlobal + Threads + Sync, J: Input, O: Output>(
 
 fn capture_objects<R: AllocGlobal + Threads + Sync, J: Input, O: Output>(
     rt: &R,
-    plan: &Plan,
+    words: PlanWords<'_>,
     dump: &mut Dump<'_, '_, J>,
     out: &mut O,
     capture: Capture<'_>,
 ) -> Result<Selection, RunError> {
     let alloc = rt.alloc();
     let selection = Selection::new(capture.bus.view, dump.scale());
-    let objects = CaptureObjects::new(alloc, plan, selection, capture.layout(Paint::Plain), out)?;
+    let objects = CaptureObjects::new(alloc, words, selection, capture.layout(Paint::Plain), out)?;
     let mut explaining = Explaining {
         rt,
         alloc,
-        plan,
+        plan: words.plan(),
         sink: objects,
     };
     let ended = dump.decode(alloc, &mut explaining);

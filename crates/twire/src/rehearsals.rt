@@ -1,5 +1,6 @@
 // The run of a bench: it finds what comes of a plan and its certificate, and writes that in the form that is wanted.
 
+ghost use Rattle.std.specs.Prelude.{IfOk};
 ghost use Rattle.bench_run.specs.Outcomes.{HasWinners};
 
 use crate::checking::tell_answer;
@@ -7,14 +8,16 @@ use crate::drawings::{Canvas, draw_outcome};
 use crate::endings::{Ended, Halt, Remark};
 use crate::outputs::Style;
 use crate::runs::Extras;
+use crate::sources::Sources;
 use bench_run::{NoGate, Outcome, Rehearsal, outcome_report, rehearse, status_of_outcome};
 use bus_bench::opening::MOST_SLOTS;
 use explain::{Paint, explain_answer, explain_rehearsal, mistake_of};
-use hints::on_no_answers;
+use hints::{Hints, on_no_answers, on_starters};
 use message_tree::Item;
 use objects::write_rehearsal;
 use plan_core::Plan;
-use report::{Input, Output, RunError, find_given, read_within};
+use plan_words::PlanWords;
+use report::{GivenPlan, Input, Output, RunError, read_within};
 use run_parts::devices::reading::READS;
 use run_parts::write_lines;
 use std::alloc::{AllocError, Global};
@@ -43,15 +46,26 @@ pub fn bench_alone<
     O: Output,
 >(
     rt: &R,
-    plan: &mut I,
+    plans: &mut Sources<'_, I>,
     out: &mut O,
     play: Play<'_>,
     extras: Extras,
     canvas: Option<Canvas<'_>>,
 ) -> Result<Ended, Halt> {
-    let plan = find_given(rt.alloc(), plan)?.plan;
+    let GivenPlan { plan, origins } = plans.find(rt.alloc())?;
     let cert = certificate_of(rt.alloc(), &plan)?;
-    bench_plan(rt, plan, cert.as_slice(), out, play, extras, canvas)
+    let outcome = outcome_of(rt, plan, cert.as_slice(), play, extras)?;
+    let words = plans.words(plan_of(&outcome), &origins);
+    tell_outcome(
+        rt,
+        &outcome,
+        words,
+        cert.as_slice(),
+        out,
+        play,
+        extras,
+        canvas,
+    )
 }
 
 // The certificate of a plan.
@@ -68,47 +82,69 @@ pub fn bench<
     O: Output,
 >(
     rt: &R,
-    plan: &mut I,
+    plans: &mut Sources<'_, I>,
     cert: &mut J,
     out: &mut O,
     play: Play<'_>,
     extras: Extras,
     canvas: Option<Canvas<'_>>,
 ) -> Result<Ended, Halt> {
-    let plan = find_given(rt.alloc(), plan)?.plan;
-    bench_with(rt, plan, cert, out, play, extras, canvas)
+    let GivenPlan { plan, origins } = plans.find(rt.alloc())?;
+    let cert = read_within(rt.alloc(), cert, READS)?;
+    let outcome = outcome_of(rt, plan, cert.as_slice(), play, extras)?;
+    let words = plans.words(plan_of(&outcome), &origins);
+    tell_outcome(
+        rt,
+        &outcome,
+        words,
+        cert.as_slice(),
+        out,
+        play,
+        extras,
+        canvas,
+    )
 }
 
-fn bench_with<
-    R: Files + Print + Eprint + AllocGlobal + Threads + Wait + Clock + Sync,
-    J: Input,
-    O: Output,
->(
+// The plan of which this is the outcome.
+fn plan_of(outcome: &Outcome) -> &Plan {
+    match outcome {
+        Outcome::Played(rehearsal) => rehearsal.accepted.plan(),
+        Outcome::NotAccepted(it) => &it.plan,
+    }
+}
+
+// What comes of it. What is to be said of starters that are refused is found before the rehearsal, which keeps the plan.
+fn outcome_of<R: AllocGlobal + Threads + Wait + Clock + Sync>(
     rt: &R,
     plan: Plan,
-    cert: &mut J,
-    out: &mut O,
+    cert: &[u8],
     play: Play<'_>,
     extras: Extras,
-    canvas: Option<Canvas<'_>>,
-) -> Result<Ended, Halt> {
-    match read_within(rt.alloc(), cert, READS) {
-        Ok(cert) => bench_plan(rt, plan, cert.as_slice(), out, play, extras, canvas),
+) -> Result<Outcome, Halt>
+    ensures { IfOk result HasWinners }
+{
+    let hints = if extras.hints {
+        on_starters(rt.alloc(), &plan, play.starters)?
+    } else {
+        Hints::new(rt.alloc())
+    };
+    match outcome_of_plan(rt, plan, cert, play) {
+        Ok(outcome) => Ok(outcome),
+        Err(error @ RunError::Bench(_)) => Err(Halt::Said(error, hints)),
         Err(error) => Err(Halt::Run(error)),
     }
 }
 
-fn bench_plan<R: Files + Print + Eprint + AllocGlobal + Threads + Wait + Clock + Sync, O: Output>(
+fn outcome_of_plan<R: AllocGlobal + Threads + Wait + Clock + Sync>(
     rt: &R,
     plan: Plan,
     cert: &[u8],
-    out: &mut O,
     play: Play<'_>,
-    extras: Extras,
-    canvas: Option<Canvas<'_>>,
-) -> Result<Ended, Halt> {
+) -> Result<Outcome, RunError>
+    ensures { IfOk result HasWinners }
+{
     let answers = bits_of(rt.alloc(), play.answers, play.rest)?;
-    let outcome = rehearse(
+    rehearse(
         rt,
         rt.alloc(),
         plan,
@@ -117,10 +153,25 @@ fn bench_plan<R: Files + Print + Eprint + AllocGlobal + Threads + Wait + Clock +
         play.fill,
         answers.as_slice(),
         &NoGate,
-    )?;
-    let ended = write_outcome(rt.alloc(), &outcome, cert, out, play.explain, extras)?;
+    )
+}
+
+// Writes what came of it, and draws the waves.
+fn tell_outcome<R: Files + Print + Eprint + Clock + AllocGlobal, O: Output>(
+    rt: &R,
+    outcome: &Outcome,
+    words: PlanWords<'_>,
+    cert: &[u8],
+    out: &mut O,
+    play: Play<'_>,
+    extras: Extras,
+    canvas: Option<Canvas<'_>>,
+) -> Result<Ended, Halt>
+    requires { HasWinners outcome.now }
+{
+    let ended = write_outcome(rt.alloc(), outcome, words, cert, out, play.explain, extras)?;
     if let Some(canvas) = canvas {
-        draw_outcome(rt, &outcome, canvas)?;
+        draw_outcome(rt, outcome, canvas)?;
     }
     Ok(ended)
 }
@@ -143,6 +194,7 @@ fn bits_of(alloc: Global, answers: &str, rest: bool) -> Result<Vec<bool>, AllocE
 fn write_outcome<O: Output>(
     alloc: Global,
     outcome: &Outcome,
+    words: PlanWords<'_>,
     cert: &[u8],
     out: &mut O,
     explain: bool,
@@ -153,8 +205,8 @@ fn write_outcome<O: Output>(
     match outcome {
         Outcome::Played(rehearsal) => {
             match extras.style() {
-                Style::Objects => write_rehearsal(alloc, rehearsal, explain, out)?,
-                Style::Lines(_) if explain => explain_outcome(alloc, outcome, out)?,
+                Style::Objects => write_rehearsal(alloc, rehearsal, words, explain, out)?,
+                Style::Lines(_) if explain => explain_outcome(alloc, outcome, words, out)?,
                 Style::Lines(_) => write_report_of(alloc, outcome, out)?,
             }
             Ok(Ended {
@@ -168,18 +220,23 @@ fn write_outcome<O: Output>(
             } else {
                 None
             };
-            tell_answer(alloc, &it.plan, it.answer, mistake, out, extras)
+            tell_answer(alloc, words, it.answer, mistake, out, extras)
         }
     }
 }
 
-fn explain_outcome<O: Output>(alloc: Global, outcome: &Outcome, out: &mut O) -> Result<(), RunError>
+fn explain_outcome<O: Output>(
+    alloc: Global,
+    outcome: &Outcome,
+    words: PlanWords<'_>,
+    out: &mut O,
+) -> Result<(), RunError>
     requires { HasWinners outcome.now }
 {
     match outcome {
-        Outcome::Played(rehearsal) => explain_rehearsal(alloc, rehearsal, out),
+        Outcome::Played(rehearsal) => explain_rehearsal(alloc, rehearsal, words, out),
         Outcome::NotAccepted(it) => {
-            explain_answer(alloc, &it.plan, it.answer, None, Paint::Plain, out)
+            explain_answer(alloc, words, it.answer, None, Paint::Plain, out)
         }
     }
 }

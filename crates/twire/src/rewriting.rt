@@ -1,12 +1,19 @@
-// Runs over one text that write another one.
+// Runs that write a text in another form.
 
 use crate::endings::{Ended, Halt, Remark};
+use crate::sources::Sources;
+use brief_text::brief_of;
+use hints::on_no_brief;
+use plan_core::Plan;
+use plan_text::{Language, NoBrief, Refused, read_plan_at};
 use report::{
-    Input, Output, Status, certify_found, find_given, print_found, run_brief, run_expand,
+    Input, Output, RefusedText, RunError, Status, certify_found, print_found, read_within,
 };
+use run_parts::devices::reading::READS;
+use run_parts::write_lines;
 use std::alloc::Global;
 
-/// A run over one text that writes another one.
+/// A run that writes a text in another form.
 #[derive(Clone, Copy)]
 pub enum Rewriting {
     Certify,
@@ -16,23 +23,24 @@ pub enum Rewriting {
 }
 
 impl Rewriting {
-    /// The run: over a plan or a brief to certify and to print, and else over the one that it rewrites.
+    /// The run: over what gives a plan to certify and to print, and else over briefs to expand or a plan text.
     ///
     /// # Errors
     ///
-    /// Those of the runs of `report`, in the same order.
+    /// Those of the parts of `report`, in the same order, with the text that is refused, and with what is to be said of a plan
+    /// that has no brief.
     pub fn run<I: Input, O: Output>(
         self,
         alloc: Global,
-        text: &mut I,
+        sources: &mut Sources<'_, I>,
         out: &mut O,
     ) -> Result<Ended, Halt> {
         let status = match self {
-            Rewriting::Certify => certify_found(alloc, &find_given(alloc, text)?.plan, out),
-            Rewriting::Print => print_found(alloc, &find_given(alloc, text)?.plan, out),
-            Rewriting::Brief => run_brief(alloc, text, out),
-            Rewriting::Expand => run_expand(alloc, text, out),
-        }?;
+            Rewriting::Certify => certify_found(alloc, &sources.find(alloc)?.plan, out)?,
+            Rewriting::Print => print_found(alloc, &sources.find(alloc)?.plan, out)?,
+            Rewriting::Brief => write_brief(alloc, &mut sources.first, out)?,
+            Rewriting::Expand => print_found(alloc, &sources.find_in_briefs(alloc)?.plan, out)?,
+        };
         Ok(Ended {
             status,
             remark: self.remark(status),
@@ -44,5 +52,46 @@ impl Rewriting {
             (Rewriting::Certify, Status::Bad) => Remark::Fault,
             _ => Remark::Nothing,
         }
+    }
+}
+
+// Writes a brief of the plan that the reader gives.
+fn write_brief<I: Input, O: Output>(
+    alloc: Global,
+    text: &mut I,
+    out: &mut O,
+) -> Result<Status, Halt> {
+    let text = read_within(alloc, text, READS)?;
+    match read_plan_at(alloc, text.as_slice()) {
+        Ok(plan) => write_brief_of(alloc, &plan, out),
+        Err(refused) => Err(refused_plan(text, refused)),
+    }
+}
+
+fn refused_plan(text: Vec<u8>, refused: Refused) -> Halt {
+    let Refused { error, place } = refused;
+    let text = match place {
+        Some(place) => Some(RefusedText {
+            text,
+            language: Language::Plan,
+            place,
+            file: 0,
+        }),
+        None => None,
+    };
+    Halt::Text(RunError::from(error), text)
+}
+
+fn write_brief_of<O: Output>(alloc: Global, plan: &Plan, out: &mut O) -> Result<Status, Halt> {
+    match brief_of(alloc, plan) {
+        Ok(brief) => {
+            let status = write_lines(out, brief.as_slice(), Status::Good)?;
+            Ok(status)
+        }
+        Err(error @ NoBrief::Name) => {
+            let hints = on_no_brief(alloc, plan)?;
+            Err(Halt::Said(RunError::from(error), hints))
+        }
+        Err(error) => Err(Halt::Run(RunError::from(error))),
     }
 }

@@ -2,7 +2,9 @@
 
 use crate::advice::{About, Closing, advise, no_timescale};
 use crate::endings::{Ended, Halt, Remark};
-use crate::inputs::{FilesRead, Inputs, both_read, is_standard_input, one_read, open, open_both};
+use crate::inputs::{
+    FilesRead, Inputs, NamedSources, inputs_of, is_standard_input, open_both, open_sources,
+};
 use crate::outputs::{Form, Sheet, Style};
 use crate::progress::Watcher;
 use crate::tasks::{Over, OverBoth, Task, task_of};
@@ -11,6 +13,7 @@ use crate::voices::{Voice, refused};
 use command_words::{Asked, Manner, Request, When, read_words};
 use explain::Paint;
 use hints::{Named, visible};
+use objects::Detail;
 use report::{RunError, Status, Watched};
 use std::env::{self, VarError};
 use std::io;
@@ -18,7 +21,6 @@ use std::rt::{Env, Files};
 use std::sync::Wait;
 use std::thread::Threads;
 use std::time::Clock;
-use vcd_read::Wrong;
 
 /// What people get beside the exact report: hints, colours in the report and in hints, and how far a long run is; or that
 /// reports, refusals and hints are objects, for programs.
@@ -72,7 +74,7 @@ pub fn run<R: Files + Env + Input + Print + Eprint + AllocGlobal + Threads + Wai
     match run_words(rt, terminals) {
         Ok(status) => status,
         // (before it is known whether objects are wanted)
-        Err(error) => refused(rt, error, None, Voice::Plain),
+        Err(error) => refused(rt, error, Detail::Nothing, Voice::Plain),
     }
 }
 
@@ -85,10 +87,16 @@ fn run_words<R: Files + Env + Input + Print + Eprint + AllocGlobal + Threads + W
         Err(error) => return no_words(rt, &error),
     };
     match read_words(rt.alloc(), words.as_slice()) {
-        Ok(Asked::Run { request, manner }) => {
-            let watcher = watcher_of(rt, request, terminals);
+        Ok(
+            Asked::Run {
+                request,
+                further,
+                manner,
+            },
+        ) => {
+            let watcher = watcher_of(rt, request, further.as_slice(), terminals);
             let extras = extras_of(rt, manner, terminals, watcher);
-            Ok(do_request(rt, request, extras))
+            Ok(do_request(rt, request, further.as_slice(), extras))
         }
         Ok(Asked::Show(text)) => show(rt, text.as_str()),
         Ok(Asked::Version(text)) => show(rt, version_of(rt, text.as_str())?.as_str()),
@@ -114,17 +122,25 @@ fn extras_of<R: Env + AllocGlobal>(
 }
 
 // Who sees how far a run is that may be long. While somebody types what is read, a line beside it would be in the way.
-fn watcher_of<R: Clock>(rt: &R, request: Request<'_>, terminals: Terminals) -> Watcher {
+fn watcher_of<R: Clock>(
+    rt: &R,
+    request: Request<'_>,
+    further: &[&str],
+    terminals: Terminals,
+) -> Watcher {
     match files_of(request) {
-        Some((one, other)) if terminals.err && !(terminals.input && names_input(one, other)) => {
+        Some((one, other))
+            if terminals.err && !(terminals.input && names_input(one, other, further)) => {
             Watcher::now(rt, terminals.out)
         }
         _ => Watcher::nobody(terminals.out),
     }
 }
 
-fn names_input(one: &str, other: &str) -> bool {
-    is_standard_input(one) || is_standard_input(other)
+fn names_input(one: &str, other: &str, further: &[&str]) -> bool {
+    is_standard_input(one)
+        || is_standard_input(other)
+        || further.iter().any(|path| is_standard_input(path))
 }
 
 // The files of a run that may be long.
@@ -161,70 +177,91 @@ fn are_wanted(when: When, on_terminal: bool) -> bool {
 fn do_request<R: Files + Input + Print + Eprint + AllocGlobal + Threads + Wait + Clock + Sync>(
     rt: &R,
     request: Request<'_>,
+    further: &[&str],
     extras: Extras,
 ) -> u8 {
     match task_of(request) {
-        Task::One(text, over, form) => run_over(rt, text, over, form, extras),
-        Task::Two(plan, other, over, form) => run_over_both(rt, plan, other, over, form, extras),
+        Task::One(text, over, form) => run_over(rt, sources_of(text, further), over, form, extras),
+        Task::Two(plan, other, over, form) => {
+            run_over_both(rt, sources_of(plan, further), other, over, form, extras)
+        }
     }
 }
 
-// A run over one text, from the opening of its file to the status.
+// Further briefs are words of a command that takes briefs alone, and else those of an option.
+fn sources_of<'a>(first: Named<'a>, further: &'a [&'a str]) -> NamedSources<'a> {
+    let argument = if first.what == "brief" {
+        first.argument
+    } else {
+        "--with"
+    };
+    NamedSources {
+        first,
+        further,
+        argument,
+    }
+}
+
+// A run over one text, or over what gives a plan, from the opening of the files to the status.
 fn run_over<'a, R: Files + Input + Print + Eprint + AllocGlobal + Threads + Wait + Clock + Sync>(
     rt: &R,
-    text: Named<'a>,
+    named: NamedSources<'a>,
     over: Over<'a>,
     form: Form<'a>,
     extras: Extras,
 ) -> u8 {
-    let Some((mut reader, first)) = open(rt, text, extras) else {
+    let mut ids = Vec::new(rt.alloc());
+    let Some(mut sources) = open_sources(rt, named, &mut ids, extras) else {
         return 2;
     };
     let read = FilesRead {
-        first,
-        second: None,
+        ids: ids.as_slice(),
     };
     let sheet = Sheet::telling(rt, form, read, extras.watcher, over.writes_long());
     let mut out = Watched::new(sheet);
-    let ended = over.run(rt, text.path, &mut reader, &mut out, extras, read);
+    let path = named.first.path;
+    let ended = over.run(rt, path, &mut sources, &mut out, extras, read);
     let files = FilesWritten {
         output: form.path(),
         wave: over.wave(),
     };
-    let read = one_read(text, reader);
+    let read = inputs_of(named, sources, None);
     finish(
         rt,
         read,
         out.into_inner(),
         ended,
+        named,
         files,
-        over.about(text.path),
+        over.about(path),
         extras,
     )
 }
 
-// The same over a plan and a second text.
+// The same over a second text too.
 fn run_over_both<
     'a,
     R: Files + Input + Print + Eprint + AllocGlobal + Threads + Wait + Clock + Sync,
 >(
     rt: &R,
-    plan: Named<'a>,
+    named: NamedSources<'a>,
     other: Named<'a>,
     over: OverBoth<'a>,
     form: Form<'a>,
     extras: Extras,
 ) -> u8 {
-    let Some(((mut reader, first), (mut another, second))) = open_both(rt, plan, other, extras)
-    else {
+    let mut ids = Vec::new(rt.alloc());
+    let Some((mut sources, mut another)) = open_both(rt, named, other, &mut ids, extras) else {
         return 2;
     };
-    let read = FilesRead { first, second };
+    let read = FilesRead {
+        ids: ids.as_slice(),
+    };
     let mut out = Watched::new(Sheet::new(rt, form, read, extras.watcher));
     let ended = over.run(
         rt,
-        plan.path,
-        &mut reader,
+        named.first.path,
+        &mut sources,
         &mut another,
         &mut out,
         extras,
@@ -234,14 +271,15 @@ fn run_over_both<
         output: form.path(),
         wave: over.wave(),
     };
-    let read = both_read(plan, reader, other, another);
+    let read = inputs_of(named, sources, Some((other, another)));
     finish(
         rt,
         read,
         out.into_inner(),
         ended,
+        named,
         files,
-        over.about(plan.path, other.path),
+        over.about(named, other.path),
         extras,
     )
 }
@@ -255,13 +293,14 @@ struct FilesWritten<'a> {
 
 // Writes the file of a run that is to write one, and answers the status of the run, with the line of a refusal, and hints
 // where they are wanted.
-fn finish<R: Files + Print + Eprint + Clock + AllocGlobal>(
+fn finish<'a, R: Files + Print + Eprint + Clock + AllocGlobal>(
     rt: &R,
     read: Inputs<'_, R::File>,
     mut out: Sheet<'_, R>,
     ended: Result<Ended, Halt>,
-    files: FilesWritten<'_>,
-    about: About<'_>,
+    named: NamedSources<'a>,
+    files: FilesWritten<'a>,
+    about: About<'a>,
     extras: Extras,
 ) -> u8 {
     let (ended, remark, output, reason) = match ended {
@@ -271,15 +310,21 @@ fn finish<R: Files + Print + Eprint + Clock + AllocGlobal>(
             (Err(error), Remark::refused(wrong), files.output, None)
         }
         Err(Halt::Text(error, text)) => (Err(error), Remark::text(text), files.output, None),
+        Err(Halt::Said(error, hints)) => (Err(error), Remark::Hints(hints), files.output, None),
         Err(Halt::Undrawn(error, reason)) => (Err(error), Remark::Nothing, files.wave, reason),
         Err(Halt::NoTimescale) => return no_timescale(rt, extras),
     };
     let ended = out.settle(ended);
-    let status = exit_code_of(rt, ended, remark.wrong(), extras);
+    let file = match &remark {
+        Remark::Text(text) => named.path(text.file),
+        _ => None,
+    };
+    let status = exit_code_of(rt, ended, remark.detail(file), extras);
     if extras.hints {
         let closing = Closing {
             ended,
             remark,
+            file,
             output,
             error: reason.or(out.into_error()),
             about,
@@ -290,11 +335,11 @@ fn finish<R: Files + Print + Eprint + Clock + AllocGlobal>(
     status
 }
 
-// The exit code of a run that has ended, with the line of a refusal. The line that told how far it was goes away.
+// The exit code of a run that has ended, with the line of a refusal, which may name a file. The line that told how far it was goes away.
 fn exit_code_of<R: Clock + Eprint + AllocGlobal>(
     rt: &R,
     ended: Result<Status, RunError>,
-    wrong: Option<&Wrong>,
+    detail: Detail<'_>,
     extras: Extras,
 ) -> u8 {
     extras.watcher.clear(rt);
@@ -302,7 +347,7 @@ fn exit_code_of<R: Clock + Eprint + AllocGlobal>(
         Ok(Status::Good) => 0,
         Ok(Status::Bad) => 1,
         Ok(Status::Refused) => 2,
-        Err(error) => refused(rt, error, wrong, extras.voice()),
+        Err(error) => refused(rt, error, detail, extras.voice()),
     }
 }
 

@@ -4,13 +4,14 @@ use crate::advice::{About, names_of, no_lines};
 use crate::checking::{Look, check, order, verify};
 use crate::drawings::Canvas;
 use crate::endings::{Ended, Halt};
-use crate::inputs::FilesRead;
+use crate::inputs::{FilesRead, NamedSources};
 use crate::outputs::Form;
 use crate::pages::{write_page_alone, write_page_with};
 use crate::recordings::{Capture, decode, explain_capture, learn, list_signals};
 use crate::rehearsals::{Play, bench, bench_alone};
 use crate::rewriting::Rewriting;
 use crate::runs::Extras;
+use crate::sources::Sources;
 use command_words::Request;
 use dump_tokens::{Bus, BusLines, Limits};
 use hints::Named;
@@ -27,7 +28,7 @@ pub enum Task<'a> {
     Two(Named<'a>, Named<'a>, OverBoth<'a>, Form<'a>),
 }
 
-/// A run over one text.
+/// A run over one text, or over what gives a plan.
 #[derive(Clone, Copy)]
 pub enum Over<'a> {
     Check(Look<'a>),
@@ -40,7 +41,7 @@ pub enum Over<'a> {
     Learn { bus: Bus<'a>, merge: bool },
 }
 
-/// A run over a plan and a second text.
+/// A run over what gives a plan, and a second text.
 #[derive(Clone, Copy)]
 pub enum OverBoth<'a> {
     Verify { explain: bool },
@@ -206,7 +207,7 @@ fn named<'a>(argument: &'static str, what: &'static str, path: &'a str) -> Named
 // ---- the runs
 
 impl<'a> Over<'a> {
-    /// Runs over the text of this path, one of the files that are read.
+    /// Runs over these texts, the first of which has this path.
     pub fn run<
         R: Files + Print + Eprint + AllocGlobal + Threads + Wait + Clock + Sync,
         I: Input,
@@ -215,21 +216,32 @@ impl<'a> Over<'a> {
         self,
         rt: &R,
         path: &'a str,
-        text: &mut I,
+        sources: &mut Sources<'_, I>,
         out: &mut O,
         extras: Extras,
-        read: FilesRead,
+        read: FilesRead<'a>,
     ) -> Result<Ended, Halt> {
         let canvas = canvas_of(self.wave(), extras, read);
         match self {
-            Over::Check(look) => check(rt, text, out, look, extras, canvas),
-            Over::Order => order(rt, text, out, extras.style()),
-            Over::Page => write_page_alone(rt, path, text, out),
-            Over::Rewrite(rewriting) => rewriting.run(rt.alloc(), text, out),
-            Over::Bench(play) => bench_alone(rt, text, out, play, extras, canvas),
-            Over::Decode { bus, live } => decode(rt.alloc(), text, out, bus, live, extras.style()),
-            Over::Signals(limits) => list_signals(rt.alloc(), text, out, limits, extras.style()),
-            Over::Learn { bus, merge } => learn(rt.alloc(), text, out, bus, merge),
+            Over::Check(look) => check(rt, sources, out, look, extras, canvas),
+            Over::Order => order(rt, sources, out, extras.style()),
+            Over::Page => write_page_alone(rt, path, sources, out),
+            Over::Rewrite(rewriting) => rewriting.run(rt.alloc(), sources, out),
+            Over::Bench(play) => bench_alone(rt, sources, out, play, extras, canvas),
+            Over::Decode { bus, live } => {
+                decode(
+                    rt.alloc(),
+                    &mut sources.first,
+                    out,
+                    bus,
+                    live,
+                    extras.style(),
+                )
+            }
+            Over::Signals(limits) => {
+                list_signals(rt.alloc(), &mut sources.first, out, limits, extras.style())
+            }
+            Over::Learn { bus, merge } => learn(rt.alloc(), &mut sources.first, out, bus, merge),
         }
     }
 
@@ -250,7 +262,7 @@ impl<'a> Over<'a> {
         }
     }
 
-    /// What hints say of a run over the text of this path.
+    /// What hints say of a run over texts, the first of which has this path.
     pub fn about(self, path: &'a str) -> About<'a> {
         match self {
             Over::Decode { bus, .. } => {
@@ -266,14 +278,13 @@ impl<'a> Over<'a> {
             Over::Learn { bus, .. } => {
                 About::recording(names_of(bus.lines, path), ["twire learn", path, "", ""])
             }
-            Over::Bench(play) => About::bench(play.starters),
             _ => About::plans(),
         }
     }
 }
 
 impl<'a> OverBoth<'a> {
-    /// Runs over the plan of this path and the second text, the files that are read.
+    /// Runs over what gives the plan, the first of which has this path, and the second text.
     pub fn run<
         R: Files + Print + Eprint + AllocGlobal + Threads + Wait + Clock + Sync,
         I: Input,
@@ -283,27 +294,27 @@ impl<'a> OverBoth<'a> {
         self,
         rt: &R,
         path: &'a str,
-        plan: &mut I,
+        plans: &mut Sources<'_, I>,
         other: &mut J,
         out: &mut O,
         extras: Extras,
-        read: FilesRead,
+        read: FilesRead<'a>,
     ) -> Result<Ended, Halt> {
         let alloc = rt.alloc();
         match self {
-            OverBoth::Verify { explain } => verify(alloc, plan, other, out, explain, extras),
+            OverBoth::Verify { explain } => verify(alloc, plans, other, out, explain, extras),
             OverBoth::Capture(asked) => explain_capture(
                 rt,
-                plan,
+                plans,
                 other,
                 out,
                 asked,
                 extras.style(),
             ),
-            OverBoth::Page(bus) => write_page_with(rt, path, plan, other, out, bus),
+            OverBoth::Page(bus) => write_page_with(rt, path, plans, other, out, bus),
             OverBoth::Bench(play) => {
                 let canvas = canvas_of(play.wave, extras, read);
-                bench(rt, plan, other, out, play, extras, canvas)
+                bench(rt, plans, other, out, play, extras, canvas)
             }
         }
     }
@@ -316,24 +327,24 @@ impl<'a> OverBoth<'a> {
         }
     }
 
-    /// What hints say of a run over a plan and the second text, which have these paths.
-    pub fn about(self, plan: &'a str, other: &'a str) -> About<'a> {
+    /// What hints say of a run over these texts and the second one, which has this path.
+    pub fn about(self, sources: NamedSources<'a>, other: &'a str) -> About<'a> {
+        let plan = sources.first.path;
         match self {
             OverBoth::Capture(asked) => {
                 let names = names_of(asked.bus.lines, other);
-                About::recording(names, ["twire capture", plan, "", other])
+                About::recording(names, ["twire capture", plan, "", other]).with(sources.further)
             }
             OverBoth::Page(bus) => {
                 let words = ["twire page", plan, "--capture", other];
-                About::recording(names_of(bus.lines, other), words)
+                About::recording(names_of(bus.lines, other), words).with(sources.further)
             }
-            OverBoth::Bench(play) => About::bench(play.starters),
-            OverBoth::Verify { .. } => About::plans(),
+            OverBoth::Bench(_) | OverBoth::Verify { .. } => About::plans(),
         }
     }
 }
 
-fn canvas_of(wave: Option<&str>, extras: Extras, read: FilesRead) -> Option<Canvas<'_>> {
+fn canvas_of<'a>(wave: Option<&'a str>, extras: Extras, read: FilesRead<'a>) -> Option<Canvas<'a>> {
     match wave {
         Some(file) => Some(Canvas { file, extras, read }),
         None => None,

@@ -1,10 +1,9 @@
 // What goes to standard error: refusals, and hints for people.
 
-use hints::Hints;
-use objects::{hint_objects, refusal_object, timescale_object};
+use hints::{Hints, shown};
+use objects::{Detail, hint_objects, refusal_object, timescale_object};
 use report::RunError;
 use std::alloc::{AllocError, Global};
-use vcd_read::Wrong;
 
 /// How refusals and hints are written.
 #[derive(Clone, Copy)]
@@ -26,21 +25,35 @@ impl Voice {
     }
 }
 
-/// Writes the line of a refusal, and answers its status. An object also has what is wrong with a dump.
+/// Writes the line of a refusal, and answers its status. An object also has the other things that are known of it.
 pub fn refused<R: Eprint + AllocGlobal>(
     rt: &R,
     error: RunError,
-    wrong: Option<&Wrong>,
+    detail: Detail<'_>,
     voice: Voice,
 ) -> u8 {
-    match voice {
-        Voice::Objects => say_refusal(rt, refusal_object(rt.alloc(), error, wrong)),
-        // Where standard error takes nothing the status is all that is left.
-        _ => {
-            let _ = eprintln!(rt; "refused {error}");
-        }
+    match (voice, detail) {
+        (Voice::Objects, _) => say_refusal(rt, refusal_object(rt.alloc(), error, detail)),
+        (_, Detail::Text(_, Some(file))) => say_refused_file(rt, error, file),
+        _ => say_refused(rt, error),
     }
     2
+}
+
+// Where standard error takes nothing the status is all that is left.
+fn say_refused<R: Eprint>(rt: &R, error: RunError) {
+    let _ = eprintln!(rt; "refused {error}");
+}
+
+// The same with the name of the file, without it where there is no memory for that.
+fn say_refused_file<R: Eprint + AllocGlobal>(rt: &R, error: RunError, file: &str) {
+    match shown(rt.alloc(), file) {
+        Ok(file) => {
+            let file = file.as_str();
+            let _ = eprintln!(rt; "refused {error} of {file}");
+        }
+        Err(_) => say_refused(rt, error),
+    }
 }
 
 // Where there is no memory for the object of a refusal, that is refused.

@@ -6,18 +6,18 @@ use crate::paints::Paint;
 use crate::reports::write_block;
 use cert_check::Answer;
 use growing_text::Text;
-use plan_core::Plan;
+use plan_words::PlanWords;
 use report::{Output, RunError, answer_line};
 use std::alloc::Global;
 
-/// Writes the line of the answer to a certificate of the plan, and below it what is wrong with it, where that was found.
+/// Writes the line of the answer to a certificate of a plan, and below it what is wrong with it, where that was found.
 ///
 /// # Errors
 ///
 /// `Write` where the writer failed or took no bytes, and `NoMemory`, after which nothing was written.
 pub fn explain_answer<O: Output>(
     alloc: Global,
-    plan: &Plan,
+    words: PlanWords<'_>,
     answer: Answer,
     mistake: Option<Mistake>,
     paint: Paint,
@@ -31,7 +31,7 @@ pub fn explain_answer<O: Output>(
         Answer::Wrong(_) => text.push_made(line),
     }
     if let Some(mistake) = mistake {
-        text.push_made(below_mistake(alloc, plan, mistake));
+        text.push_made(below_mistake(alloc, words, mistake));
     }
     write_block(text, out)
 }

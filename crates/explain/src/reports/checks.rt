@@ -9,12 +9,13 @@ use crate::reports::{BLOCK, write_block};
 use certificate::Fault;
 use growing_text::Text;
 use plan_core::Plan;
+use plan_words::PlanWords;
 use report::{Checked, Output, RunError, push_count, push_fault};
 use std::alloc::{AllocError, Global};
 use std::cmp::Ordering;
 use std::mem;
 
-/// Writes the report of a check. Where there are reasons, they stand at its end, and below the lines of the first so many unsafe
+/// Writes the report of a check. The words are those of its plan. Where there are reasons, they stand at its end, and below the lines of the first so many unsafe
 /// pairs the bytes of both participants.
 ///
 /// # Errors
@@ -23,6 +24,7 @@ use std::mem;
 pub fn explain_check<O: Output>(
     alloc: Global,
     checked: &Checked,
+    words: PlanWords<'_>,
     reasons: Option<&Reasons>,
     most: u32,
     paint: Paint,
@@ -35,7 +37,7 @@ pub fn explain_check<O: Output>(
         text.push_made(line_of(alloc, plan, pair, fault));
         if reasons.is_some() {
             match k.cmp(&(most as usize)) {
-                Ordering::Less => text.push_made(below_fault(alloc, plan, pair, fault)),
+                Ordering::Less => text.push_made(below_fault(alloc, words, pair, fault)),
                 Ordering::Equal => push_left(&mut text, faults.len().saturating_sub(k)),
                 Ordering::Greater => {}
             }
@@ -62,7 +64,7 @@ fn push_end(
     paint.push_verdict(text, last_line(alloc, plan, faults.len()), word, is_safe);
     match reasons {
         Some(Reasons::Safe(safety)) => text.push_made(below_safe(alloc, plan, safety)),
-        Some(Reasons::Unsafe(mends)) => text.push_made(below_unsafe(alloc, plan, mends)),
+        Some(Reasons::Unsafe(mends)) => text.push_made(below_unsafe(alloc, mends)),
         None => {}
     }
 }
@@ -76,12 +78,19 @@ fn line_of(alloc: Global, plan: &Plan, pair: u32, fault: &Fault) -> Result<Strin
     Ok(line)
 }
 
-fn below_fault(alloc: Global, plan: &Plan, pair: u32, fault: &Fault) -> Result<String, AllocError> {
+fn below_fault(
+    alloc: Global,
+    words: PlanWords<'_>,
+    pair: u32,
+    fault: &Fault,
+) -> Result<String, AllocError> {
+    let plan = words.plan();
     if plan.pair_count() <= pair {
         return Ok(String::new(alloc));
     }
-    let meeting = meeting_of(alloc, plan, plan.pair(pair), fault.wire.as_slice())?;
-    below_pair(alloc, &meeting)
+    let both = plan.pair(pair);
+    let meeting = meeting_of(alloc, plan, both, fault.wire.as_slice())?;
+    below_pair(alloc, words, both, &meeting)
 }
 
 // How many pairs are left where so many were explained.

@@ -5,14 +5,17 @@ ghost use Rattle.cert_check.specs.Holds.{accepted_plan};
 ghost use Rattle.bench_run.specs.Outcomes.{AreParticipants};
 
 use crate::benches::below_wire;
+use crate::labels::called_by;
 use crate::reports::write_block;
 use crate::tracks::tracks_of;
 use bench_run::{Rehearsal, push_wire_line, push_won_line};
 use growing_text::Text;
+use plan_words::PlanWords;
 use report::{Output, RunError};
 use std::alloc::{AllocError, Global};
 
-/// Writes the report of a rehearsal, and below the wire what each of the starters put in each slot.
+/// Writes the report of a rehearsal, and below the wire what each of the starters put in each slot. The words are those of its
+/// plan.
 ///
 /// # Errors
 ///
@@ -20,13 +23,14 @@ use std::alloc::{AllocError, Global};
 pub fn explain_rehearsal<O: Output>(
     alloc: Global,
     rehearsal: &Rehearsal,
+    words: PlanWords<'_>,
     out: &mut O,
 ) -> Result<(), RunError>
     requires { AreParticipants (plan_contents (accepted_plan rehearsal.now.accepted)) rehearsal.now.played.won.items }
 {
     let mut text = Text::new(alloc);
     text.push_made(wire_line(alloc, rehearsal));
-    text.push_made(below(alloc, rehearsal));
+    text.push_made(below(alloc, rehearsal, words));
     text.push_made(won_line(alloc, rehearsal));
     write_block(text, out)
 }
@@ -50,10 +54,12 @@ fn won_line(alloc: Global, rehearsal: &Rehearsal) -> Result<String, AllocError>
     Ok(line)
 }
 
-fn below(alloc: Global, rehearsal: &Rehearsal) -> Result<String, AllocError> {
+fn below(alloc: Global, rehearsal: &Rehearsal, words: PlanWords<'_>) -> Result<String, AllocError> {
+    let labels = called_by(alloc, words)?;
     let along = tracks_of(alloc, rehearsal)?;
     below_wire(
         alloc,
+        &labels,
         rehearsal.played.wire.as_slice(),
         along.tracks.as_slice(),
     )

@@ -1,0 +1,319 @@
+// After the refusal of a plan or of a brief.
+
+use crate::expected::{push_expected, words_of};
+use crate::kinds::{Kind, LOOKED_AT, is_binary, kind_of, push_kind};
+use crate::lines::Lines;
+use crate::marking::{first_line, last_line, push_marked};
+use crate::names::{push_twice, push_unknown};
+use crate::paths::quoted;
+use crate::values::Hints;
+use crate::wording::{bad_count, foreign, push_limit, push_over, version};
+use crate::words::{RANGES, push_reason};
+use brief_text::expand_brief_at;
+use plan_text::places::Further;
+use plan_text::{Expected, Language, Place, PlanError, Refused};
+use std::alloc::{AllocError, Global};
+
+/// Why and where a plan or a brief was refused.
+#[derive(Clone, Copy)]
+pub struct RefusedIn<'a> {
+    pub error: PlanError,
+    pub place: Place,
+    pub language: Language,
+    pub text: &'a [u8],
+    /// The name of its file, where several give the plan.
+    pub file: Option<&'a str>,
+}
+
+impl<'a> RefusedIn<'a> {
+    /// The token that was refused, a character, or nothing at the end of the text.
+    pub(crate) fn token(&self) -> &'a [u8] {
+        self.part(self.place.start, self.place.end)
+    }
+
+    /// The text before it.
+    pub(crate) fn before(&self) -> &'a [u8] {
+        self.part(0, self.place.start)
+    }
+
+    fn part(&self, start: usize, end: usize) -> &'a [u8] {
+        self.text.get(start..end).unwrap_or(&[])
+    }
+}
+
+/// What a text of this language is called.
+pub(crate) fn called(language: Language) -> &'static str {
+    match language {
+        Language::Plan => "plan",
+        Language::Brief => "brief",
+    }
+}
+
+/// What to say after the refusal of a plan or of a brief.
+///
+/// # Errors
+///
+/// Where an allocation fails.
+pub fn on_text(alloc: Global, refused: RefusedIn<'_>) -> Result<Hints, AllocError> {
+    let mut lines = Lines::new(alloc);
+    let head = refused.text.get(..LOOKED_AT).unwrap_or(refused.text);
+    let kind = kind_of(head);
+    let refused = as_brief(alloc, refused, head).unwrap_or(refused);
+    if !is_binary(kind) {
+        push_refused(alloc, &mut lines, &refused);
+    }
+    push_kind(&mut lines, kind, kind_of_language(refused.language));
+    lines.finish()
+}
+
+fn kind_of_language(language: Language) -> Kind {
+    match language {
+        Language::Plan => Kind::Plan,
+        Language::Brief => Kind::Brief,
+    }
+}
+
+// The refusal of a text that begins with the word `brief`, and goes on otherwise than a brief, as that of a brief.
+fn as_brief<'a>(alloc: Global, refused: RefusedIn<'a>, head: &[u8]) -> Option<RefusedIn<'a>> {
+    if refused.token() != b"brief".as_slice() {
+        return None;
+    }
+    match expand_brief_at(alloc, head) {
+        Err(
+            Refused {
+                error: error @ PlanError::Version(_),
+                place: Some(place),
+            },
+        ) => Some(RefusedIn {
+            error,
+            place,
+            language: Language::Brief,
+            ..refused
+        }),
+        _ => None,
+    }
+}
+
+fn push_refused(alloc: Global, lines: &mut Lines, refused: &RefusedIn<'_>) {
+    let fault = fault_of(refused);
+    push_span(alloc, lines, refused, fault.span());
+    if let Fault::End(_) = fault {
+        lines.say("the text ends here");
+    }
+    match refused.error {
+        PlanError::NotAscii(_) => lines.say(foreign(refused.language)),
+        PlanError::Version(_) => lines.say(version(refused.language)),
+        PlanError::Unexpected(_) => push_fault(alloc, lines, refused, fault),
+        PlanError::BadCount(_) => lines.say(bad_count(refused.place.expected)),
+        PlanError::TooLong(_) => push_over(lines, refused.place.over),
+        PlanError::TooMany(_) => push_limit(lines, refused.place.expected),
+        PlanError::Twice(_) => push_twice(alloc, lines, refused),
+        PlanError::Unknown(_) => push_unknown(alloc, lines, refused),
+        PlanError::NoMemory => {}
+    }
+}
+
+// A part of one line of a text.
+#[derive(Clone, Copy)]
+struct Span {
+    line: u64,
+    start: usize,
+    end: usize,
+}
+
+// What is wrong, and where that is shown.
+#[derive(Clone, Copy)]
+enum Fault {
+    // an item goes on with the next one
+    NoSemicolon(Span),
+    // a plan of the first version has a range
+    Range(Span),
+    Token(Span),
+    End(Span),
+}
+
+impl Fault {
+    fn span(self) -> Span {
+        match self {
+            Fault::NoSemicolon(span) | Fault::Range(span) | Fault::Token(span) | Fault::End(span) =>
+                span,
+        }
+    }
+}
+
+fn fault_of(refused: &RefusedIn<'_>) -> Fault {
+    let Place {
+        line,
+        start,
+        end,
+        ..
+    } = refused.place;
+    let span = Span { line, start, end };
+    if let Some(span) = missing_semicolon(refused) {
+        Fault::NoSemicolon(span)
+    } else if let Some(span) = range_around(refused) {
+        Fault::Range(span)
+    } else if start < end {
+        Fault::Token(span)
+    } else {
+        Fault::End(span)
+    }
+}
+
+// The place after the token before, where `;` could stand and the refused token begins an item.
+fn missing_semicolon(refused: &RefusedIn<'_>) -> Option<Span> {
+    if !takes_semicolon(refused.place.expected?)
+        || !begins_item(refused.language, refused.token())
+    {
+        return None;
+    }
+    let Place {
+        line,
+        start,
+        before,
+        ..
+    } = refused.place;
+    Some(Span {
+        line: line.saturating_sub(feeds_in(refused.part(before, start))),
+        start: before,
+        end: before,
+    })
+}
+
+fn takes_semicolon(expected: Expected) -> bool {
+    matches!(
+        expected,
+        Expected::Semicolon
+            | Expected::Sending
+            | Expected::Further(Further {
+                is_inner: false,
+                ..
+            })
+    )
+}
+
+fn begins_item(language: Language, token: &[u8]) -> bool {
+    match token {
+        b"message" | b"controller" | b"interrupt" | b"never" => true,
+        b"device" | b"byte" => matches!(language, Language::Brief),
+        _ => false,
+    }
+}
+
+fn feeds_in(text: &[u8]) -> u64 {
+    let mut feeds = 0u64;
+    for byte in text {
+        if *byte == b'\n' {
+            feeds = feeds.saturating_add(1);
+        }
+    }
+    feeds
+}
+
+// A count with dots after it. In the first version of plans the count was taken alone.
+fn range_around(refused: &RefusedIn<'_>) -> Option<Span> {
+    let Place {
+        line,
+        start,
+        before,
+        expected,
+        ..
+    } = refused.place;
+    let is_range = refused.language == Language::Plan
+        && expected == Some(Expected::Tail)
+        && before == start
+        && refused.text.get(start..)?.starts_with(b"..");
+    if !is_range {
+        return None;
+    }
+    Some(Span {
+        line,
+        start: start.saturating_sub(digits_before(refused.before())),
+        end: start.saturating_add(dots_and_digits(refused.text.get(start..)?)),
+    })
+}
+
+fn digits_before(text: &[u8]) -> usize {
+    let mut digits = 0usize;
+    for byte in text.iter().rev() {
+        if !byte.is_ascii_digit() {
+            break;
+        }
+        digits = digits.saturating_add(1);
+    }
+    digits
+}
+
+fn dots_and_digits(text: &[u8]) -> usize {
+    let mut count = 0usize;
+    for byte in text {
+        if *byte != b'.' && !byte.is_ascii_digit() {
+            break;
+        }
+        count = count.saturating_add(1);
+    }
+    count
+}
+
+// Shows a part of the text in its line.
+fn push_span(alloc: Global, lines: &mut Lines, refused: &RefusedIn<'_>, span: Span) {
+    let Span { line, start, end } = span;
+    let what = called(refused.language);
+    lines.part(format_args!("line {line} of the {what}"));
+    if let Some(file) = refused.file {
+        push_file(alloc, lines, file);
+    }
+    lines.say(":");
+    let before = refused.part(0, start);
+    let after = refused.text.get(end..).unwrap_or(&[]);
+    push_marked(
+        lines,
+        last_line(before),
+        refused.part(start, end),
+        first_line(after),
+    );
+}
+
+fn push_file(alloc: Global, lines: &mut Lines, file: &str) {
+    match quoted(alloc, file) {
+        Ok(file) => {
+            lines.part(" ");
+            lines.part(file.as_str());
+        }
+        Err(_) => lines.fail(),
+    }
+}
+
+// What is wrong with what the grammar does not allow, and what could stand there.
+fn push_fault(alloc: Global, lines: &mut Lines, refused: &RefusedIn<'_>, fault: Fault) {
+    match (fault, refused.place.expected) {
+        (Fault::NoSemicolon(_), _) => lines.say("';' is missing here"),
+        (Fault::Range(_), _) => {
+            lines.say(RANGES);
+            push_all(alloc, lines, Expected::Count { ranges: false });
+        }
+        (_, Some(Expected::Version)) => lines.say(version(refused.language)),
+        (Fault::Token(_), Some(expected)) => push_token(alloc, lines, refused, expected),
+        (Fault::End(_), Some(expected)) => push_all(alloc, lines, expected),
+        (_, None) => {}
+    }
+}
+
+fn push_token(alloc: Global, lines: &mut Lines, refused: &RefusedIn<'_>, expected: Expected) {
+    match words_of(alloc, expected) {
+        Ok(words) => {
+            let words = words.as_slice();
+            let word = str::from_utf8(refused.token()).unwrap_or("");
+            push_reason(lines, refused.language, expected, words, word);
+            push_expected(lines, words);
+        }
+        Err(_) => lines.fail(),
+    }
+}
+
+fn push_all(alloc: Global, lines: &mut Lines, expected: Expected) {
+    match words_of(alloc, expected) {
+        Ok(words) => push_expected(lines, words.as_slice()),
+        Err(_) => lines.fail(),
+    }
+}

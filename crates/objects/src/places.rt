@@ -1,0 +1,100 @@
+// Where participants of a plan stand in the briefs that mean it.
+
+use plan_words::{FileLine, PlanWords};
+use serde::Serialize;
+use std::alloc::{AllocError, Global};
+
+/// A line of a file.
+#[derive(Drop, Serialize)]
+pub(crate) struct At {
+    file: String,
+    line: u64,
+}
+
+/// Where the messages of a pair stand, of which an interrupt has none.
+pub(crate) type BothAt = (Option<At>, Option<At>);
+
+/// Where the message and the controller of a participant stand.
+pub(crate) type OneAt = (At, At);
+
+/// The places of a pair; nothing where no brief means the plan.
+///
+/// # Errors
+///
+/// Where an allocation fails.
+pub(crate) fn both_at(
+    alloc: Global,
+    words: PlanWords<'_>,
+    both: (u32, u32),
+) -> Result<Option<BothAt>, AllocError> {
+    if !words.has_briefs() {
+        return Ok(None);
+    }
+    let first = message_at(alloc, words, both.0)?;
+    let second = message_at(alloc, words, both.1)?;
+    Ok(Some((first, second)))
+}
+
+/// The places of a participant; nothing where no brief means the plan, and of an interrupt.
+///
+/// # Errors
+///
+/// Where an allocation fails.
+pub(crate) fn one_at(
+    alloc: Global,
+    words: PlanWords<'_>,
+    p: u32,
+) -> Result<Option<OneAt>, AllocError> {
+    match (words.message_at(p), words.controller_at(p)) {
+        (Some(message), Some(controller)) => {
+            let message = line_of(alloc, message)?;
+            let controller = line_of(alloc, controller)?;
+            Ok(Some((message, controller)))
+        }
+        _ => Ok(None),
+    }
+}
+
+/// The places of the messages of all participants, as they are written; nothing where no brief means the plan.
+///
+/// # Errors
+///
+/// Where an allocation fails.
+pub(crate) fn all_at(
+    alloc: Global,
+    words: PlanWords<'_>,
+) -> Result<Option<Vec<String>>, AllocError> {
+    if !words.has_briefs() {
+        return Ok(None);
+    }
+    let participants = words.plan().participants();
+    let mut places = Vec::with_capacity(alloc, participants as usize)?;
+    for p in 0..participants {
+        places.push(written_at(alloc, words, p)?)?;
+    }
+    Ok(Some(places))
+}
+
+fn written_at(alloc: Global, words: PlanWords<'_>, p: u32) -> Result<String, AllocError> {
+    let place = message_at(alloc, words, p)?;
+    match serde_json::to_string(alloc, &place) {
+        Ok(text) => Ok(text),
+        // (out of memory: every key is a text)
+        Err(_) => Err(AllocError),
+    }
+}
+
+fn message_at(alloc: Global, words: PlanWords<'_>, p: u32) -> Result<Option<At>, AllocError> {
+    match words.message_at(p) {
+        Some(place) => Ok(Some(line_of(alloc, place)?)),
+        None => Ok(None),
+    }
+}
+
+fn line_of(alloc: Global, place: FileLine<'_>) -> Result<At, AllocError> {
+    let FileLine { file, line } = place;
+    Ok(At {
+        file: String::from_str(alloc, file)?,
+        line,
+    })
+}

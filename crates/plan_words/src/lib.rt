@@ -1,0 +1,190 @@
+//! What people call the participants and the controllers of a plan, and where these stand: in the words of the briefs that
+//! mean it, where it was given so, and else in its own.
+//!
+//! A brief may split a controller, so that a plan has `bmc_set/set` where people have written `bmc/set`. Only words for people
+//! are made here: the exact lines of reports have the names of the plan.
+#![tactic(auto)]
+
+use brief_text::{ControllerOrigin, Origins, Spot};
+use growing_text::Text;
+use plan_core::{Participant, Plan};
+use std::alloc::{AllocError, Global};
+
+/// The files of the briefs that mean a plan, as the command line names them.
+#[derive(Clone, Copy)]
+pub struct BriefFiles<'a> {
+    pub first: &'a str,
+    pub further: &'a [&'a str],
+}
+
+impl<'a> BriefFiles<'a> {
+    /// The file of the brief with this number, from 0 on, or what stands for standard input.
+    pub fn of(self, number: u32) -> Option<&'a str> {
+        let path = match number.checked_sub(1) {
+            None => self.first,
+            Some(after) => *self.further.get(after as usize)?,
+        };
+        match path {
+            "-" | "/dev/stdin" => Some("<stdin>"),
+            _ => Some(path),
+        }
+    }
+}
+
+/// A line of a file.
+#[derive(Clone, Copy, PartialEq, Eq)]
+pub struct FileLine<'a> {
+    pub file: &'a str,
+    pub line: u64,
+}
+
+impl FileLine<'_> {
+    /// Adds `FILE:LINE`, as editors take it, with `?` for what would not stay on its line.
+    pub fn push_to(self, text: &mut Text) {
+        for c in self.file.chars() {
+            text.push_char(if c.is_control() { '?' } else { c });
+        }
+        text.push(":");
+        text.push_number(self.line);
+    }
+}
+
+/// A plan, in the words of people.
+#[derive(Clone, Copy)]
+pub struct PlanWords<'a> {
+    plan: &'a Plan,
+    origins: Option<&'a Origins>,
+    files: BriefFiles<'a>,
+}
+
+impl<'a> PlanWords<'a> {
+    /// A plan, and where its parts stand in the briefs of these files, if briefs mean it.
+    pub fn new(
+        plan: &'a Plan,
+        origins: Option<&'a Origins>,
+        files: BriefFiles<'a>,
+    ) -> PlanWords<'a> {
+        PlanWords {
+            plan,
+            origins,
+            files,
+        }
+    }
+
+    /// The plan itself.
+    pub fn plan(self) -> &'a Plan {
+        self.plan
+    }
+
+    /// Whether briefs mean the plan.
+    pub fn has_briefs(self) -> bool {
+        self.origins.is_some()
+    }
+
+    /// The label of a participant, and nothing for a number that is none.
+    ///
+    /// # Errors
+    ///
+    /// Where an allocation fails.
+    pub fn label(self, alloc: Global, p: u32) -> Result<String, AllocError> {
+        if self.plan.participants() <= p {
+            return Ok(String::new(alloc));
+        }
+        match self.plan.participant(p) {
+            Participant::Sending {
+                controller,
+                message,
+            } => {
+                let mut text = Text::new(alloc);
+                text.push(self.name(controller));
+                text.push("/");
+                if message < self.plan.messages() {
+                    text.push(self.plan.message_name(message).as_str());
+                }
+                text.finish()
+            }
+            Participant::Interrupt(_) => self.plan.label(alloc, p),
+        }
+    }
+
+    /// What stands for a controller in a `never`: its name, or the label of which it is the part. Nothing for a number that is
+    /// none.
+    ///
+    /// # Errors
+    ///
+    /// Where an allocation fails.
+    pub fn side(self, alloc: Global, controller: u32) -> Result<String, AllocError> {
+        let mut text = Text::new(alloc);
+        text.push(self.name(controller));
+        if let Some(origin) = self.origin(controller) {
+            if let Some(label) = &origin.label {
+                text.push("/");
+                text.push(label.as_str());
+            }
+        }
+        text.finish()
+    }
+
+    /// Whether this controller of the plan is what a label stands for.
+    pub fn is_part(self, controller: u32) -> bool {
+        match self.origin(controller) {
+            Some(origin) => origin.label.is_some(),
+            None => false,
+        }
+    }
+
+    /// Whether these two controllers of the plan are parts of one controller.
+    pub fn is_one(self, one: u32, other: u32) -> bool {
+        self.name(one) == self.name(other)
+    }
+
+    /// Where the message of a participant stands.
+    pub fn message_at(self, p: u32) -> Option<FileLine<'a>> {
+        let (_, message) = self.sending(p)?;
+        let origins = self.origins?;
+        self.at(*origins.messages.get(message as usize)?)
+    }
+
+    /// Where the controller of a participant stands.
+    pub fn controller_at(self, p: u32) -> Option<FileLine<'a>> {
+        let (controller, _) = self.sending(p)?;
+        self.at(self.origin(controller)?.spot)
+    }
+
+    // The controller and the message of a participant that is no interrupt.
+    fn sending(self, p: u32) -> Option<(u32, u32)> {
+        if self.plan.participants() <= p {
+            return None;
+        }
+        match self.plan.participant(p) {
+            Participant::Sending {
+                controller,
+                message,
+            } => Some((controller, message)),
+            Participant::Interrupt(_) => None,
+        }
+    }
+
+    fn origin(self, controller: u32) -> Option<&'a ControllerOrigin> {
+        self.origins?.controllers.get(controller as usize)
+    }
+
+    // The name of a controller, or of the one of which it is a part.
+    fn name(self, controller: u32) -> &'a str {
+        match self.origin(controller) {
+            Some(origin) => origin.controller.as_str(),
+            None if controller < self.plan.controllers() => {
+                self.plan.controller_name(controller).as_str()
+            }
+            None => "",
+        }
+    }
+
+    fn at(self, spot: Spot) -> Option<FileLine<'a>> {
+        let file = self.files.of(spot.file)?;
+        Some(FileLine {
+            file,
+            line: spot.line,
+        })
+    }
+}

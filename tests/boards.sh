@@ -1,0 +1,241 @@
+#!/usr/bin/env bash
+# Runs twire over boards in several briefs: what they mean together, for each command, and what is refused in one of them. It
+# compares the exit status and all that is written. The last line is 'N passed, M failed', and the exit status is 1 where a
+# case fails.
+#
+# It runs the launcher at the top of the repository, or the program that TWIRE names.
+set -u
+
+tests=$(dirname -- "$(readlink -f -- "${BASH_SOURCE[0]}")")
+twire=$(readlink -f -- "${TWIRE:-$tests/../twire}")
+work=$(mktemp -d)
+trap 'rm -rf -- "$work"' EXIT
+cd -- "$work" || exit 1
+
+passed=0
+failed=0
+
+# Counts a case by what stands in the files status, out and err and in those that are wanted.
+compare() {
+    local name=$1
+    if cmp -s want_status status && cmp -s want_out out && cmp -s want_err err; then
+        passed=$((passed + 1))
+        return
+    fi
+    failed=$((failed + 1))
+    echo "FAILED: $name"
+    diff -u --label "wanted status" --label status want_status status
+    diff -u --label "wanted output" --label output want_out out | head -n 40
+    diff -u --label "wanted error" --label error want_err err | head -n 40
+}
+
+# want STATUS OUT ERR: what the next case gives, with an LF after each text that is not empty.
+want() {
+    echo "$1" >want_status
+    printf '%s' "${2:+$2$'\n'}" >want_out
+    printf '%s' "${3:+$3$'\n'}" >want_err
+}
+
+# run NAME ARG..: a case, with this script's standard input.
+run() {
+    local name=$1
+    shift
+    "$twire" "$@" >out 2>err
+    echo "$?" >status
+    compare "$name"
+}
+
+lines() {
+    printf '%s\n' "${@:2}" >"$1"
+}
+
+# The first call may build the program, and says so on standard error.
+"$twire" --version >out 2>err
+
+# ---- A board in three files, with one team each.
+
+lines devices.brief "brief 1" \
+    "device eeprom 0x50 ;  device sensor 0x48 ;" \
+    "byte settings 0x01 ;" \
+    "message get write sensor settings read sensor 1 ;"
+lines bmc.brief "brief 1" \
+    "message set write sensor settings any ;" \
+    "controller bmc set get ;"
+lines pch.brief "# of another team" "brief 1" \
+    "message page write eeprom any any*1..2 ;" \
+    "controller pch page get ;" \
+    "never bmc/set pch/get ;"
+{
+    cat devices.brief
+    tail -n +2 bmc.brief
+    tail -n +3 pch.brief
+} >whole.brief
+plan="plan 2
+message get write 1001000 00000001 again read 1001000 1 stop else stop else stop else stop ;
+message set write 1001000 00000001 xxxxxxxx stop else stop else stop else stop ;
+message page_1 write 1010000 xxxxxxxx xxxxxxxx stop else stop else stop else stop ;
+message page_2 write 1010000 xxxxxxxx xxxxxxxx xxxxxxxx stop else stop else stop else stop else stop ;
+controller bmc get ;
+controller bmc_set set ;
+controller pch page_1 page_2 ;
+controller pch_get get ;
+never bmc bmc_set ;
+never pch pch_get ;
+never bmc_set pch_get ;"
+
+want 0 "$plan" ""
+run "three files expanded" expand devices.brief bmc.brief pch.brief
+run "their items in one file" expand whole.brief
+run "the second one from standard input" expand devices.brief - pch.brief <bmc.brief
+run "the last one from standard input" expand devices.brief bmc.brief /dev/stdin <pch.brief
+run "the first one from a pipe" expand - bmc.brief pch.brief < <(cat devices.brief)
+run "three files printed" print devices.brief --with bmc.brief --with pch.brief
+run "options before the file" print --with bmc.brief --with=pch.brief devices.brief
+run "further ones from standard input" print devices.brief --with - --with pch.brief <bmc.brief
+want 0 "" ""
+run "three files into a file" expand devices.brief bmc.brief pch.brief -o board.plan
+want 0 "$plan" ""
+run "what was written" print board.plan
+want 0 "plan 1" ""
+lines empty.brief "brief 1"
+run "briefs without items" expand empty.brief empty.brief
+
+# ---- Each command, over three files and over all their items in one.
+
+# same NAME ARG..: 'PLAN' stands for the plan.
+same() {
+    local name=$1 before=() after=() word
+    shift
+    for word in "$@"; do
+        if [[ $word == PLAN ]]; then
+            before+=(whole.brief)
+            after+=(devices.brief --with bmc.brief --with pch.brief)
+        else
+            before+=("$word")
+            after+=("$word")
+        fi
+    done
+    "$twire" "${before[@]}" >want_out 2>want_err
+    echo "$?" >want_status
+    run "$name: $(cat want_status)" "${after[@]}"
+    [[ -s want_out ]] || { failed=$((failed + 1)); echo "FAILED: $name: nothing was written"; }
+}
+
+"$twire" certify whole.brief -o board.cert
+"$tests/../tools/dump" 100100000 >board.vcd
+same check check PLAN
+same "check with threads" check PLAN --workers 2
+same certify certify PLAN
+same order order PLAN
+same "verify" verify PLAN board.cert
+same "capture" capture PLAN board.vcd
+same "capture, live" capture PLAN board.vcd --live
+same "bench" bench PLAN board.cert bmc/get,pch/page_1
+same "bench without a certificate" bench PLAN bmc/get,pch/page_1 --certify
+same "print" print PLAN
+"$twire" page whole.brief >want_page
+"$twire" page devices.brief --with bmc.brief --with pch.brief >page
+sed 's/whole\.brief/devices.brief/' want_page >want_out
+cp page out
+echo 0 | tee want_status >status
+: >want_err
+: >err
+compare "page"
+
+# ---- Refusals, with the file.
+
+# refused CODE LINE LINES..: the second of three files is refused.
+refused() {
+    local code=$1 line=$2
+    shift 2
+    lines second.brief "$@"
+    want 2 "" "refused $code line $line of second.brief"
+    run "$code line $line: $*" expand devices.brief second.brief pch.brief
+    run "$code line $line, of check: $*" check devices.brief --with second.brief --with pch.brief
+}
+
+refused P1 2 "brief 1" "# caf$(printf '\303\251')"
+refused P2 1 "plan 1"
+refused P2 1 "message m write 0x01 ;"
+refused P2 2 "brief"
+refused P3 3 "brief 1" "controller c"
+refused P3 2 "brief 1" "brief 1"
+refused P4 2 "brief 1" "message m read 0x01 0 ;"
+refused P5 2 "brief 1" "message m write 0x01 any*255 any ;"
+refused P6 257 "brief 1" "$(for k in {1..256}; do echo "message m$k write 0x01 ;"; done)"
+refused P7 2 "brief 1" "device eeprom 0x50 ;"
+refused P7 2 "brief 1" "message get read 0x01 1 ;"
+refused P8 2 "brief 1" "message m write eeprm ;"
+want 2 "" "refused P3 line 2 of ./first.brief"
+lines first.brief "brief 1" "again"
+run "the first of two, as it was given" expand ./first.brief bmc.brief
+want 2 "" "refused P8 line 3 of -"
+run "standard input" expand devices.brief - <<<$'brief 1\n\ncontroller c m ;'
+want 2 "" "refused P8 line 2 of bmc.brief"
+run "what a later file declares" expand bmc.brief devices.brief
+want 2 "" "refused P3 line 2"
+run "one file is not named" expand first.brief
+# (objects have the name itself)
+if [[ -z ${TWIRE_OF_OBJECTS:-} ]]; then
+    want 2 "" 'refused P3 line 2 of a\nb'
+    cp first.brief $'a\nb'
+    run "a name with a line feed" expand devices.brief $'a\nb'
+fi
+
+# A plan text is none of several briefs.
+want 2 "" "refused P2 line 1 of board.plan"
+run "a plan text before a brief" check board.plan --with bmc.brief
+run "a plan text after a brief" check devices.brief --with board.plan
+run "a plan text beside its certificate" verify board.plan board.cert --with bmc.brief
+
+# ---- Files that cannot be read.
+
+want 2 "" "refused read"
+run "a missing second file" expand devices.brief missing.brief pch.brief
+run "a missing further file" check devices.brief --with missing.brief
+run "a folder in the place of a brief" expand devices.brief .
+run "a missing certificate" verify devices.brief missing.cert --with bmc.brief --with pch.brief
+run "standard input that is closed" expand devices.brief - <&-
+cp board.plan kept.plan
+run "a missing file, and a file to be written" expand devices.brief missing.brief -o kept.plan
+cp board.plan want_out
+cp kept.plan out
+compare "the file that was to be written"
+# All are opened before the first one is read.
+want 2 "" "refused read"
+run "a missing file after one that is refused" expand first.brief missing.brief
+want 2 "" "refused write"
+cp pch.brief read.brief
+run "a file that is read is not written" expand devices.brief bmc.brief read.brief -o read.brief
+
+# twice ARG..: the command line does not parse.
+twice() {
+    want 2 "" ""
+    "$twire" "$@" </dev/null >out 2>said
+    echo "$?" >status
+    head -n 1 said >err
+    echo "error: standard input can be one of the files, and not two" >want_err
+    compare "standard input twice: $*"
+}
+
+twice expand - -
+twice expand devices.brief - /dev/stdin
+twice print - --with -
+twice check devices.brief --with - --with /dev/fd/0
+twice verify devices.brief - --with -
+twice capture devices.brief - --with -
+twice bench - board.cert bmc/get --with -
+twice page devices.brief --with - --capture -
+
+# Commands without a brief take no further one.
+for command in "decode board.vcd" "signals board.vcd" "learn board.vcd" "brief board.plan"; do
+    # shellcheck disable=SC2086
+    "$twire" $command --with bmc.brief >out 2>said
+    echo "$?" >status
+    head -n 1 said >err
+    want 2 "" "error: unexpected argument '--with' found"
+    compare "no further file: $command"
+done
+
+echo "$passed passed, $failed failed"
+((failed == 0))
