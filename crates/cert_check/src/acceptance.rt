@@ -24,12 +24,12 @@ ghost use Rattle.cert_check.specs.Holds.{accepted_plan};
 ghost use Rattle.cert_check.specs.Judged.{IsMemo, IsRight, Tallies};
 
 use crate::accepted::Accepted;
-use crate::answers::{AcceptError, Answer, Answered};
+use crate::answers::{AcceptError, Answer, Answered, Judged};
 use crate::faults::check_fault;
 use crate::memos::Memo;
 use crate::remembered::judge_next;
 use crate::tallies::Tally;
-use certificate::{CertError, CertFault, Fault, Head, ProofLines, read_head};
+use certificate::{CertError, CertFault, Fault, Head, ProofLines, Standing, read_head, refusal_of};
 use plan_core::Plan;
 use plan_text::read_plan;
 use std::alloc::{AllocError, Global};
@@ -117,10 +117,12 @@ pub fn accept_certificate(
         Answer::Unsafe => Ok(Err(Answered {
             plan,
             answer: Answer::Unsafe,
+            refusal: None,
         })),
         Answer::Wrong(fault) => Ok(Err(Answered {
             plan,
             answer: Answer::Wrong(fault),
+            refusal: refusal_of(alloc, cert, None, fault)?,
         })),
     }
 }
@@ -130,6 +132,31 @@ pub fn check_certificate(alloc: Global, plan: &Plan, cert: &[u8]) -> Result<Answ
     ensures { IfOk result (IsAnswer (plan_contents plan.now) cert.now) }
 {
     answered(judge_cert(alloc, plan, cert))
+}
+
+/// The same, with the place where the text is refused.
+pub fn check_certificate_at(alloc: Global, plan: &Plan, cert: &[u8]) -> Result<Judged, AllocError>
+    ensures { IfOk result (λ it. IsAnswer (plan_contents plan.now) cert.now it.answer) }
+{
+    let answer = check_certificate(alloc, plan, cert)?;
+    located(alloc, cert, None, answer)
+}
+
+/// The answer for a text, of which this is left after the lines that were read before, if some were; with the place where it
+/// is refused.
+pub(crate) fn located(
+    alloc: Global,
+    text: &[u8],
+    before: Option<Standing>,
+    answer: Answer,
+) -> Result<Judged, AllocError>
+    ensures { IfOk result (λ it. it.answer ≡ answer) }
+{
+    let refusal = match answer {
+        Answer::Safe | Answer::Unsafe => None,
+        Answer::Wrong(fault) => refusal_of(alloc, text, before, fault)?,
+    };
+    Ok(Judged { answer, refusal })
 }
 
 // What was judged of a text, as an answer.

@@ -4,7 +4,7 @@ ghost use Rattle.std.specs.Prelude.{◌≡◌};
 ghost use Rattle.cert_check.specs.Refused.{refused_with};
 ghost use Rattle.cert_check.specs.declared.answers.AcceptError.TheVariants.{NoMemory};
 
-use certificate::CertFault;
+use certificate::{CertFault, Refusal};
 use plan_core::Plan;
 use plan_text::PlanError;
 use std::alloc::AllocError;
@@ -21,11 +21,21 @@ pub enum Answer {
     Wrong(CertFault),
 }
 
+/// The answer for a certificate.
+#[derive(Drop)]
+pub struct Judged {
+    pub answer: Answer,
+    /// Where the text is refused, if it is: after C1 and C3.
+    pub refusal: Option<Refusal>,
+}
+
 /// A plan, and the answer for it and a certificate.
 #[derive(Drop)]
 pub struct Answered {
     pub plan: Plan,
     pub answer: Answer,
+    /// Where the text of the certificate is refused, if it is: after C1 and C3.
+    pub refusal: Option<Refusal>,
 }
 
 /// Why there is no answer.

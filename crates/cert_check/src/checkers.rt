@@ -9,8 +9,8 @@ ghost use Rattle.cert_check.specs.Fed.{IsFed, IsOf, StandsIn, StopsAt};
 ghost use Rattle.cert_check.specs.Judged.{IsMemo, Tallies};
 ghost use Rattle.cert_check.specs.declared.checkers.FeedError.TheVariants.{NoMemory, TooLong};
 
-use crate::acceptance::{answered, check_certificate, judge_rest};
-use crate::answers::Answer;
+use crate::acceptance::{answered, check_certificate_at, judge_rest, located};
+use crate::answers::{Answer, Judged};
 use crate::memos::Memo;
 use crate::remembered::judge_next;
 use crate::tallies::Tally;
@@ -106,6 +106,22 @@ impl Checker {
         ensures too_long { result ≡ Err TooLong → (text : List ℕ) →
             IsFed (plan_contents plan.now) self text → 2 ^ 63 ≤ length text }
     {
+        let Judged { answer, .. } = self.end_at(alloc, plan)?;
+        Ok(answer)
+    }
+
+    /// The same, with the place where the text is refused.
+    ///
+    /// # Errors
+    ///
+    /// As those of `feed`.
+    pub fn end_at(self, alloc: Global, plan: &Plan) -> Result<Judged, FeedError>
+        requires { IsOf (plan_contents plan.now) self }
+        ensures answer { IfOk result (λ it. (text : List ℕ) →
+            IsFed (plan_contents plan.now) self text → IsAnswer (plan_contents plan.now) text it.answer) }
+        ensures too_long { result ≡ Err TooLong → (text : List ℕ) →
+            IsFed (plan_contents plan.now) self text → 2 ^ 63 ≤ length text }
+    {
         let Checker {
             held,
             after,
@@ -114,12 +130,13 @@ impl Checker {
             ..
         } = self;
         let Some(standing) = after else {
-            return Ok(check_certificate(alloc, plan, held.as_slice())?);
+            return Ok(check_certificate_at(alloc, plan, held.as_slice())?);
         };
         let Some(lines) = ProofLines::resume(standing, held.as_slice()) else {
             return Err(FeedError::TooLong);
         };
-        Ok(answered(judge_rest(alloc, plan, lines, tally, memo))?)
+        let answer = answered(judge_rest(alloc, plan, lines, tally, memo))?;
+        Ok(located(alloc, held.as_slice(), after, answer)?)
     }
 
     // Reads the first two lines, once both are among the first `end` bytes, and judges the lines after them.

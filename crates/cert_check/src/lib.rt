@@ -23,9 +23,9 @@ mod quick;
 mod remembered;
 mod tallies;
 
-pub use acceptance::{accept, accept_certificate, check_certificate};
+pub use acceptance::{accept, accept_certificate, check_certificate, check_certificate_at};
 pub use accepted::Accepted;
-pub use answers::{AcceptError, Answer, Answered};
+pub use answers::{AcceptError, Answer, Answered, Judged};
 pub use certified::accept_plan;
 pub use checkers::{Checker, FeedError};
 pub use faults::check_fault;

@@ -11,8 +11,8 @@ use crate::sources::Source;
 use crate::values::Cert;
 use std::alloc::Global;
 
-/// The lines before the first proof.
-const HEAD_LINES: u64 = 2;
+/// The line of the first proof.
+pub(crate) const FIRST_PROOF: u64 = 3;
 
 /// Where the reading of a certificate text stands after whole lines, apart from what is left of the text.
 #[derive(Clone, Copy, Debug)]
@@ -20,6 +20,13 @@ pub struct Standing {
     // the number of proofs that the text announces, and of those that were read
     number: u32,
     seen: u64,
+}
+
+impl Standing {
+    /// The line that is next.
+    pub(crate) fn line(&self) -> u64 {
+        self.seen.saturating_add(FIRST_PROOF)
+    }
 }
 
 /// What is left of a certificate text whose proofs are read one at a time.
@@ -157,7 +164,7 @@ impl<'a> ProofLines<'a> {
         ensures none { IfNone result ((before : List ℕ) (trees : List ProofTree) →
             Stands before trees standing → 2 ^ 63 ≤ length before + length rest.now) }
     {
-        let Some(line) = standing.seen.checked_add(HEAD_LINES + 1) else {
+        let Some(line) = standing.seen.checked_add(FIRST_PROOF) else {
             return None;
         };
         let Some(source) = Source::at_line(rest, line) else {

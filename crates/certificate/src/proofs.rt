@@ -4,6 +4,7 @@ ghost use Rattle.std.specs.Prelude.{◌<◌, OnOk, box_value};
 ghost use Rattle.certificate.specs.Proofs.{proof_tree};
 
 use crate::errors::CertError;
+use crate::places::{Expected, Last, Next};
 use crate::sources::Source;
 use crate::values::Cert;
 use std::alloc::Global;
@@ -39,6 +40,8 @@ impl Source<'_> {
         ensures less { OnOk result (unread self.new < unread self.old) }
     {
         let proof = self.proof(alloc, PATH_NODES)?;
+        let end = Expected::LineFeed(Last::Proof);
+        self.asked = self.asks(end, end);
         self.this(b'\n')?;
         Ok(proof)
     }
@@ -88,6 +91,7 @@ impl Source<'_> {
         ensures { Gives (λ it. proof_tree (box_value it)) result
             (spaced (proof_at room) (place self.old)) (place self.new) }
     {
+        self.asked = self.asks(Expected::Space(Next::Proof), Expected::Node);
         self.this(b' ')?;
         let proof = self.proof(alloc, room)?;
         Ok(Box::new(alloc, proof)?)
@@ -97,6 +101,7 @@ impl Source<'_> {
     fn token(&mut self) -> Result<Token, CertError>
         ensures { Gives (λ it. it) result (token_at (place self.old)) (place self.new) }
     {
+        self.asked = self.asks(Expected::Node, Expected::Bit);
         let refusal = self.format();
         match self.take()? {
             b'P' => Ok(Token::Part(self.bit_place()?)),

@@ -6,12 +6,13 @@ ghost use Rattle.certificate.specs.Certificates.{Certificate, certificate_of, pr
 ghost use Rattle.certificate.specs.Reading.{Fails, HeadRead, ReadSoFar, AnswersValue, AnswersFault};
 ghost use Rattle.certificate.specs.Places.{place, Refuses};
 ghost use Rattle.certificate.specs.Proofs.{proof_tree};
-ghost use Rattle.certificate.specs.Reader.{pairs_at, flaw_at, faulty};
+ghost use Rattle.certificate.specs.Reader.{pairs_at, flaw_at, faulty, start};
 ghost use Rattle.certificate.specs.Refusals.{First};
 ghost use Rattle.certificate.specs.Texts.{Spells};
 
 use crate::errors::CertError;
 use crate::lines::ProofLines;
+use crate::places::{Expected, Last, Next};
 use crate::sources::Source;
 use crate::values::{Cert, CertText, Fault};
 use std::alloc::Global;
@@ -72,13 +73,23 @@ pub enum Head<'a> {
 ///
 /// C1 at the line where these two lines break the form, or at the line after a fault where the text goes on after it.
 /// `NoMemory` where an allocation fails for the wire of a fault before that.
-#[tactic(auto, using(crate::proofs::EitherText::fails_from), unfolding(crate::specs::Reader::text_said))]
 pub fn read_head(alloc: Global, text: &[u8]) -> Result<Head<'_>, CertError>
     ensures read { IfOk result (λ head. HeadRead text.now head) }
     ensures refused { IfErr result (λ e. Fails text.now e) }
 {
     let mut source = Source::new(text);
+    front(alloc, &mut source)
+}
+
+/// The same from a source that stands at the beginning of a text. Where that is refused, it knows the place.
+#[tactic(auto, using(crate::proofs::EitherText::fails_from), unfolding(crate::specs::Reader::text_said))]
+pub(crate) fn front<'a>(alloc: Global, source: &mut Source<'a>) -> Result<Head<'a>, CertError>
+    ensures read { (text : List ℕ) → place source.old ≡ start text → IfOk result (λ head. HeadRead text head) }
+    ensures refused { (text : List ℕ) → place source.old ≡ start text → IfErr result (λ e. Fails text e) }
+{
+    source.asked = source.asks(Expected::Version, Expected::LineFeed(Last::Version));
     source.each(b"cert 1\n")?;
+    source.asked = source.asks(Expected::Form, Expected::Space(Next::Number));
     let refusal = source.format();
     match source.take()? {
         b'p' => Ok(Head::Proofs(proof_lines(source)?)),
@@ -92,26 +103,29 @@ pub fn read_head(alloc: Global, text: &[u8]) -> Result<Head<'_>, CertError>
 
 // `airs`, and how many there are.
 #[tactic(auto, unfolding(crate::specs::Reader::pairs_at))]
-fn proof_lines(mut source: Source<'_>) -> Result<ProofLines<'_>, CertError>
-    ensures read { IfOk result (λ left. pairs_at (place source.entry) ≡ Ok (left.number, place left.source)) }
+fn proof_lines<'a>(source: &mut Source<'a>) -> Result<ProofLines<'a>, CertError>
+    ensures read { IfOk result (λ left. pairs_at (place source.old) ≡ Ok (left.number, place left.source)) }
     ensures none_seen { IfOk result (λ left. left.seen ≡ 0) }
-    ensures refused { IfErr result (Refuses (pairs_at (place source.entry))) }
+    ensures refused { IfErr result (Refuses (pairs_at (place source.old))) }
 {
     source.each(b"airs ")?;
+    source.asked = source.asks(Expected::Number, Expected::LineFeed(Last::Pairs));
     let number = source.number(b'\n')?;
-    Ok(ProofLines::new(source, number))
+    Ok(ProofLines::new(*source, number))
 }
 
 // `ault`, its pair, its wire and its kinds, and the end of the text.
 #[tactic(auto, unfolding(crate::specs::Reader::flaw_at))]
-fn flaw(alloc: Global, mut source: Source<'_>) -> Result<(u32, Fault), CertError>
-    ensures read { IfOk result (λ it. flaw_at (place source.entry)
+fn flaw(alloc: Global, source: &mut Source<'_>) -> Result<(u32, Fault), CertError>
+    ensures read { IfOk result (λ it. flaw_at (place source.old)
         ≡ Ok (faulty it.0 it.1.wire.items it.1.first it.1.second)) }
-    ensures refused { IfErr result (Refuses (flaw_at (place source.entry))) }
+    ensures refused { IfErr result (Refuses (flaw_at (place source.old))) }
 {
     source.each(b"ault ")?;
+    source.asked = source.asks(Expected::Number, Expected::Space(Next::Wire));
     let pair = source.number(b' ')?;
     let fault = source.fault(alloc)?;
+    source.asked = source.asks(Expected::End, Expected::End);
     if !source.is_at_end() {
         return Err(source.format());
     }

@@ -4,12 +4,16 @@ ghost use Rattle.std.specs.Prelude.{◌≡◌, ◌<◌, ◌≤◌, ◌+◌, ◌-
 ghost use Rattle.certificate.specs.declared.errors.CertFault.TheVariants.{Format, TooDeep};
 
 use crate::errors::{CertError, CertFault};
+use crate::places::{Asked, Expected, Stop};
 
 /// What is left of a certificate text.
 #[derive(Clone, Copy, Debug)]
 pub(crate) struct Source<'a> {
     rest: &'a [u8],
     line: u64,
+    // for refusals: what was asked for last, and how many bytes were left before the one that was taken last
+    pub(crate) asked: Asked,
+    last: usize,
     ghost lines_fit: { line + length rest.now < 2 ^ 64 },
 }
 
@@ -24,6 +28,8 @@ impl<'a> Source<'a> {
         Source {
             rest: text,
             line: 1,
+            asked: Asked::first(text.len()),
+            last: text.len(),
         }
     }
 
@@ -33,7 +39,12 @@ impl<'a> Source<'a> {
         ensures none { IfNone result (2 ^ 64 ≤ line + length rest.now) }
     {
         line.checked_add(rest.len() as u64)?;
-        Some(Source { rest, line })
+        Some(Source {
+            rest,
+            line,
+            asked: Asked::first(rest.len()),
+            last: rest.len(),
+        })
     }
 
     /// Whether nothing is left.
@@ -57,12 +68,31 @@ impl<'a> Source<'a> {
         CertError::Wrong(CertFault::TooDeep(self.line))
     }
 
+    /// This is expected here, and then that.
+    pub(crate) fn asks(&self, expected: Expected, then: Expected) -> Asked {
+        Asked {
+            expected,
+            then,
+            left: self.rest.len(),
+        }
+    }
+
+    /// Where reading stopped that was refused.
+    pub(crate) fn stop(&self) -> Stop {
+        Stop {
+            asked: self.asked,
+            refused: self.last.min(self.asked.left),
+            left: self.rest.len(),
+        }
+    }
+
     /// Takes the next byte.
     pub(crate) fn take(&mut self) -> Result<u8, CertError>
         ensures read { Gives (λ b. b) result (byte_at (place self.old)) (place self.new) }
         ensures less { OnOk result (unread self.new < unread self.old) }
         ensures left { unread self.new ≤ unread self.old }
     {
+        self.last = self.rest.len();
         let [first, rest @ ..] = self.rest else {
             return Err(self.format());
         };
@@ -111,6 +141,8 @@ impl<'a> Source<'a> {
         Some(Source {
             rest,
             line: self.line + 1,
+            asked: self.asked,
+            last: self.last,
         })
     }
 
@@ -124,6 +156,8 @@ impl<'a> Source<'a> {
         Source {
             rest: &self.rest[size..],
             line: self.line + 1,
+            asked: self.asked,
+            last: self.last,
         }
     }
 

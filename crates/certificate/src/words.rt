@@ -5,6 +5,7 @@ ghost use Rattle.std.specs.Char.{is_ascii_digit};
 ghost use Rattle.certificate.specs.Reader.{item_of, kind_of_letter};
 
 use crate::errors::CertError;
+use crate::places::{Expected, Last, Next};
 use crate::sources::Source;
 use crate::values::Fault;
 use message_tree::{Item, Kind};
@@ -76,9 +77,12 @@ impl Source<'_> {
     pub(crate) fn fault(&mut self, alloc: Global) -> Result<Fault, CertError>
         ensures { Gives parts_of result (fault_at (place self.old)) (place self.new) }
     {
+        self.asked = self.asks(Expected::Symbol, Expected::Space(Next::Kind));
         let wire = self.wire(alloc)?;
+        self.asked = self.asks(Expected::Kind, Expected::Space(Next::Kind));
         let first = self.kind()?;
         self.this(b' ')?;
+        self.asked = self.asks(Expected::Kind, Expected::LineFeed(Last::Fault));
         let second = self.kind()?;
         self.this(b'\n')?;
         Ok(Fault {

@@ -5,6 +5,7 @@ use Rattle.cert_check.proofs.AnswerLemmas.{answers_texts}
 use Rattle.cert_check.specs.Accepts.{IsAnswer, AnswersBytes}
 use Rattle.cert_check.specs.Fed.{IsFed}
 use Rattle.cert_check.specs.declared.answers.Answer.{Answer}
+use Rattle.cert_check.specs.declared.answers.Judged.{Judged}
 use Rattle.cert_check.specs.declared.checkers.Checker.{Checker}
 use Rattle.plan_core.specs.Contents.{Contents}
 use Rattle.plan_text.specs.Grammar.{Spells}
@@ -49,11 +50,11 @@ is_short_with text buf n reads short few within size = omega (arith, short, few,
 
 module _ {D : Type 0} (reader : Reader D) (start : D) (plan : Contents) where
   -- the whole certificate has been read
-  pub ends : (r : Result Answer RunError) (reads : ℕ) (last now : D) (checker : Checker) → (on : ReadsOn reader start plan reads last checker) → ReadsAll reader most_reads start on.text now → IfOk r (λ answer. (text : List ℕ) → IsFed plan checker text → IsAnswer plan text answer) → IfOk r (λ answer. (text : List ℕ) × ReadsText reader start text now × IsAnswer plan text answer)
+  pub ends : (r : Result Judged RunError) (reads : ℕ) (last now : D) (checker : Checker) → (on : ReadsOn reader start plan reads last checker) → ReadsAll reader most_reads start on.text now → IfOk r (λ it. (text : List ℕ) → IsFed plan checker text → IsAnswer plan text it.answer) → IfOk r (λ it. (text : List ℕ) × ReadsText reader start text now × IsAnswer plan text it.answer)
   ends (Ok answer) reads last now checker on all h = (on.text, all, h on.text on.fed)
   ends (Err e) reads last now checker on all h = tt
 
-  pub ended : (r : Result Answer RunError) (reads : ℕ) (last now : D) (checker : Checker) → (on : ReadsOn reader start plan reads last checker) → reads ≤ 4_294_967_295 → ReadsAll reader most_reads start on.text now → IfErr r (λ e. (text : List ℕ) → IsFed plan checker text → length text < 2 ^ 63 → e ≡ error.NoMemory) → IfErr r (λ e. HaltsAtAnswer reader start e now)
+  pub ended : (r : Result Judged RunError) (reads : ℕ) (last now : D) (checker : Checker) → (on : ReadsOn reader start plan reads last checker) → reads ≤ 4_294_967_295 → ReadsAll reader most_reads start on.text now → IfErr r (λ e. (text : List ℕ) → IsFed plan checker text → length text < 2 ^ 63 → e ≡ error.NoMemory) → IfErr r (λ e. HaltsAtAnswer reader start e now)
   ended (Ok answer) reads last now checker on few all h = tt
   ended (Err e) reads last now checker on few all h =
       subst (λ (x : RunError). HaltsAtAnswer reader start x now) (sym (h on.text on.fed (is_short on.text reads on.short few))) (no_memory all)

@@ -8,13 +8,14 @@ ghost use Rattle.report.specs.Answering.{HaltsAtAnswer};
 ghost use Rattle.run_parts.specs.Runs.{ReadsText};
 ghost use Rattle.run_parts.specs.declared.errors.RunError.TheVariants.{NoMemory};
 
-use cert_check::{Answer, Checker, FeedError};
+use cert_check::{Checker, FeedError, Judged};
 use plan_core::Plan;
 use run_parts::devices::reading::{BLOCK, READS};
 use run_parts::{Input, RunError};
 use std::alloc::Global;
 
-/// What the certificate that the reader gives says of this plan. It is judged as it comes, as `Checker` says.
+/// What the certificate that the reader gives says of this plan, and where it is refused. It is judged as it comes, as
+/// `Checker` says.
 ///
 /// # Errors
 ///
@@ -23,9 +24,9 @@ pub(crate) fn read_answer<J: Input>(
     alloc: Global,
     plan: &Plan,
     cert: &mut J,
-) -> Result<Answer, RunError>
-    ensures all { IfOk result (λ answer. (text : List ℕ) × ReadsText J.reader cert.old text cert.new
-        × IsAnswer (plan_contents plan.now) text answer) }
+) -> Result<Judged, RunError>
+    ensures all { IfOk result (λ it. (text : List ℕ) × ReadsText J.reader cert.old text cert.new
+        × IsAnswer (plan_contents plan.now) text it.answer) }
     ensures stops { IfErr result (λ error. HaltsAtAnswer J.reader cert.old error cert.new) }
 {
     let mut block = vec![in alloc; 0u8; BLOCK]?;
@@ -40,12 +41,12 @@ fn answer_blocks<J: Input>(
     cert: &mut J,
     block: &mut [u8],
     mut checker: Checker,
-) -> Result<Answer, RunError>
+) -> Result<Judged, RunError>
     requires size { length block.old ≡ 65_536 }
     requires plan { IsOf (plan_contents plan.now) checker }
     requires fed { IsFed (plan_contents plan.now) checker [] }
-    ensures all { IfOk result (λ answer. (text : List ℕ) × ReadsText J.reader cert.old text cert.new
-        × IsAnswer (plan_contents plan.now) text answer) }
+    ensures all { IfOk result (λ it. (text : List ℕ) × ReadsText J.reader cert.old text cert.new
+        × IsAnswer (plan_contents plan.now) text it.answer) }
     ensures stops { IfErr result (λ error. HaltsAtAnswer J.reader cert.old error cert.new) }
 {
     for _ in 0..READS {
@@ -75,15 +76,15 @@ fn feed(alloc: Global, plan: &Plan, checker: Checker, piece: &[u8]) -> Result<Ch
 }
 
 // The answer for all that the checker was fed.
-fn end(alloc: Global, plan: &Plan, checker: Checker) -> Result<Answer, RunError>
+fn end(alloc: Global, plan: &Plan, checker: Checker) -> Result<Judged, RunError>
     requires { IsOf (plan_contents plan.now) checker }
-    ensures answer { IfOk result (λ answer. (text : List ℕ) →
-        IsFed (plan_contents plan.now) checker text → IsAnswer (plan_contents plan.now) text answer) }
+    ensures answer { IfOk result (λ it. (text : List ℕ) →
+        IsFed (plan_contents plan.now) checker text → IsAnswer (plan_contents plan.now) text it.answer) }
     ensures stops { IfErr result (λ error. (text : List ℕ) → IsFed (plan_contents plan.now) checker text →
         length text < 2 ^ 63 → error ≡ NoMemory) }
 {
-    match checker.end(alloc, plan) {
-        Ok(answer) => Ok(answer),
+    match checker.end_at(alloc, plan) {
+        Ok(judged) => Ok(judged),
         Err(FeedError::NoMemory) => Err(RunError::NoMemory),
         Err(FeedError::TooLong) => Err(RunError::Read),
     }

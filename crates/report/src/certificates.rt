@@ -17,7 +17,7 @@ use crate::answers::{answer_line, status_of_answer};
 use crate::blocks::{BLOCK, write_in_blocks};
 use crate::checks::status_of;
 use crate::finding::find_plan;
-use cert_check::Answered;
+use cert_check::{Answered, Judged};
 use plan_core::Plan;
 use plan_text::read_plan;
 use run_parts::devices::reading::READS;
@@ -103,8 +103,8 @@ pub fn run_verify<I: Input, J: Input, O: Output>(
     write_lines(out, report.as_bytes(), status_of_answer(found.answer))
 }
 
-/// What the certificate that the second reader gives says of the plan that the first reader gives. It is judged block by
-/// block.
+/// What the certificate that the second reader gives says of the plan that the first reader gives, and where it is refused.
+/// It is judged block by block.
 ///
 /// # Errors
 ///
@@ -121,8 +121,8 @@ pub fn verify_plan<I: Input, J: Input>(
         HaltsAtBoth I.reader J.reader RefusesPlan SpellsPlan (plan.old, cert.old) error (plan.new, cert.new)) }
 {
     let plan = find_plan(alloc, plan)?;
-    let answer = read_answer(alloc, &plan, cert)?;
-    Ok(Answered { plan, answer })
+    let judged = read_answer(alloc, &plan, cert)?;
+    Ok(answered(plan, judged))
 }
 
 /// The same of a plan that was found.
@@ -136,6 +136,19 @@ pub fn verify_found<J: Input>(alloc: Global, plan: Plan, cert: &mut J) -> Result
         × IsAnswer (plan_contents plan) text it.answer) }
     ensures stops { IfErr result (λ error. HaltsAtAnswer J.reader cert.old error cert.new) }
 {
-    let answer = read_answer(alloc, &plan, cert)?;
-    Ok(Answered { plan, answer })
+    let judged = read_answer(alloc, &plan, cert)?;
+    Ok(answered(plan, judged))
+}
+
+// The answer for this plan.
+fn answered(plan: Plan, judged: Judged) -> Answered
+    ensures plan { result.plan ≡ plan }
+    ensures answer { result.answer ≡ judged.answer }
+{
+    let Judged { answer, refusal } = judged;
+    Answered {
+        plan,
+        answer,
+        refusal,
+    }
 }

@@ -33,6 +33,8 @@ mod plans;
 #[cfg(test)]
 mod queue;
 #[cfg(test)]
+mod refusals;
+#[cfg(test)]
 mod rehearsals;
 #[cfg(test)]
 mod seats;

@@ -7,7 +7,7 @@ use plan_text::{PlanError, read_plan};
 use std::alloc::Global;
 
 // Three writers, of which the last two may send the same byte.
-const SAFE: &str =
+pub(crate) const SAFE: &str =
     "plan 1\nmessage m write 1001000 11110000 stop else stop else stop ;\nmessage n write 1001000 11001111 stop else stop else stop ;\nmessage o write 1001000 1100xxxx stop else stop else stop ;\ncontroller a m ;\ncontroller b n ;\ncontroller c o ;\n";
 
 // A STOP meets a data bit.

@@ -136,7 +136,7 @@ pub fn verify<I: Input, J: Input, O: Output>(
     if explain {
         return verify_kept(alloc, &plan, cert, out, extras);
     }
-    let Answered { plan, answer } = verify_found(alloc, plan, cert)?;
+    let Answered { plan, answer, .. } = verify_found(alloc, plan, cert)?;
     tell_answer(alloc, &plan, answer, None, out, extras)
 }
 
