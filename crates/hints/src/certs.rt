@@ -4,8 +4,8 @@ use crate::kinds::{Kind, is_binary, kind_of, push_kind};
 use crate::lines::Lines;
 use crate::marking::push_marked;
 use crate::values::Hints;
-use certificate::places::{Expected, Last, Next, Place, Refusal};
 use certificate::CertFault;
+use certificate::places::{Expected, Last, Next, Place, Refusal};
 use std::alloc::{AllocError, Global};
 
 /// What to say of a certificate that has this fault, and is refused there, where it has a place.

@@ -9,9 +9,10 @@ use crate::endings::{Ended, Halt, Remark};
 use crate::outputs::Style;
 use crate::progress::Comparing;
 use crate::runs::Extras;
-use cert_check::{Answer, check_certificate};
+use cert_check::{Answer, Judged, check_certificate_at};
+use certificate::Refusal;
 use explain::{Mistake, Paint, Reasons, explain_answer, explain_check, mistake_of, reasons_of};
-use hints::on_safe;
+use hints::{on_certificate, on_safe};
 use objects::{write_answer, write_check, write_order};
 use order::{Order, order_of, order_report};
 use plan_core::Plan;
@@ -136,8 +137,16 @@ pub fn verify<I: Input, J: Input, O: Output>(
     if explain {
         return verify_kept(alloc, &plan, cert, out, extras);
     }
-    let Answered { plan, answer, .. } = verify_found(alloc, plan, cert)?;
-    tell_answer(alloc, &plan, answer, None, out, extras)
+    let Answered {
+        plan,
+        answer,
+        refusal,
+    } = verify_found(alloc, plan, cert)?;
+    let status = tell_answer(alloc, &plan, answer, None, out, extras)?;
+    Ok(Ended {
+        status,
+        remark: remark_on_answer(alloc, &plan, answer, refusal.as_ref(), extras),
+    })
 }
 
 fn verify_kept<J: Input, O: Output>(
@@ -148,9 +157,13 @@ fn verify_kept<J: Input, O: Output>(
     extras: Extras,
 ) -> Result<Ended, Halt> {
     let cert = read_within(alloc, cert, READS)?;
-    let answer = check_certificate(alloc, plan, cert.as_slice())?;
+    let Judged { answer, refusal } = check_certificate_at(alloc, plan, cert.as_slice())?;
     let mistake = mistake_of(alloc, plan, cert.as_slice(), answer)?;
-    tell_answer(alloc, plan, answer, mistake, out, extras)
+    let status = tell_answer(alloc, plan, answer, mistake, out, extras)?;
+    Ok(Ended {
+        status,
+        remark: remark_on_answer(alloc, plan, answer, refusal.as_ref(), extras),
+    })
 }
 
 /// Writes the answer to a certificate of the plan, and what is wrong with it, where that was found.
@@ -161,7 +174,7 @@ pub fn tell_answer<O: Output>(
     mistake: Option<Mistake>,
     out: &mut O,
     extras: Extras,
-) -> Result<Ended, Halt> {
+) -> Result<Status, RunError> {
     let status = status_of_answer(answer);
     match extras.style() {
         Style::Objects => write_answer(alloc, plan, answer, mistake, out)?,
@@ -171,14 +184,24 @@ pub fn tell_answer<O: Output>(
         }
         Style::Lines(paint) => explain_answer(alloc, plan, answer, mistake, paint, out)?,
     }
-    Ok(Ended {
-        status,
-        remark: match answer {
-            Answer::Safe if extras.hints => Remark::hints(on_safe(alloc, plan)),
-            Answer::Wrong(fault) => Remark::Certificate(fault),
-            _ => Remark::Nothing,
-        },
-    })
+    Ok(status)
+}
+
+/// What is to be said to people of the answer to a certificate of the plan, which may be refused there.
+pub fn remark_on_answer(
+    alloc: Global,
+    plan: &Plan,
+    answer: Answer,
+    refusal: Option<&Refusal>,
+    extras: Extras,
+) -> Remark {
+    match answer {
+        Answer::Safe if extras.hints => Remark::hints(on_safe(alloc, plan)),
+        Answer::Wrong(fault) if extras.hints => {
+            Remark::hints(on_certificate(alloc, fault, refusal))
+        }
+        _ => Remark::Nothing,
+    }
 }
 
 // ---- order

@@ -2,7 +2,7 @@
 
 ghost use Rattle.bench_run.specs.Outcomes.{HasWinners};
 
-use crate::checking::tell_answer;
+use crate::checking::{remark_on_answer, tell_answer};
 use crate::drawings::{Canvas, draw_outcome};
 use crate::endings::{Ended, Halt, Remark};
 use crate::outputs::Style;
@@ -189,7 +189,11 @@ fn write_outcome<O: Output>(
             } else {
                 None
             };
-            tell_answer(alloc, &it.plan, it.answer, mistake, out, extras)
+            let status = tell_answer(alloc, &it.plan, it.answer, mistake, out, extras)?;
+            Ok(Ended {
+                status,
+                remark: remark_on_answer(alloc, &it.plan, it.answer, it.refusal.as_ref(), extras),
+            })
         }
     }
 }
