@@ -5,7 +5,7 @@
 //! `texts` shows the place, `expected` says what could stand there, `words` why a word cannot, `names` where a name stands
 //! already or which are nearest, and `wording` what the other refusals mean. `certs` follows one line of a certificate that is
 //! read once more (`finding`, `proof_lines`), and `starters` looks for labels in the plan. `safety` says what a safe plan leaves
-//! out, and `devices` which file failed. What is said of dumps stands in `captures`.
+//! out, `odd` what is likely a mistake in briefs, and `devices` which file failed. What is said of dumps stands in `captures`.
 //!
 //! `values` has the hints, and writes them as lines: it puts the word `hint:` before each, and breaks sentences for 80 columns.
 //! `lines` puts hints together from parts, `marking` shows a place in its line, and `paths` writes names of files as a shell takes
@@ -24,6 +24,7 @@ mod likeness;
 mod lines;
 mod marking;
 mod names;
+mod odd;
 mod paths;
 mod pieces;
 mod plans;
@@ -45,7 +46,7 @@ pub use devices::{
 };
 pub use paths::{file_word, shown, visible};
 pub use plans::on_no_brief;
-pub use safety::on_safe;
+pub use safety::{on_checked, on_safe};
 pub use starters::on_starters;
 pub use texts::{RefusedIn, on_text};
 pub use values::{Hint, Hints};

@@ -23,6 +23,19 @@ pub enum Oddity<'a> {
     Idle { controller: u32, spot: Spot },
 }
 
+impl Oddity<'_> {
+    /// Where it stands.
+    pub fn spot(self) -> Spot {
+        match self {
+            Oddity::SameAddress(_, device)
+            | Oddity::ReservedAddress(device)
+            | Oddity::UnusedDevice(device) => device.spot,
+            Oddity::UnusedByte(byte) => byte.spot,
+            Oddity::Unsent { spot, .. } | Oddity::Idle { spot, .. } => spot,
+        }
+    }
+}
+
 /// What is likely a mistake in the briefs that mean this plan: first of their devices, then of bytes, messages, and controllers,
 /// each in the order of the briefs.
 ///
@@ -42,10 +55,7 @@ pub fn oddities<'a>(
     Ok(found)
 }
 
-fn push_devices<'a>(
-    found: &mut Vec<Oddity<'a>>,
-    devices: &'a [Device],
-) -> Result<(), AllocError> {
+fn push_devices<'a>(found: &mut Vec<Oddity<'a>>, devices: &'a [Device]) -> Result<(), AllocError> {
     let mut before = 0usize;
     for device in devices {
         if let Some(first) = with_address(devices.get(..before).unwrap_or(&[]), device.address) {
@@ -86,10 +96,7 @@ fn begins_with(address: Address, bit: Bit) -> bool {
     true
 }
 
-fn push_bytes<'a>(
-    found: &mut Vec<Oddity<'a>>,
-    bytes: &'a [NamedByte],
-) -> Result<(), AllocError> {
+fn push_bytes<'a>(found: &mut Vec<Oddity<'a>>, bytes: &'a [NamedByte]) -> Result<(), AllocError> {
     for byte in bytes {
         if !byte.is_used {
             found.push(Oddity::UnusedByte(byte))?;

@@ -1,5 +1,6 @@
 // Where participants of a plan stand in the briefs that mean it.
 
+use brief_text::Spot;
 use plan_words::{FileLine, PlanWords};
 use serde::Serialize;
 use std::alloc::{AllocError, Global};
@@ -53,6 +54,11 @@ fn written_at(alloc: Global, place: Option<At<'_>>) -> Result<String, AllocError
         // (out of memory: every key is a text)
         Err(_) => Err(AllocError),
     }
+}
+
+/// A place in the briefs.
+pub(crate) fn line_at<'a>(words: PlanWords<'a>, spot: Spot) -> Option<At<'a>> {
+    Some(line_of(words.at(spot)?))
 }
 
 fn message_at<'a>(words: PlanWords<'a>, p: u32) -> Option<At<'a>> {
