@@ -18,6 +18,7 @@ use hints::{on_certificate, on_checked, on_safe};
 use lint::{Oddity, oddities};
 use objects::{write_answer, write_check, write_order};
 use order::{Order, order_of, order_report};
+use plan_core::Plan;
 use plan_words::PlanWords;
 use report::{
     Answered, Checked, GivenPlan, Input, NoGate, Output, RunError, Status, answer_line,
@@ -78,8 +79,8 @@ pub fn check<R: Files + Print + Eprint + Clock + AllocGlobal + Threads + Sync, I
     })
 }
 
-/// What is likely a mistake in the briefs that mean this plan, where briefs do.
-pub fn odd_in<'a>(
+// What is likely a mistake in the briefs that mean this plan, where briefs do.
+fn odd_in<'a>(
     alloc: Global,
     plan: &Plan,
     origins: &'a Option<Origins>,
