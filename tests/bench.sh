@@ -181,9 +181,10 @@ write_plan never.plan "plan 2" "${three[@]}" "never c a ;"
 expect "hints on starters that never start together" 2 "" "refused B8
 $(hint "the plan has 'never c a ;': these two never start together")" never.plan a/m,b/n,c/o --certify --hints always
 expect "hints on an unknown starter of a plan from standard input" 2 "" "refused B2
-$(hint "a label is 'controller/message' or '!interrupt', with names of the plan")" - three.cert a/m,b/o --hints always <three.plan
+$(hint "no participant of the plan has the label 'b/o'" "labels of the plan, the nearest first:" \
+    "  b/n" "  c/o" "  a/m")" - three.cert a/m,b/o --hints always <three.plan
 expect "hints on a 'never' of a plan from standard input" 2 "" "refused B8
-$(hint "two of these starters are of controllers that a 'never' of the plan keeps" "apart")" \
+$(hint "the plan has 'never c a ;': these two never start together")" \
     - a/m,b/n,c/o --certify --hints always <never.plan
 expect "hints on a certificate of another plan" 2 "wrong C2" \
     "$(hint "the certificate does not prove the pairs of this plan: where the plan was" \

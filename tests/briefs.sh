@@ -377,12 +377,9 @@ want 2 "" "refused P3 line 2
 hint: line 2 of the brief:
 hint:   message m write 0x51 0x5 any ;
 hint:                        ^^^
-hint: expected here: 'write', 'read', 'else', ';', a name (a letter, then
-hint: letters, digits and '_', 32 at most), 'any' or a data byte ('0x' and two
-hint: digits, or '0b' and eight of '0', '1' and 'x')"
+hint: expected here: a data byte ('0x' and two digits, or '0b' and eight of '0',
+hint: '1' and 'x'), the name of one, 'any', 'else', 'write', 'read' or ';'"
 run "hints on a brief" expand here.brief --hints always
-want 2 "" "refused P3 line 2
-hint: something stands here that cannot stand in its place"
 run "hints on a brief from standard input" expand - --hints always <here.brief
 want 2 "" "refused P3 line 2"
 run "no hints on a brief" expand here.brief --hints never
@@ -394,9 +391,8 @@ hint: line 2 of the brief:
 hint:   message m write 0x91 0x05 ;
 hint:                   ^^^^
 hint: an address has seven bits; without the direction bit this is 0x48
-hint: expected here: a name (a letter, then letters, digits and '_', 32 at most)
-hint: or an address ('0x' and two digits, at most 0x7F, or '0b' and seven of
-hint: '0', '1' and 'x')"
+hint: expected here: an address ('0x' and two digits, at most 0x7F, or '0b' and
+hint: seven of '0', '1' and 'x') or the name of a device"
 run "an address of eight bits in a brief" expand eight.brief --hints always
 lines bits.brief "brief 1" "message m write 0b10100010 0x05 ;"
 want 2 "" "refused P3 line 2
@@ -404,9 +400,8 @@ hint: line 2 of the brief:
 hint:   message m write 0b10100010 0x05 ;
 hint:                   ^^^^^^^^^^
 hint: an address has seven bits; without the direction bit this is 0b1010001
-hint: expected here: a name (a letter, then letters, digits and '_', 32 at most)
-hint: or an address ('0x' and two digits, at most 0x7F, or '0b' and seven of
-hint: '0', '1' and 'x')"
+hint: expected here: an address ('0x' and two digits, at most 0x7F, or '0b' and
+hint: seven of '0', '1' and 'x') or the name of a device"
 run "an address of eight bits in a brief, in bits" expand bits.brief --hints always
 want 2 "" "refused P2 line 1
 hint: line 1 of the plan:
@@ -427,9 +422,6 @@ lines named.plan "plan 1" "controller byte ;"
 want 2 "" "refused brief name
 hint: the plan has the name 'byte', which is a word of briefs"
 run "hints on a plan that has no brief" brief named.plan --hints always
-want 2 "" "refused brief name
-hint: no name in a brief is 'brief', 'device', 'byte' or 'any': these are its
-hint: words"
 run "hints on a plan from standard input that has no brief" brief - --hints always <named.plan
 want 2 "" "refused read
 hint: BRIEF, the brief \"missing.brief\", cannot be opened:
@@ -480,7 +472,7 @@ want 2 "" "refused P7 line 3
 hint: line 3 of the brief:
 hint:   device eeprom 0x51 ;
 hint:          ^^^^^^
-hint: this stands there already"
+hint: an earlier device has this name, on line 2"
 run "a brief that is refused" check wrong.brief --hints always
 lines wrong.brief "brief 2"
 want 2 "" "refused P2 line 1

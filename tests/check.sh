@@ -365,7 +365,10 @@ hint: an address has seven bits; without the direction bit this is 1001000
 hint: expected here: an address (seven of '0', '1' and 'x')"
 run "an address of eight bits" check eight.plan --hints always
 want 2 "" "refused P3 line 2
-hint: something stands here that cannot stand in its place"
+hint: line 2 of the plan:
+hint:   message m write again stop else stop ;
+hint:                   ^^^^^
+hint: expected here: an address (seven of '0', '1' and 'x')"
 run "hints on a plan from standard input" check /dev/stdin --hints always <again.plan
 want 2 "" "refused P3 line 2"
 run "hints never" check again.plan --hints never
@@ -394,9 +397,14 @@ run "hints on a certificate with CR LF" verify safe.plan returns.cert --hints al
 want 2 "wrong C1 line 1
     a plan that was changed wants a new certificate: twire certify PLAN" "$(cat want_err)"
 run "hints on a certificate with CR LF, explained" verify safe.plan returns.cert --explain --hints always
-want 2 "wrong C1 line 1" "hint: line 1 of the certificate is no line of a certificate in this place"
+want 2 "wrong C1 line 1" "hint: the lines of this certificate end in CR LF, and are to end in LF alone
+hint: git leaves certificates as they are by this line in .gitattributes:
+hint:   *.cert -text"
 run "hints on a certificate from standard input" verify safe.plan - --hints always <returns.cert
-want 2 "wrong C3 line 3" "hint: line 3 of the certificate has a proof that is more than 512 nodes deep"
+want 2 "wrong C3 line 3" "hint: line 3 of the certificate:
+hint:   .. S S S S S S S S S S S S S S S S S S S S S S S S S S S S S S S S S S .
+hint:                                                                        ^
+hint: this is more than 512 nodes deep in its proof"
 printf '%s\n' "cert 1" "pairs 1" "$(printf 'S %.0s' {1..513})." >deep.cert
 run "hints on a proof from standard input that is too deep" verify safe.plan - --hints always <deep.cert
 want 2 "" "refused P2 line 1

@@ -242,6 +242,9 @@ end_nothing() { printf '$end' >changing; }
 printf 'board 1\n' >changing
 refused_then make_a_plan 3 check changing --hints always
 judge "hints on a plan that was changed" 2 "" "refused P2 line 1
+hint: line 1 of the plan:
+hint:   board 1
+hint:   ^^^^^
 hint: a plan begins with 'plan 1', or with 'plan 2' where it has ranges of
 hint: counts or 'never'"
 { cat vcd && echo '?'; } >changing

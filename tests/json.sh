@@ -319,7 +319,12 @@ run "signals from a time on" 0 '{"kind":"signal","code":"!","changes":0,"scope":
 {"kind":"signals","signals":4,"buses":1}' "" signals --format json --min-pulse 2us --from 165us "$examples/two_buses.vcd"
 run "signals, and times that the dump does not count" 2 "" '{"kind":"refusal","code":"timescale"}' signals --format json --to 1us d.vcd
 
-run "refusals: a code with a line" 2 "" '{"kind":"refusal","code":"P2","line":1}' check --format json - <<<'plan 3'
+run "refusals: a code with a place" 2 "" '{"kind":"refusal","code":"P2","line":1,"byte":5,"column":6,"expected":"version"}' \
+    check --format json - <<<'plan 3'
+run "refusals: a place below others" 2 "" '{"kind":"refusal","code":"P3","line":3,"byte":41,"column":18,"expected":"count"}' \
+    expand --format json --hints never - <<<$'brief 1\ndevice d 0x50 ;\nmessage m read d x ;'
+run "refusals: a place where nothing else could stand" 2 "" '{"kind":"refusal","code":"P1","line":2,"byte":9,"column":3}' \
+    check --format json --hints never - <<<$'plan 1\n# \xc3\xa9'
 run "refusals: a code with a signal" 2 "" '{"kind":"refusal","code":"V1","signal":"scl"}' \
     capture --format json --scl nothing "$two" "$dump"
 run "refusals: a code" 2 "" '{"kind":"refusal","code":"B2"}' bench --format json --certify "$two" nobody
@@ -327,12 +332,12 @@ run "refusals: a word" 2 "" '{"kind":"refusal","code":"workers"}' check --format
 run "refusals: two words" 2 "" '{"kind":"refusal","code":"brief name"}' brief --format json - <<<'plan 1 controller brief ;'
 run "refusals and hints" 2 "" '{"kind":"refusal","code":"workers"}
 {"kind":"hint","form":"sentence","text":"'"'"'--workers'"'"' takes 1 to 8"}' check --format json --hints always --workers 9 "$two"
-printf 'plan 1\nmessage m read 1001000 256 stop else stop ;' >p.plan
-run "a hint that has more than 80 columns as a line is one object" 2 "" '{"kind":"refusal","code":"P4","line":2}
+printf 'plan 2\nmessage m read 1001000 256 stop else stop ;' >p.plan
+run "a hint that has more than 80 columns as a line is one object" 2 "" '{"kind":"refusal","code":"P4","line":2,"byte":30,"column":24,"expected":"count"}
 {"kind":"hint","form":"sentence","text":"line 2 of the plan:"}
 {"kind":"hint","form":"line","text":"message m read 1001000 256 stop else stop ;"}
 {"kind":"hint","form":"marks","text":"                       ^^^"}
-{"kind":"hint","form":"sentence","text":"a count is a number from 1 to 255; in '"'plan 2'"' also two of them as '"'2..4'"', the smaller first"}' \
+{"kind":"hint","form":"sentence","text":"a count is a number from 1 to 255, or two of them as '"'2..4'"', the smaller first"}' \
     check --format json --hints always p.plan
 run "a file in place of a report stays" 0 "plan 1" "" print --format json - <<<'plan 2'
 run "no third form" 2 "" "error: invalid value 'xml' for '--format <HOW>'

@@ -21,11 +21,10 @@ fn without_place(line: &str) -> &str {
     }
 }
 
-// What stands before the place of a token in a dump.
+// What stands before the place of a token.
 const PLACE: &str = " byte ";
 
-/// The same, where the line of a refused token of a dump has its place too: how many bytes stand before it, and in its line and
-/// one.
+/// The same, where the line of a refused token has its place too: how many bytes stand before it, and in its line and one.
 ///
 /// # Errors
 ///
@@ -131,20 +130,53 @@ fn places(fields: &mut Fields, is_interrupt: bool) -> Result<(), String> {
     Ok(())
 }
 
-// What can stand in the place of a token of a dump that is refused, and what the end of a dump leaves open.
+// What can stand in the place of a token of a plan or a brief that is refused.
+const IN_TEXTS: [&str; 20] = [
+    "version",
+    "item",
+    "name",
+    "sending",
+    "controller",
+    "semicolon",
+    "frame",
+    "address",
+    "known address",
+    "payload",
+    "tail",
+    "else",
+    "count",
+    "target",
+    "known target",
+    "byte",
+    "times",
+    "nack",
+    "side",
+    "further",
+];
+
+// The same of a dump, and what its end leaves open.
 const EXPECTED: [&str; 4] = ["command", "var token", "code", "change"];
 const OPEN: [&str; 5] = ["command", "var", "enddefinitions", "block", "change"];
 
-// The place in a dump that a refusal has besides its line: a token has one, and the end of a dump leaves something open.
+// The place that a refusal has besides its line: a token has one, and the end of a dump leaves something open.
 fn place(fields: &mut Fields, code: &str) -> Result<String, String> {
     match code {
+        "P1" | "P5" => of_token(fields),
+        "P2" | "P3" | "P4" | "P6" | "P7" | "P8" => {
+            let place = of_token(fields)?;
+            one_of(&IN_TEXTS, &fields.text("expected")?).map(|()| place)
+        }
         "V2" | "V3" => {
-            let place = format!("{PLACE}{} column {}", fields.number("byte")?, fields.number("column")?);
+            let place = of_token(fields)?;
             one_of(&EXPECTED, &fields.text("expected")?).map(|()| place)
         }
         "V4" => one_of(&OPEN, &fields.text("open")?).map(|()| String::new()),
         _ => Ok(String::new()),
     }
+}
+
+fn of_token(fields: &mut Fields) -> Result<String, String> {
+    Ok(format!("{PLACE}{} column {}", fields.number("byte")?, fields.number("column")?))
 }
 
 fn one_of(words: &[&str], word: &str) -> Result<(), String> {

@@ -1,99 +1,46 @@
 // After a certificate that is wrong.
 
-use crate::finding::LineFinder;
-use crate::kinds::{Kind, is_binary, kind_of_file, push_kind};
+use crate::kinds::{Kind, is_binary, kind_of, push_kind};
 use crate::lines::Lines;
 use crate::marking::push_marked;
-use crate::pieces::Piece;
-use crate::proof_lines::{Flaw, flaw_in};
 use crate::values::Hints;
 use certificate::CertFault;
-use dump_tokens::reading::read_again;
+use certificate::places::{Expected, Last, Next, Place, Refusal};
 use std::alloc::{AllocError, Global};
-use std::io::{Read, Seek};
 
-const OTHER_PAIRS: &str =
-    "the certificate does not prove the pairs of this plan: where the plan was changed, have it written again by 'twire certify PLAN -o CERT'";
-
-/// What to say of a certificate that has this fault. The file is that of the certificate, where it can be read once more.
-pub fn on_certificate<F: Read + Seek + Drop>(
+/// What to say of a certificate that has this fault, and is refused there, where it has a place.
+///
+/// # Errors
+///
+/// Where an allocation fails.
+pub fn on_certificate(
     alloc: Global,
-    file: Option<F>,
     fault: CertFault,
+    refusal: Option<&Refusal>,
 ) -> Result<Hints, AllocError> {
-    match fault {
-        CertFault::Format(line) | CertFault::TooDeep(line) => say_line(alloc, file, fault, line),
-        CertFault::Count | CertFault::Pair(_) => say_other_pairs(alloc),
-    }
-}
-
-fn say_other_pairs(alloc: Global) -> Result<Hints, AllocError> {
     let mut lines = Lines::new(alloc);
-    lines.say(OTHER_PAIRS);
+    match (fault, refusal) {
+        (CertFault::Count | CertFault::Pair(_), _) => lines.say(
+            "the certificate does not prove the pairs of this plan: where the plan was changed, have it written again by 'twire certify PLAN -o CERT'",
+        ),
+        (_, Some(refusal)) => push_refusal(&mut lines, fault, refusal),
+        (_, None) => {}
+    }
     lines.finish()
 }
 
-// The line that is wrong.
-fn say_line<F: Read + Seek + Drop>(
-    alloc: Global,
-    mut file: Option<F>,
-    fault: CertFault,
-    line: u64,
-) -> Result<Hints, AllocError> {
-    // what a file is may be told by a line below the one that is wrong
-    let kind = kind_of_file(alloc, &mut file);
-    match find(alloc, file, line) {
-        Some(found) => say_found(alloc, &found, kind, fault, line),
-        None => say_words(alloc, fault, line),
-    }
-}
-
-// The line of this number, where the file can be read once more and has it.
-fn find<F: Read + Seek + Drop>(alloc: Global, file: Option<F>, line: u64) -> Option<LineFinder> {
-    let mut file = file?;
-    let mut finder = LineFinder::new(alloc, line);
-    match read_again(alloc, &mut file, &mut finder) {
-        Ok(_) if finder.is_found() => Some(finder),
-        _ => None,
-    }
-}
-
-// The line alone, in words.
-fn say_words(alloc: Global, fault: CertFault, line: u64) -> Result<Hints, AllocError> {
-    let mut lines = Lines::new(alloc);
-    push_words(&mut lines, fault, line);
-    lines.finish()
-}
-
-fn push_words(lines: &mut Lines, fault: CertFault, line: u64) {
-    let words = match fault {
-        CertFault::TooDeep(_) => "has a proof that is more than 512 nodes deep",
-        _ => "is no line of a certificate in this place",
-    };
-    lines.say(format_args!("line {line} of the certificate {words}"));
-}
-
-fn say_found(
-    alloc: Global,
-    found: &LineFinder,
-    kind: Option<Kind>,
-    fault: CertFault,
-    line: u64,
-) -> Result<Hints, AllocError> {
-    let mut lines = Lines::new(alloc);
+fn push_refusal(lines: &mut Lines, fault: CertFault, refusal: &Refusal) {
+    let kind = kind_of(refusal.front.as_slice());
     if is_binary(kind) {
-        push_kind(&mut lines, kind, Kind::Certificate);
-    } else if found.has_carriage_return() {
-        push_carriage_returns(&mut lines);
-    } else if found.is_long {
-        push_words(&mut lines, fault, line);
+        push_kind(lines, kind, Kind::Certificate);
+    } else if refusal.is_ended && refusal.line.as_slice().ends_with(b"\r") {
+        push_carriage_returns(lines);
+    } else if refusal.place.end > refusal.line.len() {
+        push_words(lines, fault, refusal.place.line);
     } else {
-        let content = found.line.as_slice();
-        let flaw = flaw_in(alloc, content, line, found.head.as_slice(), found.is_ended)?;
-        push_flaw(&mut lines, content, line, flaw);
-        push_kind(&mut lines, kind, Kind::Certificate);
+        push_place(lines, refusal);
+        push_kind(lines, kind, Kind::Certificate);
     }
-    lines.finish()
 }
 
 fn push_carriage_returns(lines: &mut Lines) {
@@ -102,13 +49,83 @@ fn push_carriage_returns(lines: &mut Lines) {
     lines.detail("*.cert -text");
 }
 
+// The line alone, which is too long to be kept.
+fn push_words(lines: &mut Lines, fault: CertFault, line: u64) {
+    let words = match fault {
+        CertFault::TooDeep(_) => "has a proof that is more than 512 nodes deep",
+        _ => "is no line of a certificate in this place",
+    };
+    lines.say(format_args!("line {line} of the certificate {words}"));
+}
+
 // The place, marked in its line, and what is wrong there.
-fn push_flaw(lines: &mut Lines, content: &[u8], line: u64, flaw: Flaw) {
+fn push_place(lines: &mut Lines, refusal: &Refusal) {
+    let Place {
+        line,
+        start,
+        end,
+        expected,
+        ..
+    } = refusal.place;
+    let text = refusal.line.as_slice();
     lines.say(format_args!("line {line} of the certificate:"));
-    let Piece { start, end } = flaw.place;
-    let before = content.get(..start).unwrap_or(&[]);
-    let at = content.get(start..end).unwrap_or(&[]);
-    let after = content.get(end..).unwrap_or(&[]);
-    push_marked(lines, before, at, after);
-    lines.say(flaw.words);
+    push_marked(
+        lines,
+        text.get(..start).unwrap_or(&[]),
+        text.get(start..end).unwrap_or(&[]),
+        text.get(end..).unwrap_or(&[]),
+    );
+    lines.say(match expected {
+        Some(expected) if start == text.len() => words_at_end(expected),
+        Some(expected) => words_of(expected),
+        None => "this is more than 512 nodes deep in its proof",
+    });
+}
+
+// What the end of a line lacks.
+fn words_at_end(expected: Expected) -> &'static str {
+    match expected {
+        Expected::Node | Expected::Space(Next::Proof) => "the line ends before its proof does",
+        Expected::LineFeed(_) => "the last line ends with a line feed too",
+        Expected::Number | Expected::Space(Next::Number) => "a number is missing here",
+        _ => words_of(expected),
+    }
+}
+
+fn words_of(expected: Expected) -> &'static str {
+    match expected {
+        Expected::Version => "a certificate begins with the line 'cert 1'",
+        Expected::Form => "expected here: 'pairs' and their number, or 'fault'",
+        Expected::Number => {
+            "a number here has no sign and no leading zeros, and is at most 4294967295"
+        }
+        Expected::Symbol => "the wire of a fault has '0', '1', 'l', 'h' and 'r' alone",
+        Expected::Kind => "a kind is 'data', 'answer', 'restart', 'stop' or 'claim'",
+        Expected::Node => {
+            "expected here: 'P0' to 'P7', 'B', 'D', 'R', 'S' or '.', with one space between two of them"
+        }
+        Expected::Bit => "after 'P' stands the number of a bit, '0' to '7'",
+        Expected::Space(next) => words_of_next(next),
+        Expected::LineFeed(last) => words_of_last(last),
+        Expected::End => "the text goes on after the fault",
+    }
+}
+
+fn words_of_next(next: Next) -> &'static str {
+    match next {
+        Next::Number => "expected here: one space and a number",
+        Next::Wire | Next::Kind => {
+            "a fault has the number of its pair, the wire, and two kinds: 'fault 0 10010000l stop data'"
+        }
+        Next::Proof => "expected here: one space and the rest of the proof",
+    }
+}
+
+fn words_of_last(last: Last) -> &'static str {
+    match last {
+        Last::Version => "nothing follows 'cert 1' in its line",
+        Last::Pairs => "nothing follows the number of pairs in its line",
+        Last::Fault => "nothing follows the two kinds of a fault in its line",
+        Last::Proof => "the proof of the pair has ended before this",
+    }
 }

@@ -3,9 +3,9 @@
 //!
 //! Nothing here decides anything. A refusal is the caller's, and the reader knows its place. After that of a plan or of a brief
 //! `texts` shows the place, `expected` says what could stand there, `words` why a word cannot, `names` where a name stands
-//! already or which are nearest, and `wording` what the other refusals mean. `certs` follows one line of a certificate that is
-//! read once more (`finding`, `proof_lines`), and `starters` looks for labels in the plan. `safety` says what a safe plan leaves
-//! out, and `devices` which file failed. What is said of dumps stands in `captures`.
+//! already or which are nearest, and `wording` what the other refusals mean. `certs` shows the place in a certificate, and
+//! `starters` looks for labels in the plan. `safety` says what a safe plan leaves out, `plans` why one has no brief, and
+//! `devices` which file failed. What is said of dumps stands in `captures`.
 //!
 //! `values` has the hints, and writes them as lines: it puts the word `hint:` before each, and breaks sentences for 80 columns.
 //! `lines` puts hints together from parts, `marking` shows a place in its line, and `paths` writes names of files as a shell takes
@@ -18,16 +18,13 @@ mod captures;
 mod certs;
 mod devices;
 mod expected;
-mod finding;
 mod kinds;
 mod likeness;
 mod lines;
 mod marking;
 mod names;
 mod paths;
-mod pieces;
 mod plans;
-mod proof_lines;
 mod safety;
 mod starters;
 mod texts;

@@ -8,7 +8,7 @@ use plan_text::places::Kind;
 use plan_text::{Expected, Language};
 use std::alloc::{AllocError, Global};
 
-// What an item of this kind is called.
+// What is named so.
 fn called(kind: Kind) -> &'static str {
     match kind {
         Kind::Message => "message",
@@ -81,7 +81,11 @@ fn push_earlier(lines: &mut Lines, refused: &RefusedIn<'_>, names: &[NameAt<'_>]
             );
         }
         Some(Expected::Sending) => {
-            lines.say("this controller lists that already, or a part of it");
+            if let Some(line) = line_in_list(names, word) {
+                lines.say(format_args!("this controller lists it already, on line {line}"));
+            } else {
+                lines.say("this controller lists messages of this family already");
+            }
         }
         Some(Expected::Times { .. }) => {
             lines.part("an earlier message has the name of one of this family");
@@ -89,6 +93,17 @@ fn push_earlier(lines: &mut Lines, refused: &RefusedIn<'_>, names: &[NameAt<'_>]
         }
         _ => push_side(lines, names, word),
     }
+}
+
+// The line on which the last item, a controller, lists this.
+fn line_in_list(names: &[NameAt<'_>], word: &[u8]) -> Option<u64> {
+    let number = names.last()?.number;
+    for at in names {
+        if at.number == number && at.before != 0 && at.name == word {
+            return Some(at.line);
+        }
+    }
+    None
 }
 
 // Ends a sentence, with this line where it is known.
@@ -171,7 +186,9 @@ fn push_side(lines: &mut Lines, names: &[NameAt<'_>], word: &[u8]) {
             return;
         }
     }
-    lines.part("a controller has the name already that this label takes, with '_' in place of '/'");
+    lines.part(
+        "a label makes a controller, with '_' in place of '/': an earlier one has this name",
+    );
     push_line(lines, line_of_part(names, word));
 }
 
@@ -282,8 +299,9 @@ fn push_nearest(
 ) {
     let what = called(kind);
     if let Some(other) = other_kind(names, kind, word) {
+        let article = if other == Kind::Interrupt { "an" } else { "a" };
         let other = called(other);
-        lines.say(format_args!("this is the name of a {other}, and here is to be one of a {what}"));
+        lines.say(format_args!("this is the name of {article} {other}, and of no {what}"));
     }
     if let Some(line) = line_below(alloc, lines, refused, kind, word) {
         lines.say(format_args!(
@@ -291,7 +309,7 @@ fn push_nearest(
         ));
     } else if has_any(names, kind) {
         lines.say(format_args!(
-            "no {what} before this place has this name; those that stand there, the nearest first:"
+            "no {what} before this place has this name; the nearest names of {what}s:"
         ));
         push_all(alloc, lines, names, word, Listed::Of(kind));
     } else if refused.file.is_none() {

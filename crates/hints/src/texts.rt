@@ -160,11 +160,9 @@ fn fault_of(refused: &RefusedIn<'_>) -> Fault {
     }
 }
 
-// The place after the token before, where `;` could stand and the refused token begins an item.
+// The place after the token before, where `;` could stand and the refused token begins an item, or the text ends.
 fn missing_semicolon(refused: &RefusedIn<'_>) -> Option<Span> {
-    if !takes_semicolon(refused.place.expected?)
-        || !begins_item(refused.language, refused.token())
-    {
+    if !takes_semicolon(refused.place.expected?) || !ends_item(refused.language, refused.token()) {
         return None;
     }
     let Place {
@@ -192,10 +190,11 @@ fn takes_semicolon(expected: Expected) -> bool {
     )
 }
 
-fn begins_item(language: Language, token: &[u8]) -> bool {
+fn ends_item(language: Language, token: &[u8]) -> bool {
     match token {
         b"message" | b"controller" | b"interrupt" | b"never" => true,
         b"device" | b"byte" => matches!(language, Language::Brief),
+        b"" => true,
         _ => false,
     }
 }
@@ -304,7 +303,7 @@ fn push_token(alloc: Global, lines: &mut Lines, refused: &RefusedIn<'_>, expecte
         Ok(words) => {
             let words = words.as_slice();
             let word = str::from_utf8(refused.token()).unwrap_or("");
-            push_reason(lines, refused.language, expected, words, word);
+            push_reason(alloc, lines, refused.language, expected, words, word);
             push_expected(lines, words);
         }
         Err(_) => lines.fail(),

@@ -2,14 +2,17 @@
 
 use crate::lines::Lines;
 use crate::texts::called;
+use plan_core::Name;
 use plan_text::words::count_ends;
 use plan_text::{Expected, Language};
+use std::alloc::Global;
 
 /// What is said of a range in a plan of the first version.
 pub(crate) const RANGES: &str = "ranges, as '2..4', are of 'plan 2': let the text begin with that";
 
 /// Says why this word cannot stand there, where these words name what can.
 pub(crate) fn push_reason(
+    alloc: Global,
     lines: &mut Lines,
     language: Language,
     expected: Expected,
@@ -24,6 +27,8 @@ pub(crate) fn push_reason(
         push_address(lines, address);
     } else if let Some(known) = in_small_letters(words, word) {
         lines.say(format_args!("words have small letters: {known}"));
+    } else if expected == Expected::KnownTarget && is_free_name(alloc, word) {
+        lines.say("an interrupt has an address without open bits, and this device has some");
     } else if takes_name(expected) && is_name(word) {
         let what = called(language);
         lines.say(format_args!("'{word}' is a word of every {what}, and cannot be a name"));
@@ -33,6 +38,9 @@ pub(crate) fn push_reason(
 fn reason_of(expected: Expected, word: &str) -> Option<&'static str> {
     match expected {
         Expected::Item { never } => reason_of_item(never, word),
+        Expected::BriefItem if word == "brief" => {
+            Some("'brief 1' stands once: further briefs are given as further files")
+        }
         Expected::Further(_) => reason_of_further(word),
         Expected::Times { ranges } if is_range(word) => Some(if ranges {
             "with this range a message would have a name of more than 32 characters"
@@ -160,6 +168,12 @@ fn is_name(word: &str) -> bool {
     first.is_ascii_alphabetic()
         && word.len() <= 32
         && word.chars().all(|c| c.is_ascii_alphanumeric() || c == '_')
+}
+
+// Whether something can have this name in a brief.
+fn is_free_name(alloc: Global, word: &str) -> bool {
+    let is_brief_word = matches!(word, "brief" | "device" | "byte" | "any");
+    !is_brief_word && Name::new(alloc, word).is_ok()
 }
 
 // Which of these words it is, but for capital letters.

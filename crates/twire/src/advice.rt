@@ -8,9 +8,9 @@ use dump_tokens::BusLines;
 use explain::Seen;
 use growing_text::Text;
 use hints::{
-    Hints, Named, Names, RefusedIn, file_word, on_bytes, on_certificate, on_choice,
-    on_closed_input, on_dump, on_fault, on_memory, on_no_timescale, on_opening, on_reading,
-    on_recording, on_signals, on_silence, on_text, on_unexplained, on_workers, on_writing,
+    Hints, Named, Names, RefusedIn, file_word, on_bytes, on_choice, on_closed_input, on_dump,
+    on_fault, on_memory, on_no_timescale, on_opening, on_reading, on_recording, on_signals,
+    on_silence, on_text, on_unexplained, on_workers, on_writing,
 };
 use plan_text::PlanError;
 use report::{Probe, RunError, Status};
@@ -258,7 +258,6 @@ fn on_report<F: Read + Seek + Drop>(
     match remark {
         Remark::Nothing | Remark::Refused(_) | Remark::Text(_) => Ok(Hints::new(alloc)),
         Remark::Hints(hints) => Ok(hints),
-        Remark::Certificate(fault) => on_certificate(alloc, read.other, fault),
         Remark::Fault => on_fault(alloc, output),
         Remark::Recording(recorded) => on_recorded(alloc, read.other, names, status, recorded),
     }

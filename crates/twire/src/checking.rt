@@ -10,9 +10,10 @@ use crate::outputs::Style;
 use crate::progress::Comparing;
 use crate::runs::Extras;
 use crate::sources::Sources;
-use cert_check::{Answer, check_certificate};
+use cert_check::{Answer, Judged, check_certificate_at};
+use certificate::Refusal;
 use explain::{Mistake, Paint, Reasons, explain_answer, explain_check, mistake_of, reasons_of};
-use hints::on_safe;
+use hints::{on_certificate, on_safe};
 use objects::{write_answer, write_check, write_order};
 use order::{Order, order_of, order_report};
 use plan_words::PlanWords;
@@ -148,9 +149,17 @@ pub fn verify<I: Input, J: Input, O: Output>(
         let words = plans.words(&plan, &origins);
         return verify_kept(alloc, words, cert, out, extras);
     }
-    let Answered { plan, answer, .. } = verify_found(alloc, plan, cert)?;
+    let Answered {
+        plan,
+        answer,
+        refusal,
+    } = verify_found(alloc, plan, cert)?;
     let words = plans.words(&plan, &origins);
-    tell_answer(alloc, words, answer, None, out, extras)
+    let status = tell_answer(alloc, words, answer, None, out, extras)?;
+    Ok(Ended {
+        status,
+        remark: remark_on_answer(alloc, words, answer, refusal.as_ref(), extras),
+    })
 }
 
 fn verify_kept<J: Input, O: Output>(
@@ -162,9 +171,13 @@ fn verify_kept<J: Input, O: Output>(
 ) -> Result<Ended, Halt> {
     let plan = words.plan();
     let cert = read_within(alloc, cert, READS)?;
-    let answer = check_certificate(alloc, plan, cert.as_slice())?;
+    let Judged { answer, refusal } = check_certificate_at(alloc, plan, cert.as_slice())?;
     let mistake = mistake_of(alloc, plan, cert.as_slice(), answer)?;
-    tell_answer(alloc, words, answer, mistake, out, extras)
+    let status = tell_answer(alloc, words, answer, mistake, out, extras)?;
+    Ok(Ended {
+        status,
+        remark: remark_on_answer(alloc, words, answer, refusal.as_ref(), extras),
+    })
 }
 
 /// Writes the answer to a certificate of the plan of these words, and what is wrong with it, where that was found.
@@ -175,7 +188,7 @@ pub fn tell_answer<O: Output>(
     mistake: Option<Mistake>,
     out: &mut O,
     extras: Extras,
-) -> Result<Ended, Halt> {
+) -> Result<Status, RunError> {
     let status = status_of_answer(answer);
     match extras.style() {
         Style::Objects => write_answer(alloc, words, answer, mistake, out)?,
@@ -185,14 +198,24 @@ pub fn tell_answer<O: Output>(
         }
         Style::Lines(paint) => explain_answer(alloc, words, answer, mistake, paint, out)?,
     }
-    Ok(Ended {
-        status,
-        remark: match answer {
-            Answer::Safe if extras.hints => Remark::hints(on_safe(alloc, words)),
-            Answer::Wrong(fault) => Remark::Certificate(fault),
-            _ => Remark::Nothing,
-        },
-    })
+    Ok(status)
+}
+
+/// What is to be said to people of the answer to a certificate of the plan of these words, which may be refused there.
+pub fn remark_on_answer(
+    alloc: Global,
+    words: PlanWords<'_>,
+    answer: Answer,
+    refusal: Option<&Refusal>,
+    extras: Extras,
+) -> Remark {
+    match answer {
+        Answer::Safe if extras.hints => Remark::hints(on_safe(alloc, words)),
+        Answer::Wrong(fault) if extras.hints => {
+            Remark::hints(on_certificate(alloc, fault, refusal))
+        }
+        _ => Remark::Nothing,
+    }
 }
 
 // ---- order

@@ -1,6 +1,5 @@
 // How runs end.
 
-use certificate::CertFault;
 use dump_tokens::Window;
 use explain::Seen;
 use hints::Hints;
@@ -32,8 +31,6 @@ impl Ended {
 pub enum Remark {
     Nothing,
     Hints(Hints),
-    /// What is wrong with the certificate, of which the place is shown.
-    Certificate(CertFault),
     /// That what was written is the certificate of a fault.
     Fault,
     /// What can be said of a dump.

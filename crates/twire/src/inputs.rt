@@ -268,7 +268,7 @@ pub fn identity_of(found: io::Result<Metadata>) -> Option<FileId> {
 pub struct Inputs<'a, F> {
     pub last: Named<'a>,
     pub error: Option<io::Error>,
-    /// The file of a certificate or of a capture, where one was read.
+    /// The file of the second text, or of the only one, where that can be read once more.
     pub other: Option<F>,
 }
 

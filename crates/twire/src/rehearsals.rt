@@ -3,7 +3,7 @@
 ghost use Rattle.std.specs.Prelude.{IfOk};
 ghost use Rattle.bench_run.specs.Outcomes.{HasWinners};
 
-use crate::checking::tell_answer;
+use crate::checking::{remark_on_answer, tell_answer};
 use crate::drawings::{Canvas, draw_outcome};
 use crate::endings::{Ended, Halt, Remark};
 use crate::outputs::Style;
@@ -220,7 +220,11 @@ fn write_outcome<O: Output>(
             } else {
                 None
             };
-            tell_answer(alloc, words, it.answer, mistake, out, extras)
+            let status = tell_answer(alloc, words, it.answer, mistake, out, extras)?;
+            Ok(Ended {
+                status,
+                remark: remark_on_answer(alloc, words, it.answer, it.refusal.as_ref(), extras),
+            })
         }
     }
 }
