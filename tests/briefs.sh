@@ -462,10 +462,12 @@ as_plan "a capture" capture ANY "$tests/../examples/probe_icarus.vcd" --hints al
 as_plan "a bench" bench ANY any.cert "$("$twire" order any.plan | sed -n '1s/^pair 0 \([^ ]*\) .*/\1/p')"
 as_plan "starters that are refused" bench ANY any.cert nobody --hints always
 as_plan "a bench that certifies" bench --certify ANY nobody --hints always
-"$twire" page any.plan | sed 's/any\.plan/any.brief/g' >want_out
-want_page=$(cat want_out)
-want 0 "$want_page" ""
-run "a page" page any.brief
+# (a page of a brief also says where messages stand)
+"$twire" page any.plan | sed 's/any\.plan/any.brief/g' >page
+want 0 "$(cat page)" ""
+"$twire" page any.brief 2>err | sed 's/"place":"any\.brief:[0-9]*",//g' >out
+echo "${PIPESTATUS[0]}" >status
+compare "a page"
 
 lines wrong.brief "brief 1" "device eeprom 0x50 ;" "device eeprom 0x51 ;"
 want 2 "" "refused P7 line 3
@@ -517,9 +519,9 @@ never bmc seq ;" ""
 run "the brief in the help" expand help.brief
 
 want 2 "" "error: the following required arguments were not provided:
-  <BRIEF>
+  <BRIEF>...
 
-Usage: twire expand <BRIEF>
+Usage: twire expand <BRIEF>...
 
 For more information, try '--help'."
 run "no brief" expand
