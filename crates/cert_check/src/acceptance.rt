@@ -142,8 +142,8 @@ pub fn check_certificate_at(alloc: Global, plan: &Plan, cert: &[u8]) -> Result<J
     located(alloc, cert, None, answer)
 }
 
-/// The answer for a text, of which this is left after the lines that were read before, if some were; with the place
-/// where it is refused.
+/// The answer for a text, of which this is left after the lines that were read before, if some were; with the place where it
+/// is refused.
 pub(crate) fn located(
     alloc: Global,
     text: &[u8],

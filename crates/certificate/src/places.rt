@@ -89,16 +89,15 @@ pub struct Refusal {
     pub is_whole: bool,
     /// Whether a line feed ends it.
     pub is_ended: bool,
-    /// The first bytes of the text, 4,096 at most, where its first line is refused: they may tell what it is. Else
-    /// there are none.
+    /// The first bytes of the text, 4,096 at most, where its first line is refused: they may tell what it is. Else there
+    /// are none.
     pub front: Vec<u8>,
 }
 
-/// Where a text is refused for this fault. The text stands after the lines that were read before, if some were. None
-/// comes for C2 and C5, which have no place.
+/// Where a text is refused for this fault. The text stands after the lines that were read before, if some were. None comes
+/// for C2 and C5, which have no place.
 ///
-/// The line is read once more, by the functions that refused it. So is what stands before it where nothing was read
-/// before.
+/// The line is read once more, by the functions that refused it. So is what stands before it where nothing was read before.
 pub fn refusal_of(
     alloc: Global,
     text: &[u8],
@@ -237,8 +236,8 @@ impl Asked {
         }
     }
 
-    // What could stand in place of a byte that is refused after these, the first bytes of what is asked for. None is
-    // the end of the line.
+    // What could stand in place of a byte that is refused after these, the first bytes of what is asked for. None is the end
+    // of the line.
     fn expected_after(self, read: &[u8], refused: Option<u8>) -> Expected {
         match (self.expected, refused) {
             (Expected::Node, _) if !read.is_empty() => Expected::Bit,
@@ -275,8 +274,8 @@ fn is_kind(word: &[u8]) -> bool {
     false
 }
 
-/// Where the reading of a text stopped: what was asked for last, and how many bytes are left with the one that is
-/// refused, and after all that was taken.
+/// Where the reading of a text stopped: what was asked for last, and how many bytes are left with the one that is refused,
+/// and after all that was taken.
 #[derive(Clone, Copy)]
 pub(crate) struct Stop {
     pub(crate) asked: Asked,
@@ -328,8 +327,8 @@ fn end_of(line: &[u8], start: usize, expected: Expected) -> usize {
     }
 }
 
-// Where a token ends, or a character, which may have several bytes that are not ASCII. It has one byte at least,
-// except at the end of its line.
+// Where a token ends, or a character, which may have several bytes that are not ASCII. It has one byte at least, except at the
+// end of its line.
 fn end_of_run(line: &[u8], start: usize, is_token: bool) -> usize {
     let mut end = start;
     for byte in line.get(start..).unwrap_or(&[]) {

@@ -103,8 +103,8 @@ pub fn run_verify<I: Input, J: Input, O: Output>(
     write_lines(out, report.as_bytes(), status_of_answer(found.answer))
 }
 
-/// What the certificate that the second reader gives says of the plan that the first reader gives, and where it is
-/// refused. It is judged block by block.
+/// What the certificate that the second reader gives says of the plan that the first reader gives, and where it is refused.
+/// It is judged block by block.
 ///
 /// # Errors
 ///
