@@ -1,7 +1,9 @@
-// After a plan that is safe: what was not checked.
+// After a plan that was checked: what is likely a mistake in its briefs, and of a safe one what was not checked.
 
 use crate::lines::Lines;
+use crate::odd::push_oddities;
 use crate::values::Hints;
+use lint::Oddity;
 use plan_core::Plan;
 use plan_words::PlanWords;
 use std::alloc::{AllocError, Global};
@@ -12,16 +14,41 @@ const MOST: u32 = 10;
 /// What to say of a plan that is safe, in these words of it: the messages that no controller lists, the pairs that `never` leaves
 /// out, and that there are no pairs, where there are none.
 pub fn on_safe(alloc: Global, words: PlanWords<'_>) -> Result<Hints, AllocError> {
-    let plan = words.plan();
     let mut lines = Lines::new(alloc);
-    push_unsent(&mut lines, plan);
-    push_nevers(alloc, &mut lines, words)?;
-    if plan.pair_count() == 0 {
+    push_unsent(&mut lines, words.plan());
+    push_left_out(alloc, &mut lines, words)?;
+    lines.finish()
+}
+
+/// What to say of a plan that was checked, in these words of it: what is likely a mistake in its briefs, and where it is safe
+/// also what `on_safe` says.
+pub fn on_checked(
+    alloc: Global,
+    words: PlanWords<'_>,
+    odd: &[Oddity<'_>],
+    is_safe: bool,
+) -> Result<Hints, AllocError> {
+    let mut lines = Lines::new(alloc);
+    push_oddities(alloc, &mut lines, words, odd)?;
+    if is_safe {
+        // (of briefs it is among the likely mistakes)
+        if !words.has_briefs() {
+            push_unsent(&mut lines, words.plan());
+        }
+        push_left_out(alloc, &mut lines, words)?;
+    }
+    lines.finish()
+}
+
+// The pairs that were not looked at, and that there are none.
+fn push_left_out(alloc: Global, lines: &mut Lines, words: PlanWords<'_>) -> Result<(), AllocError> {
+    push_nevers(alloc, lines, words)?;
+    if words.plan().pair_count() == 0 {
         lines.say(
             "the plan has no two participants that may start together: no pair was looked at",
         );
     }
-    lines.finish()
+    Ok(())
 }
 
 fn push_unsent(lines: &mut Lines, plan: &Plan) {

@@ -23,6 +23,19 @@ pub enum Oddity<'a> {
     Idle { controller: u32, spot: Spot },
 }
 
+impl Oddity<'_> {
+    /// Where it stands.
+    pub fn spot(self) -> Spot {
+        match self {
+            Oddity::SameAddress(_, device)
+            | Oddity::ReservedAddress(device)
+            | Oddity::UnusedDevice(device) => device.spot,
+            Oddity::UnusedByte(byte) => byte.spot,
+            Oddity::Unsent { spot, .. } | Oddity::Idle { spot, .. } => spot,
+        }
+    }
+}
+
 /// What is likely a mistake in the briefs that mean this plan: first of their devices, then of bytes, messages, and controllers,
 /// each in the order of the briefs.
 ///

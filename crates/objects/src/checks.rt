@@ -1,10 +1,12 @@
 // Objects of a check.
 
+use crate::oddities::add_oddities;
 use crate::places::all_at;
 use crate::writing::ObjectLines;
 use certificate::Fault;
 use explain::{Labels, Meeting, Mends, Reasons, Rule, Safety, labels_of, meeting_of};
 use growing_text::Text;
+use lint::Oddity;
 use plan_core::Plan;
 use plan_words::PlanWords;
 use report::{Checked, Output, RunError};
@@ -65,8 +67,9 @@ struct Decided {
     alike: u64,
 }
 
-/// Writes an object for each unsafe pair of a plan that was checked, and one for the plan. The words are those of the plan. Where there are reasons, the last one
-/// has them, and the first so many pairs are explained.
+/// Writes an object for each unsafe pair of a plan that was checked, one for each likely mistake in the briefs that mean it, and
+/// one for the plan. The words are those of the plan. Where there are reasons, the last one has them, and the first so many pairs
+/// are explained.
 ///
 /// # Errors
 ///
@@ -75,6 +78,7 @@ pub fn write_check<O: Output>(
     alloc: Global,
     checked: &Checked,
     words: PlanWords<'_>,
+    odd: &[Oddity<'_>],
     reasons: Option<&Reasons>,
     most: u32,
     out: &mut O,
@@ -102,6 +106,7 @@ pub fn write_check<O: Output>(
         }
         lines.write_block(out)?;
     }
+    add_oddities(&mut lines, words, odd)?;
     add_plan(&mut lines, checked, reasons, explained)?;
     lines.write_rest(out)
 }

@@ -11,6 +11,7 @@ mod certificates;
 mod checks;
 mod decodes;
 mod listed;
+mod oddities;
 mod orders;
 mod places;
 mod refusals;

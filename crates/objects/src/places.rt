@@ -1,5 +1,6 @@
 // Where participants of a plan stand in the briefs that mean it.
 
+use brief_text::Spot;
 use plan_words::{FileLine, PlanWords};
 use serde::Serialize;
 use std::alloc::{AllocError, Global};
@@ -81,6 +82,18 @@ fn written_at(alloc: Global, words: PlanWords<'_>, p: u32) -> Result<String, All
         Ok(text) => Ok(text),
         // (out of memory: every key is a text)
         Err(_) => Err(AllocError),
+    }
+}
+
+/// A place in the briefs.
+pub(crate) fn line_at(
+    alloc: Global,
+    words: PlanWords<'_>,
+    spot: Spot,
+) -> Result<Option<At>, AllocError> {
+    match words.at(spot) {
+        Some(place) => Ok(Some(line_of(alloc, place)?)),
+        None => Ok(None),
     }
 }
 

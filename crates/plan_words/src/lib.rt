@@ -180,7 +180,8 @@ impl<'a> PlanWords<'a> {
         }
     }
 
-    fn at(self, spot: Spot) -> Option<FileLine<'a>> {
+    /// The line of a place in the briefs.
+    pub fn at(self, spot: Spot) -> Option<FileLine<'a>> {
         let file = self.files.of(spot.file)?;
         Some(FileLine {
             file,

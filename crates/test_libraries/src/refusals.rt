@@ -1,4 +1,5 @@
-// Where certificates are refused, and what could stand there, as docs/CERTIFICATES.md has it: the same however they are cut.
+// Where certificates are refused, and what could stand there, as docs/CERTIFICATES.md has it: the same however they are
+// cut.
 
 use crate::pieces::SAFE;
 use cert_check::{Checker, FeedError, Judged, check_certificate_at};

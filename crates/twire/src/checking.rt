@@ -10,12 +10,15 @@ use crate::outputs::Style;
 use crate::progress::Comparing;
 use crate::runs::Extras;
 use crate::sources::Sources;
+use brief_text::Origins;
 use cert_check::{Answer, Judged, check_certificate_at};
 use certificate::Refusal;
 use explain::{Mistake, Paint, Reasons, explain_answer, explain_check, mistake_of, reasons_of};
-use hints::{on_certificate, on_safe};
+use hints::{on_certificate, on_checked, on_safe};
+use lint::{Oddity, oddities};
 use objects::{write_answer, write_check, write_order};
 use order::{Order, order_of, order_report};
+use plan_core::Plan;
 use plan_words::PlanWords;
 use report::{
     Answered, Checked, GivenPlan, Input, NoGate, Output, RunError, Status, answer_line,
@@ -23,7 +26,7 @@ use report::{
 };
 use run_parts::devices::reading::READS;
 use run_parts::write_lines;
-use std::alloc::Global;
+use std::alloc::{AllocError, Global};
 use std::rt::Files;
 use std::thread::Threads;
 use std::time::Clock;
@@ -57,10 +60,12 @@ pub fn check<R: Files + Print + Eprint + Clock + AllocGlobal + Threads + Sync, I
     let GivenPlan { plan, origins } = plans.find(rt.alloc())?;
     let checked = check_found(rt, rt.alloc(), plan, look.workers, &gate)?;
     let words = plans.words(&checked.plan, &origins);
+    let odd = odd_in(rt.alloc(), &checked.plan, &origins)?;
     let status = tell_checked(
         rt.alloc(),
         &checked,
         words,
+        odd.as_slice(),
         out,
         look.explain,
         extras.style(),
@@ -70,13 +75,31 @@ pub fn check<R: Files + Print + Eprint + Clock + AllocGlobal + Threads + Sync, I
     }
     Ok(Ended {
         status,
-        remark: remark_on(rt.alloc(), &checked, words, extras),
+        remark: remark_on(rt.alloc(), &checked, words, odd.as_slice(), extras),
     })
 }
 
-fn remark_on(alloc: Global, checked: &Checked, words: PlanWords<'_>, extras: Extras) -> Remark {
-    if extras.hints && checked.faults.is_safe() {
-        Remark::hints(on_safe(alloc, words))
+// What is likely a mistake in the briefs that mean this plan, where briefs do.
+fn odd_in<'a>(
+    alloc: Global,
+    plan: &Plan,
+    origins: &'a Option<Origins>,
+) -> Result<Vec<Oddity<'a>>, AllocError> {
+    match origins {
+        Some(origins) => oddities(alloc, plan, origins),
+        None => Ok(Vec::new(alloc)),
+    }
+}
+
+fn remark_on(
+    alloc: Global,
+    checked: &Checked,
+    words: PlanWords<'_>,
+    odd: &[Oddity<'_>],
+    extras: Extras,
+) -> Remark {
+    if extras.hints {
+        Remark::hints(on_checked(alloc, words, odd, checked.faults.is_safe()))
     } else {
         Remark::Nothing
     }
@@ -87,6 +110,7 @@ fn tell_checked<O: Output>(
     alloc: Global,
     checked: &Checked,
     words: PlanWords<'_>,
+    odd: &[Oddity<'_>],
     out: &mut O,
     explain: Option<u32>,
     style: Style,
@@ -96,9 +120,9 @@ fn tell_checked<O: Output>(
     match explain {
         Some(most) => {
             let reasons = reasons_of(alloc, checked, words)?;
-            write_checked(alloc, checked, words, Some(&reasons), most, style, out)
+            write_checked(alloc, checked, words, odd, Some(&reasons), most, style, out)
         }
-        None => write_checked(alloc, checked, words, None, 0, style, out),
+        None => write_checked(alloc, checked, words, odd, None, 0, style, out),
     }
 }
 
@@ -106,6 +130,7 @@ fn write_checked<O: Output>(
     alloc: Global,
     checked: &Checked,
     words: PlanWords<'_>,
+    odd: &[Oddity<'_>],
     reasons: Option<&Reasons>,
     most: u32,
     style: Style,
@@ -113,7 +138,7 @@ fn write_checked<O: Output>(
 ) -> Result<Status, RunError> {
     let status = status_of(checked);
     match style {
-        Style::Objects => write_check(alloc, checked, words, reasons, most, out)?,
+        Style::Objects => write_check(alloc, checked, words, odd, reasons, most, out)?,
         Style::Lines(Paint::Plain) if reasons.is_none() => {
             let report = check_report(alloc, checked)?;
             return write_lines(out, report.as_bytes(), status);

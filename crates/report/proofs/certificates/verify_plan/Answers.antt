@@ -1,5 +1,9 @@
-use Rattle.std.proofs.Common.{refl}
+use Rattle.std.proofs.Common.{refl, sym, subst}
+use Rattle.cert_check.specs.Accepts.{AnswersBytes}
+use Rattle.cert_check.specs.declared.answers.Answer.{Answer}
 use Rattle.plan_core.specs.PlanContents.{plan_contents}
+use Rattle.plan_core.specs.declared.plans.Plan.{Plan}
+use Rattle.plan_text.specs.Grammar.{Spells}
 use Rattle.run_parts.specs.PlanTexts.{RefusesPlan, SpellsPlan}
 use Rattle.run_parts.specs.Runs.{HaltsAtBoth, at_first}
 use Rattle.report.proofs.AnswerReading.{halts_at_both, answers_read}
@@ -21,8 +25,12 @@ pub returns-clause-found : goal.returns-clause-found
 returns-clause-found g c =
     let found = c.in_ok-plan.ensures.found in
     let all = c.in_ok-judged.ensures.all in
+    let right = answers_read found.texts found.texts all.0 (plan_contents c.in_ok-plan.plan) c.in_ok-judged.judged.answer refl found.due all.2 in
     record {
       texts = (found.texts, all.0);
       read = (found.read, all.1);
-      due = record { spelled = found.due; right = answers_read found.texts found.texts all.0 (plan_contents c.in_ok-plan.plan) c.in_ok-judged.judged.answer refl found.due all.2 };
+      due = record {
+        spelled = subst (λ (p : Plan). Spells found.texts (plan_contents p)) (sym c.answered.ensures.plan) found.due;
+        right = subst (λ (a : Answer). AnswersBytes found.texts all.0 a) (sym c.answered.ensures.answer) right;
+      };
     }

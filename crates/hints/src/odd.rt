@@ -1,0 +1,95 @@
+// After a check of briefs: what is allowed there, and is likely a mistake.
+
+use crate::lines::Lines;
+use growing_text::Text;
+use lint::Oddity;
+use plan_core::Plan;
+use plan_words::{FileLine, PlanWords};
+use std::alloc::{AllocError, Global};
+
+// The most of them that are told.
+const MOST: usize = 10;
+
+/// Says what is likely a mistake in the briefs that mean a plan, each with its place.
+pub(crate) fn push_oddities(
+    alloc: Global,
+    lines: &mut Lines,
+    words: PlanWords<'_>,
+    odd: &[Oddity<'_>],
+) -> Result<(), AllocError> {
+    for oddity in odd.get(..MOST).unwrap_or(odd) {
+        if let Some(place) = words.at(oddity.spot()) {
+            lines.part(place_of(alloc, place)?);
+        }
+        push_oddity(alloc, lines, words, *oddity)?;
+    }
+    let more = odd.len().saturating_sub(MOST);
+    if more != 0 {
+        lines.say(format_args!("and {more} more of this kind"));
+    }
+    Ok(())
+}
+
+fn place_of(alloc: Global, place: FileLine<'_>) -> Result<String, AllocError> {
+    let mut text = Text::new(alloc);
+    place.push_to(&mut text);
+    text.push(": ");
+    text.finish()
+}
+
+fn push_oddity(
+    alloc: Global,
+    lines: &mut Lines,
+    words: PlanWords<'_>,
+    oddity: Oddity<'_>,
+) -> Result<(), AllocError> {
+    match oddity {
+        Oddity::SameAddress(first, second) => {
+            let (first_name, second_name) = (first.name.as_str(), second.name.as_str());
+            lines.part(format_args!("device '{second_name}' has the address of '{first_name}'"));
+            if let Some(place) = words.at(first.spot) {
+                let FileLine { file, line } = place;
+                lines.part(format_args!(", which stands at {file}:{line}"));
+            }
+            lines.end();
+        }
+        Oddity::ReservedAddress(device) => {
+            let name = device.name.as_str();
+            lines.say(format_args!("the address of device '{name}' is reserved (UM10204, 3.1.12)"));
+        }
+        Oddity::UnusedDevice(device) => {
+            let name = device.name.as_str();
+            lines.say(format_args!("no message and no interrupt names device '{name}'"));
+        }
+        Oddity::UnusedByte(byte) => {
+            let name = byte.name.as_str();
+            lines.say(format_args!("no message names byte '{name}'"));
+        }
+        Oddity::Unsent { first, count, .. } => push_unsent(lines, words.plan(), first, count),
+        Oddity::Idle { controller, .. } => {
+            let name = words.side(alloc, controller)?;
+            lines.say(format_args!("controller '{name}' lists no message"));
+        }
+    }
+    Ok(())
+}
+
+fn push_unsent(lines: &mut Lines, plan: &Plan, first: u32, count: u32) {
+    let name = name_of(plan, first);
+    let last = name_of(plan, first.saturating_add(count.saturating_sub(1)));
+    if count == 1 {
+        lines.say(format_args!("no controller lists message '{name}', which was not looked at"));
+    } else {
+        lines.say(format_args!(
+            "no controller lists messages '{name}' to '{last}', which were not looked at"
+        ));
+    }
+}
+
+fn name_of(plan: &Plan, message: u32) -> &str {
+    if message < plan.messages() {
+        plan.message_name(message).as_str()
+    } else {
+        ""
+    }
+}
