@@ -1,6 +1,6 @@
 // Objects of a rehearsal.
 
-use crate::places::{OneAt, one_at};
+use crate::file_lines::{OneAt, one_at};
 use crate::writing::ObjectLines;
 use bench_run::Rehearsal;
 use certificate::push_wire;

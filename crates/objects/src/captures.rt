@@ -1,6 +1,6 @@
 // Objects of a capture.
 
-use crate::places::{OneAt, one_at};
+use crate::file_lines::{OneAt, one_at};
 use crate::transactions::{Moment, Seen, Times, seen_of, times_of, too_few_of};
 use crate::written::Written;
 use capture_check::Transaction;

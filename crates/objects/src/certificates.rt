@@ -1,6 +1,6 @@
 // Objects of the answer to a certificate.
 
-use crate::places::{BothAt, both_at};
+use crate::file_lines::{BothAt, both_at};
 use crate::writing::ObjectLines;
 use cert_check::Answer;
 use certificate::CertFault;

@@ -1,6 +1,6 @@
 // Objects of what is likely a mistake in briefs.
 
-use crate::places::{At, line_at};
+use crate::file_lines::{At, line_at};
 use crate::writing::ObjectLines;
 use lint::Oddity;
 use plan_core::Plan;

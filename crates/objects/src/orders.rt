@@ -1,6 +1,6 @@
 // Objects of who wins.
 
-use crate::places::{BothAt, OneAt, both_at, one_at};
+use crate::file_lines::{BothAt, OneAt, both_at, one_at};
 use crate::writing::ObjectLines;
 use explain::labels_of;
 use order::{Order, Outcomes, Slots, Total};
