@@ -211,6 +211,33 @@ want 2 "" "refused write"
 cp pch.brief read.brief
 run "a file that is read is not written" expand devices.brief bmc.brief read.brief -o read.brief
 
+# Hints name the file and the argument, and are in the words of the briefs.
+want 2 "" 'refused read
+hint: --with, the brief "missing.brief", cannot be opened:
+hint: No such file or directory (os error 2)'
+run "hints on a missing further file" check devices.brief --with bmc.brief --with missing.brief --hints always
+want 2 "" 'refused read
+hint: BRIEF, the brief "missing.brief", cannot be opened:
+hint: No such file or directory (os error 2)'
+run "hints on a missing second file" expand devices.brief missing.brief --hints always
+lines second.brief "brief 1" "message m write eeprm ;"
+"$twire" check devices.brief --with second.brief --hints always >out 2>said
+echo "$?" >status
+head -n 4 said >err
+want 2 "" 'refused P8 line 2 of second.brief
+hint: line 2 of the brief "second.brief":
+hint:   message m write eeprm ;
+hint:                   ^^^^^'
+compare "hints on a refusal in the second file"
+want 0 "safe: 5 pairs" "hint: 'never bmc/set pch/get ;' leaves out pairs: 1"
+run "hints on what never leaves out" check devices.brief --with bmc.brief --with pch.brief --hints always
+"$twire" capture devices.brief --with bmc.brief --with pch.brief "$tests/../examples/probe_logic.vcd" --hints always 2>&1 |
+    sed -n 's/^hint:   \(twire capture .*\) \/.*/\1/p' >out
+: >err
+echo 0 >status
+want 0 "twire capture devices.brief --with bmc.brief --with pch.brief" ""
+compare "a command to be given once more"
+
 # twice ARG..: the command line does not parse.
 twice() {
     want 2 "" ""

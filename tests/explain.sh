@@ -494,6 +494,24 @@ want 2 "wrong C5 pair 0
     a plan that was changed wants a new certificate: twire certify PLAN" ""
 run "a certificate of a brief" verify --explain board.brief c.cert
 
+brief 'brief 1' 'message set write 0x48 0x01 any ;' 'message page write 0x50 any*1..2 ;' 'controller bmc set page ;' \
+    'interrupt al 0x48 ;' 'controller pch ;' 'never bmc/page pch ;'
+want 0 "wire 10010001c
+    slot        0
+    byte        48 Rd
+    wire        10010001 c
+    bmc/page_1  101  lost in slot 2
+    !al         10010001 c  won
+won !al" ""
+run "a rehearsal of a brief" bench --explain --certify board.brief 'bmc_page/page_1,!al' --rest 0
+want 1 "5-160 unexplained
+    S 10 Wr A P
+    bmc/set leaves at slot 0: it sends 1 there, the wire has 0
+    bmc/page_1 leaves at slot 0: it sends 1 there, the wire has 0
+    bmc/page_2 leaves at slot 0: it sends 1 there, the wire has 0
+1 transactions, 1 unexplained" ""
+run "a capture by a brief" capture --explain board.brief "$examples/stop_meets_data.vcd"
+
 # ---- Long names and long messages.
 
 long=$(printf 'n%.0s' {1..32})
