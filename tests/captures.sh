@@ -316,7 +316,7 @@ if { (ulimit -v 32768 && exec "$twire" --version); } >/dev/null 2>&1; then
     "$twire" capture plan long --summary >due
     # (the first limit with which the program begins at all, from which on the system has loaded its libraries)
     least=1000
-    until (ulimit -v "$least" && exec "$twire" --version) >/dev/null 2>&1; do
+    until { (ulimit -v "$least" && exec "$twire" --version); } >/dev/null 2>&1; do
         least=$((least + 100))
     done
     shown=0 refused=0 other=
