@@ -99,6 +99,10 @@ pub struct Refusal {
 ///
 /// The line is read once more, by the functions that refused it. So is what stands before it where nothing was read
 /// before.
+///
+/// # Errors
+///
+/// An allocation failed.
 pub fn refusal_of(
     alloc: Global,
     text: &[u8],
