@@ -267,5 +267,65 @@ for command in "decode board.vcd" "signals board.vcd" "learn board.vcd" "brief b
     compare "no further file: $command"
 done
 
+# ---- What is likely a mistake, which is no refusal.
+
+lines first.brief "brief 1" \
+    "device a 0x50 ;" \
+    "device b 0b1010xxx ;" \
+    "byte used 0x01 ;  byte idle 0x02 ;" \
+    "message m write a used ;"
+lines second.brief "brief 1" \
+    "device c 0x50 ;" \
+    "device d 0x7C ;" \
+    "message family write c any*1..3 ;" \
+    "message other write b 0x05 ;" \
+    "controller x m family_2 ;" \
+    "controller y ;"
+want 0 "safe: 0 pairs" "hint: second.brief:2: device 'c' has the address of 'a', which stands at
+hint: first.brief:2
+hint: second.brief:3: the address of device 'd' is reserved (UM10204, 3.1.12)
+hint: second.brief:3: no message and no interrupt names device 'd'
+hint: first.brief:4: no message names byte 'idle'
+hint: second.brief:4: no controller lists message 'family_1', which was not
+hint: looked at
+hint: second.brief:4: no controller lists message 'family_3', which was not
+hint: looked at
+hint: second.brief:5: no controller lists message 'other', which was not looked
+hint: at
+hint: second.brief:7: controller 'y' lists no message
+hint: the plan has no two participants that may start together: no pair was
+hint: looked at"
+run "likely mistakes of two files" check first.brief --with second.brief --hints always
+want 0 '{"kind":"lint","code":"same address","names":["c","a"],"places":[{"file":"second.brief","line":2},{"file":"first.brief","line":2}]}
+{"kind":"lint","code":"reserved address","names":["d"],"places":[{"file":"second.brief","line":3}]}
+{"kind":"lint","code":"unused device","names":["d"],"places":[{"file":"second.brief","line":3}]}
+{"kind":"lint","code":"unused byte","names":["idle"],"places":[{"file":"first.brief","line":4}]}
+{"kind":"lint","code":"unsent message","names":["family_1"],"places":[{"file":"second.brief","line":4}]}
+{"kind":"lint","code":"unsent message","names":["family_3"],"places":[{"file":"second.brief","line":4}]}
+{"kind":"lint","code":"unsent message","names":["other"],"places":[{"file":"second.brief","line":5}]}
+{"kind":"lint","code":"idle controller","names":["y"],"places":[{"file":"second.brief","line":7}]}
+{"kind":"plan","safe":true,"pairs":0,"unsafe_pairs":0}' ""
+run "the same as objects" check first.brief --with second.brief --format json
+"$twire" print first.brief --with second.brief -o odd.plan
+want 0 '{"kind":"plan","safe":true,"pairs":0,"unsafe_pairs":0}' ""
+run "none of a plan text" check odd.plan --format json
+lines unsent.brief "brief 1" "message page write 0x50 any*1..32 ;"
+want 0 "safe: 0 pairs" "hint: unsent.brief:2: no controller lists messages 'page_1' to 'page_32', which
+hint: were not looked at
+hint: the plan has no two participants that may start together: no pair was
+hint: looked at"
+run "a family that nobody sends" check unsent.brief --hints always
+{
+    echo "brief 1"
+    for k in {1..12}; do echo "device d$k 0b01000$((k % 2))$((k / 2 % 2)) ;"; done
+} >many.brief
+"$twire" check many.brief --hints always 2>&1 | tail -n 3 >out
+: >err
+echo 0 >status
+want 0 "hint: and 10 more of this kind
+hint: the plan has no two participants that may start together: no pair was
+hint: looked at" ""
+compare "ten likely mistakes are told"
+
 echo "$passed passed, $failed failed"
 ((failed == 0))

@@ -45,7 +45,8 @@ fn line_of(line: &str) -> Result<String, String> {
     let mut fields = Fields::of(read(line)?)?;
     let told = told(&mut fields)?;
     fields.end()?;
-    Ok(format!("{told}\n"))
+    // (what is likely a mistake in a brief has a hint, and no line of a report)
+    Ok(if told.is_empty() { told } else { format!("{told}\n") })
 }
 
 // The line of an object, and those that stand below it.
@@ -90,6 +91,7 @@ fn told(fields: &mut Fields) -> Result<String, String> {
         ),
         "signals" => format!("{} signals, {} buses", fields.number("signals")?, fields.number("buses")?),
         "won" => format!("won {}", fields.texts("participants")?.join(" ")),
+        "lint" => lint(fields)?,
         "refusal" => refusal(fields)?,
         "hint" => hint(&fields.text("form")?, &fields.text("text")?)?,
         _ => return Err(format!("there is no kind {kind}")),
@@ -104,6 +106,26 @@ fn refusal(fields: &mut Fields) -> Result<String, String> {
     let place = place(fields, &code)?;
     let [line, file, signal] = [line, file, signal].map(Option::unwrap_or_default);
     Ok(format!("refused {code}{line}{file}{signal}{place}"))
+}
+
+// What is likely a mistake in a brief: names, and a line of a file for each, but for messages that stand in one place.
+fn lint(fields: &mut Fields) -> Result<String, String> {
+    let code = fields.text("code")?;
+    let names = fields.texts("names")?;
+    let places = fields.maybe("places", Value::into_items)?.unwrap_or_default();
+    only_if(!places.is_empty(), "what is likely a mistake has a place")?;
+    only_if(places.len() == names.len() || code == "unsent message", "each name has a place")?;
+    for place in places {
+        file_line(place)?;
+    }
+    Ok(String::new())
+}
+
+fn file_line(place: Value) -> Result<(), String> {
+    let mut place = Fields::of(place)?;
+    place.text("file")?;
+    place.number("line")?;
+    place.end()
 }
 
 // A participant, and where its message and its controller stand, where a brief was given.
@@ -121,10 +143,7 @@ fn places(fields: &mut Fields, is_interrupt: bool) -> Result<(), String> {
     only_if(places.len() == 2 && !is_interrupt, "there are two places of what stands in a brief")?;
     for place in places {
         if !matches!(place, Value::Null) {
-            let mut place = Fields::of(place)?;
-            place.text("file")?;
-            place.number("line")?;
-            place.end()?;
+            file_line(place)?;
         }
     }
     Ok(())
