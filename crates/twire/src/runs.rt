@@ -204,7 +204,7 @@ fn sources_of<'a>(first: Named<'a>, further: &'a [&'a str]) -> NamedSources<'a> 
 
 // A run over one text, or over what gives a plan, from the opening of the files to the status.
 fn run_over<'a, R: Files + Input + Print + Eprint + AllocGlobal + Threads + Wait + Clock + Sync>(
-    rt: &'a R,
+    rt: &R,
     named: NamedSources<'a>,
     over: Over<'a>,
     form: Form<'a>,
@@ -217,8 +217,7 @@ fn run_over<'a, R: Files + Input + Print + Eprint + AllocGlobal + Threads + Wait
     let read = FilesRead {
         ids: ids.as_slice(),
     };
-    let sheet = Sheet::telling(rt, form, read, extras.watcher, over.writes_long());
-    let mut out = Watched::new(sheet);
+    let mut out = Watched::new(Sheet::telling(rt, form, read, extras.watcher, over.writes_long()));
     let path = named.first.path;
     let ended = over.run(rt, path, &mut sources, &mut out, extras, read);
     let files = FilesWritten {
