@@ -1,7 +1,7 @@
 // Objects of a check.
 
-use crate::oddities::add_oddities;
 use crate::file_lines::all_at;
+use crate::oddities::add_oddities;
 use crate::writing::ObjectLines;
 use certificate::Fault;
 use explain::{Labels, Meeting, Mends, Reasons, Rule, Safety, labels_of, meeting_of};
