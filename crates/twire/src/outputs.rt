@@ -57,11 +57,11 @@ impl<'a> Form<'a> {
 
 /// What takes a report. It keeps the last error.
 #[derive(Drop)]
-pub struct Sheet<'a, R: Files> {
+pub struct Sheet<'a, 'i, R: Files> {
     rt: &'a R,
     form: Form<'a>,
     // none of which is written
-    read: FilesRead<'a>,
+    read: FilesRead<'i>,
     target: Target<R::File>,
     error: Option<io::Error>,
     watcher: Watcher,
@@ -87,9 +87,14 @@ struct Part<F> {
     path: String,
 }
 
-impl<'a, R: Files + Print + Eprint + Clock + AllocGlobal> Sheet<'a, R> {
+impl<'a, 'i, R: Files + Print + Eprint + Clock + AllocGlobal> Sheet<'a, 'i, R> {
     /// Nothing has been written yet.
-    pub fn new(rt: &'a R, form: Form<'a>, read: FilesRead<'a>, watcher: Watcher) -> Sheet<'a, R> {
+    pub fn new(
+        rt: &'a R,
+        form: Form<'a>,
+        read: FilesRead<'i>,
+        watcher: Watcher,
+    ) -> Sheet<'a, 'i, R> {
         Sheet::telling(rt, form, read, watcher, None)
     }
 
@@ -97,10 +102,10 @@ impl<'a, R: Files + Print + Eprint + Clock + AllocGlobal> Sheet<'a, R> {
     pub fn telling(
         rt: &'a R,
         form: Form<'a>,
-        read: FilesRead<'a>,
+        read: FilesRead<'i>,
         watcher: Watcher,
         what: Option<&'static str>,
-    ) -> Sheet<'a, R> {
+    ) -> Sheet<'a, 'i, R> {
         Sheet {
             rt,
             form,
@@ -177,7 +182,7 @@ impl<'a, R: Files + Print + Eprint + Clock + AllocGlobal> Sheet<'a, R> {
     }
 }
 
-impl<R: Files + Print + Eprint + Clock + AllocGlobal> Write for Sheet<'_, R> {
+impl<R: Files + Print + Eprint + Clock + AllocGlobal> Write for Sheet<'_, '_, R> {
     fn write(&mut self, buf: &[u8]) -> io::Result<usize> {
         self.make_room();
         match self.put(buf) {

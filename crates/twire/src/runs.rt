@@ -295,7 +295,7 @@ struct FilesWritten<'a> {
 fn finish<'a, R: Files + Print + Eprint + Clock + AllocGlobal>(
     rt: &R,
     read: Inputs<'_, R::File>,
-    mut out: Sheet<'_, R>,
+    mut out: Sheet<'_, '_, R>,
     ended: Result<Ended, Halt>,
     named: NamedSources<'a>,
     files: FilesWritten<'a>,
