@@ -204,7 +204,7 @@ fn sources_of<'a>(first: Named<'a>, further: &'a [&'a str]) -> NamedSources<'a> 
 
 // A run over one text, or over what gives a plan, from the opening of the files to the status.
 fn run_over<'a, R: Files + Input + Print + Eprint + AllocGlobal + Threads + Wait + Clock + Sync>(
-    rt: &R,
+    rt: &'a R,
     named: NamedSources<'a>,
     over: Over<'a>,
     form: Form<'a>,
@@ -242,7 +242,7 @@ fn run_over_both<
     'a,
     R: Files + Input + Print + Eprint + AllocGlobal + Threads + Wait + Clock + Sync,
 >(
-    rt: &R,
+    rt: &'a R,
     named: NamedSources<'a>,
     other: Named<'a>,
     over: OverBoth<'a>,
