@@ -51,7 +51,7 @@ pub fn check<R: Files + Print + Eprint + Clock + AllocGlobal + Threads + Sync, I
     out: &mut O,
     look: Look<'_>,
     extras: Extras,
-    canvas: Option<Canvas<'_>>,
+    canvas: Option<Canvas<'_, '_>>,
 ) -> Result<Ended, Halt> {
     if !(1..=MOST_WORKERS).contains(&look.workers) {
         return Err(Halt::Run(RunError::Workers));

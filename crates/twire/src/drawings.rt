@@ -15,10 +15,10 @@ use waves::{wave_of_bench, wave_of_check};
 
 /// The file that waves are drawn into, and the files that the run reads, none of which it may be.
 #[derive(Clone, Copy)]
-pub struct Canvas<'a> {
+pub struct Canvas<'a, 'i> {
     pub file: &'a str,
     pub extras: Extras,
-    pub read: FilesRead<'a>,
+    pub read: FilesRead<'i>,
 }
 
 /// Draws the fault of an unsafe pair of a plan that was checked.
@@ -27,7 +27,7 @@ pub fn draw_fault<R: Files + Print + Eprint + Clock + AllocGlobal>(
     checked: &Checked,
     pair: Option<u32>,
     status: Status,
-    canvas: Canvas<'_>,
+    canvas: Canvas<'_, '_>,
 ) -> Result<(), Halt> {
     match wave_of_check(rt.alloc(), checked, pair)? {
         Some(wave) => write_wave(rt, wave.as_str(), status, canvas),
@@ -39,7 +39,7 @@ pub fn draw_fault<R: Files + Print + Eprint + Clock + AllocGlobal>(
 pub fn draw_outcome<R: Files + Print + Eprint + Clock + AllocGlobal>(
     rt: &R,
     outcome: &Outcome,
-    canvas: Canvas<'_>,
+    canvas: Canvas<'_, '_>,
 ) -> Result<(), Halt> {
     match outcome {
         Outcome::Played(rehearsal) => {
@@ -51,7 +51,7 @@ pub fn draw_outcome<R: Files + Print + Eprint + Clock + AllocGlobal>(
 }
 
 // The file is left as it is.
-fn say_nothing_to_draw<R: Eprint + AllocGlobal>(rt: &R, canvas: Canvas<'_>) {
+fn say_nothing_to_draw<R: Eprint + AllocGlobal>(rt: &R, canvas: Canvas<'_, '_>) {
     if canvas.extras.hints {
         let hints = on_no_waves(rt.alloc(), canvas.file);
         say(rt, hints, canvas.extras.voice().uncolored());
@@ -63,7 +63,7 @@ fn write_wave<R: Files + Print + Eprint + Clock + AllocGlobal>(
     rt: &R,
     wave: &str,
     status: Status,
-    canvas: Canvas<'_>,
+    canvas: Canvas<'_, '_>,
 ) -> Result<(), Halt> {
     let form = Form::of(Some(canvas.file));
     let mut sheet = Watched::new(Sheet::new(rt, form, canvas.read, canvas.extras.watcher));

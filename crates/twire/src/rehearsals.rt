@@ -50,7 +50,7 @@ pub fn bench_alone<
     out: &mut O,
     play: Play<'_>,
     extras: Extras,
-    canvas: Option<Canvas<'_>>,
+    canvas: Option<Canvas<'_, '_>>,
 ) -> Result<Ended, Halt> {
     let GivenPlan { plan, origins } = plans.find(rt.alloc())?;
     let cert = certificate_of(rt.alloc(), &plan)?;
@@ -87,7 +87,7 @@ pub fn bench<
     out: &mut O,
     play: Play<'_>,
     extras: Extras,
-    canvas: Option<Canvas<'_>>,
+    canvas: Option<Canvas<'_, '_>>,
 ) -> Result<Ended, Halt> {
     let GivenPlan { plan, origins } = plans.find(rt.alloc())?;
     let cert = read_within(rt.alloc(), cert, READS)?;
@@ -165,7 +165,7 @@ fn tell_outcome<R: Files + Print + Eprint + Clock + AllocGlobal, O: Output>(
     out: &mut O,
     play: Play<'_>,
     extras: Extras,
-    canvas: Option<Canvas<'_>>,
+    canvas: Option<Canvas<'_, '_>>,
 ) -> Result<Ended, Halt>
     requires { HasWinners outcome.now }
 {

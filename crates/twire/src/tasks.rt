@@ -219,7 +219,7 @@ impl<'a> Over<'a> {
         sources: &mut Sources<'_, I>,
         out: &mut O,
         extras: Extras,
-        read: FilesRead<'a>,
+        read: FilesRead<'_>,
     ) -> Result<Ended, Halt> {
         let canvas = canvas_of(self.wave(), extras, read);
         match self {
@@ -298,7 +298,7 @@ impl<'a> OverBoth<'a> {
         other: &mut J,
         out: &mut O,
         extras: Extras,
-        read: FilesRead<'a>,
+        read: FilesRead<'_>,
     ) -> Result<Ended, Halt> {
         let alloc = rt.alloc();
         match self {
@@ -344,7 +344,11 @@ impl<'a> OverBoth<'a> {
     }
 }
 
-fn canvas_of<'a>(wave: Option<&'a str>, extras: Extras, read: FilesRead<'a>) -> Option<Canvas<'a>> {
+fn canvas_of<'a, 'i>(
+    wave: Option<&'a str>,
+    extras: Extras,
+    read: FilesRead<'i>,
+) -> Option<Canvas<'a, 'i>> {
     match wave {
         Some(file) => Some(Canvas { file, extras, read }),
         None => None,
