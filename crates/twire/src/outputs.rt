@@ -95,16 +95,16 @@ impl<'a, 'i, R: Files + Print + Eprint + Clock + AllocGlobal> Sheet<'a, 'i, R> {
         read: FilesRead<'i>,
         watcher: Watcher,
     ) -> Sheet<'a, 'i, R> {
-        Sheet::telling(rt, form, read, watcher, None)
+        Sheet::telling(rt, form, read, watcher, false)
     }
 
-    /// The same, and of a long text of this name it is told how much was written, unless it is seen itself.
+    /// The same, and of a certificate, which may be long, it is told how much was written, unless it is seen itself.
     pub fn telling(
         rt: &'a R,
         form: Form<'a>,
         read: FilesRead<'i>,
         watcher: Watcher,
-        what: Option<&'static str>,
+        is_certificate: bool,
     ) -> Sheet<'a, 'i, R> {
         Sheet {
             rt,
@@ -113,7 +113,7 @@ impl<'a, 'i, R: Files + Print + Eprint + Clock + AllocGlobal> Sheet<'a, 'i, R> {
             target: Target::None,
             error: None,
             watcher,
-            count: count_of(form, watcher, what),
+            count: count_of(form, watcher, is_certificate),
         }
     }
 
@@ -203,11 +203,11 @@ impl<R: Files + Print + Eprint + Clock + AllocGlobal> Write for Sheet<'_, '_, R>
     }
 }
 
-fn count_of(form: Form<'_>, watcher: Watcher, what: Option<&'static str>) -> Option<Count> {
-    match (what, form) {
-        (Some(_), Form::Plain) if watcher.sees_report => None,
-        (Some(what), _) => Some(Count::new(watcher, what, None)),
-        (None, _) => None,
+fn count_of(form: Form<'_>, watcher: Watcher, is_certificate: bool) -> Option<Count> {
+    match form {
+        Form::Plain if watcher.sees_report => None,
+        _ if is_certificate => Some(Count::new(watcher, "certificate written", None)),
+        _ => None,
     }
 }
 

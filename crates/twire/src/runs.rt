@@ -217,7 +217,13 @@ fn run_over<'a, R: Files + Input + Print + Eprint + AllocGlobal + Threads + Wait
     let read = FilesRead {
         ids: ids.as_slice(),
     };
-    let mut out = Watched::new(Sheet::telling(rt, form, read, extras.watcher, over.writes_long()));
+    let mut out = Watched::new(Sheet::telling(
+        rt,
+        form,
+        read,
+        extras.watcher,
+        over.writes_certificate(),
+    ));
     let path = named.first.path;
     let ended = over.run(rt, path, &mut sources, &mut out, extras, read);
     let files = FilesWritten {

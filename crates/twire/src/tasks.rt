@@ -254,12 +254,9 @@ impl<'a> Over<'a> {
         }
     }
 
-    /// What the line of progress calls that which is written, where it may be long.
-    pub fn writes_long(self) -> Option<&'static str> {
-        match self {
-            Over::Rewrite(Rewriting::Certify) => Some("certificate written"),
-            _ => None,
-        }
+    /// Whether a certificate is written, which may be long.
+    pub fn writes_certificate(self) -> bool {
+        matches!(self, Over::Rewrite(Rewriting::Certify))
     }
 
     /// What hints say of a run over texts, the first of which has this path.
