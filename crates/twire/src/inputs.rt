@@ -272,38 +272,62 @@ pub struct Inputs<'a, F> {
     pub other: Option<F>,
 }
 
-/// What a run has read that is over these texts, and over a second one.
-pub fn inputs_of<'a, R: Files + Clock + Eprint, S: io::Read + Drop>(
+/// What a run over these texts has read.
+pub fn one_read<'a, R: Files + Clock + Eprint, S: io::Read + Drop>(
     named: NamedSources<'a>,
     sources: Sources<'_, Source<'_, R, R::File, S>>,
-    second: Option<(Named<'a>, Source<'_, R, R::File, S>)>,
 ) -> Inputs<'a, R::File> {
     let Sources {
         mut first,
         mut further,
         ..
     } = sources;
-    let (mut last, mut error) = (named.first, reading_error(&mut first));
-    for (path, text) in named.further.iter().zip(further.iter_mut()) {
-        if text.failed() {
-            (last, error) = (named.further_one(path), reading_error(text));
-        }
+    let (last, error) = last_read(named, &mut first, further.as_mut_slice());
+    Inputs {
+        last,
+        error,
+        other: file_of(first),
     }
-    let Some((second, mut source)) = second else {
-        return Inputs {
-            last,
-            error,
-            other: file_of(first),
-        };
+}
+
+/// What a run over these texts and a second one has read.
+pub fn both_read<'a, R: Files + Clock + Eprint, S: io::Read + Drop>(
+    named: NamedSources<'a>,
+    sources: Sources<'_, Source<'_, R, R::File, S>>,
+    second: Named<'a>,
+    mut source: Source<'_, R, R::File, S>,
+) -> Inputs<'a, R::File> {
+    let Sources {
+        mut first,
+        mut further,
+        ..
+    } = sources;
+    let (last, error) = last_read(named, &mut first, further.as_mut_slice());
+    let (last, error) = if source.failed() {
+        (second, reading_error(&mut source))
+    } else {
+        (last, error)
     };
-    if source.failed() {
-        (last, error) = (second, reading_error(&mut source));
-    }
     Inputs {
         last,
         error,
         other: file_of(source),
     }
+}
+
+// Which of these texts was read last, as far as a run came, and why no further.
+fn last_read<'a, R: Clock + Eprint, F: io::Read, S: io::Read>(
+    named: NamedSources<'a>,
+    first: &mut Source<'_, R, F, S>,
+    further: &mut [Source<'_, R, F, S>],
+) -> (Named<'a>, Option<io::Error>) {
+    let (mut last, mut error) = (named.first, reading_error(first));
+    for (path, text) in named.further.iter().zip(further.iter_mut()) {
+        if text.failed() {
+            (last, error) = (named.further_one(path), reading_error(text));
+        }
+    }
+    (last, error)
 }
 
 fn file_of<R, F: Drop, S: Drop>(source: Source<'_, R, F, S>) -> Option<F> {

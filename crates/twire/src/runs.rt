@@ -3,7 +3,8 @@
 use crate::advice::{About, Closing, advise, no_timescale};
 use crate::endings::{Ended, Halt, Remark};
 use crate::inputs::{
-    FilesRead, Inputs, NamedSources, inputs_of, is_standard_input, open_both, open_sources,
+    FilesRead, Inputs, NamedSources, both_read, is_standard_input, one_read, open_both,
+    open_sources,
 };
 use crate::outputs::{Form, Sheet, Style};
 use crate::progress::Watcher;
@@ -230,7 +231,7 @@ fn run_over<'a, R: Files + Input + Print + Eprint + AllocGlobal + Threads + Wait
         output: form.path(),
         wave: over.wave(),
     };
-    let read = inputs_of(named, sources, None);
+    let read = one_read(named, sources);
     finish(
         rt,
         read,
@@ -276,7 +277,7 @@ fn run_over_both<
         output: form.path(),
         wave: over.wave(),
     };
-    let read = inputs_of(named, sources, Some((other, another)));
+    let read = both_read(named, sources, other, another);
     finish(
         rt,
         read,
