@@ -198,7 +198,7 @@ run "a missing second file" expand devices.brief missing.brief pch.brief
 run "a missing further file" check devices.brief --with missing.brief
 run "a folder in the place of a brief" expand devices.brief .
 run "a missing certificate" verify devices.brief missing.cert --with bmc.brief --with pch.brief
-run "standard input that is closed" expand devices.brief - <&-
+run "closed standard input" expand devices.brief - <&-
 cp board.plan kept.plan
 run "a missing file, and a file to be written" expand devices.brief missing.brief -o kept.plan
 cp board.plan want_out
@@ -296,19 +296,6 @@ hint: second.brief:7: controller 'y' lists no message
 hint: the plan has no two participants that may start together: no pair was
 hint: looked at"
 run "likely mistakes of two files" check first.brief --with second.brief --hints always
-want 0 '{"kind":"lint","code":"same address","names":["c","a"],"places":[{"file":"second.brief","line":2},{"file":"first.brief","line":2}]}
-{"kind":"lint","code":"reserved address","names":["d"],"places":[{"file":"second.brief","line":3}]}
-{"kind":"lint","code":"unused device","names":["d"],"places":[{"file":"second.brief","line":3}]}
-{"kind":"lint","code":"unused byte","names":["idle"],"places":[{"file":"first.brief","line":4}]}
-{"kind":"lint","code":"unsent message","names":["family_1"],"places":[{"file":"second.brief","line":4}]}
-{"kind":"lint","code":"unsent message","names":["family_3"],"places":[{"file":"second.brief","line":4}]}
-{"kind":"lint","code":"unsent message","names":["other"],"places":[{"file":"second.brief","line":5}]}
-{"kind":"lint","code":"idle controller","names":["y"],"places":[{"file":"second.brief","line":7}]}
-{"kind":"plan","safe":true,"pairs":0,"unsafe_pairs":0}' ""
-run "the same as objects" check first.brief --with second.brief --format json
-"$twire" print first.brief --with second.brief -o odd.plan
-want 0 '{"kind":"plan","safe":true,"pairs":0,"unsafe_pairs":0}' ""
-run "none of a plan text" check odd.plan --format json
 lines unsent.brief "brief 1" "message page write 0x50 any*1..32 ;"
 want 0 "safe: 0 pairs" "hint: unsent.brief:2: no controller lists messages 'page_1' to 'page_32', which
 hint: were not looked at

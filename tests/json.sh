@@ -339,6 +339,25 @@ run "a hint that has more than 80 columns as a line is one object" 2 "" '{"kind"
 {"kind":"hint","form":"marks","text":"                       ^^^"}
 {"kind":"hint","form":"sentence","text":"a count is a number from 1 to 255, or two of them as '"'2..4'"', the smaller first"}' \
     check --format json --hints always p.plan
+# What is likely a mistake in briefs, before the last line; of a plan text there is none.
+printf '%s\n' "brief 1" "device a 0x50 ;" "device b 0b1010xxx ;" "byte used 0x01 ;  byte idle 0x02 ;" \
+    "message m write a used ;" >first.brief
+printf '%s\n' "brief 1" "device c 0x50 ;" "device d 0x7C ;" "message family write c any*1..3 ;" \
+    "message other write b 0x05 ;" "message pages write b any*1..2 ;" "controller x m family_2 ;" "controller y ;" >second.brief
+run "likely mistakes" 0 '{"kind":"lint","code":"same address","names":["c","a"],"places":[{"file":"second.brief","line":2},{"file":"first.brief","line":2}]}
+{"kind":"lint","code":"reserved address","names":["d"],"places":[{"file":"second.brief","line":3}]}
+{"kind":"lint","code":"unused device","names":["d"],"places":[{"file":"second.brief","line":3}]}
+{"kind":"lint","code":"unused byte","names":["idle"],"places":[{"file":"first.brief","line":4}]}
+{"kind":"lint","code":"unsent message","names":["family_1"],"places":[{"file":"second.brief","line":4}]}
+{"kind":"lint","code":"unsent message","names":["family_3"],"places":[{"file":"second.brief","line":4}]}
+{"kind":"lint","code":"unsent message","names":["other"],"places":[{"file":"second.brief","line":5}]}
+{"kind":"lint","code":"unsent message","names":["pages_1","pages_2"],"places":[{"file":"second.brief","line":6}]}
+{"kind":"lint","code":"idle controller","names":["y"],"places":[{"file":"second.brief","line":8}]}
+{"kind":"plan","safe":true,"pairs":0,"unsafe_pairs":0}' "" check first.brief --with second.brief --format json
+"$twire" print first.brief --with second.brief -o odd.plan
+run "likely mistakes of a plan text" 0 '{"kind":"plan","safe":true,"pairs":0,"unsafe_pairs":0}' "" check odd.plan --format json
+alike check first.brief --with second.brief
+
 run "a file in place of a report stays" 0 "plan 1" "" print --format json - <<<'plan 2'
 run "no third form" 2 "" "error: invalid value 'xml' for '--format <HOW>'
   [possible values: text, json]
