@@ -90,7 +90,7 @@ done
 
 # Each kind of object has been met, and with --explain each that holds more then.
 sort -u kinds >met
-printf '%s\n' address bus certificate "certificate explained" count hint order pair "pair explained" participant plan "plan explained" \
+printf '%s\n' address bus certificate "certificate explained" count hint lint order pair "pair explained" participant plan "plan explained" \
     refusal signal signals too_few total transaction "transaction explained" transactions "transactions explained" wire "wire explained" won >wanted
 if diff -u --label wanted --label met wanted met; then
     passed=$((passed + 1))
