@@ -177,13 +177,14 @@ const IN_TEXTS: [&str; 20] = [
 const EXPECTED: [&str; 4] = ["command", "var token", "code", "change"];
 const OPEN: [&str; 5] = ["command", "var", "enddefinitions", "block", "change"];
 
-// The place that a refusal has besides its line: a token has one, and the end of a dump leaves something open.
+// The place that a refusal has besides its line: a token has one, and the end of a dump leaves something open. That of a plan or
+// a brief is no part of what is told: the plain programs know the line alone.
 fn place(fields: &mut Fields, code: &str) -> Result<String, String> {
     match code {
-        "P1" | "P5" => of_token(fields),
+        "P1" | "P5" => of_token(fields).map(|_| String::new()),
         "P2" | "P3" | "P4" | "P6" | "P7" | "P8" => {
-            let place = of_token(fields)?;
-            one_of(&IN_TEXTS, &fields.text("expected")?).map(|()| place)
+            of_token(fields)?;
+            one_of(&IN_TEXTS, &fields.text("expected")?).map(|()| String::new())
         }
         "V2" | "V3" => {
             let place = of_token(fields)?;
