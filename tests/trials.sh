@@ -4,7 +4,9 @@
 # 'N passed, M failed', and the exit status is 1 where a run answers something else than it should, or where cases or runs
 # were lost: their numbers stand in tests/trials/expected.txt.
 #
-#     tests/trials.sh [CHANGED [SEED]]     how many cases are changed, a tenth as many plans made up, and from which seed
+#     tests/trials.sh [CHANGED [SEED [SEVERAL]]]
+#
+# says how many cases are changed, a tenth as many plans made up, from which seed, and how many briefs are cut into files.
 #
 # It runs the launcher at the top of the repository, or the program that TWIRE names, and the program crates/calls, or the one
 # that CALLS names. Memory can be refused where both are proved; of a trial build, which takes many times as long, it makes one

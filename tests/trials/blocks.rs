@@ -7,7 +7,7 @@ use crate::texts::{text_of, words_of};
 use crate::unreadable::Unreadable;
 
 /// What a case file has between two lines that begin with `=== `: a name, a command, and texts. The two files that the
-/// command reads, what it writes, its refusal and its hints are there or not; rows stand in place of what it writes, its
+/// command reads, further briefs, what it writes, its refusal and its hints are there or not; rows stand in place of what it writes, its
 /// refusal and its status, and have the same hints.
 #[derive(Default)]
 struct Block<'a> {
@@ -16,6 +16,7 @@ struct Block<'a> {
     command: &'a str,
     first: Option<&'a str>,
     second: Option<&'a str>,
+    further: Vec<Option<&'a str>>,
     out: Option<&'a str>,
     refusal: &'a str,
     hints: Option<&'a str>,
@@ -63,6 +64,8 @@ impl<'a> Block<'a> {
         };
         match title {
             "plan" | "brief" => self.first = lines,
+            "brief 2" if self.further.is_empty() => self.further.push(lines),
+            "brief 3" if self.further.len() == 1 => self.further.push(lines),
             "certificate" | "dump" | "script" => self.second = lines,
             "output" => self.out = lines,
             "refusal" => self.refusal = refusal_of(lines.unwrap_or("").trim())?,
@@ -120,7 +123,9 @@ impl<'a> Block<'a> {
             Command::Decode { .. } => (self.second, None),
             _ => (self.first, self.second),
         };
-        Ok(Asked { command, first: file_of(first, word)?, second: file_of(second, word)? })
+        let further = self.further.iter().map(|lines| file_of(*lines, word));
+        let further = further.collect::<Result<_, _>>()?;
+        Ok(Asked { command, first: file_of(first, word)?, second: file_of(second, word)?, further })
     }
 }
 

@@ -2,7 +2,8 @@
 
 use crate::blocks::cases_of;
 use crate::commands::Command;
-use crate::plain::Answer;
+use crate::plain::{self, Answer, File};
+use std::borrow::Cow;
 use std::fs;
 use std::path::Path;
 
@@ -14,6 +15,58 @@ pub struct Asked {
     pub first: Vec<u8>,
     /// The certificate, the capture or the script.
     pub second: Vec<u8>,
+    /// The briefs after the first one, which make one plan with it.
+    pub further: Vec<Vec<u8>>,
+}
+
+/// The files that the programs read, as they are named on command lines, and so in hints.
+pub const NAMES: [&str; 2] = ["plan", "dump"];
+
+/// The names of the briefs after the first one, as they are named on command lines, and so in refusals.
+pub const FURTHER: [&str; 2] = ["brief2", "brief3"];
+
+impl Asked {
+    /// A command over one text, and the second file where it reads one.
+    pub fn of_one(command: Command, first: Vec<u8>, second: Vec<u8>) -> Asked {
+        Asked { command, first, second, further: Vec::new() }
+    }
+
+    /// A command over briefs that make one plan.
+    pub fn of_briefs(command: Command, briefs: Vec<Vec<u8>>) -> Asked {
+        let mut briefs = briefs.into_iter();
+        Asked { command, first: briefs.next().unwrap_or_default(), second: Vec::new(), further: briefs.collect() }
+    }
+
+    /// The briefs, by their names.
+    pub fn briefs(&self) -> Vec<File<'_>> {
+        let first = File { name: NAMES[0], text: &self.first };
+        let further = FURTHER.iter().zip(&self.further).map(|(name, text)| File { name, text });
+        std::iter::once(first).chain(further).collect()
+    }
+
+    /// The text that gives the plan: that of the one file, or what several briefs mean, in canonical spelling.
+    ///
+    /// # Errors
+    ///
+    /// The refusal of the first brief of several that is refused. A text that stands alone is not looked at.
+    pub fn plan(&self) -> Result<Cow<'_, [u8]>, Answer> {
+        if self.further.is_empty() {
+            return Ok(Cow::Borrowed(&self.first));
+        }
+        match plain::expand(&self.briefs()) {
+            answer if answer.status == 0 => Ok(Cow::Owned(answer.out.into_bytes())),
+            refused => Err(refused),
+        }
+    }
+
+    /// What the program reads from the second file that it names after its options: a certificate, a capture or a script, or the
+    /// second of several briefs that are expanded.
+    pub fn second_read(&self) -> Option<&[u8]> {
+        match self.command {
+            Command::Expand => self.further.first().map(Vec::as_slice),
+            _ => self.command.reads_two().then_some(&self.second),
+        }
+    }
 }
 
 /// A case of a file, and what is to be answered.

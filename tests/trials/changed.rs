@@ -5,8 +5,7 @@ use crate::crew::Crew;
 use crate::decodings::decoding_fault;
 use crate::desks::Desk;
 use crate::disagreements::{Disagreement, Score};
-use crate::plain;
-use crate::plainly::{said_plainly, spelling_of};
+use crate::plainly::{plain_spelling_of, said_plainly, spelling_of};
 use crate::seeds::Seeds;
 use crate::tallies::{kind_of, Tallies};
 use std::io;
@@ -65,18 +64,19 @@ fn compare(desk: &mut Desk, number: u64, asked: &Asked) -> io::Result<(String, O
 
 // A text that the plain programs refuse as a plan was refused by the command too, which reads it as `print` does.
 fn spelling_fault(desk: &mut Desk, asked: &Asked) -> io::Result<Option<&'static str>> {
-    let spelling = plain::spelling(&asked.first);
+    let spelling = plain_spelling_of(asked);
     let is_spelt = spelling.is_empty() || spelling == spelling_of(desk, asked)?;
     Ok((!is_spelt).then_some("the plan is spelt otherwise"))
 }
 
 fn shown(number: u64, asked: &Asked) -> String {
-    let Asked { command, first, second } = asked;
+    let Asked { command, first, second, .. } = asked;
     let (first, second) = (readable(first), readable(second));
     format!("changed case {number}: {command:?}\n-- first file\n{first}\n-- second file\n{second}")
 }
 
-fn readable(bytes: &[u8]) -> String {
+/// The text of these bytes, where each that is no sign of ASCII is shown by its number.
+pub fn readable(bytes: &[u8]) -> String {
     let shown = |byte: &u8| match *byte {
         b'\n' => "\n".to_owned(),
         byte if byte.is_ascii_graphic() || byte == b' ' => char::from(byte).to_string(),

@@ -19,10 +19,9 @@ pub fn decoding_fault(desk: &mut Desk, name: &str, asked: &Asked) -> io::Result<
     let Command::Capture { scl, sda } = &asked.command else {
         return Ok(None);
     };
-    let decode = |summary| Asked {
-        command: Command::Decode { scl: scl.clone(), sda: sda.clone(), summary },
-        first: asked.second.clone(),
-        second: Vec::new(),
+    let decode = |summary| {
+        let command = Command::Decode { scl: scl.clone(), sda: sda.clone(), summary };
+        Asked::of_one(command, asked.second.clone(), Vec::new())
     };
     let mut tried = vec![(asked.clone(), in_objects(true))];
     for summary in [false, true] {
@@ -84,7 +83,7 @@ pub fn try_cuts(crew: &mut Crew, score: &mut Score, step: usize) -> io::Result<(
     let tried = crew.each(&ends, |desk, end| {
         let (scl, sda) = names();
         let second = DUMP.as_bytes()[..*end].to_vec();
-        let asked = Asked { command: Command::Capture { scl, sda }, first: PLAN.into(), second };
+        let asked = Asked::of_one(Command::Capture { scl, sda }, PLAN.into(), second);
         decoding_fault(desk, &format!("a dump that ends behind {end} bytes"), &asked)
     })?;
     println!("cut dumps that are decoded: {}", tried.len());

@@ -1,6 +1,6 @@
 //! What can be done for a case: by twire, or by the program `calls`, which makes the calls that no command of twire makes.
 
-use crate::cases::Asked;
+use crate::cases::{Asked, FURTHER, NAMES};
 use crate::commands::Command;
 
 /// What is done for a case.
@@ -56,9 +56,10 @@ pub enum Quiet {
 impl Quiet {
     pub const ALL: [Quiet; 5] = [Quiet::Plan, Quiet::Table, Quiet::Certificate, Quiet::Dump, Quiet::Seats];
 
-    /// What they are made on, for a case of this command.
-    pub fn of(command: &Command) -> Option<Quiet> {
-        match command {
+    /// What they are made on, for what is asked of one text.
+    pub fn of(asked: &Asked) -> Option<Quiet> {
+        match &asked.command {
+            _ if !asked.further.is_empty() => None,
             Command::Check { .. } => Some(Quiet::Plan),
             Command::Certify => Some(Quiet::Table),
             Command::Verify => Some(Quiet::Certificate),
@@ -79,9 +80,10 @@ impl Quiet {
     }
 }
 
-/// The calls that say what this command says.
-pub fn calls_of(command: &Command) -> &'static [Call] {
-    match command {
+/// The calls that say what this command says. They read one text.
+pub fn calls_of(asked: &Asked) -> &'static [Call] {
+    match &asked.command {
+        _ if !asked.further.is_empty() => &[],
         Command::Certify => &[Call::Table, Call::TableBy(1), Call::TableBy(2), Call::TableBy(8)],
         Command::Verify => &[Call::Accept, Call::Reprint, Call::AcceptPlan],
         Command::Print => &[Call::Rebuild],
@@ -96,19 +98,18 @@ pub enum Program {
     Calls,
 }
 
-/// A command line in parts: the program, what stands before the names of the files, how many files it names, and what stands
-/// after them.
+/// A command line in parts: the program, what stands before the names of the files, these names, and what stands after them.
 #[derive(Debug)]
 pub struct Line {
     pub program: Program,
     pub before: Vec<String>,
-    pub files: usize,
+    pub files: Vec<&'static str>,
     pub after: Vec<String>,
 }
 
 /// The command line of a deed.
 pub fn line_of(deed: Deed, asked: &Asked) -> Line {
-    match deed {
+    let line = match deed {
         Deed::Command | Deed::OfBrief => command_line(&asked.command),
         Deed::Hinted => hinted_line(&asked.command),
         Deed::Objects { hints, explain } => objects_line(&asked.command, hints, explain),
@@ -117,7 +118,20 @@ pub fn line_of(deed: Deed, asked: &Asked) -> Line {
         Deed::Call(call) => call_line(call),
         Deed::Lists => calls_line("lists", 2, words_of(&asked.command)),
         Deed::Quiet(quiet) => calls_line(quiet.name(), 2, words_of(&asked.command)),
+    };
+    with_further(line, asked)
+}
+
+// The briefs after the first one stand behind it, or each after an option.
+fn with_further(mut line: Line, asked: &Asked) -> Line {
+    let names = FURTHER.into_iter().take(asked.further.len());
+    match asked.command {
+        Command::Expand => line.files.extend(names),
+        _ => {
+            line.before.splice(1..1, names.map(|name| format!("--with={name}")));
+        }
     }
+    line
 }
 
 fn command_line(command: &Command) -> Line {
@@ -165,11 +179,15 @@ fn twire_line(name: &str, options: Vec<String>, files: usize) -> Line {
     let mut before = vec![name.to_owned()];
     before.extend(options);
     before.push("--".to_owned());
-    Line { program: Program::Twire, before, files, after: vec![] }
+    Line { program: Program::Twire, before, files: names(files), after: vec![] }
 }
 
 fn calls_line(name: &str, files: usize, after: Vec<String>) -> Line {
-    Line { program: Program::Calls, before: vec![name.to_owned()], files, after }
+    Line { program: Program::Calls, before: vec![name.to_owned()], files: names(files), after }
+}
+
+fn names(files: usize) -> Vec<&'static str> {
+    NAMES.into_iter().take(files).collect()
 }
 
 fn call_line(call: Call) -> Line {

@@ -1,6 +1,6 @@
 //! Desks, at each of which one program runs after the other. A desk has a folder with the files that the programs read.
 
-use crate::cases::Asked;
+use crate::cases::{Asked, FURTHER, NAMES};
 use crate::commands as words;
 use crate::deeds::{line_of, Deed, Line, Program};
 use crate::plain::Answer;
@@ -26,15 +26,13 @@ pub struct Said {
     pub told: Told,
 }
 
-// The files that the programs read, as they are named on command lines, and so in hints.
-const NAMES: [&str; 2] = ["plan", "dump"];
-
 /// A folder in which one program runs at a time.
 pub struct Desk {
     programs: Programs,
     folder: PathBuf,
     first: Held,
     second: Held,
+    further: [Held; 2],
     report: PathBuf,
 }
 
@@ -67,6 +65,7 @@ impl Desk {
             folder: folder.to_owned(),
             first: held(NAMES[0]),
             second: held(NAMES[1]),
+            further: FURTHER.map(held),
             report: folder.join("report"),
         })
     }
@@ -95,12 +94,15 @@ impl Desk {
             _ => self.first.hold(&asked.first)?,
         }
         self.second.hold(&asked.second)?;
+        for (held, text) in self.further.iter_mut().zip(&asked.further) {
+            held.hold(text)?;
+        }
         self.run_line(&line_of(deed, asked), setup)
     }
 
     // A brief of the plan in its place, where it has one. What it means is compared with the plan when briefs are tried.
     fn hold_brief(&mut self, asked: &Asked) -> io::Result<()> {
-        let brief = Asked { command: words::Command::Brief, first: asked.first.clone(), second: Vec::new() };
+        let brief = Asked::of_one(words::Command::Brief, asked.first.clone(), Vec::new());
         let answer = self.answer(&brief)?;
         self.first.hold(if answer.status == 0 { answer.out.as_bytes() } else { &asked.first })
     }
@@ -117,11 +119,11 @@ impl Desk {
             Program::Calls => &self.programs.calls,
         };
         let mut command = Command::new(program);
-        command.args(&line.before).args(NAMES.iter().take(line.files)).args(&line.after);
+        command.args(&line.before).args(&line.files).args(&line.after);
         command.current_dir(&self.folder);
         command.stdin(Stdio::null()).env_clear();
         command.env("LD_PRELOAD", &self.programs.devices);
-        command.env("TRIAL_FIRST", NAMES[0]).env("TRIAL_SECOND", NAMES[1]);
+        command.env("TRIAL_FIRST", NAMES[0]).env("TRIAL_SECOND", line.files.get(1).unwrap_or(&NAMES[1]));
         command.env("TRIAL_REPORT", &self.report).env("TRIAL_SECONDS", SECONDS);
         setup.put(&mut command);
         command

@@ -74,7 +74,7 @@ pub fn try_devices(crew: &mut Crew, score: &mut Score, takes_refusals: bool) -> 
 }
 
 fn plan_asked() -> Asked {
-    Asked { command: Command::Check { workers: 1 }, first: PLAN.into(), second: Vec::new() }
+    Asked::of_one(Command::Check { workers: 1 }, PLAN.into(), Vec::new())
 }
 
 fn check(desk: &mut Desk, setup: Setup) -> io::Result<Said> {
@@ -149,7 +149,7 @@ fn no_turn_left_to_write(desk: &mut Desk) -> io::Result<Option<Disagreement>> {
 // The next read would fail, and is not made.
 fn nothing_is_read_after_a_refusal(desk: &mut Desk) -> io::Result<Option<Disagreement>> {
     let command = Command::Capture { scl: "scl".to_owned(), sda: "sda".to_owned() };
-    let asked = Asked { command, first: PLAN.into(), second: REFUSED_DUMP.into() };
+    let asked = Asked::of_one(command, PLAN.into(), REFUSED_DUMP.into());
     let said = desk.run(Deed::Command, &asked, &Setup { fail_at: [0, 2], ..Setup::WHOLE })?;
     let is_right = said.told.is_sound() && said.told.second.calls == 1;
     Ok(judged("a capture that is refused in its first read", refused("V2 line 1", ""), &said, is_right))
@@ -194,7 +194,7 @@ fn memory_that_suffices(desk: &mut Desk) -> io::Result<Option<Disagreement>> {
 
 // What the program `calls` says of memory, where it needs no text.
 fn calls_line(desk: &mut Desk, name: &str) -> io::Result<Option<Disagreement>> {
-    let line = Line { program: Program::Calls, before: vec![name.to_owned()], files: 0, after: vec![] };
+    let line = Line { program: Program::Calls, before: vec![name.to_owned()], files: vec![], after: vec![] };
     let said = desk.run_line(&line, &Setup::WHOLE)?;
     let wanted = Answer { status: 0, out: format!("{name}\n"), refusal: String::new() };
     Ok(judged(&format!("calls {name}"), wanted, &said, true))

@@ -105,7 +105,7 @@ fn asked_of(made: Made, dice: &mut Dice) -> Asked {
 }
 
 fn asked(command: Command, first: String, second: String) -> Asked {
-    Asked { command, first: first.into_bytes(), second: second.into_bytes() }
+    Asked::of_one(command, first.into_bytes(), second.into_bytes())
 }
 
 fn captured(dice: &mut Dice, dump: fn(&str, &mut Dice) -> String) -> Asked {

@@ -1,8 +1,8 @@
 //! Tries twire: runs its cases, each a command with the files that it reads and what it is to write, over devices that fail,
 //! that give or take a few bytes, or that signals interrupt, by several workers, by calls of the libraries, while memory is
 //! refused, and by plain programs that were written from the documents. Then it changes bytes and words of their files, and
-//! compares what twire says with the plain programs; and it makes up plans, which are to come back from the briefs that twire
-//! writes of them. All these come from a seed, so a run can be repeated.
+//! compares what twire says with the plain programs; it makes up plans, which are to come back from the briefs that twire writes
+//! of them; and it cuts briefs into several files. All these come from a seed, so a run can be repeated.
 //!
 //! tests/trials.sh builds it and runs it; docs/TESTING.md says what it tries, tests/cases/README.md how cases are written.
 
@@ -35,6 +35,7 @@ mod runs;
 mod safe_plans;
 mod seeds;
 mod setups;
+mod several;
 mod tallies;
 mod texts;
 mod unreadable;
@@ -55,6 +56,7 @@ use plainly::try_plainly;
 use quiet::try_quiet;
 use returns::try_returns;
 use runs::{judge, Run};
+use several::try_several;
 use std::error::Error;
 use std::io;
 use std::path::PathBuf;
@@ -69,6 +71,7 @@ struct Orders {
     work: PathBuf,
     changed: u64,
     seed: u64,
+    several: u64,
     // whether the numbers are others than those of the suite
     is_by_hand: bool,
 }
@@ -77,6 +80,9 @@ const CHANGED: u64 = 25_000;
 
 // Of plans that are made up, to be expanded from their briefs, there is one for so many changed cases.
 const EACH: u64 = 10;
+
+// How many briefs are cut into several files.
+const SEVERAL: u64 = 10_000;
 
 const SEED: u64 = 20_261_125;
 
@@ -100,7 +106,7 @@ fn main() -> ExitCode {
 fn orders() -> Result<Orders, Box<dyn Error>> {
     let words: Vec<String> = std::env::args().skip(1).collect();
     let [twire, calls, devices, cases, work, numbers @ ..] = words.as_slice() else {
-        return Err("usage: trials TWIRE CALLS DEVICES CASES_FOLDER WORK_FOLDER [CHANGED [SEED]]".into());
+        return Err("usage: trials TWIRE CALLS DEVICES CASES_FOLDER WORK_FOLDER [CHANGED [SEED [SEVERAL]]]".into());
     };
     let number_at = |k: usize| numbers.get(k).map(|word| word.parse::<u64>()).transpose();
     Ok(Orders {
@@ -109,6 +115,7 @@ fn orders() -> Result<Orders, Box<dyn Error>> {
         work: work.into(),
         changed: number_at(0)?.unwrap_or(CHANGED),
         seed: number_at(1)?.unwrap_or(SEED),
+        several: number_at(2)?.unwrap_or(SEVERAL),
         is_by_hand: !numbers.is_empty(),
     })
 }
@@ -132,6 +139,8 @@ fn try_all(orders: &Orders) -> Result<Score, Box<dyn Error>> {
     let lot = Lot { number: orders.changed / step as u64, seed: orders.seed };
     try_changed(&mut crew, &mut score, &cases, lot, orders.is_by_hand)?;
     try_returns(&mut crew, &mut score, Lot { number: lot.number / EACH, ..lot })?;
+    let briefs = Lot { number: orders.several / step as u64, ..lot };
+    try_several(&mut crew, &mut score, &cases, briefs, orders.is_by_hand)?;
     try_generated(&mut crew, &mut score, orders.seed, step)?;
     try_sets(&mut crew, &mut score, step)?;
     try_decodings(&mut crew, &mut score, &cases, step)?;

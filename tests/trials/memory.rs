@@ -1,6 +1,6 @@
 //! Cases while memory is scarce: allocations of a case are refused in turn, each alone, and with all that come after it.
 
-use crate::cases::Case;
+use crate::cases::{Asked, Case};
 use crate::commands::Command;
 use crate::crew::Crew;
 use crate::deeds::{calls_of, Deed};
@@ -15,7 +15,7 @@ pub fn try_scarce(crew: &mut Crew, score: &mut Score, cases: &[Case]) -> io::Res
     let mut tasks = Vec::new();
     for (place, case) in cases.iter().enumerate() {
         let first = 1 + place as u64 % DISTANCE;
-        tasks.extend(deeds_of(&case.asked.command).into_iter().map(|deed| Task { case, deed, first }));
+        tasks.extend(deeds_of(&case.asked).into_iter().map(|deed| Task { case, deed, first }));
     }
     let tried = crew.each(&tasks, try_task)?;
     let (mut refused, mut out_of_memory) = (0, 0);
@@ -46,15 +46,17 @@ fn is_memory(refusal: &str) -> bool {
 }
 
 // What is done for a case.
-fn deeds_of(command: &Command) -> Vec<Deed> {
-    let mut deeds = match command {
+fn deeds_of(asked: &Asked) -> Vec<Deed> {
+    let mut deeds = match &asked.command {
         Command::Bench { starters, .. } if starters.split(',').count() > MOST_STARTERS => return Vec::new(),
         Command::Check { workers: 1 } => vec![Deed::Command, Deed::By(2)],
-        Command::Capture { .. } => vec![Deed::Command, OBJECTS, Deed::Lists],
-        Command::Order | Command::Verify | Command::Decode { .. } => vec![Deed::Command, OBJECTS],
+        Command::Capture { .. } if asked.further.is_empty() => vec![Deed::Command, OBJECTS, Deed::Lists],
+        Command::Capture { .. } | Command::Order | Command::Verify | Command::Decode { .. } => {
+            vec![Deed::Command, OBJECTS]
+        }
         _ => vec![Deed::Command],
     };
-    deeds.extend(calls_of(command).iter().map(|call| Deed::Call(*call)));
+    deeds.extend(calls_of(asked).iter().map(|call| Deed::Call(*call)));
     deeds
 }
 

@@ -32,7 +32,7 @@ pub fn due_of(asked: &Asked, explain: bool) -> Option<Vec<Value>> {
     };
     match &asked.command {
         Command::Check { .. } | Command::Order | Command::Verify | Command::Bench { .. } | Command::Capture { .. } => {
-            Some(with_plan(&asked.first, of_plan).unwrap_or_default())
+            Some(of_given(asked, of_plan))
         }
         Command::Decode { scl, sda, summary } => {
             let decoded = decoded(&asked.first, scl, sda);
@@ -42,13 +42,19 @@ pub fn due_of(asked: &Asked, explain: bool) -> Option<Vec<Value>> {
     }
 }
 
+// What is due of the plan, and nothing where it is refused.
+fn of_given(asked: &Asked, of_plan: impl FnOnce(&Participants) -> Vec<Value>) -> Vec<Value> {
+    let plan = asked.plan().unwrap_or_default();
+    with_plan(&plan, of_plan).unwrap_or_default()
+}
+
 /// The objects of a dump, byte by byte, before it is refused: of a summary none.
 pub fn so_far_of(asked: &Asked) -> Vec<Value> {
     match &asked.command {
         Command::Capture { scl, sda } => {
             let transactions = decoded_so_far(&asked.second, scl, sda);
             let of_plan = |plan: &Participants| transactions.iter().map(|it| of_explained(plan, it, None)).collect();
-            with_plan(&asked.first, of_plan).unwrap_or_default()
+            of_given(asked, of_plan)
         }
         Command::Decode { scl, sda, summary: false } => {
             decoded_so_far(&asked.first, scl, sda).iter().map(of_decoded).collect()

@@ -34,7 +34,7 @@ fn the_objects_stand_for_the_lines_of_the_cases() {
 }
 
 fn asked(command: Command, plan: &str, cert: &str) -> Asked {
-    Asked { command, first: plan.into(), second: cert.into() }
+    Asked::of_one(command, plan.into(), cert.into())
 }
 
 fn check(plan: &str) -> Vec<String> {

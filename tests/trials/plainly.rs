@@ -12,14 +12,18 @@ pub fn try_plainly(desk: &mut Desk, case: &Case) -> io::Result<Option<Disagreeme
     let spelling = spelling_of(desk, &case.asked)?;
     let wanted = case.wanted.clone();
     let found = said_plainly(&case.asked);
-    let is_spelt = plain::spelling(&case.asked.first) == spelling;
+    let is_spelt = plain_spelling_of(&case.asked) == spelling;
     let fault = (!is_spelt).then_some("the plan is spelt otherwise");
     Ok(Disagreement::of(case, "plainly", wanted, &found, fault))
 }
 
-/// What the plain program says.
+/// What the plain program says: over several briefs what it says over their plan.
 pub fn said_plainly(asked: &Asked) -> Answer {
-    let (first, second) = (asked.first.as_slice(), asked.second.as_slice());
+    let plan = match asked.plan() {
+        Ok(plan) => plan,
+        Err(refused) => return refused,
+    };
+    let (first, second) = (plan.as_ref(), asked.second.as_slice());
     match &asked.command {
         Command::Check { .. } => plain::check(first),
         Command::Certify => plain::certify(first),
@@ -30,7 +34,7 @@ pub fn said_plainly(asked: &Asked) -> Answer {
         Command::Bench { starters, fill, answers } => plain::bench(first, second, starters, *fill, answers),
         Command::Order => plain::order(first),
         Command::Print => spelt_plainly(first),
-        Command::Expand => plain::expand(first),
+        Command::Expand => plain::expand(&asked.briefs()),
         Command::Brief => plain::brief(first),
         Command::Seats { starters, answers } => plain::seats(first, second, starters, answers),
     }
@@ -38,7 +42,8 @@ pub fn said_plainly(asked: &Asked) -> Answer {
 
 /// What the plain program says of a dump, byte by byte, before it is refused: of a summary nothing.
 pub fn said_so_far(asked: &Asked) -> String {
-    let (first, second) = (asked.first.as_slice(), asked.second.as_slice());
+    let plan = asked.plan().unwrap_or_default();
+    let (first, second) = (plan.as_ref(), asked.second.as_slice());
     match &asked.command {
         Command::Capture { scl, sda } => plain::captured_so_far(first, second, scl, sda),
         Command::Decode { scl, sda, summary: false } => plain::decoded_lines_so_far(first, scl, sda),
@@ -57,9 +62,14 @@ pub fn place_of(asked: &Asked) -> Option<(usize, usize)> {
 
 /// How twire spells the plan, and nothing where it is none.
 pub fn spelling_of(desk: &mut Desk, asked: &Asked) -> io::Result<String> {
-    let print = Asked { command: Command::Print, first: asked.first.clone(), second: asked.second.clone() };
+    let print = Asked { command: Command::Print, ..asked.clone() };
     let answer = desk.answer(&print)?;
     Ok(if answer.status == 0 { answer.out } else { String::new() })
+}
+
+/// How the plain program spells the plan, and nothing where it is none.
+pub fn plain_spelling_of(asked: &Asked) -> String {
+    asked.plan().map(|plan| plain::spelling(&plan)).unwrap_or_default()
 }
 
 // The plain spelling, or the refusal of the plan.

@@ -11,7 +11,7 @@ use std::io;
 
 /// Makes them on each case on which they can be made, and fails where they were made on no case of some kind.
 pub fn try_quiet<'c>(crew: &mut Crew, score: &mut Score, cases: &'c [Case]) -> io::Result<()> {
-    let with_kind = |case: &'c Case| Some((case, Quiet::of(&case.asked.command)?));
+    let with_kind = |case: &'c Case| Some((case, Quiet::of(&case.asked)?));
     let tasks: Vec<(&Case, Quiet)> = cases.iter().filter_map(with_kind).collect();
     let tried = crew.each(&tasks, |desk, (case, quiet)| try_case(desk, case, *quiet))?;
     let mut made = Vec::new();

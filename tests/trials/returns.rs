@@ -25,9 +25,9 @@ pub fn try_returns(crew: &mut Crew, score: &mut Score, lot: Lot) -> io::Result<(
 fn try_return(desk: &mut Desk, seed: u64, number: u64) -> io::Result<Option<Disagreement>> {
     let plan = next_plan(&mut Dice { state: mixed(!seed, number) });
     let wanted = Answer { status: 0, out: plan.clone(), refusal: String::new() };
-    let asked = Asked { command: Command::Brief, first: plan.into_bytes(), second: Vec::new() };
+    let asked = Asked::of_one(Command::Brief, plan.into_bytes(), Vec::new());
     let brief = desk.answer(&asked)?;
-    let expand = Asked { command: Command::Expand, first: brief.out.into_bytes(), second: Vec::new() };
+    let expand = Asked::of_one(Command::Expand, brief.out.into_bytes(), Vec::new());
     let found = desk.answer(&expand)?;
     let fault = asked.first.is_empty().then_some("no plan was made up");
     let case = Case { name: format!("plan {number}"), asked, wanted: wanted.clone(), hints: None, is_thorough: false };
@@ -39,6 +39,6 @@ const TURNS: usize = 100;
 
 // A plan that is made up, in its canonical spelling.
 fn next_plan(dice: &mut Dice) -> String {
-    let mut plans = (0..TURNS).map(|_| plain::expand(made_up(dice).as_bytes()).out);
+    let mut plans = (0..TURNS).map(|_| plain::spelling(made_up(dice).as_bytes()));
     plans.find(|plan| !plan.is_empty()).unwrap_or_default()
 }

@@ -199,6 +199,6 @@ fn came_in_pieces(case: &Case, piece: usize, said: &Said) -> bool {
     let asked = &case.asked;
     let first = case.is_unread() || case.leaves_first() || said.told.first.calls == calls_of(&asked.first, piece);
     let second =
-        !asked.command.reads_two() || case.leaves_second() || said.told.second.calls == calls_of(&asked.second, piece);
+        case.leaves_second() || asked.second_read().is_none_or(|text| said.told.second.calls == calls_of(text, piece));
     first && second
 }

@@ -64,10 +64,10 @@ impl<'a> Seeds<'a> {
             2 => return self.verify(plan, dice),
             3 => return self.capture(plan, dice),
             4 => Command::Brief,
-            5 => return self.expand(dice),
+            5 => return Asked::of_one(Command::Expand, self.brief(dice), Vec::new()),
             _ => return self.bench(plan, dice),
         };
-        Asked { command, first: self.any_plan(plan, dice), second: Vec::new() }
+        Asked::of_one(command, self.any_plan(plan, dice), Vec::new())
     }
 
     // The plan or one that is refused, most often mutated.
@@ -77,14 +77,13 @@ impl<'a> Seeds<'a> {
         maybe_mutated(text, &PLAN_WORDS, 7, dice)
     }
 
-    // A brief of the cases, or one that is made up, most often mutated.
-    fn expand(&self, dice: &mut Dice) -> Asked {
-        let first = if dice.index(2) == 0 {
+    /// A brief of the cases, or one that is made up, most often mutated.
+    pub fn brief(&self, dice: &mut Dice) -> Vec<u8> {
+        if dice.index(2) == 0 {
             maybe_mutated(text_from(dice, &self.briefs), &BRIEF_WORDS, 7, dice)
         } else {
             maybe_mutated(made_up(dice).as_bytes(), &BRIEF_WORDS, 3, dice)
-        };
-        Asked { command: Command::Expand, first, second: Vec::new() }
+        }
     }
 
     // Most often the certificate is that of the plan.
@@ -94,7 +93,7 @@ impl<'a> Seeds<'a> {
         } else {
             maybe_mutated(plain::certify(plan).out.as_bytes(), &CERT_WORDS, 6, dice)
         };
-        Asked { command: Command::Verify, first: maybe_mutated(plan, &PLAN_WORDS, 2, dice), second }
+        Asked::of_one(Command::Verify, maybe_mutated(plan, &PLAN_WORDS, 2, dice), second)
     }
 
     // One of the examples has other names of the two lines, and some cases have any.
@@ -105,11 +104,9 @@ impl<'a> Seeds<'a> {
             _ if is_named_by_probes(dump) => ("D0", "D1"),
             _ => ("scl", "sda"),
         };
-        Asked {
-            command: Command::Capture { scl: scl.to_owned(), sda: sda.to_owned() },
-            first: maybe_mutated(plan, &PLAN_WORDS, 2, dice),
-            second: maybe_mutated(dump, &DUMP_WORDS, 7, dice),
-        }
+        let command = Command::Capture { scl: scl.to_owned(), sda: sda.to_owned() };
+        let first = maybe_mutated(plan, &PLAN_WORDS, 2, dice);
+        Asked::of_one(command, first, maybe_mutated(dump, &DUMP_WORDS, 7, dice))
     }
 
     // Most often the certificate is that of the plan, and the starters are some of its participants.
@@ -124,7 +121,7 @@ impl<'a> Seeds<'a> {
         let fill = dice.index(2) == 1;
         let answers = answers(dice);
         let second = maybe_mutated(&cert, &CERT_WORDS, 1, dice);
-        Asked { command: Command::Bench { starters, fill, answers }, first, second }
+        Asked::of_one(Command::Bench { starters, fill, answers }, first, second)
     }
 }
 

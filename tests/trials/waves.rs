@@ -8,7 +8,8 @@ use crate::desks::Desk;
 use crate::dice::Dice;
 use crate::disagreements::{Disagreement, Score};
 use crate::generated::made_up_bench;
-use crate::plain::{self, Answer};
+use crate::plain::Answer;
+use crate::plainly::said_plainly;
 use crate::seeds::mixed;
 use std::io;
 
@@ -34,9 +35,9 @@ fn read_back(desk: &mut Desk, asked: &Asked) -> io::Result<Option<Option<Disagre
         return Ok(None);
     };
     let command = Command::Capture { scl: "scl".to_owned(), sda: "sda".to_owned() };
-    let capture = Asked { command, first: asked.first.clone(), second: wave.clone() };
+    let capture = Asked { command, second: wave.clone(), ..asked.clone() };
     let found = desk.answer(&capture)?;
-    let plain = plain::capture(&asked.first, &wave, "scl", "sda");
+    let plain = said_plainly(&capture);
     let fault = (!is_of(&found, won)).then_some("it is not one transaction of those who won");
     let case = Case {
         name: format!("{:?}", asked.command),

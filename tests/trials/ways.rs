@@ -1,6 +1,6 @@
 //! The ways in which a case is run while there is memory, each with its runs.
 
-use crate::cases::Case;
+use crate::cases::{Asked, Case};
 use crate::commands::Command;
 use crate::deeds::{calls_of, Deed};
 use crate::runs::{self, Due, Run};
@@ -77,9 +77,9 @@ impl Way {
             Way::FailingReads => failing_reads(case),
             Way::FailingWrites => failing_writes(case),
             Way::Interrupted => [1, 3, 100].map(interrupted).to_vec(),
-            Way::OfBrief => of_brief(&case.asked.command),
+            Way::OfBrief => of_brief(&case.asked),
             Way::Workers => by_workers(&case.asked.command),
-            Way::Calls => by_calls(&case.asked.command),
+            Way::Calls => by_calls(&case.asked),
             Way::Hints => with_hints(case),
             Way::Objects => with_objects(case),
             Way::Explained => explained(&case.asked.command),
@@ -122,11 +122,11 @@ fn failing_reads(case: &Case) -> Vec<Run> {
             list.push(run(setup, Due::NoFirst));
         }
     }
-    if !case.asked.command.reads_two() {
+    let Some(second) = case.asked.second_read() else {
         return list;
-    }
-    for piece in pieces_of(&case.asked.second) {
-        for call in 1..=runs::calls_of(&case.asked.second, piece) {
+    };
+    for piece in pieces_of(second) {
+        for call in 1..=runs::calls_of(second, piece) {
             let setup = Setup { pieces: [None, Some(piece)], fail_at: [0, call], ..Setup::WHOLE };
             list.push(run(setup, Due::NoSecond));
         }
@@ -153,9 +153,10 @@ fn failing_writes(case: &Case) -> Vec<Run> {
     list
 }
 
-// Of commands that take a brief in the place of a plan.
-fn of_brief(command: &Command) -> Vec<Run> {
-    match command {
+// Of commands that take a brief in the place of a plan, and were not given briefs alone.
+fn of_brief(asked: &Asked) -> Vec<Run> {
+    match &asked.command {
+        _ if !asked.further.is_empty() => Vec::new(),
         Command::Check { .. }
         | Command::Certify
         | Command::Verify
@@ -175,8 +176,8 @@ fn by_workers(command: &Command) -> Vec<Run> {
     workers.iter().map(|count| done(Deed::By(*count))).collect()
 }
 
-fn by_calls(command: &Command) -> Vec<Run> {
-    calls_of(command).iter().map(|call| done(Deed::Call(*call))).collect()
+fn by_calls(asked: &Asked) -> Vec<Run> {
+    calls_of(asked).iter().map(|call| done(Deed::Call(*call))).collect()
 }
 
 fn with_hints(case: &Case) -> Vec<Run> {

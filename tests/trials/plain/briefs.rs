@@ -45,10 +45,10 @@ pub fn expansion(brief: &str) -> Result<String, Refusal> {
 
 /// The same of several briefs, whose items make up one plan. A refusal comes with the number of its
 /// brief.
-pub fn expansion_of(briefs: &[&str]) -> Result<String, (usize, Refusal)> {
+pub fn expansion_of<T: AsRef<str>>(briefs: &[T]) -> Result<String, (usize, Refusal)> {
     let mut board = Board::default();
     for (number, brief) in briefs.iter().enumerate() {
-        board.read(brief).map_err(|refusal| (number, refusal))?;
+        board.read(brief.as_ref()).map_err(|refusal| (number, refusal))?;
     }
     Ok(board.to_string())
 }

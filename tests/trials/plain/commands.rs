@@ -2,7 +2,7 @@
 //! (docs/COMMAND_LINE.md).
 
 use super::benches::Answers;
-use super::briefs::{expansion, has_brief_word};
+use super::briefs::{expansion, expansion_of, has_brief_word};
 use super::captures::{Transaction, Until};
 use super::decoded::{bytes_of, calls_of};
 use super::found::{checked, decoded, decoded_so_far, explainers, ordered, played, verified};
@@ -255,11 +255,20 @@ pub fn labels(plan: &[u8]) -> Vec<String> {
     all.into_iter().map(|one| one.label).collect()
 }
 
-/// `twire expand BRIEF`.
-pub fn expand(brief: &[u8]) -> Answer {
-    match expansion(&String::from_utf8_lossy(brief)) {
-        Ok(plan) => Answer::written(0, spelling(plan.as_bytes())),
-        Err(refusal) => Answer::refused(refusal),
+/// A file: its name as it was given, and its bytes.
+#[derive(Clone, Copy, Debug)]
+pub struct File<'a> {
+    pub name: &'a str,
+    pub text: &'a [u8],
+}
+
+/// `twire expand BRIEF..`. The refusal of one of several names its file.
+pub fn expand(briefs: &[File]) -> Answer {
+    let texts: Vec<_> = briefs.iter().map(|brief| String::from_utf8_lossy(brief.text)).collect();
+    match (expansion_of(&texts), briefs) {
+        (Ok(plan), _) => Answer::written(0, spelling(plan.as_bytes())),
+        (Err((_, refusal)), [_]) => Answer::refused(refusal),
+        (Err((number, refusal)), _) => Answer::refused(format!("{refusal} of {}", briefs[number].name)),
     }
 }
 

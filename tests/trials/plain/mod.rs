@@ -34,7 +34,7 @@ mod writing;
 pub use certificates::{read_certificate, Certificate, Wrong};
 pub use commands::{
     bench, brief, capture, captured_so_far, certify, check, decode, decode_summary, decoded_lines_so_far, expand,
-    labels, order, seats, spelling, verify, with_plan, Answer,
+    labels, order, seats, spelling, verify, with_plan, Answer, File,
 };
 pub use dumps::place_of_refusal;
 pub use order::Ways;
