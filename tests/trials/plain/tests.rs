@@ -5,7 +5,7 @@
 use super::benches::{play_on, Answers, Player};
 use super::briefs::expansion_of;
 use super::captures::{events_of, explains, samples_of, transactions_of, Until};
-use super::commands::{capture, certify, check, expand, seats, verify};
+use super::commands::{capture, certify, check, expand, seats, verify, Answer, File};
 use super::dumps::{changes_of, DumpRefusal};
 use super::explained::{decided, kept_apart, mends, Decided};
 use super::found::checked;
@@ -304,12 +304,16 @@ fn first_leaf(proof: &str) -> (usize, &str) {
 
 // ---- briefs
 
+fn expand_one(text: &str) -> Answer {
+    expand(&[File { name: "brief", text: text.as_bytes() }])
+}
+
 // A header and 21 data bytes, after the refusal of each a header and so many data bytes: 22 and 21 times 194 are 4,096.
 #[test]
 fn what_follows_the_refusals_of_a_repeated_byte_is_counted_each_time() {
     for (number, refusal) in [(193, ""), (194, "P5 line 3")] {
         let brief = format!("brief 1\nmessage m write 0x50 any*21 else ( write 0x51 any *\n{number} ) ;");
-        assert_eq!(expand(brief.as_bytes()).refusal, refusal, "{brief}");
+        assert_eq!(expand_one(&brief).refusal, refusal, "{brief}");
     }
 }
 
@@ -317,9 +321,9 @@ fn what_follows_the_refusals_of_a_repeated_byte_is_counted_each_time() {
 #[test]
 fn what_follows_the_refusal_of_a_read_has_its_header_before_it() {
     let brief = "brief 1 message m read 0x50 255 else ( write 0x50 any*254 ) ;";
-    assert_eq!(expand(brief.as_bytes()).status, 0);
+    assert_eq!(expand_one(brief).status, 0);
     let brief = "brief 1 message m read 0x50 255\nelse ( write 0x50 any*255 ) ;";
-    assert_eq!(expand(brief.as_bytes()).refusal, "P5 line 2");
+    assert_eq!(expand_one(brief).refusal, "P5 line 2");
 }
 
 // ---- benches
