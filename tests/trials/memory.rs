@@ -142,11 +142,13 @@ fn judge(case: &Case, ample: &Answer, said: &Said) -> Option<Disagreement> {
     Disagreement::of(case, "refused memory", ample.clone(), found, None)
 }
 
-// Where there is no memory for the place of a token of a dump, the object of its refusal has none.
+// Where there is no memory for the place of a token of a dump, the object of its refusal has none; nor has the line the name of
+// the file, where there is none for that.
 fn without_place(ample: &Answer) -> Answer {
-    let refusal = match ample.refusal.split_once(",\"byte\":") {
-        Some((before, after)) => format!("{before}{}", after.find('}').map_or("", |end| &after[end..])),
-        None => ample.refusal.clone(),
+    let refusal = match (ample.refusal.split_once(",\"byte\":"), ample.refusal.split_once(" of ")) {
+        (Some((before, after)), _) => format!("{before}{}", after.find('}').map_or("", |end| &after[end..])),
+        (None, Some((line, _))) => line.to_owned(),
+        (None, None) => ample.refusal.clone(),
     };
     Answer { refusal, ..ample.clone() }
 }
