@@ -109,6 +109,13 @@ pub fn find_given<I: Input>(alloc: Global, text: &mut I) -> Result<GivenPlan, No
     }
 }
 
+/// Briefs, and the text of the last one of them, in which the names of its items can be looked for.
+#[derive(Drop)]
+pub struct Further {
+    pub briefs: Briefs,
+    pub text: Vec<u8>,
+}
+
 /// The briefs, with a further one that the reader gives. It has this number among those that give the plan.
 ///
 /// # Errors
@@ -120,14 +127,15 @@ pub fn find_further<I: Input>(
     briefs: Briefs,
     file: u32,
     text: &mut I,
-) -> Result<Briefs, NoPlan>
-    ensures found { IfOk result (λ it. Finds (ReadsText I.reader) (Adds (together briefs)) text.old (together it) text.new) }
+) -> Result<Further, NoPlan>
+    ensures found { IfOk result (λ it.
+        Finds (ReadsText I.reader) (Adds (together briefs)) text.old (together it.briefs) text.new) }
     ensures stops { IfErr result (λ e.
         HaltsAtText I.reader (RefusesFurther (together briefs)) text.old e.error text.new) }
 {
     let text = read_within(alloc, text, READS)?;
     match briefs.with_at(text.as_slice()) {
-        Ok(briefs) => Ok(briefs),
+        Ok(briefs) => Ok(Further { briefs, text }),
         Err(refused) => {
             let refusal = Refusal {
                 language: Language::Brief,

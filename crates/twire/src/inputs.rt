@@ -163,7 +163,7 @@ fn unopened<R: Eprint + AllocGlobal>(rt: &R, file: Named<'_>, error: &io::Error,
         refused(rt, RunError::NoMemory, Detail::Nothing, voice);
         return;
     }
-    refused(rt, RunError::Read, Detail::Nothing, voice);
+    refused(rt, RunError::Read, Detail::File(file.path), voice);
     if !extras.hints {
         return;
     }

@@ -123,11 +123,9 @@ fn outcome_of<R: AllocGlobal + Threads + Wait + Clock + Sync>(
 ) -> Result<Outcome, Halt>
     ensures { IfOk result HasWinners }
 {
-    let hints = if extras.hints {
-        on_starters(rt.alloc(), &plan, play.starters)?
-    } else {
-        Hints::new(rt.alloc())
-    };
+    let hints = hints_on(rt.alloc(), words, play, extras)?;
+    let label = first_absent(words.plan(), play.starters);
+    let plan = words.plan();
     match outcome_of_plan(rt, plan, cert, play) {
         Ok(outcome) => Ok(outcome),
         Err(error @ RunError::Bench(_)) => Err(Halt::Said(error, hints)),
