@@ -23,6 +23,15 @@ pub struct RefusedIn<'a> {
     pub text: &'a [u8],
     /// The name of its file, where several give the plan.
     pub file: Option<&'a str>,
+    /// The briefs before it.
+    pub earlier: &'a [Earlier<'a>],
+}
+
+/// A brief that was read before the text that is refused, and the name of its file.
+#[derive(Clone, Copy)]
+pub struct Earlier<'a> {
+    pub text: &'a [u8],
+    pub file: &'a str,
 }
 
 impl<'a> RefusedIn<'a> {

@@ -30,7 +30,12 @@ struct Certificate<'a> {
 #[serde(untagged)]
 enum Why<'a> {
     Pair(Misproved<'a>),
-    Count { pairs: u32, proofs: u64 },
+    Count {
+        pairs: u32,
+        proofs: u64,
+        #[serde(skip_serializing_if = "Option::is_none")]
+        says: Option<u32>,
+    },
 }
 
 // A pair of which what the certificate says is not so.
@@ -68,8 +73,19 @@ pub fn write_answer<O: Output>(
                 ..
             },
         ) => add_misproved(&mut lines, words, answer, participants, found)?,
-        Some(Mistake::Count { pairs, proofs }) => {
-            lines.add(&object_of(answer, Some(Why::Count { pairs, proofs })));
+        Some(
+            Mistake::Count {
+                pairs,
+                says,
+                proofs,
+            },
+        ) => {
+            let why = Why::Count {
+                pairs,
+                proofs,
+                says,
+            };
+            lines.add(&object_of(answer, Some(why)));
         }
         Some(Mistake::Text) | None => lines.add(&object_of(answer, None)),
     }

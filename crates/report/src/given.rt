@@ -26,6 +26,13 @@ pub struct GivenPlan {
     pub origins: Option<Origins>,
 }
 
+/// A plan, and the text that gives it.
+#[derive(Drop)]
+pub struct GivenText {
+    pub given: GivenPlan,
+    pub text: Vec<u8>,
+}
+
 /// A text that was refused, for people.
 #[derive(Drop)]
 pub struct RefusedText {
@@ -98,13 +105,14 @@ impl From<AllocError> for NoPlan {
 ///
 /// `Read` where the reader failed or gave no end, and `Plan` with the first refusal of the plan text or of the brief: P2 of the
 /// plan text where it begins as neither. `NoMemory` where an allocation fails.
-pub fn find_given<I: Input>(alloc: Global, text: &mut I) -> Result<GivenPlan, NoPlan>
-    ensures found { IfOk result (λ it. Finds (ReadsText I.reader) GivesPlan text.old (plan_contents it.plan) text.new) }
+pub fn find_given<I: Input>(alloc: Global, text: &mut I) -> Result<GivenText, NoPlan>
+    ensures found { IfOk result (λ it.
+        Finds (ReadsText I.reader) GivesPlan text.old (plan_contents it.given.plan) text.new) }
     ensures stops { IfErr result (λ e. HaltsAtText I.reader RefusesGiven text.old e.error text.new) }
 {
     let text = read_within(alloc, text, READS)?;
     match plan_of(alloc, text.as_slice()) {
-        Ok(given) => Ok(given),
+        Ok(given) => Ok(GivenText { given, text }),
         Err(refusal) => Err(NoPlan::refused(text, 0, refusal)),
     }
 }

@@ -51,6 +51,14 @@ pub enum Remark {
 pub struct RefusedSource {
     pub refused: RefusedText,
     pub before: Vec<Vec<u8>>,
+    pub takes: Takes,
+}
+
+/// What may stand in the place of a text: a plan text or a brief, or one of them alone.
+#[derive(Clone, Copy, PartialEq, Eq)]
+pub enum Takes {
+    One,
+    Either,
 }
 
 impl RefusedSource {
@@ -93,6 +101,7 @@ impl RefusedSource {
             text: self.refused.text.as_slice(),
             file,
             earlier,
+            takes_either: self.takes == Takes::Either,
         }
     }
 
@@ -207,11 +216,15 @@ pub enum Halt {
 }
 
 impl Halt {
-    /// There is no plan, where these briefs were read before.
-    pub fn without_plan(none: NoPlan, before: Vec<Vec<u8>>) -> Halt {
+    /// There is no plan, where these briefs were read before, and this may stand in the place of the last text.
+    pub fn without_plan(none: NoPlan, before: Vec<Vec<u8>>, takes: Takes) -> Halt {
         let NoPlan { error, text } = none;
         let source = match text {
-            Some(refused) => Some(RefusedSource { refused, before }),
+            Some(refused) => Some(RefusedSource {
+                refused,
+                before,
+                takes,
+            }),
             None => None,
         };
         Halt::Text(error, source)

@@ -91,6 +91,7 @@ fn open_all<'a, 'n, R: Files + Input + Eprint + Clock + AllocGlobal>(
         first,
         further,
         files: named.files(),
+        texts: Vec::new(rt.alloc()),
     })
 }
 

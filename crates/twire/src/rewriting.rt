@@ -1,6 +1,6 @@
 // Runs that write a text in another form.
 
-use crate::endings::{Ended, Halt, Remark};
+use crate::endings::{Ended, Halt, Remark, Takes};
 use crate::sources::Sources;
 use brief_text::brief_of;
 use hints::on_no_brief;
@@ -64,7 +64,10 @@ fn write_brief<I: Input, O: Output>(
     let text = read_within(alloc, text, READS)?;
     match read_plan_at(alloc, text.as_slice()) {
         Ok(plan) => write_brief_of(alloc, &plan, out),
-        Err(refused) => Err(Halt::without_plan(refused_plan(text, refused), Vec::new(alloc))),
+        Err(refused) => {
+            let none = refused_plan(text, refused);
+            Err(Halt::without_plan(none, Vec::new(alloc), Takes::One))
+        }
     }
 }
 

@@ -1,10 +1,10 @@
 // What a run is over.
 
-use crate::endings::Halt;
+use crate::endings::{Halt, Takes};
 use brief_text::{Briefs, Origins};
 use plan_core::Plan;
 use plan_words::{BriefFiles, PlanWords};
-use report::{Further, GivenPlan, Input, RunError, find_further, find_given, given_by};
+use report::{Further, GivenPlan, GivenText, Input, RunError, find_further, find_given, given_by};
 use std::alloc::Global;
 
 /// The text that a run is over, or the briefs that give its plan, one after another.
@@ -14,6 +14,8 @@ pub struct Sources<'a, I> {
     pub further: Vec<I>,
     /// What people call these.
     pub files: BriefFiles<'a>,
+    /// What the plan was read from, where there is one.
+    pub texts: Vec<Vec<u8>>,
 }
 
 impl<'a, I: Input> Sources<'a, I> {
@@ -28,8 +30,11 @@ impl<'a, I: Input> Sources<'a, I> {
             return self.find_in_briefs(alloc);
         }
         match find_given(alloc, &mut self.first) {
-            Ok(given) => Ok(given),
-            Err(none) => Err(Halt::without_plan(none, Vec::new(alloc))),
+            Ok(GivenText { given, text }) => match self.texts.push(text) {
+                Ok(()) => Ok(given),
+                Err(_) => Err(Halt::Run(RunError::NoMemory)),
+            },
+            Err(none) => Err(Halt::without_plan(none, Vec::new(alloc), Takes::Either)),
         }
     }
 
@@ -45,7 +50,9 @@ impl<'a, I: Input> Sources<'a, I> {
             file = file.saturating_add(1);
             read = read.with(alloc, file, text)?;
         }
-        let given = given_by(read.briefs)?;
+        let BriefsRead { briefs, texts } = read;
+        self.texts = texts;
+        let given = given_by(briefs)?;
         Ok(given)
     }
 
@@ -81,7 +88,7 @@ impl BriefsRead {
                 Ok(()) => Ok(BriefsRead { briefs, texts }),
                 Err(_) => Err(Halt::Run(RunError::NoMemory)),
             },
-            Err(none) => Err(Halt::without_plan(none, texts)),
+            Err(none) => Err(Halt::without_plan(none, texts, Takes::One)),
         }
     }
 }
