@@ -44,7 +44,7 @@ pub use devices::{
 pub use paths::{file_word, shown, visible};
 pub use plans::on_no_brief;
 pub use safety::{on_checked, on_safe};
-pub use starters::on_starters;
+pub use starters::{on_starters, unknown_starter};
 pub use names::first_stand;
 pub use texts::{Earlier, RefusedIn, SemicolonAt, missing_semicolon_at, on_text};
 pub use values::{Hint, Hints};

@@ -3,10 +3,9 @@
 use crate::inputs::NamedSources;
 use dump_tokens::Window;
 use explain::Seen;
-use hints::{Earlier, Hints, RefusedIn, first_stand};
-use objects::{Detail, TextDetail};
+use hints::{Earlier, Hints, RefusedIn, first_stand, missing_semicolon_at};
+use objects::{Detail, EarlierAt, TextDetail};
 use plan_text::PlanError;
-use plan_words::FileLine;
 use report::{NoPlan, RefusedText, RunError, Status};
 use std::alloc::{AllocError, Global};
 use std::io;
@@ -113,21 +112,25 @@ impl RefusedSource {
         named: NamedSources<'a>,
     ) -> Result<TextDetail<'a>, AllocError> {
         let file = self.file(named);
-        let earlier = self.earlier(alloc, named)?;
-        let stands = match error {
-            RunError::Plan(error) => {
-                first_stand(alloc, self.refused_in(error, file, earlier.as_slice()))?
-            }
-            _ => None,
-        };
-        Ok(TextDetail {
+        let mut detail = TextDetail {
             place: self.refused.place,
             file,
-            earlier: stands.map(|spot| FileLine {
-                file: named.path(spot.file).unwrap_or(""),
-                line: spot.line,
-            }),
-        })
+            semicolon: None,
+            earlier: None,
+        };
+        if let RunError::Plan(error) = error {
+            let earlier = self.earlier(alloc, named)?;
+            let refused = self.refused_in(error, file, earlier.as_slice());
+            detail.semicolon = missing_semicolon_at(refused);
+            detail.earlier = match first_stand(alloc, refused)? {
+                Some(spot) => Some(EarlierAt {
+                    file: named.path(spot.file),
+                    line: spot.line,
+                }),
+                None => None,
+            };
+        }
+        Ok(detail)
     }
 }
 
