@@ -229,7 +229,7 @@ const EXPAND: Entry = Entry {
     about: "Write the plan that a brief means: a brief is its short form",
     usage: None,
     after_help: AFTER_EXPAND_HELP,
-    arguments: &[BRIEF_FILES, OUTPUT],
+    arguments: &[BRIEF_FILES, WITH, OUTPUT],
 };
 
 const PRINT: Entry = Entry {
