@@ -17,6 +17,18 @@ pub struct Entry {
     pub arguments: &'static [Argument],
 }
 
+impl Entry {
+    /// Whether it takes further files of a brief by an option.
+    pub fn takes_further(self) -> bool {
+        for argument in self.arguments {
+            if let Argument::Files { .. } = argument {
+                return true;
+            }
+        }
+        false
+    }
+}
+
 /// What may stand after the name of a command. An option is given by its id, as `--workers` where that is `workers`.
 #[derive(Clone, Copy)]
 pub enum Argument {

@@ -221,8 +221,9 @@ fn push_place(alloc: Global, lines: &mut Lines, refused: &RefusedIn<'_>, spot: S
 fn spot_in_list(known: &[Known<'_>], word: &[u8]) -> Option<Spot> {
     let last = known.last()?;
     for one in known {
-        let is_listed =
-            one.file == last.file && one.at.number == last.at.number && one.at.before != 0;
+        let is_listed = one.file == last.file
+            && one.at.number == last.at.number
+            && one.at.before != 0;
         if is_listed && one.at.name == word {
             return Some(one.spot());
         }

@@ -204,7 +204,10 @@ fn push_called(alloc: Global, lines: &mut Lines, words: PlanWords<'_>, i: u32) {
 
 // Whether the controllers of the two are one controller of a brief, or parts of one.
 fn are_of_one(words: PlanWords<'_>, first: u32, second: u32) -> bool {
-    match (controller_of(words.plan(), first), controller_of(words.plan(), second)) {
+    match (
+        controller_of(words.plan(), first),
+        controller_of(words.plan(), second),
+    ) {
         (Some(one), Some(other)) => words.is_one(one, other),
         _ => false,
     }

@@ -80,8 +80,7 @@ pub fn on_text(alloc: Global, refused: RefusedIn<'_>) -> Result<Hints, AllocErro
     lines.finish()
 }
 
-const PLAN_AMONG_SEVERAL: &str =
-    "this is a plan, and none of several files may be one: each has to be a brief";
+const PLAN_AMONG_SEVERAL: &str = "this is a plan, and none of several files may be one";
 
 fn kind_of_language(language: Language) -> Kind {
     match language {

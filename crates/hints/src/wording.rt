@@ -26,7 +26,7 @@ const BRIEF_VERSION: &str = "a brief begins with 'brief 1'";
 pub(crate) fn push_version(lines: &mut Lines, refused: &RefusedIn<'_>) {
     match refused.language {
         Language::Brief => lines.say(BRIEF_VERSION),
-        Language::Plan if !refused.takes_either => lines.say(PLAN_VERSION),
+        Language::Plan if !refused.takes_either || is_plan(refused) => lines.say(PLAN_VERSION),
         Language::Plan if is_like_brief(refused.text) => {
             lines.say(BRIEF_VERSION);
             lines.say(PLAN_VERSION);
@@ -36,6 +36,11 @@ pub(crate) fn push_version(lines: &mut Lines, refused: &RefusedIn<'_>) {
             lines.say(BRIEF_VERSION);
         }
     }
+}
+
+// Whether the text has the first word of a plan, before another version of it.
+fn is_plan(refused: &RefusedIn<'_>) -> bool {
+    refused.before().trim_ascii_end().ends_with(b"plan")
 }
 
 /// Of P4, where this was expected.

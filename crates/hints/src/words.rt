@@ -1,7 +1,7 @@
 // Words that cannot stand where somebody put them, for a reason of their own.
 
-use crate::lines::Lines;
 use crate::kinds::LOOKED_AT;
+use crate::lines::Lines;
 use crate::texts::{RefusedIn, called};
 use plan_core::Name;
 use plan_text::words::count_ends;

@@ -101,7 +101,11 @@ fn is_line_feed(byte: &u8) -> bool {
 // Whether a carriage return stands in the comment of this line, with words after it.
 fn has_return(line: &[u8]) -> bool {
     match line.iter().position(|byte| *byte == b'#') {
-        Some(at) => line.get(at..).unwrap_or(&[]).trim_ascii_end().contains(&b'\r'),
+        Some(at) => line
+            .get(at..)
+            .unwrap_or(&[])
+            .trim_ascii_end()
+            .contains(&b'\r'),
         None => false,
     }
 }

@@ -8,9 +8,9 @@ use dump_tokens::BusLines;
 use explain::Seen;
 use growing_text::Text;
 use hints::{
-    Hints, Named, Names, file_word, on_bytes, on_choice, on_closed_input, on_dump,
-    on_fault, on_memory, on_no_timescale, on_opening, on_reading, on_recording, on_signals,
-    on_silence, on_text, on_unexplained, on_workers, on_writing,
+    Hints, Named, Names, file_word, on_bytes, on_choice, on_closed_input, on_dump, on_fault,
+    on_memory, on_no_timescale, on_opening, on_reading, on_recording, on_signals, on_silence,
+    on_text, on_unexplained, on_workers, on_writing,
 };
 use plan_text::PlanError;
 use report::{Probe, RunError, Status};

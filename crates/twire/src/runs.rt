@@ -318,7 +318,12 @@ fn finish<'a, R: Files + Print + Eprint + Clock + AllocGlobal>(
         Err(Halt::Text(error, text)) => (Err(error), Remark::text(text), files.output, None),
         Err(Halt::Said(error, hints)) => (Err(error), Remark::Hints(hints), files.output, None),
         Err(Halt::Starters(error, label, hints)) => {
-            (Err(error), Remark::Starters(label, hints), files.output, None)
+            (
+                Err(error),
+                Remark::Starters(label, hints),
+                files.output,
+                None,
+            )
         }
         Err(Halt::Undrawn(error, reason)) => (Err(error), Remark::Nothing, files.wave, reason),
         Err(Halt::NoTimescale) => return no_timescale(rt, extras),

@@ -34,7 +34,15 @@ pub fn refused<R: Eprint + AllocGlobal>(
 ) -> u8 {
     match (voice, detail) {
         (Voice::Objects, _) => say_refusal(rt, refusal_object(rt.alloc(), error, detail)),
-        (_, Detail::Text(TextDetail { file: Some(file), .. })) => say_refused_file(rt, error, file),
+        (
+            _,
+            Detail::Text(
+                TextDetail {
+                    file: Some(file),
+                    ..
+                },
+            ),
+        ) => say_refused_file(rt, error, file),
         _ => say_refused(rt, error),
     }
     2
