@@ -86,6 +86,8 @@ never bmc_set pch_get ;"
 want 0 "$plan" ""
 run "three files expanded" expand devices.brief bmc.brief pch.brief
 run "their items in one file" expand whole.brief
+run "further ones by the option" expand devices.brief --with bmc.brief --with pch.brief
+run "further ones by a word and by the option" expand devices.brief bmc.brief --with pch.brief
 run "the second one from standard input" expand devices.brief - pch.brief <bmc.brief
 run "the last one from standard input" expand devices.brief bmc.brief /dev/stdin <pch.brief
 run "the first one from a pipe" expand - bmc.brief pch.brief < <(cat devices.brief)
@@ -319,6 +321,26 @@ twice verify devices.brief - --with -
 twice capture devices.brief - --with -
 twice bench - board.cert bmc/get --with -
 twice page devices.brief --with - --capture -
+
+# A further file wants its option, but for expand.
+for words in "check devices.brief bmc.brief" "print devices.brief bmc.brief" "verify devices.brief board.cert bmc.brief" \
+    "bench devices.brief board.cert bmc/get bmc.brief"; do
+    # shellcheck disable=SC2086
+    "$twire" $words >out 2>said
+    echo "$?" >status
+    head -n 3 said >err
+    want 2 "" "error: unexpected argument 'bmc.brief' found
+
+  tip: further files of a brief follow by '--with FILE'"
+    compare "a file too much: $words"
+done
+"$twire" brief board.plan bmc.brief >out 2>said
+echo "$?" >status
+head -n 3 said >err
+want 2 "" "error: unexpected argument 'bmc.brief' found
+
+Usage: twire brief [OPTIONS] <PLAN>"
+compare "a file too much, for a command without a brief"
 
 # Commands without a brief take no further one.
 for command in "decode board.vcd" "signals board.vcd" "learn board.vcd" "brief board.plan"; do
