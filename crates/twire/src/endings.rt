@@ -104,13 +104,13 @@ impl RefusedSource {
         }
     }
 
-    // What is known of the refusal.
+    // What is known of the refusal. Where there is no memory for what stands already, that is not told.
     fn detail<'a>(
         &'a self,
         alloc: Global,
         error: RunError,
         named: NamedSources<'a>,
-    ) -> Result<TextDetail<'a>, AllocError> {
+    ) -> TextDetail<'a> {
         let file = self.file(named);
         let mut detail = TextDetail {
             place: self.refused.place,
@@ -119,19 +119,26 @@ impl RefusedSource {
             earlier: None,
         };
         if let RunError::Plan(error) = error {
-            let earlier = self.earlier(alloc, named)?;
-            let refused = self.refused_in(error, file, earlier.as_slice());
-            detail.semicolon = missing_semicolon_at(refused);
-            detail.earlier = match first_stand(alloc, refused)? {
-                Some(spot) => Some(EarlierAt {
-                    file: named.path(spot.file),
-                    line: spot.line,
-                }),
-                None => None,
-            };
+            if let Ok(earlier) = self.earlier(alloc, named) {
+                let refused = self.refused_in(error, file, earlier.as_slice());
+                detail.semicolon = missing_semicolon_at(refused);
+                detail.earlier = earlier_at(alloc, refused, named);
+            }
         }
-        Ok(detail)
+        detail
     }
+}
+
+fn earlier_at<'a>(
+    alloc: Global,
+    refused: RefusedIn<'_>,
+    named: NamedSources<'a>,
+) -> Option<EarlierAt<'a>> {
+    let spot = first_stand(alloc, refused).ok()??;
+    Some(EarlierAt {
+        file: named.path(spot.file),
+        line: spot.line,
+    })
 }
 
 /// What is made of a dump.
@@ -188,10 +195,7 @@ impl Remark {
         named: NamedSources<'a>,
     ) -> Detail<'a> {
         match self {
-            Remark::Text(text) => match text.detail(alloc, error, named) {
-                Ok(detail) => Detail::Text(detail),
-                Err(_) => Detail::Nothing,
-            },
+            Remark::Text(text) => Detail::Text(text.detail(alloc, error, named)),
             Remark::Refused(wrong) => Detail::Dump(wrong),
             Remark::Starters(Some(label), _) => Detail::Label(label.as_str()),
             _ => Detail::Nothing,
