@@ -247,8 +247,14 @@ run "a proof that names another bit" verify --explain "$examples/two_writers.pla
 sed '3d' two.cert >wrong.cert
 want 2 "wrong C2
     the plan has 2 pairs, and the certificate has 1 lines of proofs
-    a plan that was changed wants a new certificate: twire certify PLAN" ""
+    its second line says that it has 2
+    so it is no whole certificate: twire certify PLAN writes one" ""
 run "a proof too few" verify --explain "$examples/two_writers.plan" wrong.cert
+printf 'cert 1\npairs 1\n.\n' >wrong.cert
+want 2 "wrong C2
+    the plan has 2 pairs, and the certificate has 1 lines of proofs
+    a plan that was changed wants a new certificate: twire certify PLAN" ""
+run "a certificate of a plan with fewer pairs" verify --explain "$examples/two_writers.plan" wrong.cert
 sed 's/^cert 1/cert 2/' two.cert >wrong.cert
 want 2 "wrong C1 line 1
     a plan that was changed wants a new certificate: twire certify PLAN" ""

@@ -53,7 +53,7 @@ pub use glitches::{Cut, Cuts};
 pub use labels::{Labels, label_of, labels_of};
 pub use leaving::{Leaves, mark_words, nearest, offer_words};
 pub use meetings::{Meeting, Rule, Side, meeting_of};
-pub use mends::{Mends, Never};
+pub use mends::{Mends, Never, kept_apart};
 pub use mistakes::{Mistake, mistake_of};
 pub use paints::Paint;
 pub use reasons::{Reasons, reasons_of};

@@ -216,7 +216,7 @@ fn controller_of(plan: &Plan, p: u32) -> Option<u32> {
 }
 
 /// How many pairs of sendings some `never` of the plan leaves out, but for those of one controller, which a brief may split.
-pub(crate) fn kept_apart(words: PlanWords<'_>) -> u64 {
+pub fn kept_apart(words: PlanWords<'_>) -> u64 {
     let plan = words.plan();
     let mut pairs = 0u64;
     for c in 0..plan.controllers() {
