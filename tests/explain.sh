@@ -461,16 +461,18 @@ want 1 "unsafe: 14 of 18 pairs
     1 pairs were not checked: 'never' keeps their controllers apart" ""
 compare "many pairs of a brief"
 
-# advice NAME UNSAFE LINES..: what is said below the report on the brief, without its pairs.
+# advice NAME UNSAFE LINE..: what is said below the report on the brief, without its pairs, from the first item on.
 advice() {
-    local name=$1 unsafe=$2
-    shift 2
+    local name=$1 said="unsafe: $2 pairs
+    to mend each: a bit before its slot, known in both and different; or the
+    same shape from there on; or $3" line
+    for line in "${@:4}"; do
+        said+=$'\n'"    $line"
+    done
     "$twire" check --explain --most 0 board.brief >out 2>err
     echo "$?" >status
     sed -i '/^pair/d; /not explained/d' out
-    want 1 "unsafe: $unsafe pairs
-    to mend each: a bit before its slot, known in both and different; or the
-    same shape from there on; or$(printf ' %s' "$1")$(printf '\n    %s' "${@:2}")" ""
+    want 1 "$said" ""
     compare "$name"
 }
 
@@ -488,14 +490,19 @@ advice "a controller of one family" "5 of 10" "never bmc host/get ; (leaves 5 pa
 brief 'brief 1' 'message page write 0x50 any*1..3 ;' 'message other read 0x48 1 ;' 'controller bmc page other ;' \
     'controller host other page ;'
 advice "two families" "6 of 16" "never bmc/page host/page ; (leaves 9 pairs" "unchecked)"
-# Of a family of which few clash these are named, and so are they of one that the controller lists in part.
+# Of a family of which few clash these are named.
 brief 'brief 1' 'message page write 0x50 0x01 0x00*1..8 ;' 'message put write 0x50 0x01 0x00 0x00 0x01 ;' \
     'message other read 0x48 1 ;' 'controller bmc page other ;' 'controller host other put ;'
 advice "few messages of a family" "2 of 18" "never bmc/page_1 host/put ; never bmc/page_2" \
     "host/put ; (leaves 2 pairs unchecked)"
-sed -i 's/^controller bmc .*/controller bmc page_2 page_1 page_7 other ;/' board.brief
-advice "most messages of a part of a family" "2 of 8" "never bmc/page_1 host/put ; never bmc/page_2" \
+sed -i 's/^controller bmc .*/controller bmc page_1 page_2 page_7 other ;/' board.brief
+advice "two of three messages of a family" "2 of 8" "never bmc/page_1 host/put ; never bmc/page_2" \
     "host/put ; (leaves 2 pairs unchecked)"
+# A label stands for those of a family that the controller lists.
+brief 'brief 1' 'message page write 0x50 any*1..32 ;' 'message get write 0x50 any read 0x50 1 ;' \
+    'message other read 0x48 1 ;' 'controller bmc page_1 page_2 page_3 page_4 page_5 page_9 other ;' \
+    'controller host other get ;'
+advice "six messages of a family" "6 of 14" "never bmc/page host/get ; (leaves 6 pairs" "unchecked)"
 # Messages of one line that have the names of a family are none.
 brief 'brief 1' 'message page_1 write 0x50 any ; message page_2 write 0x50 any any ;' \
     'message get write 0x50 any read 0x50 1 ; message other read 0x48 1 ;' 'controller bmc page_1 page_2 other ;' \
@@ -506,16 +513,21 @@ brief 'brief 1' 'message page write 0x50 any*1..5 ;' 'message get write 0x50 any
     'message other read 0x48 1 ;' 'controller bmc page other ;' 'controller bmc_page other ;' 'controller host other get ;'
 advice "a label whose name is taken" "5 of 20" "never bmc host ; (leaves 12 pairs unchecked)"
 # Eight items are named, and with more of them controllers.
-brief 'brief 1' 'message get write 0x50 any read 0x50 1 ;' 'message other read 0x48 1 ;' 'controller host get other ;' \
-    'controller bmc other ;'
-for k in {1..8}; do
-    sed -i "s/^controller bmc/message a$k write 0x50 0x0$k any ;\n&/; s/^controller bmc.*other/& a$k/" board.brief
-done
-sed -i 's/^controller host .*//; $a controller host get other ;' board.brief
+# writes COUNT: a board of so many single messages that clash with one.
+writes() {
+    local k messages=() listed=
+    for ((k = 1; k <= $1; k++)); do
+        messages+=("message a$k write 0x50 0x0$k any ;")
+        listed+=" a$k"
+    done
+    brief 'brief 1' 'message get write 0x50 any read 0x50 1 ;' 'message other read 0x48 1 ;' "${messages[@]}" \
+        "controller bmc other$listed ;" 'controller host get other ;'
+}
+writes 8
 advice "eight items" "8 of 18" "never bmc/a1 host/get ; never bmc/a2 host/get ;" \
-    "never bmc/a3 host/get ; never bmc/a4 host/get ; never bmc/a5 host/get ; never" \
-    "bmc/a6 host/get ; never bmc/a7 host/get ; never bmc/a8 host/get ; (leaves 8" "pairs unchecked)"
-sed -i "s/^controller bmc/message a9 write 0x50 0x09 any ;\n&/; s/^controller bmc.*other/& a9/" board.brief
+    "never bmc/a3 host/get ; never bmc/a4 host/get ; never bmc/a5 host/get ;" \
+    "never bmc/a6 host/get ; never bmc/a7 host/get ; never bmc/a8 host/get ;" "(leaves 8 pairs unchecked)"
+writes 9
 advice "nine items" "9 of 20" "never bmc host ; (leaves 20 pairs unchecked)"
 
 # Several files.
