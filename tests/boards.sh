@@ -269,6 +269,9 @@ done
 
 # ---- The items that mend a brief do so, and leave as many pairs unchecked as is said.
 
+# (the objects themselves are read here, also where the suite is run over lines that are made of them)
+asked=${TWIRE_OF_OBJECTS:-$twire}
+
 # field NAME: a number of the last object.
 field() {
     sed -n "\$s/.*\"$1\":\([0-9]*\).*/\1/p" objects
@@ -277,7 +280,7 @@ field() {
 # mended NAME: board.brief with the items that are advised. Pairs with interrupts are left, and no other ones.
 mended() {
     local name=$1 pairs promised interrupts
-    "$twire" check --format json --hints never --explain board.brief >objects 2>err
+    "$asked" check --format json --hints never --explain board.brief >objects 2>err
     pairs=$(field pairs)
     promised=$(field unchecked)
     interrupts=$(sed -n '$s/.*"interrupts":\[\([^]]*\)\].*/\1/p' objects | tr ',' '\n' | grep -c .)
@@ -286,7 +289,7 @@ mended() {
         sed -n '$s/.*"never":\[\(.*\)\],"unchecked".*/\1/p' objects | sed 's/\],\[/\n/g' | tr -d '[]"' |
             sed -n 's/^\(.*\),\(.*\)$/never \1 \2 ;/p'
     } >mended.brief
-    "$twire" check --format json --hints never mended.brief >objects 2>>err
+    "$asked" check --format json --hints never mended.brief >objects 2>>err
     echo "$(field unsafe_pairs) unsafe, $((pairs - $(field pairs))) left out" >out
     echo 0 >status
     want 0 "${interrupts:-0} unsafe, ${promised:-0} left out" ""
