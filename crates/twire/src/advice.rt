@@ -237,7 +237,8 @@ fn on_refused_text(
 // What the run has to say.
 fn said(alloc: Global, remark: Remark) -> Hints {
     match remark {
-        Remark::Hints(hints) | Remark::Starters(_, hints) => hints,
+        Remark::Hints(hints) => hints,
+        Remark::Starters(_label, hints) => hints,
         _ => Hints::new(alloc),
     }
 }
@@ -252,7 +253,8 @@ fn on_report<F: Read + Seek + Drop>(
     let Closing { remark, output, .. } = closing;
     match remark {
         Remark::Nothing | Remark::Refused(_) | Remark::Text(_) => Ok(Hints::new(alloc)),
-        Remark::Hints(hints) | Remark::Starters(_, hints) => Ok(hints),
+        Remark::Hints(hints) => Ok(hints),
+        Remark::Starters(_label, hints) => Ok(hints),
         Remark::Fault => on_fault(alloc, output),
         Remark::Recording(recorded) => on_recorded(alloc, read.other, names, status, recorded),
     }
