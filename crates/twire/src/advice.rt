@@ -82,9 +82,9 @@ pub fn no_lines() -> BusLines<'static> {
     }
 }
 
-/// How a run has ended, and what is to be said of what it has found. `named` are the files that it was over, or those that were to
-/// give its plan. `output` is the file that was to be written in place of standard output, and `error` why it was not. Hints are
-/// written by this voice.
+/// How a run has ended, and what is to be said of what it has found. `named` are the files that it was over, or those
+/// that were to give its plan. `output` is the file that was to be written in place of standard output, and `error` why
+/// it was not. Hints are written by this voice.
 #[derive(Drop)]
 pub struct Closing<'a> {
     pub ended: Result<Status, RunError>,
