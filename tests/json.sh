@@ -175,9 +175,9 @@ printf 'cert 1\nfault 2 10010000l data stop\n' >wrong.cert
 run "a fault of a pair that there is not, explained" 2 '{"kind":"certificate","accepted":false,"code":"C5","pair":2}' "" \
     verify --format json --explain "$two" wrong.cert
 printf 'cert 2\n' >wrong.cert
-run "a certificate of another form" 2 '{"kind":"certificate","accepted":false,"code":"C1","line":1,"column":6,"expected":"version"}' "" \
+run "a certificate of another form" 2 '{"kind":"certificate","accepted":false,"code":"C1","line":1,"column":1,"expected":"version"}' "" \
     verify --format json "$two" wrong.cert
-run "a certificate of another form, explained" 2 '{"kind":"certificate","accepted":false,"code":"C1","line":1,"column":6,"expected":"version"}' "" \
+run "a certificate of another form, explained" 2 '{"kind":"certificate","accepted":false,"code":"C1","line":1,"column":1,"expected":"version"}' "" \
     verify --format json --explain "$two" wrong.cert
 run "who wins" 0 '{"kind":"order","pair":0,"participants":["main/write_settings","guard/write_alarm"],"both":[9,27],"first":[21,25],"second":[19,25]}
 {"kind":"order","pair":1,"participants":["main/write_limit","guard/write_alarm"],"both":[9,9],"second":[15,15]}

@@ -20,7 +20,8 @@ pub enum Mistake {
         /// Where the line of its proof breaks off, where the certificate has proofs.
         found: Option<Break>,
     },
-    /// The plan has so many pairs, and the certificate so many lines of proofs. Its second line says that it has so many.
+    /// The plan has so many pairs, and the certificate so many lines of proofs. Its second line says that it has so
+    /// many.
     Count {
         pairs: u32,
         says: Option<u32>,

@@ -137,8 +137,8 @@ impl Stands {
     }
 }
 
-/// Where that stands already which a text may have once, after P7: the number of the brief, from 0 on, and the line. Nothing after
-/// other refusals, and where it has no place of its own.
+/// Where that stands already which a text may have once, after P7: the number of the brief, from 0 on, and the line.
+/// Nothing after other refusals, and where it has no place of its own.
 ///
 /// # Errors
 ///

@@ -41,8 +41,8 @@ pub fn on_checked(
     lines.finish()
 }
 
-// The pairs that were not looked at, and that there are none. The items of a plan text stand in the plan. Those of briefs do not, where
-// they name labels.
+// The pairs that were not looked at, and that there are none. The items of a plan text stand in the plan. Those of
+// briefs do not, where they name labels.
 fn push_left_out(lines: &mut Lines, words: PlanWords<'_>, kept_apart: u64) {
     if !words.has_briefs() {
         push_nevers(lines, words.plan());

@@ -9,8 +9,8 @@ use plan_words::PlanWords;
 use plays::{OpenError, check_starters};
 use std::alloc::{AllocError, Global};
 
-/// What to say of these starters, labels of this plan that commas part, where no bench is opened for them. Else there is nothing to
-/// say.
+/// What to say of these starters, labels of this plan that commas part, where no bench is opened for them. Else there
+/// is nothing to say.
 ///
 /// # Errors
 ///
@@ -63,8 +63,8 @@ fn push_none(alloc: Global, lines: &mut Lines, plan: &Plan) {
     push_nearest(alloc, lines, plan, "");
 }
 
-// The first label that the plan does not have, and what the plan calls it where it is one of the briefs, or else those that are like
-// it.
+// The first label that the plan does not have, and what the plan calls it where it is one of the briefs, or else those
+// that are like it.
 fn push_unknown(alloc: Global, lines: &mut Lines, words: PlanWords<'_>, starters: &str) {
     let plan = words.plan();
     if let Some(label) = first_absent(plan, starters) {
@@ -179,7 +179,8 @@ fn push_never(alloc: Global, lines: &mut Lines, words: PlanWords<'_>, starters: 
     }
 }
 
-// In the words of briefs, in which the item may not stand as the plan has it: it may be one between the parts of a controller.
+// In the words of briefs, in which the item may not stand as the plan has it: it may be one between the parts of a
+// controller.
 fn push_apart(alloc: Global, lines: &mut Lines, words: PlanWords<'_>, first: u32, second: u32) {
     push_called(alloc, lines, words, first);
     lines.part(" and ");

@@ -41,8 +41,8 @@ impl Oddity<'_> {
     }
 }
 
-/// What is likely a mistake in the briefs of these texts, which mean this plan: first of the texts, then of devices, bytes, messages,
-/// and controllers, each in the order of the briefs.
+/// What is likely a mistake in the briefs of these texts, which mean this plan: first of the texts, then of devices,
+/// bytes, messages, and controllers, each in the order of the briefs.
 ///
 /// # Errors
 ///

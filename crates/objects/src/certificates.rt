@@ -57,8 +57,8 @@ struct Misproved<'a> {
     why: Option<&'static str>,
 }
 
-/// Writes the object of the answer to a certificate of the plan of these words, which may be refused there, and what is wrong with it,
-/// where that was found.
+/// Writes the object of the answer to a certificate of the plan of these words, which may be refused there, and what is
+/// wrong with it, where that was found.
 ///
 /// # Errors
 ///

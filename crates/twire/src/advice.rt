@@ -82,9 +82,9 @@ pub fn no_lines() -> BusLines<'static> {
     }
 }
 
-/// How a run has ended, and what is to be said of what it has found. `named` are the files that it was over, or those that were to
-/// give its plan. `output` is the file that was to be written in place of standard output, and `error` why it was not. Hints are
-/// written by this voice.
+/// How a run has ended, and what is to be said of what it has found. `named` are the files that it was over, or those
+/// that were to give its plan. `output` is the file that was to be written in place of standard output, and `error` why
+/// it was not. Hints are written by this voice.
 #[derive(Drop)]
 pub struct Closing<'a> {
     pub ended: Result<Status, RunError>,
@@ -237,7 +237,8 @@ fn on_refused_text(
 // What the run has to say.
 fn said(alloc: Global, remark: Remark) -> Hints {
     match remark {
-        Remark::Hints(hints) | Remark::Starters(_, hints) => hints,
+        Remark::Hints(hints) => hints,
+        Remark::Starters(_label, hints) => hints,
         _ => Hints::new(alloc),
     }
 }
@@ -252,7 +253,8 @@ fn on_report<F: Read + Seek + Drop>(
     let Closing { remark, output, .. } = closing;
     match remark {
         Remark::Nothing | Remark::Refused(_) | Remark::Text(_) => Ok(Hints::new(alloc)),
-        Remark::Hints(hints) | Remark::Starters(_, hints) => Ok(hints),
+        Remark::Hints(hints) => Ok(hints),
+        Remark::Starters(_label, hints) => Ok(hints),
         Remark::Fault => on_fault(alloc, output),
         Remark::Recording(recorded) => on_recorded(alloc, read.other, names, status, recorded),
     }

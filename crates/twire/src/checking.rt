@@ -214,8 +214,8 @@ fn verify_kept<J: Input, O: Output>(
     })
 }
 
-/// Writes the answer to a certificate of the plan of these words, which may be refused there, and what is wrong with it, where that
-/// was found.
+/// Writes the answer to a certificate of the plan of these words, which may be refused there, and what is wrong with
+/// it, where that was found.
 pub fn tell_answer<O: Output>(
     alloc: Global,
     words: PlanWords<'_>,

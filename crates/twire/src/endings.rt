@@ -211,8 +211,8 @@ pub enum Halt {
     Dump(RunError, Option<Wrong>),
     /// There is no plan. The text is there where one was refused.
     Text(RunError, Option<RefusedSource>),
-    /// Starters are refused: the label of the first one that the plan does not have, where that is why, and what is to be said to
-    /// people.
+    /// Starters are refused: the label of the first one that the plan does not have, where that is why, and what is to
+    /// be said to people.
     Starters(RunError, Option<String>, Hints),
     /// The same with what is to be said to people of the plan.
     Said(RunError, Hints),

@@ -345,8 +345,8 @@ fn finish<'a, R: Files + Print + Eprint + Clock + AllocGlobal>(
     status
 }
 
-// The exit code of a run that has ended, with the line of a refusal, which may name a file: one of those that give a plan, or the
-// one that was read last. The line that told how far it was goes away.
+// The exit code of a run that has ended, with the line of a refusal, which may name a file: one of those that give a
+// plan, or the one that was read last. The line that told how far it was goes away.
 fn exit_code_of<R: Clock + Eprint + AllocGlobal>(
     rt: &R,
     ended: Result<Status, RunError>,
