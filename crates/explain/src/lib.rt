@@ -37,6 +37,7 @@ mod plans;
 mod pulse_lines;
 mod reasons;
 mod reports;
+mod rows;
 mod safety;
 mod selecting;
 mod sending;
