@@ -1,6 +1,6 @@
 //! What people read of a run: bytes in the place of slots, and why a line says what it says.
 //!
-//! Each thing that is explained is a value first: `meetings` has where an unsafe pair meets, `mends` what mends a plan, `safety`
+//! Each thing that is explained is a value first: `meetings` has where an unsafe pair meets, `mends` what mends a plan (`keeping` by labels of a brief), `safety`
 //! how the pairs of a safe one are kept apart, `reasons` which of the two a plan has, `mistakes` and `breaks` what is wrong with a certificate, `tracks` what starters put
 //! along a wire. `reports` writes a report with lines for people between its own, made of these values by `faults`, `plans`,
 //! `certificates` and `benches`; each of these lines begins with four spaces and has at most 80 columns, however long the names
@@ -26,6 +26,7 @@ mod certificates;
 mod decode_lines;
 mod faults;
 mod glitches;
+mod keeping;
 mod labels;
 mod leaving;
 mod meetings;
