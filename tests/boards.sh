@@ -267,6 +267,65 @@ for command in "decode board.vcd" "signals board.vcd" "learn board.vcd" "brief b
     compare "no further file: $command"
 done
 
+# ---- The items that mend a brief do so, and leave as many pairs unchecked as is said.
+
+# (the objects themselves are read here, also where the suite is run over lines that are made of them)
+asked=${TWIRE_OF_OBJECTS:-$twire}
+
+# field NAME: a number of the last object.
+field() {
+    sed -n "\$s/.*\"$1\":\([0-9]*\).*/\1/p" objects
+}
+
+# mended NAME: board.brief with the items that are advised. Pairs with interrupts are left, and no other ones.
+mended() {
+    local name=$1 pairs promised interrupts
+    "$asked" check --format json --hints never --explain board.brief >objects 2>err
+    pairs=$(field pairs)
+    promised=$(field unchecked)
+    interrupts=$(sed -n '$s/.*"interrupts":\[\([^]]*\)\].*/\1/p' objects | tr ',' '\n' | grep -c .)
+    {
+        cat board.brief
+        sed -n '$s/.*"never":\[\(.*\)\],"unchecked".*/\1/p' objects | sed 's/\],\[/\n/g' | tr -d '[]"' |
+            sed -n 's/^\(.*\),\(.*\)$/never \1 \2 ;/p'
+    } >mended.brief
+    "$asked" check --format json --hints never mended.brief >objects 2>>err
+    echo "$(field unsafe_pairs) unsafe, $((pairs - $(field pairs))) left out" >out
+    echo 0 >status
+    want 0 "${interrupts:-0} unsafe, ${promised:-0} left out" ""
+    compare "$name"
+}
+
+# A board of this number: families and messages of one device, listed by three controllers in whole or in part, some of
+# which are kept apart already. (RANDOM goes on in this shell alone: no subshell takes numbers of it.)
+board() {
+    local k name listed
+    RANDOM=$1
+    echo "brief 1"
+    echo "message page1 write 0x50 0b0000000x any*$((RANDOM % 2))..$((2 + RANDOM % 5)) ;"
+    echo "message page2 write 0x50 0b000000x0 any*1..$((2 + RANDOM % 5)) ;"
+    echo "message tail write 0x50 0x01 0x00*1..6 ;"
+    echo "message get write 0x50 any read 0x50 1 ;"
+    echo "message put write 0x50 0x01 0x00 0x00 0x01 ;"
+    echo "message far read 0x48 2 ;"
+    for k in a b c; do
+        echo "message far_$k read 0x4$((RANDOM % 4)) 1 ;"
+        listed=
+        for name in page1 page2_2 page2_1 tail get put far; do
+            ((RANDOM % 3)) || listed+=" $name"
+        done
+        echo "controller $k$listed far_$k ;"
+    done
+    (($1 % 3)) || echo "interrupt alert 0x48 ;"
+    (($1 % 4)) || echo "never a/far_a b ;"
+    (($1 % 5)) || echo "never b/far_b c/far_c ;"
+}
+
+for seed in {1..30}; do
+    board "$seed" >board.brief
+    mended "a board that is mended: $seed"
+done
+
 # ---- What is likely a mistake, which is no refusal.
 
 lines first.brief "brief 1" \
