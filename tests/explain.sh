@@ -535,6 +535,21 @@ advice "eight items" "8 of 18" "never bmc/a1 host/get ; never bmc/a2 host/get ;"
     "never bmc/a6 host/get ; never bmc/a7 host/get ; never bmc/a8 host/get ;" "(leaves 8 pairs unchecked)"
 writes 9
 advice "nine items" "9 of 20" "never bmc host ; (leaves 20 pairs unchecked)"
+# Single messages of a family have items of their own as far as there is room for them.
+# families COUNT: so many single messages and a family of which all clash with one message, and two with another.
+families() {
+    writes "$1"
+    sed -i -e '2s/^/message page write 0x50 0x11 0x00*1..8 ; message put write 0x50 0x11 0x00 0x00 0x01 ;\n/' \
+        -e 's/^\(controller bmc .*\) ;/\1 page ;/; s/^controller host get/& put/' board.brief
+}
+families 5
+advice "seven clashes" "15 of 42" "never bmc/a1 host/get ; never bmc/a2 host/get ;" \
+    "never bmc/a3 host/get ; never bmc/a4 host/get ; never bmc/a5 host/get ;" \
+    "never bmc/page host/get ; never bmc/page_1 host/put ; never bmc/page_2" "host/put ; (leaves 15 pairs unchecked)"
+families 6
+advice "eight clashes" "16 of 45" "never bmc/a1 host/get ; never bmc/a2 host/get ;" \
+    "never bmc/a3 host/get ; never bmc/a4 host/get ; never bmc/a5 host/get ;" \
+    "never bmc/a6 host/get ; never bmc/page host/get ; never bmc/page host/put ;" "(leaves 22 pairs unchecked)"
 
 # Several files.
 printf '%s\n' 'brief 1' 'message set write 0x48 0x01 any ;' 'message get write 0x48 0x01 read 0x48 1 ;' \

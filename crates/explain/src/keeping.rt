@@ -166,7 +166,7 @@ fn is_between(groups: &Groups, apart: Apart, both: (u32, u32)) -> bool {
     groups.has(apart.first, both.0) && groups.has(apart.second, both.1)
 }
 
-// The items for these groups, with single messages where few of a group clash.
+// The items for these groups, with single messages where few of a group clash, as far as all together are not too many.
 fn fine_items(
     alloc: Global,
     words: PlanWords<'_>,
@@ -175,11 +175,26 @@ fn fine_items(
     clashes: &[Apart],
 ) -> Result<Vec<Apart>, AllocError> {
     let mut items = Vec::new(alloc);
+    let mut spare = ITEMS.saturating_sub(clashes.len());
     for clash in clashes {
         let pairs = pairs_between(alloc, words, groups, faults, *clash)?;
-        push_items(alloc, words, groups, *clash, pairs.as_slice(), &mut items)?;
+        let fine = items_for(alloc, words, groups, *clash, pairs.as_slice())?;
+        let more = fine.len().saturating_sub(1);
+        if more <= spare {
+            spare = spare.saturating_sub(more);
+            push_all(&mut items, fine.as_slice())?;
+        } else {
+            items.push(*clash)?;
+        }
     }
     Ok(items)
+}
+
+fn push_all(items: &mut Vec<Apart>, more: &[Apart]) -> Result<(), AllocError> {
+    for item in more {
+        items.push(*item)?;
+    }
+    Ok(())
 }
 
 // The unsafe pairs that an item keeps apart.
@@ -203,36 +218,33 @@ fn pairs_between(
 
 // The items for two groups with these unsafe pairs: a group stands for its messages where most of them clash. Each pair has an
 // item of its own where no group does so, and where they are few and less is left unchecked.
-fn push_items(
+fn items_for(
     alloc: Global,
     words: PlanWords<'_>,
     groups: &Groups,
     clash: Apart,
     pairs: &[(u32, u32)],
-    items: &mut Vec<Apart>,
-) -> Result<(), AllocError> {
+) -> Result<Vec<Apart>, AllocError> {
     let firsts = sides_of(alloc, groups, clash.first, pairs, true)?;
     let seconds = sides_of(alloc, groups, clash.second, pairs, false)?;
     let each = each_with_each(alloc, firsts.as_slice(), seconds.as_slice())?;
     let has_group = firsts.iter().any(is_group) || seconds.iter().any(is_group);
     let is_dear = (pairs.len() as u64) < left_out_by(words, groups, each.as_slice());
     if !has_group || pairs.len() <= FEW && is_dear {
-        return push_singles(pairs, items);
+        return singles(alloc, pairs);
     }
-    for item in each.as_slice() {
-        items.push(*item)?;
-    }
-    Ok(())
+    Ok(each)
 }
 
-fn push_singles(pairs: &[(u32, u32)], items: &mut Vec<Apart>) -> Result<(), AllocError> {
+fn singles(alloc: Global, pairs: &[(u32, u32)]) -> Result<Vec<Apart>, AllocError> {
+    let mut items = Vec::with_capacity(alloc, pairs.len())?;
     for (first, second) in pairs {
         items.push(Apart {
             first: Side::Message(*first),
             second: Side::Message(*second),
         })?;
     }
-    Ok(())
+    Ok(items)
 }
 
 fn is_group(side: &Side) -> bool {
@@ -318,16 +330,13 @@ fn are_a_pair(words: PlanWords<'_>, x: u32, y: u32) -> bool {
 
 // ---- in the words of briefs
 
-// The items as they are written. None where they are too many, or a brief could not have them.
+// The items as they are written. None where a brief could not have them.
 fn said(
     alloc: Global,
     words: PlanWords<'_>,
     groups: &Groups,
     items: &[Apart],
 ) -> Result<Option<Kept>, AllocError> {
-    if ITEMS < items.len() {
-        return Ok(None);
-    }
     let mut nevers = Vec::new(alloc);
     for item in items {
         nevers.push(never_of(alloc, words, groups, *item)?)?;
