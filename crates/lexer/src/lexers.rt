@@ -13,10 +13,12 @@ pub struct Lexer<'a> {
     pub rest: &'a [u8],
     pub line: u64,
     pub letters: Letters,
-    // for refusals: the whole text, and how many of its bytes are left before the last lexeme, and after the one before it
+    /// For refusals: how many bytes are left where the last lexeme begins.
+    pub start: usize,
+    /// How many are left where the lexeme before it ends.
+    pub before: usize,
+    // the whole text
     text: &'a [u8],
-    start: usize,
-    before: usize,
     ghost lines_fit: { line + length rest.now < 2 ^ 64 },
 }
 
@@ -32,9 +34,9 @@ impl<'a> Lexer<'a> {
             rest: text,
             line: 1,
             letters,
-            text,
             start: text.len(),
             before: text.len(),
+            text,
         }
     }
 

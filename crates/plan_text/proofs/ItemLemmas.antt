@@ -20,7 +20,7 @@ use Rattle.plan_text.specs.Reading.{with_symbol}
 use Rattle.plan_text.specs.declared.symbols.Symbol.{Symbol}
 use Rattle.plan_text.specs.declared.symbols.Symbol.TheVariants as symbols
 use Rattle.plan_text.specs.declared.symbols.Token as seen
-use Rattle.plan_text.specs.Tokens.{Token, keyword, word, semicolon, Tokens, next, text_end, foreign, stray}
+use Rattle.plan_text.specs.Tokens.{Token, keyword, word, semicolon, Tokens, next}
 use Rattle.plan_text.specs.Tokens as tokens
 use Rattle.plan_text.proofs.AgainLemmas.{spot, item_again}
 use Rattle.plan_text.proofs.NameLemmas.{list_fits}

@@ -1,6 +1,7 @@
 //! The text of a plan: `read_plan` reads it, `print_plan` writes its canonical spelling.
 //!
-//! A text is cut into tokens, one at a time, each with its line (`tokens`, `symbols`). Its first two say its version
+//! A text is cut into tokens, one at a time, each with its line: the lexemes of the lexer, with keywords told from other
+//! words (`tokens`, `symbols`). Its first two say its version
 //! (`versions`). What a single word says is in `words`, the parts of items that are one token in `sources`. `messages` has
 //! a function for each rule of the grammar of a message, `items` one for each kind of item. `specs/Reader.antt` defines
 //! what a text is read as, and each function that reads is proved equal to its rule there. `laws` says that this is what
