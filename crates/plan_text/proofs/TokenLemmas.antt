@@ -1,14 +1,11 @@
 -- The tokens of bytes by what stands at their front: those of their lexemes.
-use Rattle.std.proofs.Common.{◌≡◌, ◌+◌, ℕ, List, [], ◌∷◌, true, refl, ap, take, drop, Some, ◌⊎◌}
+use Rattle.std.proofs.Common.{◌≡◌, ◌+◌, ℕ, List, [], ◌∷◌, true, refl, ap, take, drop, ◌⊎◌}
 use Rattle.std.specs.List.{prefix_len}
 use Rattle.lexer.specs.declared.lexemes.Letters.{Letters}
 use Rattle.lexer.specs.declared.lexemes.Letters.TheVariants.{Plain, Dots, Brief}
 use Rattle.lexer.specs.Lexemes.{Alphabet, letters, later, is_word_part, is_sign, text_end}
 use Rattle.lexer.proofs.LexemeLemmas as lexemes
-use Rattle.plan_text.specs.declared.symbols.Symbol.{Symbol}
-use Rattle.plan_text.specs.declared.symbols.Symbol.TheVariants as symbols
-use Rattle.plan_text.specs.Tokens.{Tokens, next, last, Token, semicolon, tokens_from, tokens_of, token_of_word}
-use Rattle.plan_text.specs.Reading.{with_symbol, token_of_symbol}
+use Rattle.plan_text.specs.Tokens.{next, last, semicolon, tokens_from, tokens_of, token_of_word}
 
 -- white space has no tokens
 pub skips_line_feed : (a : Alphabet) (line : ℕ) (rest others : List ℕ) → rest ≡ 10 ∷ others → tokens_of a (line + 1) others ≡ tokens_of a line rest
@@ -38,12 +35,3 @@ pub word_here : (a : Alphabet) (line byte n : ℕ) (rest others : List ℕ) → 
     tokens_of a line rest ≡ next (token_of_word (take n rest)) line (tokens_of (later a) line (drop n rest))
 unfolding tokens_of
 word_here a line byte n rest others front part count = ap tokens_from (lexemes.word_here a line byte n rest others front part count)
-
--- the symbol of a token stands where the token stands
-pub symbol_stands : (symbol : Symbol) (token : Token) (line : ℕ) (rest : Tokens) → token_of_symbol symbol ≡ Some token → with_symbol symbol line rest ≡ next token line rest
-symbol_stands (symbols.Keyword k) token line rest e = cc
-symbol_stands (symbols.Word w) token line rest e = cc
-symbol_stands symbols.Semicolon token line rest e = cc
-symbol_stands symbols.Stray token line rest e = cc
-symbol_stands symbols.Foreign token line rest e = cc
-symbol_stands symbols.End token line rest e = cc
