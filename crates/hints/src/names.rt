@@ -19,20 +19,6 @@ fn called(kind: Kind) -> &'static str {
     }
 }
 
-// A text whose names can be asked for. In a plan a range is one word, as the reader of names takes them: its dots are no
-// characters of words there.
-fn readable(alloc: Global, language: Language, text: &[u8]) -> Result<Vec<u8>, AllocError> {
-    let mut copy = text.to_vec(alloc)?;
-    if let Language::Plan = language {
-        for byte in copy.iter_mut() {
-            if *byte == b'.' {
-                *byte = b'_';
-            }
-        }
-    }
-    Ok(copy)
-}
-
 fn names_in(alloc: Global, language: Language, text: &[u8]) -> Result<Names<'_>, AllocError> {
     match language {
         Language::Plan => plan_text::given::names_in(alloc, text),
@@ -59,11 +45,7 @@ fn line_of(names: &[NameAt<'_>], kind: Kind, word: &[u8]) -> Option<u64> {
 
 /// Says P7: where the name stands already, or the two.
 pub(crate) fn push_twice(alloc: Global, lines: &mut Lines, refused: &RefusedIn<'_>) {
-    let Ok(text) = readable(alloc, refused.language, refused.before()) else {
-        lines.fail();
-        return;
-    };
-    match names_in(alloc, refused.language, text.as_slice()) {
+    match names_in(alloc, refused.language, refused.before()) {
         Ok(names) => push_earlier(lines, refused, names.all()),
         Err(_) => lines.fail(),
     }
@@ -248,12 +230,7 @@ fn joined(byte: u8) -> u8 {
 
 /// Says P8: the names that are nearest, or that there are none.
 pub(crate) fn push_unknown(alloc: Global, lines: &mut Lines, refused: &RefusedIn<'_>) {
-    let Ok(text) = readable(alloc, refused.language, refused.text) else {
-        lines.fail();
-        return;
-    };
-    let before = text.get(..refused.place.start).unwrap_or(&[]);
-    match names_in(alloc, refused.language, before) {
+    match names_in(alloc, refused.language, refused.before()) {
         Ok(names) => push_absent(alloc, lines, refused, names.all()),
         Err(_) => lines.fail(),
     }
@@ -337,13 +314,12 @@ fn line_below(
     kind: Kind,
     word: &[u8],
 ) -> Option<u64> {
-    let Ok(text) = readable(alloc, refused.language, refused.text) else {
-        lines.fail();
-        return None;
-    };
-    match names_in(alloc, refused.language, text.as_slice()) {
+    match names_in(alloc, refused.language, refused.text) {
         Ok(names) => line_of(names.all(), kind, word),
-        Err(_) => None,
+        Err(_) => {
+            lines.fail();
+            None
+        }
     }
 }
 

@@ -4,7 +4,6 @@
 ghost use Rattle.std.specs.Prelude.{◌≡◌};
 
 use crate::errors::PlanError;
-
 pub use lexer::Spot;
 
 /// The two languages in which people write plans.
