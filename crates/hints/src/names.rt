@@ -21,20 +21,6 @@ fn called(kind: Kind) -> &'static str {
     }
 }
 
-// A text whose names can be asked for. In a plan a range is one word, as the reader of names takes them: its dots are no
-// characters of words there.
-fn readable(alloc: Global, language: Language, text: &[u8]) -> Result<Vec<u8>, AllocError> {
-    let mut copy = text.to_vec(alloc)?;
-    if let Language::Plan = language {
-        for byte in copy.iter_mut() {
-            if *byte == b'.' {
-                *byte = b'_';
-            }
-        }
-    }
-    Ok(copy)
-}
-
 fn names_in(alloc: Global, language: Language, text: &[u8]) -> Result<Names<'_>, AllocError> {
     match language {
         Language::Plan => plan_text::given::names_in(alloc, text),
@@ -159,8 +145,8 @@ pub(crate) fn push_twice(alloc: Global, lines: &mut Lines, refused: &RefusedIn<'
 }
 
 fn stands_in(alloc: Global, refused: &RefusedIn<'_>) -> Result<Stands, AllocError> {
-    let text = readable(alloc, refused.language, refused.before())?;
-    let known = known_in(alloc, refused.language, refused.earlier, text.as_slice())?;
+    let text = refused.before();
+    let known = known_in(alloc, refused.language, refused.earlier, text)?;
     Ok(stands_among(known.as_slice(), refused))
 }
 
@@ -358,12 +344,7 @@ fn joined(byte: u8) -> u8 {
 
 /// Says P8: the names that are nearest, or that there are none.
 pub(crate) fn push_unknown(alloc: Global, lines: &mut Lines, refused: &RefusedIn<'_>) {
-    let Ok(text) = readable(alloc, refused.language, refused.text) else {
-        lines.fail();
-        return;
-    };
-    let before = text.get(..refused.place.start).unwrap_or(&[]);
-    match known_in(alloc, refused.language, refused.earlier, before) {
+    match known_in(alloc, refused.language, refused.earlier, refused.before()) {
         Ok(known) => push_absent(alloc, lines, refused, known.as_slice()),
         Err(_) => lines.fail(),
     }
@@ -446,13 +427,12 @@ fn line_below(
     kind: Kind,
     word: &[u8],
 ) -> Option<u64> {
-    let Ok(text) = readable(alloc, refused.language, refused.text) else {
-        lines.fail();
-        return None;
-    };
-    match known_in(alloc, refused.language, &[], text.as_slice()) {
+    match known_in(alloc, refused.language, &[], refused.text) {
         Ok(known) => Some(spot_of(known.as_slice(), kind, word)?.line),
-        Err(_) => None,
+        Err(_) => {
+            lines.fail();
+            None
+        }
     }
 }
 

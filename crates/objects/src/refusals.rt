@@ -212,7 +212,6 @@ fn refusal_of(error: RunError) -> Refusal<'static> {
         RunError::Plan(error) => of_text(error),
         RunError::Brief(error) => coded(match error {
             NoBrief::Name => "brief name",
-            NoBrief::Unwritten => "brief text",
             NoBrief::NoMemory => "memory",
         }),
         RunError::Vcd(error) => of_dump(error),
