@@ -86,6 +86,8 @@ never bmc_set pch_get ;"
 want 0 "$plan" ""
 run "three files expanded" expand devices.brief bmc.brief pch.brief
 run "their items in one file" expand whole.brief
+run "further ones by the option" expand devices.brief --with bmc.brief --with pch.brief
+run "further ones by a word and by the option" expand devices.brief bmc.brief --with pch.brief
 run "the second one from standard input" expand devices.brief - pch.brief <bmc.brief
 run "the last one from standard input" expand devices.brief bmc.brief /dev/stdin <pch.brief
 run "the first one from a pipe" expand - bmc.brief pch.brief < <(cat devices.brief)
@@ -223,13 +225,76 @@ run "hints on a missing second file" expand devices.brief missing.brief --hints 
 lines second.brief "brief 1" "message m write eeprm ;"
 "$twire" check devices.brief --with second.brief --hints always >out 2>said
 echo "$?" >status
-head -n 4 said >err
+cp said err
 want 2 "" 'refused P8 line 2 of second.brief
 hint: line 2 of the brief "second.brief":
 hint:   message m write eeprm ;
-hint:                   ^^^^^'
+hint:                   ^^^^^
+hint: no device before this place has this name; the nearest names of devices:
+hint:   eeprom
+hint:   sensor'
 compare "hints on a refusal in the second file"
-want 0 "safe: 5 pairs" "hint: 'never bmc/set pch/get ;' leaves out pairs: 1"
+# They know what the files before have, also where these are a pipe.
+lines h3.brief "brief 1" "controller host get ;" "never bmc/sett host ;"
+want 2 "" 'refused P8 line 3 of h3.brief
+hint: line 3 of the brief "h3.brief":
+hint:   never bmc/sett host ;
+hint:         ^^^^^^^^
+hint: the controller of this label lists no such message; it lists:
+hint:   set
+hint:   get'
+run "a label of a controller in an earlier file" check devices.brief --with - --with h3.brief --hints always \
+    < <(cat bmc.brief)
+lines second.brief "brief 1" "byte spare 0x09 ;  device eeprom 0x50 ;"
+want 2 "" 'refused P7 line 2 of second.brief
+hint: line 2 of the brief "second.brief":
+hint:   byte spare 0x09 ;  device eeprom 0x50 ;
+hint:                             ^^^^^^
+hint: an earlier device has this name, on line 2 of "devices.brief"'
+run "a name that an earlier file has" check devices.brief --with second.brief --hints always
+lines second.brief "brief 1" "byte spare 0x09 ;" "byte spare 0x0A ;"
+want 2 "" 'refused P7 line 3 of second.brief
+hint: line 3 of the brief "second.brief":
+hint:   byte spare 0x0A ;
+hint:        ^^^^^
+hint: an earlier byte has this name, on line 2'
+run "a name that the file itself has" check devices.brief --with second.brief --hints always
+lines second.brief "brief 1" "controller host page_1 ;" "message page_2 write eeprom ;"
+want 2 "" 'refused P7 line 3 of second.brief
+hint: line 3 of the brief "second.brief":
+hint:   message page_2 write eeprom ;
+hint:           ^^^^^^
+hint: an earlier message has this name, on line 3 of "pch.brief"'
+run "a message of a family in an earlier file" check devices.brief --with bmc.brief --with pch.brief \
+    --with second.brief --hints always
+lines second.brief "brief 1" "never pch/get bmc/set ;"
+want 2 "" 'refused P7 line 2 of second.brief
+hint: line 2 of the brief "second.brief":
+hint:   never pch/get bmc/set ;
+hint:                 ^^^^^^^
+hint: these two stand in a '"'never'"' already, on line 5 of "pch.brief"'
+run "a never that an earlier file has" check devices.brief --with bmc.brief --with pch.brief --with second.brief \
+    --hints always
+want 2 "" "refused P2 line 1 of board.plan
+hint: line 1 of the brief \"board.plan\":
+hint:   plan 2
+hint:   ^^^^
+hint: a brief begins with 'brief 1'
+hint: this is a plan, and none of several files may be one"
+run "hints on a plan among several files" check devices.brief --with board.plan --hints always
+# Starters have the labels of the plan, and hints know those of the briefs.
+want 2 "" "refused B2
+hint: no participant of the plan has the label 'bmc/set'
+hint: this is its label in the briefs; the plan calls it 'bmc_set/set'"
+run "a starter as the briefs call it" bench whole.brief board.cert bmc/set,pch/page_1 --hints always
+want 2 "" "refused B8
+hint: 'bmc/set' and 'pch/get' never start together: a 'never' keeps them apart"
+run "starters that a label keeps apart" bench whole.brief board.cert bmc_set/set,pch_get/get --hints always
+want 2 "" "refused B8
+hint: 'bmc/get' and 'bmc/set' are of one controller, which starts one message at
+hint: a time"
+run "starters of one controller that is split" bench whole.brief board.cert bmc/get,bmc_set/set --hints always
+want 0 "safe: 5 pairs" "hint: the 'never' items leave out pairs: 1"
 run "hints on what never leaves out" check devices.brief --with bmc.brief --with pch.brief --hints always
 "$twire" capture devices.brief --with bmc.brief --with pch.brief "$tests/../examples/probe_logic.vcd" --hints always 2>&1 |
     sed -n 's/^hint:   \(twire capture .*\) \/.*/\1/p' >out
@@ -257,6 +322,26 @@ twice capture devices.brief - --with -
 twice bench - board.cert bmc/get --with -
 twice page devices.brief --with - --capture -
 
+# A further file wants its option, but for expand.
+for words in "check devices.brief bmc.brief" "print devices.brief bmc.brief" "verify devices.brief board.cert bmc.brief" \
+    "bench devices.brief board.cert bmc/get bmc.brief"; do
+    # shellcheck disable=SC2086
+    "$twire" $words >out 2>said
+    echo "$?" >status
+    head -n 3 said >err
+    want 2 "" "error: unexpected argument 'bmc.brief' found
+
+  tip: further files of a brief follow by '--with FILE'"
+    compare "a file too much: $words"
+done
+"$twire" brief board.plan bmc.brief >out 2>said
+echo "$?" >status
+head -n 3 said >err
+want 2 "" "error: unexpected argument 'bmc.brief' found
+
+Usage: twire brief [OPTIONS] <PLAN>"
+compare "a file too much, for a command without a brief"
+
 # Commands without a brief take no further one.
 for command in "decode board.vcd" "signals board.vcd" "learn board.vcd" "brief board.plan"; do
     # shellcheck disable=SC2086
@@ -265,6 +350,65 @@ for command in "decode board.vcd" "signals board.vcd" "learn board.vcd" "brief b
     head -n 1 said >err
     want 2 "" "error: unexpected argument '--with' found"
     compare "no further file: $command"
+done
+
+# ---- The items that mend a brief do so, and leave as many pairs unchecked as is said.
+
+# (the objects themselves are read here, also where the suite is run over lines that are made of them)
+asked=${TWIRE_OF_OBJECTS:-$twire}
+
+# field NAME: a number of the last object.
+field() {
+    sed -n "\$s/.*\"$1\":\([0-9]*\).*/\1/p" objects
+}
+
+# mended NAME: board.brief with the items that are advised. Pairs with interrupts are left, and no other ones.
+mended() {
+    local name=$1 pairs promised interrupts
+    "$asked" check --format json --hints never --explain board.brief >objects 2>err
+    pairs=$(field pairs)
+    promised=$(field unchecked)
+    interrupts=$(sed -n '$s/.*"interrupts":\[\([^]]*\)\].*/\1/p' objects | tr ',' '\n' | grep -c .)
+    {
+        cat board.brief
+        sed -n '$s/.*"never":\[\(.*\)\],"unchecked".*/\1/p' objects | sed 's/\],\[/\n/g' | tr -d '[]"' |
+            sed -n 's/^\(.*\),\(.*\)$/never \1 \2 ;/p'
+    } >mended.brief
+    "$asked" check --format json --hints never mended.brief >objects 2>>err
+    echo "$(field unsafe_pairs) unsafe, $((pairs - $(field pairs))) left out" >out
+    echo 0 >status
+    want 0 "${interrupts:-0} unsafe, ${promised:-0} left out" ""
+    compare "$name"
+}
+
+# A board of this number: families and messages of one device, listed by three controllers in whole or in part, some of
+# which are kept apart already. (RANDOM goes on in this shell alone: no subshell takes numbers of it.)
+board() {
+    local k name listed
+    RANDOM=$1
+    echo "brief 1"
+    echo "message page1 write 0x50 0b0000000x any*$((RANDOM % 2))..$((2 + RANDOM % 5)) ;"
+    echo "message page2 write 0x50 0b000000x0 any*1..$((2 + RANDOM % 5)) ;"
+    echo "message tail write 0x50 0x01 0x00*1..6 ;"
+    echo "message get write 0x50 any read 0x50 1 ;"
+    echo "message put write 0x50 0x01 0x00 0x00 0x01 ;"
+    echo "message far read 0x48 2 ;"
+    for k in a b c; do
+        echo "message far_$k read 0x4$((RANDOM % 4)) 1 ;"
+        listed=
+        for name in page1 page2_2 page2_1 tail get put far; do
+            ((RANDOM % 3)) || listed+=" $name"
+        done
+        echo "controller $k$listed far_$k ;"
+    done
+    (($1 % 3)) || echo "interrupt alert 0x48 ;"
+    (($1 % 4)) || echo "never a/far_a b ;"
+    (($1 % 5)) || echo "never b/far_b c/far_c ;"
+}
+
+for seed in {1..30}; do
+    board "$seed" >board.brief
+    mended "a board that is mended: $seed"
 done
 
 # ---- What is likely a mistake, which is no refusal.
@@ -302,6 +446,21 @@ hint: were not looked at
 hint: the plan has no two participants that may start together: no pair was
 hint: looked at"
 run "a family that nobody sends" check unsent.brief --hints always
+lines one.brief "brief 1" "message m write 0x10 ;" "controller a m ;"
+printf 'brief 1\r# a board\rdevice eeprom 0x50 ;\r' >returns.brief
+want 0 "safe: 0 pairs" "hint: returns.brief:1: this brief has no items
+hint: returns.brief:1: a carriage return (CR) does not end a comment: what
+hint: follows it in the comment is not read, up to a line feed
+hint: the plan has no two participants that may start together: no pair was
+hint: looked at"
+run "a brief whose lines end in carriage returns" check one.brief --with returns.brief --hints always
+printf '%s\r\n' "brief 1" "# a board" "message n write 0x11 ;" "controller b n ; # all" >windows.brief
+want 0 "safe: 1 pairs" ""
+run "one whose lines end in CR LF" check one.brief --with windows.brief --hints always
+want 0 "safe: 0 pairs" "hint: empty.brief:1: this brief has no items
+hint: the plan has no two participants that may start together: no pair was
+hint: looked at"
+run "one brief without items" check empty.brief --hints always
 {
     echo "brief 1"
     for k in {1..12}; do echo "device d$k 0b01000$((k % 2))$((k / 2 % 2)) ;"; done

@@ -247,8 +247,14 @@ run "a proof that names another bit" verify --explain "$examples/two_writers.pla
 sed '3d' two.cert >wrong.cert
 want 2 "wrong C2
     the plan has 2 pairs, and the certificate has 1 lines of proofs
-    a plan that was changed wants a new certificate: twire certify PLAN" ""
+    its second line says that it has 2
+    so it is no whole certificate: twire certify PLAN writes one" ""
 run "a proof too few" verify --explain "$examples/two_writers.plan" wrong.cert
+printf 'cert 1\npairs 1\n.\n' >wrong.cert
+want 2 "wrong C2
+    the plan has 2 pairs, and the certificate has 1 lines of proofs
+    a plan that was changed wants a new certificate: twire certify PLAN" ""
+run "a certificate of a plan with fewer pairs" verify --explain "$examples/two_writers.plan" wrong.cert
 sed 's/^cert 1/cert 2/' two.cert >wrong.cert
 want 2 "wrong C1 line 1
     a plan that was changed wants a new certificate: twire certify PLAN" ""
@@ -448,7 +454,7 @@ want 0 "safe: 4 pairs
     5 pairs were not checked: 'never' keeps their controllers apart" ""
 run "the items that are named mend the brief" check --explain board.brief
 
-# Controllers of one message are named themselves, and where there are many pairs all controllers.
+# Families are named by their labels, and controllers of one message themselves.
 brief 'brief 1' 'message page write 0x50 any*1..3 ;' 'message get write 0x50 any read 0x50 1 ;' \
     'controller bmc page get ;' 'controller pch page ;' 'controller seq get ;' 'never bmc/page_3 pch/page_1 ;'
 "$twire" check --explain --most 0 board.brief >out 2>err
@@ -456,10 +462,94 @@ echo "$?" >status
 sed -i '/^pair/d; /not explained/d' out
 want 1 "unsafe: 14 of 18 pairs
     to mend each: a bit before its slot, known in both and different; or the
-    same shape from there on; or never bmc pch ; never bmc seq ; never pch seq ;
-    (leaves 18 pairs unchecked)
+    same shape from there on; or never bmc/page pch/page ; never bmc/page seq ;
+    never bmc/get pch/page ; never pch/page seq ; (leaves 17 pairs unchecked)
     1 pairs were not checked: 'never' keeps their controllers apart" ""
 compare "many pairs of a brief"
+
+# advice NAME UNSAFE LINE..: what is said below the report on the brief, without its pairs, from the first item on.
+advice() {
+    local name=$1 said="unsafe: $2 pairs
+    to mend each: a bit before its slot, known in both and different; or the
+    same shape from there on; or $3" line
+    for line in "${@:4}"; do
+        said+=$'\n'"    $line"
+    done
+    "$twire" check --explain --most 0 board.brief >out 2>err
+    echo "$?" >status
+    sed -i '/^pair/d; /not explained/d' out
+    want 1 "$said" ""
+    compare "$name"
+}
+
+# One item for a family does, also where its messages are few.
+for n in 2 4 5 32; do
+    brief 'brief 1' "message page write 0x50 any*1..$n ;" 'message get write 0x50 any read 0x50 1 ;' \
+        'message other read 0x48 1 ;' 'controller bmc page other ;' 'controller host other get ;'
+    advice "a family of $n" "$n of $((2 * (n + 1)))" "never bmc/page host/get ; (leaves $n pairs" "unchecked)"
+done
+# A controller that sends nothing but the family is named itself.
+brief 'brief 1' 'message page write 0x50 any*1..5 ;' 'message get write 0x50 any read 0x50 1 ;' \
+    'message other read 0x48 1 ;' 'controller bmc page ;' 'controller host other get ;'
+advice "a controller of one family" "5 of 10" "never bmc host/get ; (leaves 5 pairs unchecked)"
+# Two families: pairs of equal lengths are left out with the others where their labels are named.
+brief 'brief 1' 'message page write 0x50 any*1..3 ;' 'message other read 0x48 1 ;' 'controller bmc page other ;' \
+    'controller host other page ;'
+advice "two families" "6 of 16" "never bmc/page host/page ; (leaves 9 pairs" "unchecked)"
+# Of a family of which few clash these are named.
+brief 'brief 1' 'message page write 0x50 0x01 0x00*1..8 ;' 'message put write 0x50 0x01 0x00 0x00 0x01 ;' \
+    'message other read 0x48 1 ;' 'controller bmc page other ;' 'controller host other put ;'
+advice "few messages of a family" "2 of 18" "never bmc/page_1 host/put ; never bmc/page_2" \
+    "host/put ; (leaves 2 pairs unchecked)"
+sed -i 's/^controller bmc .*/controller bmc page_1 page_2 page_7 other ;/' board.brief
+advice "two of three messages of a family" "2 of 8" "never bmc/page_1 host/put ; never bmc/page_2" \
+    "host/put ; (leaves 2 pairs unchecked)"
+# A label stands for those of a family that the controller lists.
+brief 'brief 1' 'message page write 0x50 any*1..32 ;' 'message get write 0x50 any read 0x50 1 ;' \
+    'message other read 0x48 1 ;' 'controller bmc page_1 page_2 page_3 page_4 page_5 page_9 other ;' \
+    'controller host other get ;'
+advice "six messages of a family" "6 of 14" "never bmc/page host/get ; (leaves 6 pairs" "unchecked)"
+# Messages of one line that have the names of a family are none.
+brief 'brief 1' 'message page_1 write 0x50 any ; message page_2 write 0x50 any any ;' \
+    'message get write 0x50 any read 0x50 1 ; message other read 0x48 1 ;' 'controller bmc page_1 page_2 other ;' \
+    'controller host other get ;'
+advice "no family" "2 of 6" "never bmc/page_1 host/get ; never bmc/page_2" "host/get ; (leaves 2 pairs unchecked)"
+# What a brief could not have is not named: a label whose part has the name of a controller.
+brief 'brief 1' 'message page write 0x50 any*1..5 ;' 'message get write 0x50 any read 0x50 1 ;' \
+    'message other read 0x48 1 ;' 'controller bmc page other ;' 'controller bmc_page other ;' 'controller host other get ;'
+advice "a label whose name is taken" "5 of 20" "never bmc host ; (leaves 12 pairs unchecked)"
+# Eight items are named, and with more of them controllers.
+# writes COUNT: a board of so many single messages that clash with one.
+writes() {
+    local k messages=() listed=
+    for ((k = 1; k <= $1; k++)); do
+        messages+=("message a$k write 0x50 0x0$k any ;")
+        listed+=" a$k"
+    done
+    brief 'brief 1' 'message get write 0x50 any read 0x50 1 ;' 'message other read 0x48 1 ;' "${messages[@]}" \
+        "controller bmc other$listed ;" 'controller host get other ;'
+}
+writes 8
+advice "eight items" "8 of 18" "never bmc/a1 host/get ; never bmc/a2 host/get ;" \
+    "never bmc/a3 host/get ; never bmc/a4 host/get ; never bmc/a5 host/get ;" \
+    "never bmc/a6 host/get ; never bmc/a7 host/get ; never bmc/a8 host/get ;" "(leaves 8 pairs unchecked)"
+writes 9
+advice "nine items" "9 of 20" "never bmc host ; (leaves 20 pairs unchecked)"
+# Single messages of a family have items of their own as far as there is room for them.
+# families COUNT: so many single messages and a family of which all clash with one message, and two with another.
+families() {
+    writes "$1"
+    sed -i -e '2s/^/message page write 0x50 0x11 0x00*1..8 ; message put write 0x50 0x11 0x00 0x00 0x01 ;\n/' \
+        -e 's/^\(controller bmc .*\) ;/\1 page ;/; s/^controller host get/& put/' board.brief
+}
+families 5
+advice "seven clashes" "15 of 42" "never bmc/a1 host/get ; never bmc/a2 host/get ;" \
+    "never bmc/a3 host/get ; never bmc/a4 host/get ; never bmc/a5 host/get ;" \
+    "never bmc/page host/get ; never bmc/page_1 host/put ; never bmc/page_2" "host/put ; (leaves 15 pairs unchecked)"
+families 6
+advice "eight clashes" "16 of 45" "never bmc/a1 host/get ; never bmc/a2 host/get ;" \
+    "never bmc/a3 host/get ; never bmc/a4 host/get ; never bmc/a5 host/get ;" \
+    "never bmc/a6 host/get ; never bmc/page host/get ; never bmc/page host/put ;" "(leaves 22 pairs unchecked)"
 
 # Several files.
 printf '%s\n' 'brief 1' 'message set write 0x48 0x01 any ;' 'message get write 0x48 0x01 read 0x48 1 ;' \
@@ -480,6 +570,32 @@ sed -i '/^message get/d' first.brief
 sed -i '2s/.*/message get write 0x48 0x01 read 0x48 1 ;/' second.brief
 sed -i 's/<stdin>:2 and <stdin>:3/first.brief:2 and second.brief:2/' want_out
 run "messages of two files" check --explain first.brief --with second.brief
+
+# The paths of places stay whole. Neither is a line too long, unless a path alone is, nor does 'see' stand alone.
+see() {
+    local name=$1
+    shift
+    want 0 "$(printf '    %s\n' "$@")" ""
+    "$twire" check --explain "$first" --with "$second" 2>err | sed -n '/^    see/,/^unsafe/p' | sed '$d' >out
+    echo 0 >status
+    compare "$name"
+}
+d=$(printf 'd%.0s' {1..60})
+first=$d.brief second=e$d.brief
+cp first.brief "$first"
+cp second.brief "$second"
+see "places on two lines" "see $first:2 and" "$second:2"
+first=$second second=$d.brief
+see "a place that is too long beside 'see'" "see these lines:" "$first:2" "$second:2"
+mkdir "$d $d"
+first=$d.brief second="$d $d/a b.brief"
+cp second.brief "$second"
+see "a path that is too long, with blanks" "see $first:2 and" "$second:2"
+first=$second second=$d.brief
+cp first.brief "$first"
+printf '%s\n' 'brief 1' '' 'controller pch get ;' >"$second"
+sed -i '$a message get write 0x48 0x01 read 0x48 1 ;' "$first"
+see "two places of a path that is too long" "see these lines:" "$first:2" "$first:4"
 
 # Certificates, rehearsals and captures.
 brief 'brief 1' 'message set write 0x48 0x01 any ;' 'message get write 0x48 0x02 read 0x48 1 ;' \
@@ -530,6 +646,31 @@ sed -i '/interrupt/d; s/^plan 1/plan 2/' p.plan
 echo "never $long b ;" >>p.plan
 "$twire" certify p.plan >c.cert
 alike "a rehearsal of 250 bytes" bench p.plan c.cert "$long/$long"
+
+# Where one row is too long, the same bytes are left out of each, and the last one is shown.
+brief 'brief 1' 'message short write 0x50 any*3 ;' 'message long write 0x50 any*8 ;' 'controller bmc short ;' \
+    'controller host long ;'
+want 1 "pair 0 bmc/short host/long: stop against data after 10100000l00000000l00000000l00000000l
+    bus        S 50 Wr A .. A 00 A 00 A
+    bmc/short  S 50 Wr A .. A xxxxxxxx A xxxxxxxx A P         next: a STOP
+    host/long  S 50 Wr A .. A xxxxxxxx A xxxxxxxx A xxxxxxxx  next: a data bit
+    slot 36, UM10204 3.1.8: a STOP meets a data bit. Both send alike until here.
+    bmc/short may send either bit before it in slot 9..16, 18..25, 27..34
+    host/long may send either bit before it in slot 9..16, 18..25, 27..34
+    see board.brief:2 and board.brief:3
+unsafe: 1 of 1 pairs
+    to mend it: a bit before that slot, known in both and different; or the same
+    shape from there on; or never bmc host ; (leaves 1 pairs unchecked)" ""
+run "a row that is too long" check --explain board.brief
+# Bytes that are known in one of them: the same words are left out of it, though it would have room for more.
+brief 'brief 1' 'message short write 0x50 0x01*6 read 0x50 1 ;' 'message long write 0x50 any*9 ;' 'controller bmc short ;' \
+    'controller host long ;'
+want 0 "    bus        S 50 Wr A .. A 01 A 01 A
+    bmc/short  S 50 Wr A .. A 01 A 01 A Sr  next: a repeated START
+    host/long  S 50 Wr A .. A xxxxxxxx A xxxxxxxx A xxxxxxxx  next: a data bit" ""
+"$twire" check --explain board.brief 2>err | sed -n '2,4p' >out
+echo 0 >status
+compare "known bytes in a row that is too long"
 
 # ---- Many pairs.
 

@@ -246,7 +246,8 @@ hint: line 1 of the plan:
 hint:   board 1
 hint:   ^^^^^
 hint: a plan begins with 'plan 1', or with 'plan 2' where it has ranges of
-hint: counts or 'never'"
+hint: counts or 'never'
+hint: a brief begins with 'brief 1'"
 { cat vcd && echo '?'; } >changing
 line=$(wc -l <changing)
 refused_then end_nothing 4 capture plan changing --hints always

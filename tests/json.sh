@@ -161,7 +161,7 @@ run "a certificate, explained" 0 '{"kind":"certificate","accepted":true,"safe":t
     verify --format json --explain "$two" "${two%.plan}.cert"
 printf 'cert 1\npairs 2\n.\n' >wrong.cert
 run "a certificate that is wrong" 2 '{"kind":"certificate","accepted":false,"code":"C2"}' "" verify --format json "$two" wrong.cert
-run "a proof too few, explained" 2 '{"kind":"certificate","accepted":false,"code":"C2","explain":{"pairs":2,"proofs":1}}' "" \
+run "a proof too few, explained" 2 '{"kind":"certificate","accepted":false,"code":"C2","explain":{"pairs":2,"proofs":1,"says":2}}' "" \
     verify --format json --explain "$two" wrong.cert
 sed 's/P6/P5/' "${two%.plan}.cert" >wrong.cert
 run "a proof that names another bit" 2 '{"kind":"certificate","accepted":false,"code":"C5","pair":1}' "" \
@@ -175,9 +175,9 @@ printf 'cert 1\nfault 2 10010000l data stop\n' >wrong.cert
 run "a fault of a pair that there is not, explained" 2 '{"kind":"certificate","accepted":false,"code":"C5","pair":2}' "" \
     verify --format json --explain "$two" wrong.cert
 printf 'cert 2\n' >wrong.cert
-run "a certificate of another form" 2 '{"kind":"certificate","accepted":false,"code":"C1","line":1}' "" \
+run "a certificate of another form" 2 '{"kind":"certificate","accepted":false,"code":"C1","line":1,"column":1,"expected":"version"}' "" \
     verify --format json "$two" wrong.cert
-run "a certificate of another form, explained" 2 '{"kind":"certificate","accepted":false,"code":"C1","line":1}' "" \
+run "a certificate of another form, explained" 2 '{"kind":"certificate","accepted":false,"code":"C1","line":1,"column":1,"expected":"version"}' "" \
     verify --format json --explain "$two" wrong.cert
 run "who wins" 0 '{"kind":"order","pair":0,"participants":["main/write_settings","guard/write_alarm"],"both":[9,27],"first":[21,25],"second":[19,25]}
 {"kind":"order","pair":1,"participants":["main/write_limit","guard/write_alarm"],"both":[9,9],"second":[15,15]}
@@ -328,7 +328,17 @@ run "refusals: a place where nothing else could stand" 2 "" '{"kind":"refusal","
     check --format json --hints never - <<<$'plan 1\n# \xc3\xa9'
 run "refusals: a code with a signal" 2 "" '{"kind":"refusal","code":"V1","signal":"scl"}' \
     capture --format json --scl nothing "$two" "$dump"
-run "refusals: a code" 2 "" '{"kind":"refusal","code":"B2"}' bench --format json --certify "$two" nobody
+run "refusals: a code with a label" 2 "" '{"kind":"refusal","code":"B2","label":"nobody"}' bench --format json --certify "$two" nobody
+run "refusals: a code" 2 "" '{"kind":"refusal","code":"B3"}' \
+    bench --format json --certify "$two" main/write_settings,main/write_limit,nobody
+run "refusals: a file" 2 "" '{"kind":"refusal","code":"read","file":"missing.plan"}' check --format json missing.plan
+run "refusals: a name that stands already" 2 "" '{"kind":"refusal","code":"P7","line":3,"byte":31,"column":8,"expected":"name","earlier":{"line":2}}' \
+    expand --format json --hints never - <<<$'brief 1\ndevice d 0x50 ;\ndevice d 0x51 ;'
+printf '%s\n' 'brief 1' 'device d 0x50 ;' >first.brief
+run "refusals: one of two files has it" 2 "" '{"kind":"refusal","code":"P7","line":2,"file":"-","byte":15,"column":8,"expected":"name","earlier":{"file":"first.brief","line":2}}' \
+    expand --format json --hints never first.brief - <<<$'brief 1\ndevice d 0x51 ;'
+run "refusals: no semicolon" 2 "" '{"kind":"refusal","code":"P3","line":4,"byte":35,"column":1,"expected":"byte or further","after_line":2,"after_column":26}' \
+    expand --format json --hints never - <<<$'brief 1\nmessage m write 0x50 0x01\n\ndevice d 0x51 ;'
 run "refusals: a word" 2 "" '{"kind":"refusal","code":"workers"}' check --format json --workers 9 "$two"
 run "refusals: two words" 2 "" '{"kind":"refusal","code":"brief name"}' brief --format json - <<<'plan 1 controller brief ;'
 run "refusals and hints" 2 "" '{"kind":"refusal","code":"workers"}

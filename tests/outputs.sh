@@ -344,7 +344,7 @@ ran 2 "refused read
 hint: PLAN, the plan \"./-x\", cannot be opened:
 hint: No such file or directory (os error 2)" check --hints always -- -x
 judge "a name that would be an option"
-ran 2 '{"kind":"refusal","code":"read"}
+ran 2 '{"kind":"refusal","code":"read","file":"'$'a\u202eb''"}
 {"kind":"hint","form":"sentence","text":"PLAN, the plan $'"'a\\\\xe2\\\\x80\\\\xaeb'"', cannot be opened:"}
 {"kind":"hint","form":"sentence","text":"No such file or directory (os error 2)"}' check $'a\u202eb' --hints always --format json
 judge "a mark of direction in an object"

@@ -71,10 +71,17 @@ pub fn of_wrong(plan: &Participants, cert: &str, wrong: Wrong) -> Option<Value> 
     match wrong {
         Wrong::Format(_) | Wrong::TooDeep(_) => None,
         Wrong::Count(proofs) => {
-            Some(object(vec![("pairs", Value::of(plan.pairs().len())), ("proofs", Value::of(proofs))]))
+            let mut fields = vec![("pairs", Value::of(plan.pairs().len())), ("proofs", Value::of(proofs))];
+            fields.extend(proofs_said(cert).map(|says| ("says", Value::of(says))));
+            Some(object(fields))
         }
         Wrong::Pair(pair) => of_wrong_pair(plan, cert, pair),
     }
+}
+
+// How many proofs the second line says that there are.
+fn proofs_said(cert: &str) -> Option<usize> {
+    cert.lines().nth(1)?.strip_prefix("pairs ")?.parse().ok()
 }
 
 // A fault can be claimed of a pair that the plan does not have.

@@ -102,19 +102,42 @@ fn refusal(fields: &mut Fields) -> Result<String, String> {
     let code = fields.text("code")?;
     let line = fields.maybe("line", Value::into_number)?.map(|line| format!(" line {line}"));
     let file = fields.maybe("file", Value::into_text)?.map(|file| format!(" of {file}"));
+    // (of a file that cannot be read the line says nothing)
+    let file = file.filter(|_| code != "read");
+    let label = fields.maybe("label", Value::into_text)?;
+    only_if(label.is_none() || code == "B2", "a label is of B2")?;
     let signal = fields.maybe("signal", Value::into_text)?.map(|signal| format!(" {signal}"));
     let place = place(fields, &code)?;
+    after_and_earlier(fields, &code)?;
     let [line, file, signal] = [line, file, signal].map(Option::unwrap_or_default);
     Ok(format!("refused {code}{line}{file}{signal}{place}"))
 }
 
-// What is likely a mistake in a brief: names, and a line of a file for each, but for messages that stand in one place.
+// Where a `;` is missing, after the token before; and where that stands already which may stand once.
+fn after_and_earlier(fields: &mut Fields, code: &str) -> Result<(), String> {
+    if fields.maybe("after_line", Value::into_number)?.is_some() {
+        only_if(code == "P3", "what is missing is of P3")?;
+        fields.number("after_column")?;
+    }
+    if let Some(earlier) = fields.maybe("earlier", Fields::of)? {
+        only_if(code == "P7", "what stands already is of P7")?;
+        let mut earlier = earlier;
+        earlier.maybe("file", Value::into_text)?;
+        earlier.number("line")?;
+        earlier.end()?;
+    }
+    Ok(())
+}
+
+// What is likely a mistake in a brief: names, and a line of a file for each, but for messages that stand in one place, and for what
+// has no name.
 fn lint(fields: &mut Fields) -> Result<String, String> {
     let code = fields.text("code")?;
     let names = fields.texts("names")?;
     let places = fields.maybe("places", Value::into_items)?.unwrap_or_default();
     only_if(!places.is_empty(), "what is likely a mistake has a place")?;
-    only_if(places.len() == names.len() || code == "unsent message", "each name has a place")?;
+    let is_one_place = ["unsent message", "empty brief", "carriage return"].contains(&code.as_str());
+    only_if(places.len() == names.len() || is_one_place, "each name has a place")?;
     for place in places {
         file_line(place)?;
     }
@@ -150,7 +173,7 @@ fn places(fields: &mut Fields, is_interrupt: bool) -> Result<(), String> {
 }
 
 // What can stand in the place of a token of a plan or a brief that is refused.
-const IN_TEXTS: [&str; 20] = [
+const IN_TEXTS: [&str; 21] = [
     "version",
     "item",
     "name",
@@ -171,6 +194,7 @@ const IN_TEXTS: [&str; 20] = [
     "nack",
     "side",
     "further",
+    "byte or further",
 ];
 
 // The same of a dump, and what its end leaves open.
@@ -332,12 +356,22 @@ fn certificate(fields: &mut Fields) -> Result<String, String> {
     let code = fields.text("code")?;
     let line = fields.maybe("line", Value::into_number)?.map(|line| format!(" line {line}"));
     let pair = fields.maybe("pair", Value::into_number)?.map(|pair| format!(" pair {pair}"));
+    let column = fields.maybe("column", Value::into_number)?;
+    only_if(column.is_none() || line.is_some(), "what has a column has a line")?;
+    if let Some(expected) = fields.maybe("expected", Value::into_text)? {
+        only_if(code == "C1" && column.is_some(), "something is expected at the place of C1")?;
+        only_if(IN_CERTIFICATES.contains(&expected.as_str()), "this is expected nowhere")?;
+    }
     if let Some(mut explain) = fields.explain()? {
         explained_certificate(&mut explain, &code)?;
         explain.end()?;
     }
     Ok(format!("wrong {code}{}{}", line.unwrap_or_default(), pair.unwrap_or_default()))
 }
+
+// What can stand in a place of a certificate that is refused.
+const IN_CERTIFICATES: [&str; 10] =
+    ["version", "form", "number", "symbol", "kind", "node", "bit", "space", "line feed", "end"];
 
 // Why a word does not prove what it stands for.
 const REASONS: [&str; 8] = [
@@ -355,6 +389,7 @@ fn explained_certificate(explain: &mut Fields, code: &str) -> Result<(), String>
     if code == "C2" {
         explain.number("pairs")?;
         explain.number("proofs")?;
+        explain.number("says")?;
         return Ok(());
     }
     only_if(code == "C5", "of this code nothing is explained")?;

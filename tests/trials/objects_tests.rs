@@ -172,8 +172,9 @@ fn a_proof_breaks_off_at_its_first_wrong_word() {
 #[test]
 fn other_wrong_certificates_are_explained() {
     let plan = readers([2, 2]);
-    let counts = "{\"pairs\":1,\"proofs\":3}";
+    let counts = "{\"pairs\":1,\"proofs\":3,\"says\":3}";
     assert_eq!(explain_of(&verify(&plan, "cert 1\npairs 3\n.\n.\n.\n")), counts);
+    let counts = "{\"pairs\":1,\"proofs\":3,\"says\":1}";
     assert_eq!(explain_of(&verify(&plan, "cert 1\npairs 1\n.\n.\n.\n")), counts);
     let both = "{\"participants\":[\"a/one\",\"b/two\"]}";
     assert_eq!(explain_of(&verify(&plan, "cert 1\nfault 0 1 stop data\n")), both);

@@ -2,7 +2,7 @@
 use Rattle.std.proofs.Common.{◌≡◌, ℕ, zero, suc, ◌<◌, false, List, [], ◌∷◌, None, length, refl, ap, sym, arith, Option}
 use Rattle.std.specs.Prelude.{Ok}
 use Rattle.plan_core.specs.Contents.{Contents}
-use Rattle.plan_text.specs.Tokens.{text_end}
+use Rattle.lexer.specs.Lexemes.{text_end}
 use Rattle.plan_text.proofs.TakesLemmas.{bind_ok, ok_is}
 use Rattle.brief_text.specs.declared.syntax.Lengths.{Lengths}
 use Rattle.brief_text.specs.Briefs.{is_end, items_in, after_head, text_read, brief_read, Means}

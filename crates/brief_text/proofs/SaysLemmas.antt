@@ -4,7 +4,7 @@ use Rattle.std.specs.Prelude.{Ok, if◌then◌else◌}
 use Rattle.std.specs.Str.{bytes_eq}
 use Rattle.plan_core.proofs.BuildingLemmas.{same-bytes_eq}
 use Rattle.plan_text.specs.Reader.{◌>>=◌}
-use Rattle.plan_text.specs.Tokens.{text_end}
+use Rattle.lexer.specs.Lexemes.{text_end}
 use Rattle.plan_text.specs.declared.errors.PlanError.TheVariants.{Version}
 use Rattle.plan_text.proofs.TakesLemmas.{bind_ok, ok_is}
 use Rattle.brief_text.specs.declared.symbols.Keyword.TheVariants as keywords

@@ -13,7 +13,7 @@ use Rattle.plan_core.specs.Labels.{name_at}
 use Rattle.plan_core.specs.Limits.{IsWithinLimits}
 use Rattle.plan_core.specs.Names.{IsName, is_name, is_name_byte}
 use Rattle.plan_text.specs.Canonical.{spaced, item_line, controller_line, never_line}
-use Rattle.plan_text.specs.Tokens.{text_end}
+use Rattle.lexer.specs.Lexemes.{text_end}
 use Rattle.plan_text.specs.Values.{address_by}
 use Rattle.plan_text.proofs.CanonicalItems.{All-here, message_named, controller_named, sent_named, interrupt_named, both_named}
 use Rattle.brief_text.specs.declared.symbols.Keyword.{Keyword}

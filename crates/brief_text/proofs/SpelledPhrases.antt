@@ -15,6 +15,7 @@ use Rattle.plan_core.specs.Names.{IsName}
 use Rattle.plan_text.specs.Canonical.{spaced, count_word}
 use Rattle.plan_text.specs.Words.{is_digits}
 use Rattle.plan_text.proofs.Adding.{spaced-append}
+use Rattle.lexer.specs.declared.lexemes.Letters.TheVariants.{Dots}
 use Rattle.plan_text.proofs.CanonicalWords.{count_is_word, decimal_digits, name_is_word}
 use Rattle.brief_text.specs.declared.symbols.Keyword.TheVariants as keywords
 use Rattle.brief_text.specs.declared.symbols.Sign.{Sign}
@@ -70,7 +71,7 @@ said_then {xs} {ys} {P} {Q} p q = record {
 
 pub said_name : (name : List ℕ) → IsName name → is_brief_word name ≡ false → Said (name ∷ []) (SpellsName name)
 said_name name is free = record {
-  says = λ line rest apart. ((said_one name (word name) (word_too name (name_is_word true name is)) (name_token name is free)).says line rest apart, is);
+  says = λ line rest apart. ((said_one name (word name) (word_too name (name_is_word Dots name is)) (name_token name is free)).says line rest apart, is);
 }
 
 pub said_names : (names : List (List ℕ)) → All IsName names → All (λ name. is_brief_word name ≡ false) names → Said names (SpellsNames names)
@@ -94,7 +95,7 @@ count_token c false e = digits_token (decimal (least_of c)) (codes ".." ++ decim
 
 said_count : (c : Count) → Said (count_word c ∷ []) (SpellsCount c)
 said_count c =
-    let it = count_is_word true c (λ h. refl) in
+    let it = count_is_word Dots c (λ h. refl) in
     record { says = λ line rest apart. (count_word c, (said_one (count_word c) (word (count_word c)) (word_too (count_word c) it.is_word) (count_token c (least_of c == greatest_of c) refl)).says line rest apart, it.writes) }
 
 -- ---- runs

@@ -14,7 +14,8 @@ use Rattle.message_tree.specs.Patterns.{address_bits, pattern_bits}
 use Rattle.plan_core.specs.Names.{IsName, is_name, is_reserved, reserved_words}
 use Rattle.plan_text.specs.Canonical.{bit_symbol, address_word, pattern_word}
 use Rattle.plan_text.specs.Values.{pattern_of}
-use Rattle.plan_text.specs.Tokens as plain
+use Rattle.lexer.specs.declared.lexemes.Letters.TheVariants.{Dots}
+use Rattle.lexer.specs.Lexemes as plain
 use Rattle.plan_text.proofs.CanonicalWords as words
 use Rattle.plan_text.proofs.ValueLemmas.{address_found, pattern_found}
 use Rattle.brief_text.specs.declared.symbols.Keyword.TheVariants as keywords
@@ -62,14 +63,14 @@ digit_first byte bytes small =
     rw (ne_eqb byte 98 (λ e. omega arith), ne_eqb byte 100 (λ e. omega arith), ne_eqb byte 97 (λ e. omega arith), ne_eqb byte 109 (λ e. omega arith), ne_eqb byte 99 (λ e. omega arith), ne_eqb byte 105 (λ e. omega arith), ne_eqb byte 110 (λ e. omega arith), ne_eqb byte 119 (λ e. omega arith), ne_eqb byte 114 (λ e. omega arith), ne_eqb byte 101 (λ e. omega arith), ne_eqb byte 115 (λ e. omega arith)) refl
 
 -- what is a part of words of plans is one of briefs
-part_too : (byte : ℕ) → plain.is_word_part true byte ≡ true → is_word_part byte ≡ true
+part_too : (byte : ℕ) → plain.is_word_part Dots byte ≡ true → is_word_part byte ≡ true
 part_too byte h = grind (arith, nat_tests)
 
-parts_too : (w : List ℕ) → list_all (plain.is_word_part true) w ≡ true → list_all is_word_part w ≡ true
+parts_too : (w : List ℕ) → list_all (plain.is_word_part Dots) w ≡ true → list_all is_word_part w ≡ true
 parts_too [] h = refl
 parts_too (b ∷ w) h = let parts = and_parts _ _ h in and_from _ _ (part_too b parts.0) (parts_too w parts.1)
 
-pub word_too : (w : List ℕ) → words.is_word true w ≡ true → is_word w ≡ true
+pub word_too : (w : List ℕ) → words.is_word Dots w ≡ true → is_word w ≡ true
 word_too [] h = h
 word_too (b ∷ w) h = parts_too (b ∷ w) h
 

@@ -3,8 +3,8 @@ use Rattle.std.proofs.Common.{◌≡◌, ◌≢◌, ◌+◌, ℕ, suc, List, [],
 use Rattle.std.specs.Prelude.{nat_lt}
 use Rattle.std.specs.List.{prefix_len}
 use Rattle.std.proofs.lemmas.Bool.Decides.{nat_tests}
-use Rattle.plan_text.specs.Reading.{is_skipped}
-use Rattle.plan_text.specs.Tokens.{text_end, foreign, stray}
+use Rattle.lexer.specs.Reading.{is_skipped}
+use Rattle.lexer.specs.Lexemes.{text_end, foreign, stray}
 use Rattle.brief_text.specs.declared.symbols.Sign.{Sign}
 use Rattle.brief_text.specs.declared.symbols.Symbol.{Symbol}
 use Rattle.brief_text.specs.declared.symbols.Symbol.TheVariants as symbols

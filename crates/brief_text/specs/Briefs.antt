@@ -6,7 +6,7 @@ use Rattle.plan_core.specs.Contents.{Contents}
 use Rattle.plan_text.specs.declared.errors.PlanError.{PlanError}
 use Rattle.plan_text.specs.declared.errors.PlanError.TheVariants.{Unexpected, NotAscii, Version}
 use Rattle.plan_text.specs.Reader.{◌>>=◌, ends_early}
-use Rattle.plan_text.specs.Tokens.{text_end, foreign, stray}
+use Rattle.lexer.specs.Lexemes.{text_end, foreign, stray}
 use Rattle.brief_text.specs.declared.symbols.Keyword.TheVariants as keywords
 use Rattle.brief_text.specs.Drafts.{Draft, no_items, with_item}
 use Rattle.brief_text.specs.Items.{item_at}

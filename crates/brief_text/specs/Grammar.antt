@@ -4,7 +4,7 @@ use Rattle.message_tree.specs.declared.bits.Address.{Address}
 use Rattle.message_tree.specs.declared.bits.Pattern.{Pattern}
 use Rattle.message_tree.specs.declared.counts.Count.{Count}
 use Rattle.plan_core.specs.Names.{IsName}
-use Rattle.plan_text.specs.Tokens.{text_end}
+use Rattle.lexer.specs.Lexemes.{text_end}
 use Rattle.plan_text.specs.Words.{WritesCount}
 use Rattle.brief_text.specs.declared.symbols.Keyword.TheVariants as keywords
 use Rattle.brief_text.specs.declared.symbols.Sign.TheVariants as signs

@@ -25,5 +25,4 @@ first_brief_word plan = find is_brief_word (keys_of plan.messages ++ (keys_of pl
 -- this is why the plan has no brief
 abbrev pub LacksBrief : Contents → NoBrief → Type 0
 LacksBrief plan cause.Name = has_brief_word plan ≡ true
-LacksBrief plan cause.Unwritten = ⊥
 LacksBrief plan cause.NoMemory = ⊥

@@ -1,8 +1,8 @@
 -- What the functions of the reader say of the tokens that are left.
 -- Only private contracts and proofs use this.
 use Rattle.std.specs.Prelude.{◌≡◌, ℕ, false, List, [], ◌∷◌, length, Option, Some, None}
-use Rattle.plan_text.specs.Reading.{is_skipped}
-use Rattle.plan_text.specs.Tokens.{text_end, foreign, stray}
+use Rattle.lexer.specs.Reading.{is_skipped}
+use Rattle.lexer.specs.Lexemes.{text_end, foreign, stray}
 use Rattle.plan_text.specs.Words.{number}
 use Rattle.plan_text.specs.declared.errors.PlanError.{PlanError}
 use Rattle.plan_text.specs.declared.errors.PlanError.TheVariants as errors

@@ -4,7 +4,7 @@ use Rattle.std.specs.Prelude.{if◌then◌else◌}
 use Rattle.std.specs.Str.{bytes_eq}
 use Rattle.message_tree.specs.Codes.{code}
 use Rattle.plan_core.specs.Names.{is_name_byte}
-use Rattle.plan_text.specs.Tokens.{Ending, text_end, foreign, stray}
+use Rattle.lexer.specs.Lexemes.{Ending, text_end, foreign, stray}
 use Rattle.brief_text.specs.declared.symbols.Keyword.{Keyword}
 use Rattle.brief_text.specs.declared.symbols.Keyword.TheVariants.{Brief, Device, Byte, Any, Message, Controller, Interrupt}
 use Rattle.brief_text.specs.declared.symbols.Keyword.TheVariants.{Never, Write, Read, Else, Stop}

@@ -36,6 +36,6 @@ pub use briefs::Briefs;
 pub use given::names_in;
 pub use items::{expand_brief, expand_brief_at};
 pub use lint::{Device, NamedByte};
-pub use origins::{ControllerOrigin, Origins, Spot};
+pub use origins::{ControllerOrigin, FamilyOrigin, Origins, Spot};
 pub use plan_text::PlanError as BriefError;
 pub use writing::{brief_of, brief_word};

@@ -42,6 +42,15 @@ impl<T: Copy> Named<T> {
         self.entries.insert(name, value)?;
         Ok(())
     }
+
+    /// All names, in the order of the text.
+    pub(crate) fn names(&self, alloc: Global) -> Result<Vec<Name>, AllocError> {
+        let mut names = Vec::new(alloc);
+        for name in self.entries.keys() {
+            names.push(copied(alloc, name)?)?;
+        }
+        Ok(names)
+    }
 }
 
 /// The same name, in memory of its own.

@@ -24,12 +24,22 @@ pub struct ControllerOrigin {
     pub spot: Spot,
 }
 
+/// A family of briefs.
+#[derive(Drop)]
+pub struct FamilyOrigin {
+    pub name: Name,
+    /// The messages that it makes, as the plan names them.
+    pub messages: Vec<Name>,
+}
+
 /// Where the controllers and the messages of a plan come from, by their numbers in the plan.
 #[derive(Drop)]
 pub struct Origins {
     pub controllers: Vec<ControllerOrigin>,
     /// Where each message stands. Those of a family stand where the family stands.
     pub messages: Vec<Spot>,
+    /// The families, in the order of the briefs.
+    pub families: Vec<FamilyOrigin>,
     /// The devices and the data bytes with names, in the order of the briefs.
     pub devices: Vec<Device>,
     pub bytes: Vec<NamedByte>,

@@ -17,7 +17,7 @@ ghost use Rattle.brief_text.specs.Parting.{part, apart, names_of};
 
 use crate::boards::{Board, Listing, Never};
 use crate::naming::copied;
-use crate::origins::{ControllerOrigin, Origins, Spot};
+use crate::origins::{ControllerOrigin, FamilyOrigin, Origins, Spot};
 use crate::syntax::Party;
 use plan_core::{BuildError, Builder, Name, Plan};
 use std::alloc::{AllocError, Global};
@@ -61,9 +61,21 @@ impl Board {
         Ok(Origins {
             controllers,
             messages: Vec::from_slice(self.alloc, self.spots.as_slice())?,
+            families: self.all_families()?,
             devices: self.uses.all_devices()?,
             bytes: self.uses.all_bytes()?,
         })
+    }
+
+    // The families, each with its messages.
+    fn all_families(&self) -> Result<Vec<FamilyOrigin>, AllocError> {
+        let mut families = Vec::new(self.alloc);
+        for family in self.families.names(self.alloc)?.as_slice() {
+            let name = copied(self.alloc, family)?;
+            let messages = self.named(family)?;
+            families.push(FamilyOrigin { name, messages })?;
+        }
+        Ok(families)
     }
 
     /// The controllers of the plan.

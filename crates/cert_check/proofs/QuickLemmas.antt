@@ -9,7 +9,7 @@ use Rattle.message_tree.specs.declared.counts.Count.{Count}
 use Rattle.message_tree.specs.Bits.{SplitAt}
 use Rattle.message_tree.specs.Trees as tree
 use Rattle.message_tree.specs.Trees.{FrameTree, PayloadTree, TailTree}
-use Rattle.plan_text.proofs.TokenLemmas.{front_is}
+use Rattle.lexer.proofs.LexemeLemmas.{front_is}
 use Rattle.certificate.specs.Proofs.{ProofTree, part, byte, read, again}
 use Rattle.certificate.specs.Proves.{ProvesFrames, ProvesPayloads, ProvesTails, ProvesHeaders}
 use Rattle.certificate.specs.Texts.{proof_text, proof_line}

@@ -2,6 +2,7 @@
 
 use crate::building::program;
 use crate::capturing::Options;
+use crate::table::COMMANDS;
 use clap::error::ErrorKind;
 use clap::{ArgMatches, Error};
 use dump_tokens::{Bus, Limits};
@@ -140,7 +141,7 @@ pub enum When {
 pub fn read_words<'a>(alloc: Global, words: &'a [String]) -> Result<Asked<'a>, AllocError> {
     match parse(alloc, words) {
         Ok(asked) => Ok(asked),
-        Err(error) => told(alloc, &error),
+        Err(error) => told(alloc, words, &error),
     }
 }
 
@@ -159,16 +160,53 @@ const NO_FILE: Fault = "'--wave' wants a file, since the report goes to standard
 const INPUT_TWICE: Fault = "standard input can be one of the files, and not two";
 
 // What clap says in place of a request, unless it had no memory.
-fn told<'a>(alloc: Global, error: &Error) -> Result<Asked<'a>, AllocError> {
+fn told<'a>(alloc: Global, words: &[String], error: &Error) -> Result<Asked<'a>, AllocError> {
     if error.kind() == ErrorKind::OutOfMemory {
         return Err(AllocError);
     }
     let text = format!(in alloc; "{error}")?;
     Ok(match error.kind() {
         ErrorKind::DisplayVersion => Asked::Version(text),
+        ErrorKind::UnknownArgument if is_of_further_file(alloc, words, text.as_str())? => {
+            Asked::Refuse(with_tip(alloc, text.as_str())?)
+        }
         _ if error.use_stderr() => Asked::Refuse(text),
         _ => Asked::Show(text),
     })
+}
+
+// What stands below the line of clap's that names a file too much.
+const FURTHER_FILES: &str = "\n\n  tip: further files of a brief follow by '--with FILE'";
+
+// Whether the word that is refused could be a further file of a brief, for a command that takes these by an option.
+fn is_of_further_file(alloc: Global, words: &[String], told: &str) -> Result<bool, AllocError> {
+    if !takes_further(words) {
+        return Ok(false);
+    }
+    for word in words.iter().skip(2) {
+        let word = word.as_str();
+        let head = format!(in alloc; "error: unexpected argument '{word}' found")?;
+        if !word.starts_with('-') && told.starts_with(head.as_str()) {
+            return Ok(true);
+        }
+    }
+    Ok(false)
+}
+
+// Whether one of the words is a command with this option.
+fn takes_further(words: &[String]) -> bool {
+    for entry in COMMANDS {
+        if entry.takes_further() && words.iter().any(|word| word.as_str() == entry.name) {
+            return true;
+        }
+    }
+    false
+}
+
+// What clap says, with a tip after its first line.
+fn with_tip(alloc: Global, told: &str) -> Result<String, AllocError> {
+    let (first, rest) = told.split_once('\n').unwrap_or((told, ""));
+    format!(in alloc; "{first}{FURTHER_FILES}\n{rest}")
 }
 
 // ---- what clap found

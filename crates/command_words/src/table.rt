@@ -17,6 +17,18 @@ pub struct Entry {
     pub arguments: &'static [Argument],
 }
 
+impl Entry {
+    /// Whether it takes further files of a brief by an option.
+    pub fn takes_further(self) -> bool {
+        for argument in self.arguments {
+            if let Argument::Files { .. } = argument {
+                return true;
+            }
+        }
+        false
+    }
+}
+
 /// What may stand after the name of a command. An option is given by its id, as `--workers` where that is `workers`.
 #[derive(Clone, Copy)]
 pub enum Argument {
@@ -229,7 +241,7 @@ const EXPAND: Entry = Entry {
     about: "Write the plan that a brief means: a brief is its short form",
     usage: None,
     after_help: AFTER_EXPAND_HELP,
-    arguments: &[BRIEF_FILES, OUTPUT],
+    arguments: &[BRIEF_FILES, WITH, OUTPUT],
 };
 
 const PRINT: Entry = Entry {

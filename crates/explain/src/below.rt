@@ -8,12 +8,6 @@ const MARGIN: &str = "   ";
 
 const WIDE_MARGIN: &str = "                           ";
 
-// How many words at the beginning of a row are never left out: START, address, direction and acknowledge.
-const KEPT: usize = 4;
-
-// How many columns these and what stands for the words that are left out have at most.
-const KEPT_COLUMNS: usize = 20;
-
 /// Begins a line.
 pub(crate) fn begin(lines: &mut Lines) {
     lines.begin(MARGIN, MARGIN);
@@ -48,33 +42,6 @@ pub(crate) fn say_all(lines: &mut Lines, words: Text) {
     begin(lines);
     lines.words_made(words.finish());
     lines.end();
-}
-
-/// A title, and in the columns after so many these words on one line: where there is no room for them, `..` stands for those
-/// after the first few.
-pub(crate) fn row(lines: &mut Lines, title: &str, columns: usize, words: &str) {
-    begin_titled(lines, title, columns);
-    push_row(lines, words, room_after(columns));
-    lines.end();
-}
-
-fn push_row(lines: &mut Lines, words: &str, room: usize) {
-    let mut left_out = 0;
-    if words.len() > room {
-        left_out = words
-            .len()
-            .saturating_add(KEPT_COLUMNS)
-            .saturating_sub(room);
-    }
-    let mut at = 0usize;
-    for (k, word) in words.split(' ').enumerate() {
-        if k < KEPT || left_out <= at {
-            lines.word(word);
-        } else if k == KEPT {
-            lines.word("..");
-        }
-        at = at.saturating_add(word.len()).saturating_add(1);
-    }
 }
 
 /// How many columns are left on a line after the margin and so many more.

@@ -10,6 +10,8 @@ use std::alloc::{AllocError, Global};
 
 const AFTER_A_CHANGE: &str = "a plan that was changed wants a new certificate: twire certify PLAN";
 
+const AFTER_A_CUT: &str = "so it is no whole certificate: twire certify PLAN writes one";
+
 /// What is said below the line of an answer that the certificate is wrong: which pair it is and where its proof breaks off, or
 /// how many proofs and pairs there are; and what to do.
 pub(crate) fn below_mistake(
@@ -30,11 +32,42 @@ pub(crate) fn below_mistake(
                 tell_break(&mut lines, found);
             }
         }
-        Mistake::Count { pairs, proofs } => tell_counts(&mut lines, pairs, proofs),
+        Mistake::Count {
+            pairs,
+            says,
+            proofs,
+        } => {
+            tell_counts(&mut lines, pairs, proofs);
+            if let Some(said) = other_count(says, proofs) {
+                tell_said(&mut lines, said);
+            }
+        }
         Mistake::Text => {}
     }
-    say(&mut lines, AFTER_A_CHANGE);
+    say(&mut lines, advice_on(mistake));
     lines.finish()
+}
+
+fn advice_on(mistake: Mistake) -> &'static str {
+    match mistake {
+        Mistake::Count { says, proofs, .. } if other_count(says, proofs).is_some() => AFTER_A_CUT,
+        _ => AFTER_A_CHANGE,
+    }
+}
+
+// How many proofs a certificate says that it has, where it has another number of them.
+fn other_count(says: Option<u32>, proofs: u64) -> Option<u32> {
+    match says {
+        Some(said) if u64::from(said) != proofs => Some(said),
+        _ => None,
+    }
+}
+
+fn tell_said(lines: &mut Lines, said: u32) {
+    begin(lines);
+    lines.words("its second line says that it has");
+    lines.number(u64::from(said), "");
+    lines.end();
 }
 
 fn tell_pair(

@@ -1,9 +1,10 @@
 // Lines below those of unsafe pairs.
 
-use crate::below::{begin, pad, room_after, row, say_all};
+use crate::below::{begin, say, say_all};
 use crate::meetings::{Meeting, Rule, Side};
 use crate::mends::Mends;
 use crate::plans::tell_apart;
+use crate::rows::{Row, tell_rows};
 use crate::sending::deed;
 use growing_text::{Lines, Text};
 use plan_words::{FileLine, PlanWords};
@@ -12,8 +13,8 @@ use std::alloc::{AllocError, Global};
 // How many columns the labels of rows have at most; a longer one has a line of its own.
 const LABELS: usize = 24;
 
-// How many columns it takes at most to say what comes next.
-const NEXT: usize = 30;
+// How many columns a place has at most that stands on a line between `see` and `and`.
+const PLACE: usize = 68;
 
 // How many ranges of slots are named.
 const RANGES: usize = 6;
@@ -55,35 +56,19 @@ fn tell_sides(alloc: Global, lines: &mut Lines, labels: (&str, &str), meeting: &
         .max(labels.1.len())
         .saturating_add(2)
         .clamp(5, LABELS);
-    let width = first.bytes.len().max(second.bytes.len());
-    row(lines, "bus", columns, bus.as_str());
-    tell_row(alloc, lines, columns, labels.0, first, width);
-    tell_row(alloc, lines, columns, labels.1, second, width);
+    let rows = [
+        row_of("bus", bus.as_str(), None),
+        row_of(labels.0, first.bytes.as_str(), Some(deed(first.next))),
+        row_of(labels.1, second.bytes.as_str(), Some(deed(second.next))),
+    ];
+    tell_rows(lines, &rows, columns);
     tell_reason(alloc, lines, meeting);
     tell_open(alloc, lines, labels.0, first);
     tell_open(alloc, lines, labels.1, second);
 }
 
-// What a participant does next stands below that of the other, where there is room for it.
-fn tell_row(
-    alloc: Global,
-    lines: &mut Lines,
-    columns: usize,
-    label: &str,
-    side: &Side,
-    width: usize,
-) {
-    let mut words = Text::new(alloc);
-    words.push(side.bytes.as_str());
-    if width <= room_after(columns).saturating_sub(NEXT) {
-        pad(&mut words, width);
-    }
-    words.push("  next: ");
-    words.push(deed(side.next));
-    match words.finish() {
-        Ok(words) => row(lines, label, columns, words.as_str()),
-        Err(_) => lines.cut(),
-    }
+fn row_of<'a>(title: &'a str, words: &'a str, next: Option<&'static str>) -> Row<'a> {
+    Row { title, words, next }
 }
 
 fn tell_reason(alloc: Global, lines: &mut Lines, meeting: &Meeting) {
@@ -129,31 +114,69 @@ pub(crate) fn tell_places(
     words: PlanWords<'_>,
     both: (u32, u32),
 ) {
-    let mut text = Text::new(alloc);
-    push_places(
-        &mut text,
-        words.message_at(both.0),
-        words.message_at(both.1),
-    );
-    if !text.is_empty() {
-        say_all(lines, text);
+    let told = match (words.message_at(both.0), words.message_at(both.1)) {
+        (Some(first), Some(second)) if first != second => tell_two(alloc, lines, first, second),
+        (Some(only), _) | (None, Some(only)) => tell_one(alloc, lines, only),
+        (None, None) => Ok(()),
+    };
+    if told.is_err() {
+        lines.cut();
     }
 }
 
-fn push_places(text: &mut Text, first: Option<FileLine<'_>>, second: Option<FileLine<'_>>) {
-    match (first, second) {
-        (Some(first), Some(second)) if first != second => {
-            text.push("see ");
-            first.push_to(text);
-            text.push(" and ");
-            second.push_to(text);
-        }
-        (Some(only), _) | (None, Some(only)) => {
-            text.push("see ");
-            only.push_to(text);
-        }
-        (None, None) => {}
+fn tell_one(alloc: Global, lines: &mut Lines, place: FileLine<'_>) -> Result<(), AllocError> {
+    let place = spelled(alloc, place)?;
+    if is_long(place.as_str()) {
+        say(lines, "see this line:");
+        tell_place(lines, place.as_str());
+        return Ok(());
     }
+    begin(lines);
+    lines.word("see");
+    lines.word(place.as_str());
+    lines.end();
+    Ok(())
+}
+
+// The second place has a line of its own where both have no room on one.
+fn tell_two(
+    alloc: Global,
+    lines: &mut Lines,
+    first: FileLine<'_>,
+    second: FileLine<'_>,
+) -> Result<(), AllocError> {
+    let first = spelled(alloc, first)?;
+    let second = spelled(alloc, second)?;
+    if is_long(first.as_str()) {
+        say(lines, "see these lines:");
+        tell_place(lines, first.as_str());
+        tell_place(lines, second.as_str());
+        return Ok(());
+    }
+    begin(lines);
+    lines.word("see");
+    lines.word(first.as_str());
+    lines.word("and");
+    lines.word(second.as_str());
+    lines.end();
+    Ok(())
+}
+
+// A place on a line of its own.
+fn tell_place(lines: &mut Lines, place: &str) {
+    begin(lines);
+    lines.word(place);
+    lines.end();
+}
+
+fn is_long(place: &str) -> bool {
+    PLACE < place.chars().count()
+}
+
+fn spelled(alloc: Global, place: FileLine<'_>) -> Result<String, AllocError> {
+    let mut text = Text::new(alloc);
+    place.push_to(&mut text);
+    text.finish()
 }
 
 fn push_range(words: &mut Text, range: (usize, usize)) {

@@ -1,6 +1,6 @@
 //! What people read of a run: bytes in the place of slots, and why a line says what it says.
 //!
-//! Each thing that is explained is a value first: `meetings` has where an unsafe pair meets, `mends` what mends a plan, `safety`
+//! Each thing that is explained is a value first: `meetings` has where an unsafe pair meets, `mends` what mends a plan (`keeping` by labels of a brief), `safety`
 //! how the pairs of a safe one are kept apart, `reasons` which of the two a plan has, `mistakes` and `breaks` what is wrong with a certificate, `tracks` what starters put
 //! along a wire. `reports` writes a report with lines for people between its own, made of these values by `faults`, `plans`,
 //! `certificates` and `benches`; each of these lines begins with four spaces and has at most 80 columns, however long the names
@@ -26,6 +26,7 @@ mod certificates;
 mod decode_lines;
 mod faults;
 mod glitches;
+mod keeping;
 mod labels;
 mod leaving;
 mod meetings;
@@ -37,6 +38,7 @@ mod plans;
 mod pulse_lines;
 mod reasons;
 mod reports;
+mod rows;
 mod safety;
 mod selecting;
 mod sending;
@@ -53,7 +55,7 @@ pub use glitches::{Cut, Cuts};
 pub use labels::{Labels, label_of, labels_of};
 pub use leaving::{Leaves, mark_words, nearest, offer_words};
 pub use meetings::{Meeting, Rule, Side, meeting_of};
-pub use mends::{Mends, Never};
+pub use mends::{Mends, Never, kept_apart};
 pub use mistakes::{Mistake, mistake_of};
 pub use paints::Paint;
 pub use reasons::{Reasons, reasons_of};

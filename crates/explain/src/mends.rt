@@ -3,18 +3,12 @@
 ghost use Rattle.plan_core.specs.PlanContents.{plan_contents};
 ghost use Rattle.verdicts.specs.Faults.{AreFaults, fault_list};
 
+use crate::keeping::{Kept, kept_by};
 use mending::nevers_that_mend;
-use plan_core::limits::MOST_CONTROLLERS;
 use plan_core::{Participant, Plan};
 use plan_words::PlanWords;
 use std::alloc::{AllocError, Global};
 use verdicts::Faults;
-
-// How many items that name single messages are said at most.
-const ITEMS: usize = 4;
-
-// How many characters a label has at most.
-const LABEL: usize = 32;
 
 /// What mends an unsafe plan.
 #[derive(Drop)]
@@ -55,17 +49,13 @@ pub(crate) fn mends_of(
 {
     let between = nevers_that_mend(alloc, plan, faults)?;
     let interrupted = interrupted_in(alloc, plan, faults)?;
-    let pairs = faults.len();
-    let few = pairs.saturating_sub(interrupted.len());
-    let (nevers, unchecked) = match by_messages(alloc, words, faults, few)? {
-        Some(nevers) => (nevers, few as u64),
-        None => (
-            by_controllers(alloc, words, between.as_slice())?,
-            left_out_by(words, between.as_slice()),
-        ),
+    let kept = match kept_by(alloc, words, faults)? {
+        Some(kept) => kept,
+        None => by_controllers(alloc, words, between.as_slice())?,
     };
+    let Kept { nevers, unchecked } = kept;
     Ok(Mends {
-        pairs,
+        pairs: faults.len(),
         interrupted,
         nevers,
         unchecked,
@@ -75,49 +65,8 @@ pub(crate) fn mends_of(
 
 // ---- what keeps the pairs apart
 
-// Items for single messages, where a brief has words for these, and they are few.
-fn by_messages(
-    alloc: Global,
-    words: PlanWords<'_>,
-    faults: &Faults,
-    few: usize,
-) -> Result<Option<Vec<Never>>, AllocError> {
-    let parts = (words.plan().controllers() as usize).saturating_add(few.saturating_mul(2));
-    if !words.has_briefs() || ITEMS < few || (MOST_CONTROLLERS as usize) < parts {
-        return Ok(None);
-    }
-    let mut nevers = Vec::new(alloc);
-    for k in 0..faults.len() {
-        let (pair, _) = faults.get(k);
-        if !has_interrupt(words.plan(), pair) {
-            let never = between_messages(alloc, words, pair)?;
-            if LABEL < never.first.len() || LABEL < never.second.len() {
-                return Ok(None);
-            }
-            nevers.push(never)?;
-        }
-    }
-    Ok(Some(nevers))
-}
-
-fn between_messages(alloc: Global, words: PlanWords<'_>, pair: u32) -> Result<Never, AllocError> {
-    let (first, second) = both_of(words.plan(), pair);
-    Ok(Never {
-        first: side_of(alloc, words, first)?,
-        second: side_of(alloc, words, second)?,
-    })
-}
-
-// A controller that has this message alone is named itself.
-fn side_of(alloc: Global, words: PlanWords<'_>, p: u32) -> Result<String, AllocError> {
-    match controller_of(words.plan(), p) {
-        Some(c) if sendings(words.plan(), c) == 1 && is_whole(words, c) => words.side(alloc, c),
-        _ => words.label(alloc, p),
-    }
-}
-
 // Whether this controller of the plan is one of the brief, of which no label is named.
-fn is_whole(words: PlanWords<'_>, c: u32) -> bool {
+pub(crate) fn is_whole(words: PlanWords<'_>, c: u32) -> bool {
     for d in 0..words.plan().controllers() {
         if c != d && words.is_one(c, d) {
             return false;
@@ -131,7 +80,7 @@ fn by_controllers(
     alloc: Global,
     words: PlanWords<'_>,
     between: &[(u32, u32)],
-) -> Result<Vec<Never>, AllocError> {
+) -> Result<Kept, AllocError> {
     let mut nevers = Vec::new(alloc);
     for never in between {
         if !is_said_by(words, between, *never) {
@@ -141,7 +90,8 @@ fn by_controllers(
             })?;
         }
     }
-    Ok(nevers)
+    let unchecked = left_out_by(words, between);
+    Ok(Kept { nevers, unchecked })
 }
 
 // Whether another one of these items means this one too.
@@ -190,13 +140,13 @@ fn interrupted_in(alloc: Global, plan: &Plan, faults: &Faults) -> Result<Vec<u32
 }
 
 // Interrupts come after all sendings, so where a pair has one its second participant is one.
-fn has_interrupt(plan: &Plan, pair: u32) -> bool {
+pub(crate) fn has_interrupt(plan: &Plan, pair: u32) -> bool {
     let (_, second) = both_of(plan, pair);
     controller_of(plan, second).is_none()
 }
 
 // The two of a pair.
-fn both_of(plan: &Plan, pair: u32) -> (u32, u32) {
+pub(crate) fn both_of(plan: &Plan, pair: u32) -> (u32, u32) {
     if pair < plan.pair_count() {
         plan.pair(pair)
     } else {
@@ -205,7 +155,7 @@ fn both_of(plan: &Plan, pair: u32) -> (u32, u32) {
 }
 
 // The controller of a participant that is no interrupt.
-fn controller_of(plan: &Plan, p: u32) -> Option<u32> {
+pub(crate) fn controller_of(plan: &Plan, p: u32) -> Option<u32> {
     if plan.participants() <= p {
         return None;
     }
@@ -216,7 +166,7 @@ fn controller_of(plan: &Plan, p: u32) -> Option<u32> {
 }
 
 /// How many pairs of sendings some `never` of the plan leaves out, but for those of one controller, which a brief may split.
-pub(crate) fn kept_apart(words: PlanWords<'_>) -> u64 {
+pub fn kept_apart(words: PlanWords<'_>) -> u64 {
     let plan = words.plan();
     let mut pairs = 0u64;
     for c in 0..plan.controllers() {
@@ -234,7 +184,7 @@ fn pairs_of(plan: &Plan, c: u32, d: u32) -> u64 {
     sendings(plan, c).saturating_mul(sendings(plan, d))
 }
 
-fn sendings(plan: &Plan, c: u32) -> u64 {
+pub(crate) fn sendings(plan: &Plan, c: u32) -> u64 {
     if c < plan.controllers() {
         plan.controller_messages(c).len() as u64
     } else {
@@ -242,7 +192,7 @@ fn sendings(plan: &Plan, c: u32) -> u64 {
     }
 }
 
-fn is_never(plan: &Plan, c: u32, d: u32) -> bool {
+pub(crate) fn is_never(plan: &Plan, c: u32, d: u32) -> bool {
     for k in 0..plan.nevers() {
         let (first, second) = plan.never(k);
         if (first == c && second == d) || (first == d && second == c) {

@@ -20,9 +20,11 @@ pub enum Mistake {
         /// Where the line of its proof breaks off, where the certificate has proofs.
         found: Option<Break>,
     },
-    /// The plan has so many pairs, and the certificate so many lines of proofs.
+    /// The plan has so many pairs, and the certificate so many lines of proofs. Its second line says that it has so
+    /// many.
     Count {
         pairs: u32,
+        says: Option<u32>,
         proofs: u64,
     },
     /// Its text is wrong by itself.
@@ -49,6 +51,7 @@ pub fn mistake_of(
         )?,
         CertFault::Count => Mistake::Count {
             pairs: plan.pair_count(),
+            says: proofs_said(cert),
             proofs: proofs_in(cert),
         },
         _ => Mistake::Text,
@@ -75,6 +78,13 @@ fn proof_line(cert: &[u8], pair: u32) -> Option<&[u8]> {
     let rest = cert.strip_prefix(b"cert 1\npairs ")?;
     rest.split(is_line_feed)
         .nth((pair as usize).saturating_add(1))
+}
+
+// How many proofs the text says that it has.
+fn proofs_said(cert: &[u8]) -> Option<u32> {
+    let rest = cert.strip_prefix(b"cert 1\npairs ")?;
+    let number = rest.split(is_line_feed).next()?;
+    str::from_utf8(number).ok()?.parse::<u32>().ok()
 }
 
 fn is_line_feed(byte: &u8) -> bool {

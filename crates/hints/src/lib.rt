@@ -41,9 +41,10 @@ pub use devices::{
     Named, on_closed_input, on_fault, on_memory, on_no_answers, on_no_timescale, on_no_waves,
     on_opening, on_reading, on_workers, on_writing,
 };
+pub use names::first_stand;
 pub use paths::{file_word, shown, visible};
 pub use plans::on_no_brief;
 pub use safety::{on_checked, on_safe};
-pub use starters::on_starters;
-pub use texts::{RefusedIn, on_text};
+pub use starters::{on_starters, unknown_starter};
+pub use texts::{Earlier, RefusedIn, SemicolonAt, missing_semicolon_at, on_text};
 pub use values::{Hint, Hints};

@@ -2,10 +2,12 @@
 
 use crate::likeness::Nearest;
 use crate::lines::Lines;
-use crate::texts::RefusedIn;
+use crate::paths::quoted;
+use crate::texts::{Earlier, RefusedIn};
+use brief_text::Spot;
 use plan_text::given::{NameAt, Names};
 use plan_text::places::Kind;
-use plan_text::{Expected, Language};
+use plan_text::{Expected, Language, PlanError};
 use std::alloc::{AllocError, Global};
 
 // What is named so.
@@ -19,20 +21,6 @@ fn called(kind: Kind) -> &'static str {
     }
 }
 
-// A text whose names can be asked for. In a plan a range is one word, as the reader of names takes them: its dots are no
-// characters of words there.
-fn readable(alloc: Global, language: Language, text: &[u8]) -> Result<Vec<u8>, AllocError> {
-    let mut copy = text.to_vec(alloc)?;
-    if let Language::Plan = language {
-        for byte in copy.iter_mut() {
-            if *byte == b'.' {
-                *byte = b'_';
-            }
-        }
-    }
-    Ok(copy)
-}
-
 fn names_in(alloc: Global, language: Language, text: &[u8]) -> Result<Names<'_>, AllocError> {
     match language {
         Language::Plan => plan_text::given::names_in(alloc, text),
@@ -40,16 +28,64 @@ fn names_in(alloc: Global, language: Language, text: &[u8]) -> Result<Names<'_>,
     }
 }
 
-// Whether an item gives this name to one of this kind.
-fn gives(at: &NameAt<'_>, kind: Kind) -> bool {
-    at.item == Some(kind) && at.before == 0
+// A name in an item of the text that is refused, or of a brief before it.
+#[derive(Clone, Copy)]
+struct Known<'a> {
+    at: NameAt<'a>,
+    // the number of that brief
+    file: u32,
 }
 
-// The line on which one of this kind gets this name.
-fn line_of(names: &[NameAt<'_>], kind: Kind, word: &[u8]) -> Option<u64> {
-    for at in names {
-        if gives(at, kind) && at.name == word {
-            return Some(at.line);
+impl Known<'_> {
+    // Whether an item gives this name to one of this kind.
+    fn gives(self, kind: Kind) -> bool {
+        self.at.item == Some(kind) && self.at.before == 0
+    }
+
+    fn spot(self) -> Spot {
+        Spot {
+            file: self.file,
+            line: self.at.line,
+        }
+    }
+}
+
+// The names of the briefs before the text that is refused, and of this text after them.
+fn known_in<'a>(
+    alloc: Global,
+    language: Language,
+    earlier: &'a [Earlier<'a>],
+    text: &'a [u8],
+) -> Result<Vec<Known<'a>>, AllocError> {
+    let mut known = Vec::new(alloc);
+    let mut file = 0u32;
+    for brief in earlier {
+        push_known(alloc, &mut known, Language::Brief, brief.text, file)?;
+        file = file.saturating_add(1);
+    }
+    push_known(alloc, &mut known, language, text, file)?;
+    Ok(known)
+}
+
+fn push_known<'a>(
+    alloc: Global,
+    known: &mut Vec<Known<'a>>,
+    language: Language,
+    text: &'a [u8],
+    file: u32,
+) -> Result<(), AllocError> {
+    let names = names_in(alloc, language, text)?;
+    for at in names.all() {
+        known.push(Known { at: *at, file })?;
+    }
+    Ok(())
+}
+
+// Where one of this kind gets this name.
+fn spot_of(known: &[Known<'_>], kind: Kind, word: &[u8]) -> Option<Spot> {
+    for one in known {
+        if one.gives(kind) && one.at.name == word {
+            return Some(one.spot());
         }
     }
     None
@@ -57,73 +93,140 @@ fn line_of(names: &[NameAt<'_>], kind: Kind, word: &[u8]) -> Option<u64> {
 
 // ---- P7
 
+// What stands already where it may stand once, and where, as far as that is known.
+#[derive(Clone, Copy)]
+enum Stands {
+    // one of this kind, which has the name
+    Named(Kind, Option<Spot>),
+    // a message that the controller lists, or one of the family
+    Listed(Option<Spot>),
+    // a message with the name of one of the family
+    Member(Option<Spot>),
+    // the first side of the `never`, which is of the same controller
+    Side,
+    // a `never` with the same two
+    Never(Option<Spot>),
+    // a controller with the name of the part that a label makes
+    Part(Option<Spot>),
+}
+
+impl Stands {
+    fn spot(self) -> Option<Spot> {
+        match self {
+            Stands::Named(_, spot)
+            | Stands::Listed(spot)
+            | Stands::Member(spot)
+            | Stands::Never(spot)
+            | Stands::Part(spot) => spot,
+            Stands::Side => None,
+        }
+    }
+}
+
+/// Where that stands already which a text may have once, after P7: the number of the brief, from 0 on, and the line.
+/// Nothing after other refusals, and where it has no place of its own.
+///
+/// # Errors
+///
+/// Where an allocation fails.
+pub fn first_stand(alloc: Global, refused: RefusedIn<'_>) -> Result<Option<Spot>, AllocError> {
+    match refused.error {
+        PlanError::Twice(_) => Ok(stands_in(alloc, &refused)?.spot()),
+        _ => Ok(None),
+    }
+}
+
 /// Says P7: where the name stands already, or the two.
 pub(crate) fn push_twice(alloc: Global, lines: &mut Lines, refused: &RefusedIn<'_>) {
-    let Ok(text) = readable(alloc, refused.language, refused.before()) else {
-        lines.fail();
-        return;
-    };
-    match names_in(alloc, refused.language, text.as_slice()) {
-        Ok(names) => push_earlier(lines, refused, names.all()),
+    match stands_in(alloc, refused) {
+        Ok(stands) => push_stands(alloc, lines, refused, stands),
         Err(_) => lines.fail(),
     }
 }
 
-fn push_earlier(lines: &mut Lines, refused: &RefusedIn<'_>, names: &[NameAt<'_>]) {
+fn stands_in(alloc: Global, refused: &RefusedIn<'_>) -> Result<Stands, AllocError> {
+    let text = refused.before();
+    let known = known_in(alloc, refused.language, refused.earlier, text)?;
+    Ok(stands_among(known.as_slice(), refused))
+}
+
+fn stands_among(known: &[Known<'_>], refused: &RefusedIn<'_>) -> Stands {
     let word = refused.token();
     match refused.place.expected {
-        Some(Expected::Name(kind)) => {
-            let what = called(kind);
-            lines.part(format_args!("an earlier {what} has this name"));
-            push_line(
-                lines,
-                line_of(names, kind, word).or(line_of_maker(names, kind, word)),
-            );
-        }
-        Some(Expected::Sending) => {
-            if let Some(line) = line_in_list(names, word) {
-                lines.say(format_args!("this controller lists it already, on line {line}"));
-            } else {
-                lines.say("this controller lists messages of this family already");
-            }
-        }
-        Some(Expected::Times { .. }) => {
-            lines.part("an earlier message has the name of one of this family");
-            push_line(lines, line_of_member(names, word));
-        }
-        _ => push_side(lines, names, word),
+        Some(Expected::Name(kind)) => Stands::Named(
+            kind,
+            spot_of(known, kind, word).or(spot_of_maker(known, kind, word)),
+        ),
+        Some(Expected::Sending) => Stands::Listed(spot_in_list(known, word)),
+        Some(Expected::Times { .. }) => Stands::Member(spot_of_member(known, word)),
+        _ => side_among(known, word),
     }
 }
 
-// The line on which the last item, a controller, lists this.
-fn line_in_list(names: &[NameAt<'_>], word: &[u8]) -> Option<u64> {
-    let number = names.last()?.number;
-    for at in names {
-        if at.number == number && at.before != 0 && at.name == word {
-            return Some(at.line);
+fn push_stands(alloc: Global, lines: &mut Lines, refused: &RefusedIn<'_>, stands: Stands) {
+    match stands {
+        Stands::Named(kind, _) => {
+            let what = called(kind);
+            lines.part(format_args!("an earlier {what} has this name"));
+        }
+        Stands::Listed(Some(_)) => lines.part("this controller lists it already"),
+        Stands::Listed(None) => {
+            lines.part("this controller lists messages of this family already")
+        }
+        Stands::Member(_) => lines.part("an earlier message has the name of one of this family"),
+        Stands::Side => {
+            lines.part("both are of one controller, which starts one message at a time")
+        }
+        Stands::Never(_) => lines.part("these two stand in a 'never' already"),
+        Stands::Part(_) => lines.part(
+            "a label makes a controller, with '_' in place of '/': an earlier one has this name",
+        ),
+    }
+    if let Some(spot) = stands.spot() {
+        push_place(alloc, lines, refused, spot);
+    }
+    lines.end();
+}
+
+// A place in a sentence: the line, and the file where that is another one than that of the refused text.
+fn push_place(alloc: Global, lines: &mut Lines, refused: &RefusedIn<'_>, spot: Spot) {
+    let line = spot.line;
+    lines.part(format_args!(", on line {line}"));
+    if let Some(brief) = refused.earlier.get(spot.file as usize) {
+        match quoted(alloc, brief.file) {
+            Ok(file) => {
+                lines.part(" of ");
+                lines.part(file.as_str());
+            }
+            Err(_) => lines.fail(),
+        }
+    }
+}
+
+// Where the last item, a controller, lists this.
+fn spot_in_list(known: &[Known<'_>], word: &[u8]) -> Option<Spot> {
+    let last = known.last()?;
+    for one in known {
+        let is_listed = one.file == last.file
+            && one.at.number == last.at.number
+            && one.at.before != 0;
+        if is_listed && one.at.name == word {
+            return Some(one.spot());
         }
     }
     None
 }
 
-// Ends a sentence, with this line where it is known.
-fn push_line(lines: &mut Lines, line: Option<u64>) {
-    match line {
-        Some(line) => lines.say(format_args!(", on line {line}")),
-        None => lines.say(""),
-    }
-}
-
-// The line of what makes one of this kind that has this name: of a family, or of a label.
-fn line_of_maker(names: &[NameAt<'_>], kind: Kind, word: &[u8]) -> Option<u64> {
-    for at in names {
+// What makes one of this kind that has this name: a family, or a label.
+fn spot_of_maker(known: &[Known<'_>], kind: Kind, word: &[u8]) -> Option<Spot> {
+    for one in known {
         let makes = match kind {
-            Kind::Message => gives(at, kind) && member_number(at.name, word).is_some(),
-            Kind::Controller => at.item.is_none() && is_part(at.name, word),
+            Kind::Message => one.gives(kind) && member_number(one.at.name, word).is_some(),
+            Kind::Controller => one.at.item.is_none() && is_part(one.at.name, word),
             _ => false,
         };
         if makes {
-            return Some(at.line);
+            return Some(one.spot());
         }
     }
     None
@@ -152,17 +255,17 @@ fn halves(label: &[u8]) -> Option<(&[u8], &[u8])> {
     Some((label.get(..at)?, label.get(at.saturating_add(1)..)?))
 }
 
-// The line of a message that has the name of one of the family that this range makes.
-fn line_of_member(names: &[NameAt<'_>], range: &[u8]) -> Option<u64> {
-    let family = names.last()?.name;
+// A message that has the name of one of the family that this range makes.
+fn spot_of_member(known: &[Known<'_>], range: &[u8]) -> Option<Spot> {
+    let family = known.last()?.at.name;
     let (least, greatest) = str::from_utf8(range).ok()?.split_once("..")?;
     let least = least.parse::<u8>().ok()?;
     let greatest = greatest.parse::<u8>().ok()?;
-    for at in names {
-        if gives(at, Kind::Message) {
-            if let Some(number) = member_number(family, at.name) {
+    for one in known {
+        if one.gives(Kind::Message) {
+            if let Some(number) = member_number(family, one.at.name) {
                 if least <= number && number <= greatest {
-                    return Some(at.line);
+                    return Some(one.spot());
                 }
             }
         }
@@ -171,30 +274,22 @@ fn line_of_member(names: &[NameAt<'_>], range: &[u8]) -> Option<u64> {
 }
 
 // The side of a `never` that is of the first one's controller, stands with it in another one, or has no name of its own.
-fn push_side(lines: &mut Lines, names: &[NameAt<'_>], word: &[u8]) {
-    if let Some(first) = first_side(names) {
+fn side_among(known: &[Known<'_>], word: &[u8]) -> Stands {
+    if let Some(first) = first_side(known) {
         if controller_of(first) == controller_of(word) {
-            lines.say("both are of one controller, which starts one message at a time");
-            return;
+            return Stands::Side;
         }
-        if let Some(line) = line_of_never(names, first, word) {
-            lines.say(format_args!("these two stand in a 'never' already, on line {line}"));
-            return;
-        }
-        if halves(word).is_none() {
-            lines.say("these two stand in a 'never' already");
-            return;
+        let spot = spot_of_never(known, first, word);
+        if spot.is_some() || halves(word).is_none() {
+            return Stands::Never(spot);
         }
     }
-    lines.part(
-        "a label makes a controller, with '_' in place of '/': an earlier one has this name",
-    );
-    push_line(lines, line_of_part(names, word));
+    Stands::Part(spot_of_part(known, word))
 }
 
 // The first side of the `never` that has no second one yet.
-fn first_side<'a>(names: &[NameAt<'a>]) -> Option<&'a [u8]> {
-    let last = names.last()?;
+fn first_side<'a>(known: &[Known<'a>]) -> Option<&'a [u8]> {
+    let last = known.last()?.at;
     let is_first = last.item.is_none() && last.before == 0;
     is_first.then_some(last.name)
 }
@@ -206,28 +301,29 @@ fn controller_of(side: &[u8]) -> &[u8] {
     }
 }
 
-// The line of a `never` with these two, in either order.
-fn line_of_never(names: &[NameAt<'_>], one: &[u8], other: &[u8]) -> Option<u64> {
+// A `never` with these two, in either order.
+fn spot_of_never(known: &[Known<'_>], one: &[u8], other: &[u8]) -> Option<Spot> {
     let mut first: &[u8] = &[];
-    for at in names {
-        if at.item.is_some() {
+    for side in known {
+        if side.at.item.is_some() {
             continue;
         }
-        if at.before == 0 {
-            first = at.name;
-        } else if first == one && at.name == other || first == other && at.name == one {
-            return Some(at.line);
+        let name = side.at.name;
+        if side.at.before == 0 {
+            first = name;
+        } else if first == one && name == other || first == other && name == one {
+            return Some(side.spot());
         }
     }
     None
 }
 
-// The line of the controller, or of the other label, that has the name of the part which this label makes.
-fn line_of_part(names: &[NameAt<'_>], label: &[u8]) -> Option<u64> {
-    for at in names {
-        let has_name = gives(at, Kind::Controller) && is_part(label, at.name);
-        if has_name || at.item.is_none() && makes_same(at.name, label) {
-            return Some(at.line);
+// The controller, or the other label, that has the name of the part which this label makes.
+fn spot_of_part(known: &[Known<'_>], label: &[u8]) -> Option<Spot> {
+    for one in known {
+        let has_name = one.gives(Kind::Controller) && is_part(label, one.at.name);
+        if has_name || one.at.item.is_none() && makes_same(one.at.name, label) {
+            return Some(one.spot());
         }
     }
     None
@@ -248,26 +344,21 @@ fn joined(byte: u8) -> u8 {
 
 /// Says P8: the names that are nearest, or that there are none.
 pub(crate) fn push_unknown(alloc: Global, lines: &mut Lines, refused: &RefusedIn<'_>) {
-    let Ok(text) = readable(alloc, refused.language, refused.text) else {
-        lines.fail();
-        return;
-    };
-    let before = text.get(..refused.place.start).unwrap_or(&[]);
-    match names_in(alloc, refused.language, before) {
-        Ok(names) => push_absent(alloc, lines, refused, names.all()),
+    match known_in(alloc, refused.language, refused.earlier, refused.before()) {
+        Ok(known) => push_absent(alloc, lines, refused, known.as_slice()),
         Err(_) => lines.fail(),
     }
 }
 
-fn push_absent(alloc: Global, lines: &mut Lines, refused: &RefusedIn<'_>, names: &[NameAt<'_>]) {
+fn push_absent(alloc: Global, lines: &mut Lines, refused: &RefusedIn<'_>, known: &[Known<'_>]) {
     let word = refused.token();
     match refused.place.expected {
-        Some(Expected::Sending) => push_nearest(alloc, lines, refused, names, Kind::Message, word),
+        Some(Expected::Sending) => push_nearest(alloc, lines, refused, known, Kind::Message, word),
         Some(Expected::Target | Expected::KnownTarget) => {
-            push_nearest(alloc, lines, refused, names, Kind::Device, word)
+            push_nearest(alloc, lines, refused, known, Kind::Device, word)
         }
-        Some(Expected::Further(_)) => push_nearest(alloc, lines, refused, names, Kind::Byte, word),
-        _ => push_absent_side(alloc, lines, refused, names, word),
+        Some(Expected::Further(_)) => push_nearest(alloc, lines, refused, known, Kind::Byte, word),
+        _ => push_absent_side(alloc, lines, refused, known, word),
     }
 }
 
@@ -276,16 +367,16 @@ fn push_absent_side(
     alloc: Global,
     lines: &mut Lines,
     refused: &RefusedIn<'_>,
-    names: &[NameAt<'_>],
+    known: &[Known<'_>],
     word: &[u8],
 ) {
     let controller = controller_of(word);
     match halves(word) {
-        Some((_, label)) if line_of(names, Kind::Controller, controller).is_some() => {
+        Some((_, label)) if spot_of(known, Kind::Controller, controller).is_some() => {
             lines.say("the controller of this label lists no such message; it lists:");
-            push_all(alloc, lines, names, label, Listed::By(controller));
+            push_all(alloc, lines, known, label, Listed::By(controller));
         }
-        _ => push_nearest(alloc, lines, refused, names, Kind::Controller, controller),
+        _ => push_nearest(alloc, lines, refused, known, Kind::Controller, controller),
     }
 }
 
@@ -293,12 +384,12 @@ fn push_nearest(
     alloc: Global,
     lines: &mut Lines,
     refused: &RefusedIn<'_>,
-    names: &[NameAt<'_>],
+    known: &[Known<'_>],
     kind: Kind,
     word: &[u8],
 ) {
     let what = called(kind);
-    if let Some(other) = other_kind(names, kind, word) {
+    if let Some(other) = other_kind(known, kind, word) {
         let article = if other == Kind::Interrupt { "an" } else { "a" };
         let other = called(other);
         lines.say(format_args!("this is the name of {article} {other}, and of no {what}"));
@@ -307,21 +398,20 @@ fn push_nearest(
         lines.say(format_args!(
             "the {what} stands below, on line {line}: {what}s come before what names them"
         ));
-    } else if has_any(names, kind) {
+    } else if has_any(known, kind) {
         lines.say(format_args!(
             "no {what} before this place has this name; the nearest names of {what}s:"
         ));
-        push_all(alloc, lines, names, word, Listed::Of(kind));
-    } else if refused.file.is_none() {
-        lines.say(format_args!("no {what} stands before this place"));
+        push_all(alloc, lines, known, word, Listed::Of(kind));
     } else {
-        lines.say(format_args!("no {what} before this place has this name"));
+        lines.say(format_args!("no {what} stands before this place"));
     }
 }
 
 // What has this name, where that is of another kind.
-fn other_kind(names: &[NameAt<'_>], kind: Kind, word: &[u8]) -> Option<Kind> {
-    for at in names {
+fn other_kind(known: &[Known<'_>], kind: Kind, word: &[u8]) -> Option<Kind> {
+    for one in known {
+        let at = one.at;
         if at.before == 0 && at.item != Some(kind) && at.item.is_some() && at.name == word {
             return at.item;
         }
@@ -337,18 +427,17 @@ fn line_below(
     kind: Kind,
     word: &[u8],
 ) -> Option<u64> {
-    let Ok(text) = readable(alloc, refused.language, refused.text) else {
-        lines.fail();
-        return None;
-    };
-    match names_in(alloc, refused.language, text.as_slice()) {
-        Ok(names) => line_of(names.all(), kind, word),
-        Err(_) => None,
+    match known_in(alloc, refused.language, &[], refused.text) {
+        Ok(known) => Some(spot_of(known.as_slice(), kind, word)?.line),
+        Err(_) => {
+            lines.fail();
+            None
+        }
     }
 }
 
-fn has_any(names: &[NameAt<'_>], kind: Kind) -> bool {
-    names.iter().any(|at| gives(at, kind))
+fn has_any(known: &[Known<'_>], kind: Kind) -> bool {
+    known.iter().any(|one| one.gives(kind))
 }
 
 // Which names are shown: of all items of a kind, or of what a controller lists.
@@ -362,18 +451,19 @@ enum Listed<'a> {
 fn push_all(
     alloc: Global,
     lines: &mut Lines,
-    names: &[NameAt<'_>],
+    known: &[Known<'_>],
     word: &[u8],
     listed: Listed<'_>,
 ) {
     let mut nearest = Nearest::new(alloc, word);
     let mut controller: &[u8] = &[];
-    for at in names {
-        if gives(at, Kind::Controller) {
+    for one in known {
+        let at = one.at;
+        if one.gives(Kind::Controller) {
             controller = at.name;
         }
         let is_shown = match listed {
-            Listed::Of(kind) => gives(at, kind),
+            Listed::Of(kind) => one.gives(kind),
             Listed::By(wanted) => {
                 at.item == Some(Kind::Controller) && at.before != 0 && controller == wanted
             }

@@ -44,6 +44,10 @@ fn push_oddity(
     oddity: Oddity<'_>,
 ) -> Result<(), AllocError> {
     match oddity {
+        Oddity::EmptyBrief(_) => lines.say("this brief has no items"),
+        Oddity::CarriageReturn(_) => lines.say(
+            "a carriage return (CR) does not end a comment: what follows it in the comment is not read, up to a line feed",
+        ),
         Oddity::SameAddress(first, second) => {
             let (first_name, second_name) = (first.name.as_str(), second.name.as_str());
             lines.part(format_args!("device '{second_name}' has the address of '{first_name}'"));

@@ -12,11 +12,11 @@ use std::alloc::{AllocError, Global};
 const MOST: u32 = 10;
 
 /// What to say of a plan that is safe, in these words of it: the messages that no controller lists, the pairs that `never` leaves
-/// out, and that there are no pairs, where there are none.
-pub fn on_safe(alloc: Global, words: PlanWords<'_>) -> Result<Hints, AllocError> {
+/// out, of which there are so many, and that there are no pairs, where there are none.
+pub fn on_safe(alloc: Global, words: PlanWords<'_>, kept_apart: u64) -> Result<Hints, AllocError> {
     let mut lines = Lines::new(alloc);
     push_unsent(&mut lines, words.plan());
-    push_left_out(alloc, &mut lines, words)?;
+    push_left_out(&mut lines, words, kept_apart);
     lines.finish()
 }
 
@@ -27,6 +27,7 @@ pub fn on_checked(
     words: PlanWords<'_>,
     odd: &[Oddity<'_>],
     is_safe: bool,
+    kept_apart: u64,
 ) -> Result<Hints, AllocError> {
     let mut lines = Lines::new(alloc);
     push_oddities(alloc, &mut lines, words, odd)?;
@@ -35,20 +36,24 @@ pub fn on_checked(
         if !words.has_briefs() {
             push_unsent(&mut lines, words.plan());
         }
-        push_left_out(alloc, &mut lines, words)?;
+        push_left_out(&mut lines, words, kept_apart);
     }
     lines.finish()
 }
 
-// The pairs that were not looked at, and that there are none.
-fn push_left_out(alloc: Global, lines: &mut Lines, words: PlanWords<'_>) -> Result<(), AllocError> {
-    push_nevers(alloc, lines, words)?;
+// The pairs that were not looked at, and that there are none. The items of a plan text stand in the plan. Those of
+// briefs do not, where they name labels.
+fn push_left_out(lines: &mut Lines, words: PlanWords<'_>, kept_apart: u64) {
+    if !words.has_briefs() {
+        push_nevers(lines, words.plan());
+    } else if kept_apart != 0 {
+        lines.say(format_args!("the 'never' items leave out pairs: {kept_apart}"));
+    }
     if words.plan().pair_count() == 0 {
         lines.say(
             "the plan has no two participants that may start together: no pair was looked at",
         );
     }
-    Ok(())
 }
 
 fn push_unsent(lines: &mut Lines, plan: &Plan) {
@@ -89,29 +94,20 @@ fn is_sent(plan: &Plan, message: u32) -> bool {
     false
 }
 
-// The items, but for those between parts of one controller, which a brief makes of its labels.
-fn push_nevers(alloc: Global, lines: &mut Lines, words: PlanWords<'_>) -> Result<(), AllocError> {
-    let plan = words.plan();
-    let (mut told, mut more) = (0u32, 0u32);
+fn push_nevers(lines: &mut Lines, plan: &Plan) {
     for k in 0..plan.nevers() {
-        let (one, other) = plan.never(k);
-        if words.is_one(one, other) {
-            continue;
+        if k < MOST {
+            let (one, other) = plan.never(k);
+            let count = sendings(plan, one).saturating_mul(sendings(plan, other));
+            let one = plan.controller_name(one).as_str();
+            let other = plan.controller_name(other).as_str();
+            lines.say(format_args!("'never {one} {other} ;' leaves out pairs: {count}"));
         }
-        if told == MOST {
-            more = more.saturating_add(1);
-            continue;
-        }
-        told = told.saturating_add(1);
-        let count = sendings(plan, one).saturating_mul(sendings(plan, other));
-        let one = words.side(alloc, one)?;
-        let other = words.side(alloc, other)?;
-        lines.say(format_args!("'never {one} {other} ;' leaves out pairs: {count}"));
     }
+    let more = plan.nevers().saturating_sub(MOST);
     if more != 0 {
         lines.say(format_args!("and {more} more items 'never'"));
     }
-    Ok(())
 }
 
 fn sendings(plan: &Plan, controller: u32) -> usize {

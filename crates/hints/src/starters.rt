@@ -5,24 +5,47 @@ use crate::lines::Lines;
 use crate::marking::push_name;
 use crate::values::Hints;
 use plan_core::{Participant, Plan};
+use plan_words::PlanWords;
 use plays::{OpenError, check_starters};
 use std::alloc::{AllocError, Global};
 
-/// What to say of these starters, labels that commas part, where no bench is opened for them. Else there is nothing to say.
+/// What to say of these starters, labels of this plan that commas part, where no bench is opened for them. Else there
+/// is nothing to say.
 ///
 /// # Errors
 ///
 /// Where an allocation fails.
-pub fn on_starters(alloc: Global, plan: &Plan, starters: &str) -> Result<Hints, AllocError> {
+pub fn on_starters(
+    alloc: Global,
+    words: PlanWords<'_>,
+    starters: &str,
+) -> Result<Hints, AllocError> {
     let mut lines = Lines::new(alloc);
+    let plan = words.plan();
     match refusal_of(alloc, plan, starters)? {
         Some(OpenError::NoStarter) => push_none(alloc, &mut lines, plan),
-        Some(OpenError::Unknown) => push_unknown(alloc, &mut lines, plan, starters),
+        Some(OpenError::Unknown) => push_unknown(alloc, &mut lines, words, starters),
         Some(OpenError::SameController) => push_same(alloc, &mut lines, plan, starters),
-        Some(OpenError::Never) => push_never(&mut lines, plan, starters),
+        Some(OpenError::Never) => push_never(alloc, &mut lines, words, starters),
         Some(OpenError::NoMemory) | None => {}
     }
     lines.finish()
+}
+
+/// The label for which no bench is opened, since the plan does not have it.
+///
+/// # Errors
+///
+/// Where an allocation fails.
+pub fn unknown_starter<'a>(
+    alloc: Global,
+    plan: &Plan,
+    starters: &'a str,
+) -> Result<Option<&'a str>, AllocError> {
+    match refusal_of(alloc, plan, starters)? {
+        Some(OpenError::Unknown) => Ok(first_absent(plan, starters)),
+        _ => Ok(None),
+    }
 }
 
 fn refusal_of(alloc: Global, plan: &Plan, starters: &str) -> Result<Option<OpenError>, AllocError> {
@@ -40,14 +63,35 @@ fn push_none(alloc: Global, lines: &mut Lines, plan: &Plan) {
     push_nearest(alloc, lines, plan, "");
 }
 
-// The first label that the plan does not have, and those that are like it.
-fn push_unknown(alloc: Global, lines: &mut Lines, plan: &Plan, starters: &str) {
+// The first label that the plan does not have, and what the plan calls it where it is one of the briefs, or else those
+// that are like it.
+fn push_unknown(alloc: Global, lines: &mut Lines, words: PlanWords<'_>, starters: &str) {
+    let plan = words.plan();
     if let Some(label) = first_absent(plan, starters) {
         lines.part("no participant of the plan has the label '");
         push_name(lines, label.as_bytes());
         lines.say("'");
-        push_nearest(alloc, lines, plan, label);
+        match called_so(alloc, words, label) {
+            Ok(Some(i)) => {
+                lines.part("this is its label in the briefs; the plan calls it ");
+                push_label(alloc, lines, plan, i);
+                lines.end();
+            }
+            Ok(None) => push_nearest(alloc, lines, plan, label),
+            Err(_) => lines.fail(),
+        }
     }
+}
+
+// The participant that briefs call so.
+fn called_so(alloc: Global, words: PlanWords<'_>, wanted: &str) -> Result<Option<u32>, AllocError> {
+    for i in 0..words.plan().participants() {
+        let label = words.label(alloc, i)?;
+        if label.as_str() == wanted {
+            return Ok(Some(i));
+        }
+    }
+    Ok(None)
 }
 
 fn first_absent<'a>(plan: &Plan, starters: &'a str) -> Option<&'a str> {
@@ -124,9 +168,49 @@ fn push_label(alloc: Global, lines: &mut Lines, plan: &Plan, i: u32) {
     }
 }
 
-fn push_never(lines: &mut Lines, plan: &Plan, starters: &str) {
-    if let Some((first, second)) = first_two(plan, starters, Clash::Never) {
-        push_item(lines, plan, first, second);
+fn push_never(alloc: Global, lines: &mut Lines, words: PlanWords<'_>, starters: &str) {
+    let plan = words.plan();
+    match first_two(plan, starters, Clash::Never) {
+        Some((first, second)) if words.has_briefs() => {
+            push_apart(alloc, lines, words, first, second);
+        }
+        Some((first, second)) => push_item(lines, plan, first, second),
+        None => {}
+    }
+}
+
+// In the words of briefs, in which the item may not stand as the plan has it: it may be one between the parts of a
+// controller.
+fn push_apart(alloc: Global, lines: &mut Lines, words: PlanWords<'_>, first: u32, second: u32) {
+    push_called(alloc, lines, words, first);
+    lines.part(" and ");
+    push_called(alloc, lines, words, second);
+    if are_of_one(words, first, second) {
+        lines.say(" are of one controller, which starts one message at a time");
+    } else {
+        lines.say(" never start together: a 'never' keeps them apart");
+    }
+}
+
+// What briefs call a participant, in quotation marks.
+fn push_called(alloc: Global, lines: &mut Lines, words: PlanWords<'_>, i: u32) {
+    match words.label(alloc, i) {
+        Ok(label) => {
+            let label = label.as_str();
+            lines.part(format_args!("'{label}'"));
+        }
+        Err(_) => lines.fail(),
+    }
+}
+
+// Whether the controllers of the two are one controller of a brief, or parts of one.
+fn are_of_one(words: PlanWords<'_>, first: u32, second: u32) -> bool {
+    match (
+        controller_of(words.plan(), first),
+        controller_of(words.plan(), second),
+    ) {
+        (Some(one), Some(other)) => words.is_one(one, other),
+        _ => false,
     }
 }
 
@@ -149,12 +233,17 @@ fn push_item(lines: &mut Lines, plan: &Plan, first: u32, second: u32) {
 
 // Whether this participant is a sending of this controller.
 fn is_of(plan: &Plan, i: u32, wanted: u32) -> bool {
+    controller_of(plan, i) == Some(wanted)
+}
+
+// The controller of a participant that is no interrupt.
+fn controller_of(plan: &Plan, i: u32) -> Option<u32> {
     if i >= plan.participants() {
-        return false;
+        return None;
     }
     match plan.participant(i) {
-        Participant::Sending { controller, .. } => controller == wanted,
-        Participant::Interrupt(_) => false,
+        Participant::Sending { controller, .. } => Some(controller),
+        Participant::Interrupt(_) => None,
     }
 }
 

@@ -7,8 +7,8 @@ use crate::marking::{first_line, last_line, push_marked};
 use crate::names::{push_twice, push_unknown};
 use crate::paths::quoted;
 use crate::values::Hints;
-use crate::wording::{bad_count, foreign, push_limit, push_over, version};
-use crate::words::{RANGES, push_reason};
+use crate::wording::{bad_count, foreign, push_limit, push_over, push_version};
+use crate::words::{RANGES, push_reason, reason_of_characters};
 use brief_text::expand_brief_at;
 use plan_text::places::Further;
 use plan_text::{Expected, Language, Place, PlanError, Refused};
@@ -23,6 +23,17 @@ pub struct RefusedIn<'a> {
     pub text: &'a [u8],
     /// The name of its file, where several give the plan.
     pub file: Option<&'a str>,
+    /// The briefs before it.
+    pub earlier: &'a [Earlier<'a>],
+    /// Whether a brief could stand in its place too, where it is no plan text.
+    pub takes_either: bool,
+}
+
+/// A brief that was read before the text that is refused, and the name of its file.
+#[derive(Clone, Copy)]
+pub struct Earlier<'a> {
+    pub text: &'a [u8],
+    pub file: &'a str,
 }
 
 impl<'a> RefusedIn<'a> {
@@ -62,9 +73,14 @@ pub fn on_text(alloc: Global, refused: RefusedIn<'_>) -> Result<Hints, AllocErro
     if !is_binary(kind) {
         push_refused(alloc, &mut lines, &refused);
     }
-    push_kind(&mut lines, kind, kind_of_language(refused.language));
+    match kind {
+        Some(Kind::Plan) if refused.file.is_some() => lines.say(PLAN_AMONG_SEVERAL),
+        _ => push_kind(&mut lines, kind, kind_of_language(refused.language)),
+    }
     lines.finish()
 }
+
+const PLAN_AMONG_SEVERAL: &str = "this is a plan, and none of several files may be one";
 
 fn kind_of_language(language: Language) -> Kind {
     match language {
@@ -102,7 +118,7 @@ fn push_refused(alloc: Global, lines: &mut Lines, refused: &RefusedIn<'_>) {
     }
     match refused.error {
         PlanError::NotAscii(_) => lines.say(foreign(refused.language)),
-        PlanError::Version(_) => lines.say(version(refused.language)),
+        PlanError::Version(_) => push_version(lines, refused),
         PlanError::Unexpected(_) => push_fault(alloc, lines, refused, fault),
         PlanError::BadCount(_) => lines.say(bad_count(refused.place.expected)),
         PlanError::TooLong(_) => push_over(lines, refused.place.over),
@@ -175,6 +191,26 @@ fn missing_semicolon(refused: &RefusedIn<'_>) -> Option<Span> {
         line: line.saturating_sub(feeds_in(refused.part(before, start))),
         start: before,
         end: before,
+    })
+}
+
+/// A place where `;` is missing: how many bytes of its line stand before it, and one.
+#[derive(Clone, Copy)]
+pub struct SemicolonAt {
+    pub line: u64,
+    pub column: usize,
+}
+
+/// Where `;` is missing, after the token before the refused one. Nothing where something else is wrong.
+pub fn missing_semicolon_at(refused: RefusedIn<'_>) -> Option<SemicolonAt> {
+    let PlanError::Unexpected(_) = refused.error else {
+        return None;
+    };
+    let Span { line, start, .. } = missing_semicolon(&refused)?;
+    let before = last_line(refused.part(0, start));
+    Some(SemicolonAt {
+        line,
+        column: before.len().saturating_add(1),
     })
 }
 
@@ -291,7 +327,7 @@ fn push_fault(alloc: Global, lines: &mut Lines, refused: &RefusedIn<'_>, fault: 
             lines.say(RANGES);
             push_all(alloc, lines, Expected::Count { ranges: false });
         }
-        (_, Some(Expected::Version)) => lines.say(version(refused.language)),
+        (_, Some(Expected::Version)) => push_version(lines, refused),
         (Fault::Token(_), Some(expected)) => push_token(alloc, lines, refused, expected),
         (Fault::End(_), Some(expected)) => push_all(alloc, lines, expected),
         (_, None) => {}
@@ -303,7 +339,10 @@ fn push_token(alloc: Global, lines: &mut Lines, refused: &RefusedIn<'_>, expecte
         Ok(words) => {
             let words = words.as_slice();
             let word = str::from_utf8(refused.token()).unwrap_or("");
-            push_reason(alloc, lines, refused.language, expected, words, word);
+            match reason_of_characters(refused, expected) {
+                Some(reason) => lines.say(reason),
+                None => push_reason(alloc, lines, refused.language, expected, words, word),
+            }
             push_expected(lines, words);
         }
         Err(_) => lines.fail(),

@@ -1,6 +1,8 @@
 // What the refusal of a text means, where that is no name and has a place of its own.
 
 use crate::lines::Lines;
+use crate::texts::RefusedIn;
+use crate::words::is_like_brief;
 use plan_core::limits::{
     MOST_BYTES, MOST_CONTROLLERS, MOST_INTERRUPTS, MOST_MESSAGES, MOST_NODES, MOST_SENDINGS,
 };
@@ -15,14 +17,30 @@ pub(crate) fn foreign(language: Language) -> &'static str {
     }
 }
 
-/// Of P2.
-pub(crate) fn version(language: Language) -> &'static str {
-    match language {
-        Language::Plan => {
-            "a plan begins with 'plan 1', or with 'plan 2' where it has ranges of counts or 'never'"
+const PLAN_VERSION: &str =
+    "a plan begins with 'plan 1', or with 'plan 2' where it has ranges of counts or 'never'";
+
+const BRIEF_VERSION: &str = "a brief begins with 'brief 1'";
+
+/// Says P2. Where the text may be either, what it is more like is told first.
+pub(crate) fn push_version(lines: &mut Lines, refused: &RefusedIn<'_>) {
+    match refused.language {
+        Language::Brief => lines.say(BRIEF_VERSION),
+        Language::Plan if !refused.takes_either || is_plan(refused) => lines.say(PLAN_VERSION),
+        Language::Plan if is_like_brief(refused.text) => {
+            lines.say(BRIEF_VERSION);
+            lines.say(PLAN_VERSION);
         }
-        Language::Brief => "a brief begins with 'brief 1'",
+        Language::Plan => {
+            lines.say(PLAN_VERSION);
+            lines.say(BRIEF_VERSION);
+        }
     }
+}
+
+// Whether the text has the first word of a plan, before another version of it.
+fn is_plan(refused: &RefusedIn<'_>) -> bool {
+    refused.before().trim_ascii_end().ends_with(b"plan")
 }
 
 /// Of P4, where this was expected.

@@ -1,7 +1,8 @@
 // Words that cannot stand where somebody put them, for a reason of their own.
 
+use crate::kinds::LOOKED_AT;
 use crate::lines::Lines;
-use crate::texts::called;
+use crate::texts::{RefusedIn, called};
 use plan_core::Name;
 use plan_text::words::count_ends;
 use plan_text::{Expected, Language};
@@ -9,6 +10,79 @@ use std::alloc::Global;
 
 /// What is said of a range in a plan of the first version.
 pub(crate) const RANGES: &str = "ranges, as '2..4', are of 'plan 2': let the text begin with that";
+
+const COMMENTS: &str = "a comment begins with '#', and ends with its line";
+
+const ONE_WORD: &str = "a range is one word, as '1..32'";
+
+const DASH: &str = "'-' is no part of a name: that has letters, digits and '_'";
+
+/// Why this token cannot stand there, where its characters tell.
+pub(crate) fn reason_of_characters(
+    refused: &RefusedIn<'_>,
+    expected: Expected,
+) -> Option<&'static str> {
+    let (before, rest) = refused.text.split_at_checked(refused.place.start)?;
+    if rest.starts_with(b"//") || rest.starts_with(b"/*") {
+        return Some(COMMENTS);
+    }
+    let may_end = rest.starts_with(b"-") || rest.starts_with(b"..");
+    if may_end && matches!(expected, Expected::Further(_)) && ends_in_times(before) {
+        return Some(ONE_WORD);
+    }
+    let is_dash = rest.starts_with(b"-") && before.last().is_some_and(|byte| is_of_name(*byte));
+    is_dash.then_some(DASH)
+}
+
+// Whether a text ends in how often a byte stands: `*`, and a number.
+fn ends_in_times(text: &[u8]) -> bool {
+    let text = text.trim_ascii_end();
+    let mut digits = 0usize;
+    for byte in text.iter().rev() {
+        if !byte.is_ascii_digit() {
+            break;
+        }
+        digits = digits.saturating_add(1);
+    }
+    let before = text.get(..text.len().saturating_sub(digits)).unwrap_or(&[]);
+    digits != 0 && before.trim_ascii_end().ends_with(b"*")
+}
+
+fn is_of_name(byte: u8) -> bool {
+    byte.is_ascii_alphanumeric() || byte == b'_'
+}
+
+/// Whether a text has words of briefs in its first lines, which no plan has.
+pub(crate) fn is_like_brief(text: &[u8]) -> bool {
+    let head = text.get(..LOOKED_AT).unwrap_or(text);
+    for line in head.split(is_line_feed) {
+        let words = line.split(is_hash).next().unwrap_or(&[]);
+        if words.split(is_between).any(is_brief_word) {
+            return true;
+        }
+    }
+    false
+}
+
+fn is_line_feed(byte: &u8) -> bool {
+    *byte == b'\n'
+}
+
+fn is_hash(byte: &u8) -> bool {
+    *byte == b'#'
+}
+
+// What stands between words.
+fn is_between(byte: &u8) -> bool {
+    !is_of_name(*byte)
+}
+
+fn is_brief_word(word: &[u8]) -> bool {
+    word.starts_with(b"0x")
+        || word.starts_with(b"0b")
+        || matches!(word, b"device" | b"byte" | b"any")
+        || word.eq_ignore_ascii_case(b"brief")
+}
 
 /// Says why this word cannot stand there, where these words name what can.
 pub(crate) fn push_reason(

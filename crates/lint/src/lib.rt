@@ -1,7 +1,7 @@
 //! What is allowed in briefs, and is likely a mistake. Nothing of it decides anything, and no clause speaks of it.
 #![tactic(auto)]
 
-use brief_text::{Device, NamedByte, Origins, Spot};
+use brief_text::{Device, NamedByte, Origins, Spot, names_in};
 use message_tree::{Address, Bit};
 use plan_core::Plan;
 use std::alloc::{AllocError, Global};
@@ -9,6 +9,10 @@ use std::alloc::{AllocError, Global};
 /// What is likely a mistake.
 #[derive(Clone, Copy)]
 pub enum Oddity<'a> {
+    /// This brief has no items.
+    EmptyBrief(Spot),
+    /// Here a comment has a carriage return in it, which does not end it, and words after that.
+    CarriageReturn(Spot),
     /// The second device has the address of the first, in all bits.
     SameAddress(&'a Device, &'a Device),
     /// UM10204, 3.1.12 reserves the address: its first four bits are 0000 or 1111.
@@ -27,6 +31,7 @@ impl Oddity<'_> {
     /// Where it stands.
     pub fn spot(self) -> Spot {
         match self {
+            Oddity::EmptyBrief(spot) | Oddity::CarriageReturn(spot) => spot,
             Oddity::SameAddress(_, device)
             | Oddity::ReservedAddress(device)
             | Oddity::UnusedDevice(device) => device.spot,
@@ -36,8 +41,8 @@ impl Oddity<'_> {
     }
 }
 
-/// What is likely a mistake in the briefs that mean this plan: first of their devices, then of bytes, messages, and controllers,
-/// each in the order of the briefs.
+/// What is likely a mistake in the briefs of these texts, which mean this plan: first of the texts, then of devices,
+/// bytes, messages, and controllers, each in the order of the briefs.
 ///
 /// # Errors
 ///
@@ -46,13 +51,63 @@ pub fn oddities<'a>(
     alloc: Global,
     plan: &Plan,
     origins: &'a Origins,
+    texts: &[Vec<u8>],
 ) -> Result<Vec<Oddity<'a>>, AllocError> {
     let mut found = Vec::new(alloc);
+    push_texts(alloc, &mut found, texts)?;
     push_devices(&mut found, origins.devices.as_slice())?;
     push_bytes(&mut found, origins.bytes.as_slice())?;
     push_messages(&mut found, plan, origins.messages.as_slice())?;
     push_controllers(&mut found, plan, origins)?;
     Ok(found)
+}
+
+fn push_texts(
+    alloc: Global,
+    found: &mut Vec<Oddity<'_>>,
+    texts: &[Vec<u8>],
+) -> Result<(), AllocError> {
+    let mut file = 0u32;
+    for text in texts {
+        push_text(alloc, found, file, text.as_slice())?;
+        file = file.saturating_add(1);
+    }
+    Ok(())
+}
+
+fn push_text(
+    alloc: Global,
+    found: &mut Vec<Oddity<'_>>,
+    file: u32,
+    text: &[u8],
+) -> Result<(), AllocError> {
+    if names_in(alloc, text)?.all().is_empty() {
+        found.push(Oddity::EmptyBrief(Spot { file, line: 1 }))?;
+    }
+    let mut line = 1u64;
+    for words in text.split(is_line_feed) {
+        if has_return(words) {
+            found.push(Oddity::CarriageReturn(Spot { file, line }))?;
+        }
+        line = line.saturating_add(1);
+    }
+    Ok(())
+}
+
+fn is_line_feed(byte: &u8) -> bool {
+    *byte == b'\n'
+}
+
+// Whether a carriage return stands in the comment of this line, with words after it.
+fn has_return(line: &[u8]) -> bool {
+    match line.iter().position(|byte| *byte == b'#') {
+        Some(at) => line
+            .get(at..)
+            .unwrap_or(&[])
+            .trim_ascii_end()
+            .contains(&b'\r'),
+        None => false,
+    }
 }
 
 fn push_devices<'a>(found: &mut Vec<Oddity<'a>>, devices: &'a [Device]) -> Result<(), AllocError> {

@@ -3,7 +3,7 @@
 use crate::file_lines::{BothAt, both_at};
 use crate::writing::ObjectLines;
 use cert_check::Answer;
-use certificate::CertFault;
+use certificate::{CertFault, Expected, Refusal};
 use explain::{Break, Mistake, Reason, label_of};
 use plan_words::PlanWords;
 use report::{Output, RunError};
@@ -20,6 +20,11 @@ struct Certificate<'a> {
     code: Option<&'static str>,
     #[serde(skip_serializing_if = "Option::is_none")]
     line: Option<u64>,
+    // of what is refused in this line: how many bytes of it stand before, and one, and what could stand there
+    #[serde(skip_serializing_if = "Option::is_none")]
+    column: Option<u64>,
+    #[serde(skip_serializing_if = "Option::is_none")]
+    expected: Option<&'static str>,
     #[serde(skip_serializing_if = "Option::is_none")]
     pair: Option<u32>,
     #[serde(skip_serializing_if = "Option::is_none")]
@@ -30,7 +35,12 @@ struct Certificate<'a> {
 #[serde(untagged)]
 enum Why<'a> {
     Pair(Misproved<'a>),
-    Count { pairs: u32, proofs: u64 },
+    Count {
+        pairs: u32,
+        proofs: u64,
+        #[serde(skip_serializing_if = "Option::is_none")]
+        says: Option<u32>,
+    },
 }
 
 // A pair of which what the certificate says is not so.
@@ -47,7 +57,8 @@ struct Misproved<'a> {
     why: Option<&'static str>,
 }
 
-/// Writes the object of the answer to a certificate of the plan of these words, and what is wrong with it, where that was found.
+/// Writes the object of the answer to a certificate of the plan of these words, which may be refused there, and what is
+/// wrong with it, where that was found.
 ///
 /// # Errors
 ///
@@ -56,10 +67,12 @@ pub fn write_answer<O: Output>(
     alloc: Global,
     words: PlanWords<'_>,
     answer: Answer,
+    refusal: Option<&Refusal>,
     mistake: Option<Mistake>,
     out: &mut O,
 ) -> Result<(), RunError> {
     let mut lines = ObjectLines::new(alloc);
+    let answer = Answered { answer, refusal };
     match mistake {
         Some(
             Mistake::Pair {
@@ -68,30 +81,70 @@ pub fn write_answer<O: Output>(
                 ..
             },
         ) => add_misproved(&mut lines, words, answer, participants, found)?,
-        Some(Mistake::Count { pairs, proofs }) => {
-            lines.add(&object_of(answer, Some(Why::Count { pairs, proofs })));
+        Some(
+            Mistake::Count {
+                pairs,
+                says,
+                proofs,
+            },
+        ) => {
+            let why = Why::Count {
+                pairs,
+                proofs,
+                says,
+            };
+            lines.add(&object_of(answer, Some(why)));
         }
         Some(Mistake::Text) | None => lines.add(&object_of(answer, None)),
     }
     lines.write_rest(out)
 }
 
-fn object_of(answer: Answer, explain: Option<Why<'_>>) -> Certificate<'_> {
+// An answer, and where the text is refused, if it is.
+#[derive(Clone, Copy)]
+struct Answered<'a> {
+    answer: Answer,
+    refusal: Option<&'a Refusal>,
+}
+
+fn object_of<'a>(answered: Answered<'_>, explain: Option<Why<'a>>) -> Certificate<'a> {
+    let Answered { answer, refusal } = answered;
     let mut object = Certificate {
         kind: "certificate",
         accepted: !matches!(answer, Answer::Wrong(_)),
         safe: None,
         code: None,
         line: None,
+        column: None,
+        expected: None,
         pair: None,
         explain,
     };
+    if let Some(refusal) = refusal {
+        object.column = Some(refusal.place.column as u64);
+        object.expected = refusal.place.expected.map(expected_word);
+    }
     match answer {
         Answer::Safe => object.safe = Some(true),
         Answer::Unsafe => object.safe = Some(false),
         Answer::Wrong(fault) => place(&mut object, fault),
     }
     object
+}
+
+fn expected_word(expected: Expected) -> &'static str {
+    match expected {
+        Expected::Version => "version",
+        Expected::Form => "form",
+        Expected::Number => "number",
+        Expected::Symbol => "symbol",
+        Expected::Kind => "kind",
+        Expected::Node => "node",
+        Expected::Bit => "bit",
+        Expected::Space(_) => "space",
+        Expected::LineFeed(_) => "line feed",
+        Expected::End => "end",
+    }
 }
 
 // What is wrong, and where.
@@ -112,7 +165,7 @@ fn place(object: &mut Certificate<'_>, fault: CertFault) {
 fn add_misproved(
     lines: &mut ObjectLines,
     words: PlanWords<'_>,
-    answer: Answer,
+    answer: Answered<'_>,
     participants: (u32, u32),
     found: Option<Break>,
 ) -> Result<(), AllocError> {

@@ -26,4 +26,4 @@ pub use checks::write_check;
 pub use decodes::DecodeObjects;
 pub use listed::write_signals;
 pub use orders::write_order;
-pub use refusals::{Detail, hint_objects, refusal_object, timescale_object};
+pub use refusals::{Detail, EarlierAt, TextDetail, hint_objects, refusal_object, timescale_object};

@@ -40,6 +40,8 @@ fn add_oddity(
     let alloc = lines.alloc;
     let place = line_at(alloc, words, oddity.spot())?;
     match oddity {
+        Oddity::EmptyBrief(_) => add(lines, "empty brief", &[], &[place]),
+        Oddity::CarriageReturn(_) => add(lines, "carriage return", &[], &[place]),
         Oddity::SameAddress(first, second) => {
             let names = [second.name.as_str(), first.name.as_str()];
             let places = [place, line_at(alloc, words, first.spot)?];

@@ -1,7 +1,7 @@
 // Objects of what goes to standard error.
 
 use crate::writing::ObjectLines;
-use hints::{Hint, Hints};
+use hints::{Hint, Hints, SemicolonAt};
 use plan_text::{Expected as InText, NoBrief, Place, PlanError};
 use plays::OpenError;
 use run_parts::RunError;
@@ -13,10 +13,34 @@ use vcd_read::{Expected, Opened, Signal, VcdError, Wrong};
 #[derive(Clone, Copy)]
 pub enum Detail<'a> {
     Nothing,
-    /// The place in a plan or in a brief, and the name of its file where several give the plan.
-    Text(Place, Option<&'a str>),
+    /// What is refused in a plan or in a brief.
+    Text(TextDetail<'a>),
+    /// The file that cannot be read.
+    File(&'a str),
+    /// The label that the plan does not have.
+    Label(&'a str),
     /// What is wrong with a dump.
     Dump(&'a Wrong),
+}
+
+/// Where a plan or a brief is refused.
+#[derive(Clone, Copy)]
+pub struct TextDetail<'a> {
+    pub place: Place,
+    /// The name of its file, where several give the plan.
+    pub file: Option<&'a str>,
+    /// Where `;` is missing.
+    pub semicolon: Option<SemicolonAt>,
+    /// Where that stands which may stand once.
+    pub earlier: Option<EarlierAt<'a>>,
+}
+
+/// A line before, and the name of its file where several give the plan.
+#[derive(Clone, Copy, Serialize)]
+pub struct EarlierAt<'a> {
+    #[serde(skip_serializing_if = "Option::is_none")]
+    pub file: Option<&'a str>,
+    pub line: u64,
 }
 
 #[derive(Clone, Copy, Serialize)]
@@ -25,9 +49,11 @@ struct Refusal<'a> {
     code: &'static str,
     #[serde(skip_serializing_if = "Option::is_none")]
     line: Option<u64>,
-    // of a plan or a brief, where several files give it
+    // of a plan or a brief, where several files give it, and what cannot be read
     #[serde(skip_serializing_if = "Option::is_none")]
     file: Option<&'a str>,
+    #[serde(skip_serializing_if = "Option::is_none")]
+    label: Option<&'a str>,
     #[serde(skip_serializing_if = "Option::is_none")]
     signal: Option<&'static str>,
     // of a token: how many bytes stand before it, and in its line and one, and what could stand there
@@ -40,6 +66,14 @@ struct Refusal<'a> {
     // what the end of a dump leaves open
     #[serde(skip_serializing_if = "Option::is_none")]
     open: Option<&'static str>,
+    // where `;` is missing, after the token before
+    #[serde(skip_serializing_if = "Option::is_none")]
+    after_line: Option<u64>,
+    #[serde(skip_serializing_if = "Option::is_none")]
+    after_column: Option<u64>,
+    // where that stands which may stand once
+    #[serde(skip_serializing_if = "Option::is_none")]
+    earlier: Option<EarlierAt<'a>>,
 }
 
 #[derive(Drop, Serialize)]
@@ -64,15 +98,32 @@ pub fn refusal_object(
         alloc,
         match detail {
             Detail::Nothing => refusal,
-            Detail::Text(place, file) => with_place(refusal, place, file),
+            Detail::Text(detail) => with_place(refusal, detail),
+            Detail::File(file) => Refusal {
+                file: Some(file),
+                ..refusal
+            },
+            Detail::Label(label) => Refusal {
+                label: Some(label),
+                ..refusal
+            },
             Detail::Dump(wrong) => with_wrong(refusal, wrong),
         },
     )
 }
 
-fn with_place<'a>(refusal: Refusal<'a>, place: Place, file: Option<&'a str>) -> Refusal<'a> {
+fn with_place<'a>(refusal: Refusal<'a>, detail: TextDetail<'a>) -> Refusal<'a> {
+    let TextDetail {
+        place,
+        file,
+        semicolon,
+        earlier,
+    } = detail;
     Refusal {
         file,
+        after_line: semicolon.map(|at| at.line),
+        after_column: semicolon.map(|at| at.column as u64),
+        earlier,
         byte: Some(place.start as u64),
         column: Some(place.column as u64),
         expected: place.expected.map(text_word),
@@ -102,6 +153,7 @@ fn text_word(expected: InText) -> &'static str {
         InText::Times { .. } => "times",
         InText::Refusal => "nack",
         InText::Party => "side",
+        InText::Further(further) if further.bytes => "byte or further",
         InText::Further(_) => "further",
     }
 }
@@ -160,7 +212,6 @@ fn refusal_of(error: RunError) -> Refusal<'static> {
         RunError::Plan(error) => of_text(error),
         RunError::Brief(error) => coded(match error {
             NoBrief::Name => "brief name",
-            NoBrief::Unwritten => "brief text",
             NoBrief::NoMemory => "memory",
         }),
         RunError::Vcd(error) => of_dump(error),
@@ -214,11 +265,15 @@ fn coded(code: &'static str) -> Refusal<'static> {
         code,
         line: None,
         file: None,
+        label: None,
         signal: None,
         byte: None,
         column: None,
         expected: None,
         open: None,
+        after_line: None,
+        after_column: None,
+        earlier: None,
     }
 }
 

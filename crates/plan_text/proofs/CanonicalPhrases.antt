@@ -5,6 +5,9 @@ use Rattle.std.specs.List.{prefix_len}
 use Rattle.std.proofs.lemmas.Bool.{and_parts, or_left, or_right}
 use Rattle.std.proofs.lemmas.List.{take_at, drop_at}
 use Rattle.std.proofs.lemmas.List.Elements.{All-head, All-tail}
+use Rattle.lexer.specs.declared.lexemes.Letters.{Letters}
+use Rattle.lexer.specs.declared.lexemes.Letters.TheVariants.{Dots}
+use Rattle.lexer.specs.Lexemes.{Alphabet, letters, later, is_word_part}
 use Rattle.message_tree.specs.declared.bits.Address.{Address}
 use Rattle.message_tree.specs.declared.bits.Pattern.{Pattern}
 use Rattle.message_tree.specs.declared.counts.Count.{Count}
@@ -19,22 +22,22 @@ use Rattle.plan_text.specs.declared.versions.Version.{Version}
 use Rattle.plan_text.specs.declared.versions.Version.TheVariants.{Two}
 use Rattle.plan_text.specs.Canonical.{address_word, pattern_word, interrupt_word, count_word, spaced, frame_words, payload_words, tail_words, frame_has_range, payload_has_range, tail_has_range, item_line, message_line, interrupt_line}
 use Rattle.plan_text.specs.Grammar.{Phrase, one, ◌▸◌, SpellsName, SpellsNames, SpellsCount, SpellsFrame, SpellsPayload, SpellsTail, SpellsItem, message, controller, interrupt, never_both}
-use Rattle.plan_text.specs.Tokens.{Token, keyword, word, semicolon, next, tokens_of, Dots, dots_now, one_later, is_word_part, token_of_word}
+use Rattle.plan_text.specs.Tokens.{Token, keyword, word, semicolon, next, tokens_of, token_of_word}
 use Rattle.plan_text.proofs.Adding.{spaced-append}
 use Rattle.plan_text.proofs.CanonicalWords.{is_word, Apart, parts_before, space_apart, name_is_word, name_token, bits_are_word, bits_token, address_some, pattern_some, count_is_word}
 use Rattle.plan_text.proofs.TokenLemmas.{skips_space, skips_line_feed, semicolon_here, word_here}
 
 -- the words at the front of a text, each after a space, are this phrase
-pub record Said (d : Dots) (words : List (List ℕ)) (P : Phrase) : Type 0 where
-  pub says : (line : ℕ) (rest : List ℕ) → Apart (dots_now d) rest → P (tokens_of d line (spaced words ++ rest)) (tokens_of d line rest)
+pub record Said (d : Alphabet) (words : List (List ℕ)) (P : Phrase) : Type 0 where
+  pub says : (line : ℕ) (rest : List ℕ) → Apart (letters d) rest → P (tokens_of d line (spaced words ++ rest)) (tokens_of d line rest)
 
 -- the words with the end of an item
-pub record Ended (d : Dots) (words : List (List ℕ)) (P : Phrase) : Type 0 where
+pub record Ended (d : Alphabet) (words : List (List ℕ)) (P : Phrase) : Type 0 where
   pub says : (line : ℕ) (rest : List ℕ) → P (tokens_of d line (spaced words ++ (codes " ;\n" ++ rest))) (tokens_of d (line + 1) rest)
 
-spaced_apart : (dots : Bool) (words : List (List ℕ)) (rest : List ℕ) → Apart dots rest → Apart dots (spaced words ++ rest)
-spaced_apart dots [] rest apart = apart
-spaced_apart dots (w ∷ words) rest apart = space_apart dots ((w ++ spaced words) ++ rest)
+spaced_apart : (ls : Letters) (words : List (List ℕ)) (rest : List ℕ) → Apart ls rest → Apart ls (spaced words ++ rest)
+spaced_apart ls [] rest apart = apart
+spaced_apart ls (w ∷ words) rest apart = space_apart ls ((w ++ spaced words) ++ rest)
 
 -- what each of three tests gives all
 of_three : (a b c : Bool) → (a ≡ true → (a || b || c) ≡ true) × (b ≡ true → (a || b || c) ≡ true) × (c ≡ true → (a || b || c) ≡ true)
@@ -42,18 +45,18 @@ of_three true b c = (λ h. refl, λ h. refl, λ h. refl)
 of_three false true c = (λ h. refl, λ h. refl, λ h. refl)
 of_three false false c = (λ h. absurd (true≢false (sym h)), λ h. absurd (true≢false (sym h)), λ h. h)
 
-module _ (d : Dots) (steady : one_later d ≡ d) where
+module _ (d : Alphabet) (steady : later d ≡ d) where
   -- a word is one token
-  pub word_token : (line : ℕ) (w rest : List ℕ) (t : Token) → is_word (dots_now d) w ≡ true → token_of_word w ≡ t → Apart (dots_now d) rest → tokens_of d line (w ++ rest) ≡ next t line (tokens_of d line rest)
+  pub word_token : (line : ℕ) (w rest : List ℕ) (t : Token) → is_word (letters d) w ≡ true → token_of_word w ≡ t → Apart (letters d) rest → tokens_of d line (w ++ rest) ≡ next t line (tokens_of d line rest)
   word_token line [] rest t is e apart = absurd (true≢false (sym is))
   word_token line (b ∷ bytes) rest t is e apart =
       let w : List ℕ = b ∷ bytes in
-      let parts = and_parts (is_word_part (dots_now d) b) _ is in
-      let count : suc (length bytes) ≡ prefix_len (is_word_part (dots_now d)) (w ++ rest) = sym (parts_before (dots_now d) w rest is apart) in
+      let parts = and_parts (is_word_part (letters d) b) _ is in
+      let count : suc (length bytes) ≡ prefix_len (is_word_part (letters d)) (w ++ rest) = sym (parts_before (letters d) w rest is apart) in
       word_here d line b (suc (length bytes)) (w ++ rest) (bytes ++ rest) refl parts.0 count
-      ∙ ap (λ x. next (token_of_word x) line (tokens_of (one_later d) line (drop (suc (length bytes)) (w ++ rest)))) (take_at w rest (suc (length bytes)) refl)
-      ∙ ap (λ x. next x line (tokens_of (one_later d) line (drop (suc (length bytes)) (w ++ rest)))) e
-      ∙ ap (λ x. next t line (tokens_of (one_later d) line x)) (drop_at w rest (suc (length bytes)) refl)
+      ∙ ap (λ x. next (token_of_word x) line (tokens_of (later d) line (drop (suc (length bytes)) (w ++ rest)))) (take_at w rest (suc (length bytes)) refl)
+      ∙ ap (λ x. next x line (tokens_of (later d) line (drop (suc (length bytes)) (w ++ rest)))) e
+      ∙ ap (λ x. next t line (tokens_of (later d) line x)) (drop_at w rest (suc (length bytes)) refl)
       ∙ ap (λ x. next t line (tokens_of x line rest)) steady
 
   -- the end of an item is `;`, and the next line
@@ -66,7 +69,7 @@ module _ (d : Dots) (steady : one_later d ≡ d) where
 
   -- ---- words one after the other
 
-  said_one : (w : List ℕ) (t : Token) → is_word (dots_now d) w ≡ true → token_of_word w ≡ t → Said d (w ∷ []) (one t)
+  said_one : (w : List ℕ) (t : Token) → is_word (letters d) w ≡ true → token_of_word w ≡ t → Said d (w ∷ []) (one t)
   said_one w t is e = record {
     says = λ line rest apart. (
       line,
@@ -81,7 +84,7 @@ module _ (d : Dots) (steady : one_later d ≡ d) where
     says = λ line rest apart.
         let e : spaced (xs ++ ys) ++ rest ≡ spaced xs ++ (spaced ys ++ rest) = ap (λ l. l ++ rest) (spaced-append xs ys) ∙ append_assoc (spaced xs) (spaced ys) rest in
         let more : List ℕ = spaced ys ++ rest in
-        (tokens_of d line more, subst (λ l. P (tokens_of d line l) (tokens_of d line more)) (sym e) (p.says line more (spaced_apart (dots_now d) ys rest apart)), q.says line rest apart);
+        (tokens_of d line more, subst (λ l. P (tokens_of d line l) (tokens_of d line more)) (sym e) (p.says line more (spaced_apart (letters d) ys rest apart)), q.says line rest apart);
   }
 
   ended_then : {xs ys : List (List ℕ)} {P Q : Phrase} → Said d xs P → Ended d ys Q → Ended d (xs ++ ys) (P ▸ Q)
@@ -90,21 +93,21 @@ module _ (d : Dots) (steady : one_later d ≡ d) where
         let end : List ℕ = codes " ;\n" ++ rest in
         let e : spaced (xs ++ ys) ++ end ≡ spaced xs ++ (spaced ys ++ end) = ap (λ l. l ++ end) (spaced-append xs ys) ∙ append_assoc (spaced xs) (spaced ys) end in
         let more : List ℕ = spaced ys ++ end in
-        (tokens_of d line more, subst (λ l. P (tokens_of d line l) (tokens_of d line more)) (sym e) (p.says line more (spaced_apart (dots_now d) ys end (space_apart (dots_now d) (codes ";\n" ++ rest)))), q.says line rest);
+        (tokens_of d line more, subst (λ l. P (tokens_of d line l) (tokens_of d line more)) (sym e) (p.says line more (spaced_apart (letters d) ys end (space_apart (letters d) (codes ";\n" ++ rest)))), q.says line rest);
   }
 
   ended_last : {xs : List (List ℕ)} {P : Phrase} → Said d xs P → Ended d xs (P ▸ one semicolon)
   ended_last {xs} {P} p = record {
     says = λ line rest.
         let end : List ℕ = codes " ;\n" ++ rest in
-        (tokens_of d line end, p.says line end (space_apart (dots_now d) (codes ";\n" ++ rest)), (line, end_token line rest));
+        (tokens_of d line end, p.says line end (space_apart (letters d) (codes ";\n" ++ rest)), (line, end_token line rest));
   }
 
   -- ---- names and counts
 
   said_name : (name : List ℕ) → IsName name → Said d (name ∷ []) (SpellsName name)
   said_name name is = record {
-    says = λ line rest apart. ((said_one name (word name) (name_is_word (dots_now d) name is) (name_token name is)).says line rest apart, is);
+    says = λ line rest apart. ((said_one name (word name) (name_is_word (letters d) name is) (name_token name is)).says line rest apart, is);
   }
 
   said_names : (names : List (List ℕ)) → All IsName names → Said d names (SpellsNames names)
@@ -113,9 +116,9 @@ module _ (d : Dots) (steady : one_later d ≡ d) where
     says = (said_then (said_name name (All-head IsName name names are)) (said_names names (All-tail IsName name names are))).says;
   }
 
-  said_count : (c : Count) → (nat_lt (least_of c) (greatest_of c) ≡ true → dots_now d ≡ true) → Said d (count_word c ∷ []) (SpellsCount c)
+  said_count : (c : Count) → (nat_lt (least_of c) (greatest_of c) ≡ true → letters d ≡ Dots) → Said d (count_word c ∷ []) (SpellsCount c)
   said_count c needs =
-      let it = count_is_word (dots_now d) c needs in
+      let it = count_is_word (letters d) c needs in
       record { says = λ line rest apart. (count_word c, (said_one (count_word c) (word (count_word c)) it.is_word it.token).says line rest apart, it.writes) }
 
   -- ---- frames
@@ -141,43 +144,43 @@ module _ (d : Dots) (steady : one_later d ≡ d) where
   said_stop = said_one (codes "stop") (keyword keywords.Stop) refl refl
 
   said_address : (a : Address) → Said d (address_word a ∷ []) (one (word (address_word a)))
-  said_address a = said_one (address_word a) (word (address_word a)) (bits_are_word (dots_now d) (address_bits a) (address_some a)) (bits_token (address_bits a) (address_some a))
+  said_address a = said_one (address_word a) (word (address_word a)) (bits_are_word (letters d) (address_bits a) (address_some a)) (bits_token (address_bits a) (address_some a))
 
   said_pattern : (p : Pattern) → Said d (pattern_word p ∷ []) (one (word (pattern_word p)))
-  said_pattern p = said_one (pattern_word p) (word (pattern_word p)) (bits_are_word (dots_now d) (pattern_bits p) (pattern_some p)) (bits_token (pattern_bits p) (pattern_some p))
+  said_pattern p = said_one (pattern_word p) (word (pattern_word p)) (bits_are_word (letters d) (pattern_bits p) (pattern_some p)) (bits_token (pattern_bits p) (pattern_some p))
 
   said_interrupt : (a : ℕ) → Said d (interrupt_word a ∷ []) (one (word (interrupt_word a)))
-  said_interrupt a = said_one (interrupt_word a) (word (interrupt_word a)) (bits_are_word (dots_now d) (interrupt_bits a) (lit< tt)) (bits_token (interrupt_bits a) (lit< tt))
+  said_interrupt a = said_one (interrupt_word a) (word (interrupt_word a)) (bits_are_word (letters d) (interrupt_bits a) (lit< tt)) (bits_token (interrupt_bits a) (lit< tt))
 
   -- where dots are parts of words if there is a range
   mutual
-    said_frame : (f : FrameTree) → (frame_has_range f ≡ true → dots_now d ≡ true) → Said d (frame_words f) (SpellsFrame f)
+    said_frame : (f : FrameTree) → (frame_has_range f ≡ true → letters d ≡ Dots) → Said d (frame_words f) (SpellsFrame f)
     said_frame (write address acked refused) needs =
         said_then said_write (said_then (said_address address) (said_then (said_payload acked (λ h. needs (or_left _ (tail_has_range refused) h))) (said_then said_else (said_tail refused (λ h. needs (or_right (payload_has_range acked) _ h))))))
     said_frame (read address count after refused) needs =
         let either = of_three (nat_lt (least_of count) (greatest_of count)) (tail_has_range after) (tail_has_range refused) in
         said_then said_read (said_then (said_address address) (said_then (said_count count (λ h. needs (either.0 h))) (said_then (said_tail after (λ h. needs (either.1 h))) (said_then said_else (said_tail refused (λ h. needs (either.2 h)))))))
 
-    said_payload : (p : PayloadTree) → (payload_has_range p ≡ true → dots_now d ≡ true) → Said d (payload_words p) (SpellsPayload p)
+    said_payload : (p : PayloadTree) → (payload_has_range p ≡ true → letters d ≡ Dots) → Said d (payload_words p) (SpellsPayload p)
     said_payload (byte bits acked refused) needs =
         said_then (said_pattern bits) (said_then (said_payload acked (λ h. needs (or_left _ (tail_has_range refused) h))) (said_then said_else (said_tail refused (λ h. needs (or_right (payload_has_range acked) _ h)))))
     said_payload (last tail) needs = said_tail tail needs
 
-    said_tail : (t : TailTree) → (tail_has_range t ≡ true → dots_now d ≡ true) → Said d (tail_words t) (SpellsTail t)
+    said_tail : (t : TailTree) → (tail_has_range t ≡ true → letters d ≡ Dots) → Said d (tail_words t) (SpellsTail t)
     said_tail stop needs = said_stop
     said_tail (again frame) needs = said_then said_again (said_frame frame needs)
 
   -- ---- items
 
-  item_said : (first : List ℕ) {words : List (List ℕ)} {P : Phrase} (k : Keyword) → is_word (dots_now d) first ≡ true → token_of_word first ≡ keyword k → Ended d words P
+  item_said : (first : List ℕ) {words : List (List ℕ)} {P : Phrase} (k : Keyword) → is_word (letters d) first ≡ true → token_of_word first ≡ keyword k → Ended d words P
       → (line : ℕ) (rest : List ℕ) → (one (keyword k) ▸ P) (tokens_of d line (item_line first words ++ rest)) (tokens_of d (line + 1) rest)
   item_said first {words} {P} k is e ended line rest =
       let end : List ℕ = codes " ;\n" ++ rest in
       let more : List ℕ = spaced words ++ end in
       let whole : item_line first words ++ rest ≡ first ++ more = append_assoc first (spaced words ++ codes " ;\n") rest ∙ ap (λ l. first ++ l) (append_assoc (spaced words) (codes " ;\n") rest) in
-      (tokens_of d line more, (line, ap (tokens_of d line) whole ∙ word_token line first more (keyword k) is e (spaced_apart (dots_now d) words end (space_apart (dots_now d) (codes ";\n" ++ rest)))), ended.says line rest)
+      (tokens_of d line more, (line, ap (tokens_of d line) whole ∙ word_token line first more (keyword k) is e (spaced_apart (letters d) words end (space_apart (letters d) (codes ";\n" ++ rest)))), ended.says line rest)
 
-  pub message_said : (v : Version) (name : List ℕ) (f : FrameTree) → IsName name → (frame_has_range f ≡ true → dots_now d ≡ true)
+  pub message_said : (v : Version) (name : List ℕ) (f : FrameTree) → IsName name → (frame_has_range f ≡ true → letters d ≡ Dots)
       → (line : ℕ) (rest : List ℕ) → SpellsItem v (message name f) (tokens_of d line (message_line (name, f) ++ rest)) (tokens_of d (line + 1) rest)
   unfolding token_of_word
   message_said v name f is needs line rest = item_said (codes "message") keywords.Message refl refl (ended_then (said_name name is) (ended_last (said_frame f needs))) line rest

@@ -6,6 +6,8 @@ use Rattle.plan_core.specs.PlanContents.{plan_contents}
 use Rattle.plan_core.specs.declared.plans.Plan.{Plan}
 use Rattle.std.specs.List.{list_any, flat_map}
 use Rattle.std.proofs.lemmas.Bool.{or_left, or_right, or_parts, ltb-false}
+use Rattle.lexer.specs.declared.lexemes.Letters.TheVariants.{Dots}
+use Rattle.lexer.specs.Lexemes.{Alphabet, no_dots, dots_after, letters, later, lexemes_of}
 use Rattle.message_tree.specs.Trees.{FrameTree}
 use Rattle.plan_core.specs.Contents.{Contents, empty}
 use Rattle.plan_core.specs.Labels.{name_at}
@@ -14,17 +16,17 @@ use Rattle.plan_text.specs.declared.versions.Version.{Version}
 use Rattle.plan_text.specs.declared.versions.Version.TheVariants.{One, Two}
 use Rattle.plan_text.specs.Canonical.{frame_has_range, message_line, controller_line, interrupt_line, never_line, needs_second, plan_text}
 use Rattle.plan_text.specs.Grammar.{Item, message, controller, interrupt, never_both, SpellsItem, SpellsItems, Spells, Fits, with_item, Begins}
-use Rattle.plan_text.specs.Tokens.{Tokens, tokens_of, Dots, no_dots, dots_after, dots_now, one_later, token_of_word}
+use Rattle.plan_text.specs.Tokens.{Tokens, tokens_of, token_of_word}
 use Rattle.plan_text.proofs.CanonicalItems.{up_to_messages, up_to_controllers, up_to_interrupts, up_to_nevers, message_fits, message_adds, message_named, controller_fits, controller_adds, controller_named, sent_named, interrupt_fits, interrupt_adds, interrupt_named, never_fits, never_adds, both_named}
 use Rattle.plan_text.proofs.CanonicalPhrases.{message_said, controller_said, interrupt_said, never_said}
 use Rattle.plan_text.proofs.TokenLemmas.{ends_here}
 
 -- items of a text up to a line, and then these bytes
-abbrev ItemsUpTo : Dots → Version → List Item → Contents → Tokens → Contents → List ℕ → Type 0
+abbrev ItemsUpTo : Alphabet → Version → List Item → Contents → Tokens → Contents → List ℕ → Type 0
 ItemsUpTo d v items plan from whole rest = (line : ℕ) × SpellsItems v items plan from whole (tokens_of d line rest)
 
 -- an item for each of these entries, where each fits the plan of those before it
-module _ {X : Type 0} (d : Dots) (v : Version) (item : X → Item) (line_of : X → List ℕ) (plan_of : List X → Contents) (whole : List X)
+module _ {X : Type 0} (d : Alphabet) (v : Version) (item : X → Item) (line_of : X → List ℕ) (plan_of : List X → Contents) (whole : List X)
     (fits : (before : List X) (x : X) (after : List X) → before ++ (x ∷ after) ≡ whole → Fits (plan_of before) (item x))
     (adds : (before : List X) (x : X) (after : List X) → before ++ (x ∷ after) ≡ whole → plan_of (before ++ (x ∷ [])) ≡ with_item (plan_of before) (item x))
     (said : (before : List X) (x : X) (after : List X) → before ++ (x ∷ after) ≡ whole → (line : ℕ) (rest : List ℕ) → SpellsItem v (item x) (tokens_of d line (line_of x ++ rest)) (tokens_of d (line + 1) rest)) where
@@ -48,7 +50,7 @@ any_from_element test [] x after whole split passes = sym (ap (list_any test) sp
 any_from_element test (b ∷ before) x after whole split passes =
     sym (ap (list_any test) split) ∙ or_right (test b) _ (any_from_element test before x after (before ++ (x ∷ after)) refl passes)
 
-module _ (plan : Contents) (limits : IsWithinLimits plan) (d : Dots) (steady : one_later d ≡ d) (ranges : list_any (λ m. frame_has_range m.1) plan.messages ≡ true → dots_now d ≡ true) where
+module _ (plan : Contents) (limits : IsWithinLimits plan) (d : Alphabet) (steady : later d ≡ d) (ranges : list_any (λ m. frame_has_range m.1) plan.messages ≡ true → letters d ≡ Dots) where
   abbrev message_of : List ℕ × FrameTree → Item
   message_of m = message m.0 m.1
 
@@ -109,11 +111,11 @@ module _ (plan : Contents) (limits : IsWithinLimits plan) (d : Dots) (steady : o
 
 -- the first line
 begins_one : (rest : List ℕ) → Begins (codes "plan 1\n" ++ rest) One (tokens_of no_dots 2 rest)
-unfolding tokens_of token_of_word
+unfolding tokens_of token_of_word lexemes_of
 begins_one rest = (tokens_of no_dots 1 (codes " 1\n" ++ rest), (1, refl), (1, refl))
 
 begins_two : (rest : List ℕ) → Begins (codes "plan 2\n" ++ rest) Two (tokens_of (dots_after 0) 2 rest)
-unfolding tokens_of token_of_word
+unfolding tokens_of token_of_word lexemes_of
 begins_two rest = (tokens_of (dots_after 1) 1 (codes " 2\n" ++ rest), (1, refl), (1, refl))
 
 none_from_length : {X : Type 0} (xs : List X) → nat_lt 0 (length xs) ≡ false → xs ≡ []
@@ -136,7 +138,7 @@ spelled_by plan false second limits =
     let rest : List ℕ = flat_map message_line plan.messages ++ (flat_map (controller_line plan) plan.controllers ++ (flat_map interrupt_line plan.interrupts ++ flat_map (never_line plan) plan.nevers)) in
     let d = no_dots in
     let neither = or_parts (nat_lt 0 (length plan.nevers)) (list_any (λ m. frame_has_range m.1) plan.messages) second in
-    let ranges : list_any (λ m. frame_has_range m.1) plan.messages ≡ true → dots_now d ≡ true = λ h. absurd (true≢false (sym h ∙ neither.1)) in
+    let ranges : list_any (λ m. frame_has_range m.1) plan.messages ≡ true → letters d ≡ Dots = λ h. absurd (true≢false (sym h ∙ neither.1)) in
     let items = items_said plan limits d refl ranges One (no_nevers plan limits d refl ranges One (none_from_length plan.nevers neither.0)) 2 in
     let whole : plan_text plan ≡ codes "plan 1\n" ++ rest = ap (λ b. (if b then codes "plan 2\n" else codes "plan 1\n") ++ rest) second in
     subst (λ text. Spells text plan) (sym whole) (record {

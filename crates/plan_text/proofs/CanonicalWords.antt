@@ -9,6 +9,9 @@ use Rattle.std.proofs.lemmas.Bool.{and_parts, and_from, or_left, or_parts, not-t
 use Rattle.std.proofs.lemmas.Bool.Decides.{nat_tests}
 use Rattle.std.proofs.lemmas.Fmt.{decimal_is_IsNumeral}
 use Rattle.std.proofs.lemmas.Str.Parse.{digit_from_value}
+use Rattle.lexer.specs.declared.lexemes.Letters.{Letters}
+use Rattle.lexer.specs.declared.lexemes.Letters.TheVariants.{Plain, Dots, Brief}
+use Rattle.lexer.specs.Lexemes.{is_word_part, begins_with_part}
 use Rattle.message_tree.proofs.BitLemmas.{length-bits_below}
 use Rattle.message_tree.specs.declared.bits.Bit.{Bit}
 use Rattle.message_tree.specs.declared.bits.Bit.TheVariants.{Zero, One, Either}
@@ -19,29 +22,30 @@ use Rattle.message_tree.specs.Counts.{least_of, greatest_of}
 use Rattle.message_tree.specs.Patterns.{address_bits, pattern_bits}
 use Rattle.plan_core.specs.Names.{IsName, is_name, is_name_byte, is_reserved, reserved_words}
 use Rattle.plan_text.specs.Canonical.{bit_symbol, count_word}
-use Rattle.plan_text.specs.Tokens.{word, is_word_part, begins_with_part, token_of_word}
+use Rattle.plan_text.specs.Tokens.{word, token_of_word}
 use Rattle.plan_text.specs.Words.{WritesCount, is_digits, number, around_dots}
 use Rattle.plan_text.proofs.WordLemmas.{all_digits, ends_whole, ends_apart}
 
 -- a part of words, and then more of them or none
-abbrev pub is_word : Bool → List ℕ → Bool
-is_word dots [] = false
-is_word dots (byte ∷ bytes) = is_word_part dots byte && list_all (is_word_part dots) bytes
+abbrev pub is_word : Letters → List ℕ → Bool
+is_word ls [] = false
+is_word ls (byte ∷ bytes) = is_word_part ls byte && list_all (is_word_part ls) bytes
 
 -- these bytes do not go on with a word
-abbrev pub Apart : Bool → List ℕ → Type 0
-Apart dots rest = begins_with_part dots rest ≡ false
+abbrev pub Apart : Letters → List ℕ → Type 0
+Apart ls rest = begins_with_part ls rest ≡ false
 
-pub parts_before : (dots : Bool) (w rest : List ℕ) → list_all (is_word_part dots) w ≡ true → Apart dots rest → prefix_len (is_word_part dots) (w ++ rest) ≡ length w
-parts_before dots [] [] all apart = refl
-parts_before dots [] (b ∷ rest) all apart = ap (λ t. cond t (1 + prefix_len (is_word_part dots) rest) 0) apart
-parts_before dots (b ∷ w) rest all apart =
+pub parts_before : (ls : Letters) (w rest : List ℕ) → list_all (is_word_part ls) w ≡ true → Apart ls rest → prefix_len (is_word_part ls) (w ++ rest) ≡ length w
+parts_before ls [] [] all apart = refl
+parts_before ls [] (b ∷ rest) all apart = ap (λ t. cond t (1 + prefix_len (is_word_part ls) rest) 0) apart
+parts_before ls (b ∷ w) rest all apart =
     let parts = and_parts _ _ all in
-    ap (λ t. cond t (1 + prefix_len (is_word_part dots) (w ++ rest)) 0) parts.0 ∙ one-add (prefix_len (is_word_part dots) (w ++ rest)) ∙ ap suc (parts_before dots w rest parts.1 apart)
+    ap (λ t. cond t (1 + prefix_len (is_word_part ls) (w ++ rest)) 0) parts.0 ∙ one-add (prefix_len (is_word_part ls) (w ++ rest)) ∙ ap suc (parts_before ls w rest parts.1 apart)
 
-pub space_apart : (dots : Bool) (rest : List ℕ) → Apart dots (32 ∷ rest)
-space_apart true rest = refl
-space_apart false rest = refl
+pub space_apart : (ls : Letters) (rest : List ℕ) → Apart ls (32 ∷ rest)
+space_apart Plain rest = refl
+space_apart Dots rest = refl
+space_apart Brief rest = refl
 
 -- a word that begins with no letter from `a` to `w` is no keyword
 pub no_keyword : (byte : ℕ) (bytes : List ℕ) → (97 ≤ byte → 119 < byte) → token_of_word (byte ∷ bytes) ≡ word (byte ∷ bytes)
@@ -51,16 +55,16 @@ no_keyword byte bytes other =
 
 -- ---- names
 
-parts_of_names : (dots : Bool) (bytes : List ℕ) → list_all is_name_byte bytes ≡ true → list_all (is_word_part dots) bytes ≡ true
-parts_of_names dots [] all = refl
-parts_of_names dots (byte ∷ bytes) all =
+parts_of_names : (ls : Letters) (bytes : List ℕ) → list_all is_name_byte bytes ≡ true → list_all (is_word_part ls) bytes ≡ true
+parts_of_names ls [] all = refl
+parts_of_names ls (byte ∷ bytes) all =
     let parts = and_parts _ _ all in
-    and_from _ _ (or_left _ _ parts.0) (parts_of_names dots bytes parts.1)
+    and_from _ _ (or_left _ _ parts.0) (parts_of_names ls bytes parts.1)
 
-pub name_is_word : (dots : Bool) (name : List ℕ) → IsName name → is_word dots name ≡ true
+pub name_is_word : (ls : Letters) (name : List ℕ) → IsName name → is_word ls name ≡ true
 unfolding is_name
-name_is_word dots [] is = is
-name_is_word dots (byte ∷ bytes) is = parts_of_names dots (byte ∷ bytes) (and_parts _ _ (and_parts _ _ (and_parts _ _ is).0).0).1
+name_is_word ls [] is = is
+name_is_word ls (byte ∷ bytes) is = parts_of_names ls (byte ∷ bytes) (and_parts _ _ (and_parts _ _ (and_parts _ _ is).0).0).1
 
 none_at : {X : Type 0} (test : X → Bool) (xs : List X) → list_any test xs ≡ false → (k : ℕ) (d : X) → k < length xs → test (get_or xs k d) ≡ false
 none_at test [] none k d within = absurd (omega arith)
@@ -86,18 +90,18 @@ name_token name is =
 
 -- ---- bits
 
-symbol_is_part : (dots : Bool) (bit : Bit) → is_word_part dots (bit_symbol bit) ≡ true
-symbol_is_part dots Zero = refl
-symbol_is_part dots One = refl
-symbol_is_part dots Either = refl
+symbol_is_part : (ls : Letters) (bit : Bit) → is_word_part ls (bit_symbol bit) ≡ true
+symbol_is_part ls Zero = refl
+symbol_is_part ls One = refl
+symbol_is_part ls Either = refl
 
-symbols_are_parts : (dots : Bool) (bits : List Bit) → list_all (is_word_part dots) (map bit_symbol bits) ≡ true
-symbols_are_parts dots [] = refl
-symbols_are_parts dots (bit ∷ bits) = and_from _ _ (symbol_is_part dots bit) (symbols_are_parts dots bits)
+symbols_are_parts : (ls : Letters) (bits : List Bit) → list_all (is_word_part ls) (map bit_symbol bits) ≡ true
+symbols_are_parts ls [] = refl
+symbols_are_parts ls (bit ∷ bits) = and_from _ _ (symbol_is_part ls bit) (symbols_are_parts ls bits)
 
-pub bits_are_word : (dots : Bool) (bits : List Bit) → 0 < length bits → is_word dots (map bit_symbol bits) ≡ true
-bits_are_word dots [] some = absurd (omega arith)
-bits_are_word dots (bit ∷ bits) some = symbols_are_parts dots (bit ∷ bits)
+pub bits_are_word : (ls : Letters) (bits : List Bit) → 0 < length bits → is_word ls (map bit_symbol bits) ≡ true
+bits_are_word ls [] some = absurd (omega arith)
+bits_are_word ls (bit ∷ bits) some = symbols_are_parts ls (bit ∷ bits)
 
 symbol_begins : (bit : Bit) → 97 ≤ bit_symbol bit → 119 < bit_symbol bit
 symbol_begins Zero h = absurd (omega arith)
@@ -121,21 +125,21 @@ pattern_some p = omega (arith, length-bits_below 8 p.known p.value)
 digit_is : (byte : ℕ) → is_ascii_digit byte ≡ true → (48 ≤ byte) × (byte ≤ 57)
 digit_is byte h = (grind (arith, nat_tests), grind (arith, nat_tests))
 
-digit_is_part : (dots : Bool) (byte : ℕ) → is_ascii_digit byte ≡ true → is_word_part dots byte ≡ true
-digit_is_part dots byte h = grind (arith, nat_tests)
+digit_is_part : (ls : Letters) (byte : ℕ) → is_ascii_digit byte ≡ true → is_word_part ls byte ≡ true
+digit_is_part ls byte h = grind (arith, nat_tests)
 
 digit_test : (byte : ℕ) → 48 ≤ byte → byte ≤ 57 → is_ascii_digit byte ≡ true
 digit_test byte low high = grind (arith, nat_tests)
 
-digits_are_parts : (dots : Bool) (digits rest : List ℕ) → list_all is_ascii_digit digits ≡ true → list_all (is_word_part dots) rest ≡ true → list_all (is_word_part dots) (digits ++ rest) ≡ true
-digits_are_parts dots [] rest all more = more
-digits_are_parts dots (byte ∷ digits) rest all more =
+digits_are_parts : (ls : Letters) (digits rest : List ℕ) → list_all is_ascii_digit digits ≡ true → list_all (is_word_part ls) rest ≡ true → list_all (is_word_part ls) (digits ++ rest) ≡ true
+digits_are_parts ls [] rest all more = more
+digits_are_parts ls (byte ∷ digits) rest all more =
     let parts = and_parts _ _ all in
-    and_from _ _ (digit_is_part dots byte parts.0) (digits_are_parts dots digits rest parts.1 more)
+    and_from _ _ (digit_is_part ls byte parts.0) (digits_are_parts ls digits rest parts.1 more)
 
-digits_are_word : (dots : Bool) (digits rest : List ℕ) → is_digits digits ≡ true → list_all (is_word_part dots) rest ≡ true → is_word dots (digits ++ rest) ≡ true
-digits_are_word dots [] rest all more = absurd (true≢false (sym all))
-digits_are_word dots (byte ∷ digits) rest all more = digits_are_parts dots (byte ∷ digits) rest all more
+digits_are_word : (ls : Letters) (digits rest : List ℕ) → is_digits digits ≡ true → list_all (is_word_part ls) rest ≡ true → is_word ls (digits ++ rest) ≡ true
+digits_are_word ls [] rest all more = absurd (true≢false (sym all))
+digits_are_word ls (byte ∷ digits) rest all more = digits_are_parts ls (byte ∷ digits) rest all more
 
 digits_token : (digits rest : List ℕ) → is_digits digits ≡ true → token_of_word (digits ++ rest) ≡ word (digits ++ rest)
 digits_token [] rest all = absurd (true≢false (sym all))
@@ -183,36 +187,36 @@ list_of_digits [] is = refl
 list_of_digits (x ∷ digits) is = is
 
 -- a count's word, where two different ends need dots
-pub record IsCountWord (dots : Bool) (bytes : List ℕ) (count : Count) : Type 0 where
-  pub is_word : is_word dots bytes ≡ true
+pub record IsCountWord (ls : Letters) (bytes : List ℕ) (count : Count) : Type 0 where
+  pub is_word : is_word ls bytes ≡ true
   pub token : token_of_word bytes ≡ word bytes
   pub writes : WritesCount bytes count
 
-count_of : (dots : Bool) (c : Count) (same : Bool) → (least_of c == greatest_of c) ≡ same → (nat_lt (least_of c) (greatest_of c) ≡ true → dots ≡ true)
-    → IsCountWord dots (if same then decimal (least_of c) else (decimal (least_of c) ++ (codes ".." ++ decimal (greatest_of c)))) c
-count_of dots c true one needs =
+count_of : (ls : Letters) (c : Count) (same : Bool) → (least_of c == greatest_of c) ≡ same → (nat_lt (least_of c) (greatest_of c) ≡ true → ls ≡ Dots)
+    → IsCountWord ls (if same then decimal (least_of c) else (decimal (least_of c) ++ (codes ".." ++ decimal (greatest_of c)))) c
+count_of ls c true one needs =
     let least = decimal_digits (least_of c) (omega (arith, c.ordered, c.is_byte)) in
     let w = decimal (least_of c) in
     let whole : w ++ [] ≡ w = append-nil w in
     record {
-      is_word = subst (λ l. is_word dots l ≡ true) whole (digits_are_word dots w [] least.0 refl);
+      is_word = subst (λ l. is_word ls l ≡ true) whole (digits_are_word ls w [] least.0 refl);
       token = subst (λ l. token_of_word l ≡ word l) whole (digits_token w [] least.0);
       writes = record { ends = (w, w); form = ends_whole w least.0; least = least.1; greatest = least.1 ∙ eqb-true (least_of c) (greatest_of c) one };
     }
-count_of dots c false two needs =
+count_of ls c false two needs =
     let least = decimal_digits (least_of c) (omega (arith, c.ordered, c.is_byte)) in
     let greatest = decimal_digits (greatest_of c) (omega (arith, c.is_byte)) in
     let l = decimal (least_of c) in
     let g = decimal (greatest_of c) in
     let differ : least_of c ≡ greatest_of c → ⊥ = eqb-false (least_of c) (greatest_of c) two in
-    let dotted : dots ≡ true = needs (lt-ltb (least_of c) (greatest_of c) (omega (arith, c.ordered, differ))) in
-    let g_parts : (b : Bool) → list_all (is_word_part b) g ≡ true = λ b. subst (λ x. list_all (is_word_part b) x ≡ true) (append-nil g) (digits_are_parts b g [] (list_of_digits g greatest.0) refl) in
-    let tail_parts : list_all (is_word_part dots) (46 ∷ (46 ∷ g)) ≡ true = subst (λ b. list_all (is_word_part b) (46 ∷ (46 ∷ g)) ≡ true) (sym dotted) (g_parts true) in
+    let dotted : ls ≡ Dots = needs (lt-ltb (least_of c) (greatest_of c) (omega (arith, c.ordered, differ))) in
+    let g_parts : (b : Letters) → list_all (is_word_part b) g ≡ true = λ b. subst (λ x. list_all (is_word_part b) x ≡ true) (append-nil g) (digits_are_parts b g [] (list_of_digits g greatest.0) refl) in
+    let tail_parts : list_all (is_word_part ls) (46 ∷ (46 ∷ g)) ≡ true = subst (λ b. list_all (is_word_part b) (46 ∷ (46 ∷ g)) ≡ true) (sym dotted) (g_parts Dots) in
     record {
-      is_word = digits_are_word dots l (46 ∷ (46 ∷ g)) least.0 tail_parts;
+      is_word = digits_are_word ls l (46 ∷ (46 ∷ g)) least.0 tail_parts;
       token = digits_token l (46 ∷ (46 ∷ g)) least.0;
       writes = record { ends = (l, g); form = ends_apart (l ++ (46 ∷ (46 ∷ g))) l g (range_no_digits l (46 ∷ g)) (around_two l g (list_of_digits l least.0)) least.0 greatest.0; least = least.1; greatest = greatest.1 };
     }
 
-pub count_is_word : (dots : Bool) (c : Count) → (nat_lt (least_of c) (greatest_of c) ≡ true → dots ≡ true) → IsCountWord dots (count_word c) c
-count_is_word dots c needs = count_of dots c (least_of c == greatest_of c) refl needs
+pub count_is_word : (ls : Letters) (c : Count) → (nat_lt (least_of c) (greatest_of c) ≡ true → ls ≡ Dots) → IsCountWord ls (count_word c) c
+count_is_word ls c needs = count_of ls c (least_of c == greatest_of c) refl needs

@@ -1,6 +1,7 @@
 -- Items: what is read is spelled so, and the items of a text one after the other.
 use Rattle.std.proofs.Common.{◌≡◌, ℕ, zero, suc, ◌<◌, List, [], ◌∷◌, ◌++◌, Option, Bool, true, false, Some, None, refl, ap, sym, ◌∙◌, subst, arith, append-nil, append_assoc, inl, inr}
 use Rattle.std.specs.Prelude.{Result, Ok, Err, if◌then◌else◌}
+use Rattle.lexer.specs.Lexemes.{text_end}
 use Rattle.plan_core.specs.Building.{message_name_refusal, controller_name_refusal, list_refusal, interrupt_refusal, never_refusal, with_message, with_controller, with_interrupt, with_never}
 use Rattle.plan_core.specs.Contents.{Contents}
 use Rattle.plan_core.specs.Names.{IsName, is_name}
@@ -20,7 +21,7 @@ use Rattle.plan_text.specs.Reading.{with_symbol}
 use Rattle.plan_text.specs.declared.symbols.Symbol.{Symbol}
 use Rattle.plan_text.specs.declared.symbols.Symbol.TheVariants as symbols
 use Rattle.plan_text.specs.declared.symbols.Token as seen
-use Rattle.plan_text.specs.Tokens.{Token, keyword, word, semicolon, Tokens, next, text_end, foreign, stray}
+use Rattle.plan_text.specs.Tokens.{Token, keyword, word, semicolon, Tokens, next}
 use Rattle.plan_text.specs.Tokens as tokens
 use Rattle.plan_text.proofs.AgainLemmas.{spot, item_again}
 use Rattle.plan_text.proofs.NameLemmas.{list_fits}

@@ -3,6 +3,10 @@
 use Rattle.std.proofs.Common.{◌≡◌, ℕ, ◌+◌, List, [], ◌∷◌, Bool, true, false, Some, None, refl, sym, ap, ◌∙◌, subst}
 use Rattle.std.specs.Prelude.{codes, Result, Ok, Err, if◌then◌else◌}
 use Rattle.std.specs.Str.{bytes_eq}
+use Rattle.lexer.specs.declared.lexemes.Letters.{Letters}
+use Rattle.lexer.specs.Lexemes.{Alphabet, no_dots, dots_after, letters, later, Lexeme, sign, Lexemes, Ending, text_end, foreign, stray, Class, line_feed, blank, number_sign, sign_byte, word_part, foreign_byte, stray_byte, class_of, begins_with_part, put_before, raw_lexemes, in_comment, lexemes_of}
+use Rattle.lexer.specs.Lexemes as lexemes
+use Rattle.lexer.proofs.LexemeLemmas.{lexemes_at, comment_at, part_at}
 use Rattle.plan_core.specs.Contents.{Contents, empty}
 use Rattle.plan_core.proofs.BuildingLemmas.{same-bytes_eq}
 use Rattle.plan_text.specs.declared.errors.PlanError.{PlanError}
@@ -12,83 +16,81 @@ use Rattle.plan_text.specs.declared.versions.Version.{Version}
 use Rattle.plan_text.specs.declared.versions.Version.TheVariants as versions
 use Rattle.plan_text.specs.Grammar.{version_word, dots_of, Begins, Spells}
 use Rattle.plan_text.specs.Reader.{◌>>=◌, version_of, version_at, after_one, items_at, text_read}
-use Rattle.plan_text.specs.Tokens.{Token, keyword, word, semicolon, Ending, text_end, foreign, stray, Tokens, next, last, Dots, no_dots, dots_after, dots_now, one_later, Class, line_feed, blank, number_sign, semicolon_sign, word_part, foreign_byte, stray_byte, class_of, begins_with_part, put_before, raw_tokens, in_comment, tokens_of, with_keywords}
+use Rattle.plan_text.specs.Tokens.{Token, keyword, word, Tokens, next, last, tokens_from, tokens_of}
 use Rattle.plan_text.proofs.AgainLemmas.{spot}
 use Rattle.plan_text.proofs.ItemLemmas.{items_take, items_again}
 use Rattle.plan_text.proofs.TakesLemmas.{bind_ok, or_ok}
-use Rattle.plan_text.proofs.TokenLemmas.{raw_at, comment_at, part_at}
 
--- the same first token with what follows it, or the same ending
-data Alike (d e : Dots) (a b : Tokens) : Type 0 where
-  ends : (ending : Ending) (line : ℕ) → a ≡ last ending line → b ≡ last ending line → Alike d e a b
-  goes : (token : Token) (line further : ℕ) (bytes : List ℕ) → a ≡ next token line (raw_tokens (one_later d) further bytes) → b ≡ next token line (raw_tokens (one_later e) further bytes) → Alike d e a b
+-- the same first lexeme with what follows it, or the same ending
+data Alike (d e : Alphabet) (xs ys : Lexemes) : Type 0 where
+  ends : (ending : Ending) (line : ℕ) → xs ≡ lexemes.last ending line → ys ≡ lexemes.last ending line → Alike d e xs ys
+  goes : (lexeme : Lexeme) (line further : ℕ) (bytes : List ℕ) → xs ≡ lexemes.next lexeme line (raw_lexemes (later d) further bytes) → ys ≡ lexemes.next lexeme line (raw_lexemes (later e) further bytes) → Alike d e xs ys
 
-alike_before : (d e : Dots) (a b : Tokens) (byte : ℕ) → Alike d e a b → Alike d e (put_before byte a) (put_before byte b)
-alike_before d e a b byte (ends ending line p q) = ends ending line (ap (put_before byte) p) (ap (put_before byte) q)
-alike_before d e a b byte (goes (keyword k) line further bytes p q) = goes (keyword k) line further bytes (ap (put_before byte) p) (ap (put_before byte) q)
-alike_before d e a b byte (goes (word w) line further bytes p q) = goes (word (byte ∷ w)) line further bytes (ap (put_before byte) p) (ap (put_before byte) q)
-alike_before d e a b byte (goes semicolon line further bytes p q) = goes semicolon line further bytes (ap (put_before byte) p) (ap (put_before byte) q)
+alike_before : (d e : Alphabet) (xs ys : Lexemes) (byte : ℕ) → Alike d e xs ys → Alike d e (put_before byte xs) (put_before byte ys)
+alike_before d e xs ys byte (ends ending line p q) = ends ending line (ap (put_before byte) p) (ap (put_before byte) q)
+alike_before d e xs ys byte (goes (lexemes.word w) line further bytes p q) = goes (lexemes.word (byte ∷ w)) line further bytes (ap (put_before byte) p) (ap (put_before byte) q)
+alike_before d e xs ys byte (goes (sign b) line further bytes p q) = goes (sign b) line further bytes (ap (put_before byte) p) (ap (put_before byte) q)
 
-alike_part : (t : Bool) (d e : Dots) (line byte : ℕ) (bytes : List ℕ) → Alike d e (raw_tokens d line bytes) (raw_tokens e line bytes) → Alike d e (part_at t d line byte bytes) (part_at t e line byte bytes)
+alike_part : (t : Bool) (d e : Alphabet) (line byte : ℕ) (bytes : List ℕ) → Alike d e (raw_lexemes d line bytes) (raw_lexemes e line bytes) → Alike d e (part_at t d line byte bytes) (part_at t e line byte bytes)
 alike_part true d e line byte bytes h = alike_before d e _ _ byte h
-alike_part false d e line byte bytes h = goes (word (byte ∷ [])) line line bytes refl refl
+alike_part false d e line byte bytes h = goes (lexemes.word (byte ∷ [])) line line bytes refl refl
 
-alike_at : (k : Class) (d e : Dots) (line byte : ℕ) (bytes : List ℕ) → dots_now d ≡ dots_now e → Alike d e (raw_tokens d (line + 1) bytes) (raw_tokens e (line + 1) bytes) →
-    Alike d e (raw_tokens d line bytes) (raw_tokens e line bytes) → Alike d e (in_comment d line bytes) (in_comment e line bytes) → Alike d e (raw_at k d line byte bytes) (raw_at k e line byte bytes)
+alike_at : (k : Class) (d e : Alphabet) (line byte : ℕ) (bytes : List ℕ) → letters d ≡ letters e → Alike d e (raw_lexemes d (line + 1) bytes) (raw_lexemes e (line + 1) bytes) →
+    Alike d e (raw_lexemes d line bytes) (raw_lexemes e line bytes) → Alike d e (in_comment d line bytes) (in_comment e line bytes) → Alike d e (lexemes_at k d line byte bytes) (lexemes_at k e line byte bytes)
 alike_at line_feed d e line byte bytes same f h c = f
 alike_at blank d e line byte bytes same f h c = h
 alike_at number_sign d e line byte bytes same f h c = c
-alike_at semicolon_sign d e line byte bytes same f h c = goes semicolon line line bytes refl refl
+alike_at sign_byte d e line byte bytes same f h c = goes (sign byte) line line bytes refl refl
 alike_at word_part d e line byte bytes same f h c =
-    subst (λ (t : Bool). Alike d e (part_at (begins_with_part (dots_now d) bytes) d line byte bytes) (part_at (begins_with_part t bytes) e line byte bytes)) same
-    (alike_part (begins_with_part (dots_now d) bytes) d e line byte bytes h)
+    subst (λ (t : Letters). Alike d e (part_at (begins_with_part (letters d) bytes) d line byte bytes) (part_at (begins_with_part t bytes) e line byte bytes)) same
+    (alike_part (begins_with_part (letters d) bytes) d e line byte bytes h)
 alike_at foreign_byte d e line byte bytes same f h c = ends foreign line refl refl
 alike_at stray_byte d e line byte bytes same f h c = ends stray line refl refl
 
-alike_comment_at : (k : Class) (d e : Dots) (line : ℕ) (bytes : List ℕ) → Alike d e (raw_tokens d (line + 1) bytes) (raw_tokens e (line + 1) bytes) →
+alike_comment_at : (k : Class) (d e : Alphabet) (line : ℕ) (bytes : List ℕ) → Alike d e (raw_lexemes d (line + 1) bytes) (raw_lexemes e (line + 1) bytes) →
     Alike d e (in_comment d line bytes) (in_comment e line bytes) → Alike d e (comment_at k d line bytes) (comment_at k e line bytes)
 alike_comment_at line_feed d e line bytes f c = f
 alike_comment_at foreign_byte d e line bytes f c = ends foreign line refl refl
 alike_comment_at k d e line bytes f c = c
 
 mutual
-  alike_raw : (d e : Dots) (line : ℕ) (bytes : List ℕ) → dots_now d ≡ dots_now e → Alike d e (raw_tokens d line bytes) (raw_tokens e line bytes)
+  alike_raw : (d e : Alphabet) (line : ℕ) (bytes : List ℕ) → letters d ≡ letters e → Alike d e (raw_lexemes d line bytes) (raw_lexemes e line bytes)
   alike_raw d e line [] same = ends text_end line refl refl
   alike_raw d e line (byte ∷ bytes) same =
-      subst (λ (t : Bool). Alike d e (raw_at (class_of (dots_now d) byte) d line byte bytes) (raw_at (class_of t byte) e line byte bytes)) same
-      (alike_at (class_of (dots_now d) byte) d e line byte bytes same (alike_raw d e (line + 1) bytes same) (alike_raw d e line bytes same) (alike_comment d e line bytes same))
+      subst (λ (t : Letters). Alike d e (lexemes_at (class_of (letters d) byte) d line byte bytes) (lexemes_at (class_of t byte) e line byte bytes)) same
+      (alike_at (class_of (letters d) byte) d e line byte bytes same (alike_raw d e (line + 1) bytes same) (alike_raw d e line bytes same) (alike_comment d e line bytes same))
 
-  alike_comment : (d e : Dots) (line : ℕ) (bytes : List ℕ) → dots_now d ≡ dots_now e → Alike d e (in_comment d line bytes) (in_comment e line bytes)
+  alike_comment : (d e : Alphabet) (line : ℕ) (bytes : List ℕ) → letters d ≡ letters e → Alike d e (in_comment d line bytes) (in_comment e line bytes)
   alike_comment d e line [] same = ends text_end line refl refl
   alike_comment d e line (byte ∷ bytes) same =
-      subst (λ (t : Bool). Alike d e (comment_at (class_of (dots_now d) byte) d line bytes) (comment_at (class_of t byte) e line bytes)) same
-      (alike_comment_at (class_of (dots_now d) byte) d e line bytes (alike_raw d e (line + 1) bytes same) (alike_comment d e line bytes same))
+      subst (λ (t : Letters). Alike d e (comment_at (class_of (letters d) byte) d line bytes) (comment_at (class_of t byte) e line bytes)) same
+      (alike_comment_at (class_of (letters d) byte) d e line bytes (alike_raw d e (line + 1) bytes same) (alike_comment d e line bytes same))
 
 -- the same token, and then tokens of the same bytes
-record Followed (d e : Dots) (line : ℕ) (bytes : List ℕ) (token : Token) (place : ℕ) (rest : Tokens) : Type 0 where
+record Followed (d e : Alphabet) (line : ℕ) (bytes : List ℕ) (token : Token) (place : ℕ) (rest : Tokens) : Type 0 where
   further : ℕ
   more : List ℕ
-  own : rest ≡ tokens_of (one_later d) further more
-  others : tokens_of e line bytes ≡ next token place (tokens_of (one_later e) further more)
+  own : rest ≡ tokens_of (later d) further more
+  others : tokens_of e line bytes ≡ next token place (tokens_of (later e) further more)
 
-followed : (d e : Dots) (line : ℕ) (bytes : List ℕ) (token : Token) (place : ℕ) (rest : Tokens) → dots_now d ≡ dots_now e → tokens_of d line bytes ≡ next token place rest → Followed d e line bytes token place rest
-unfolding tokens_of
+followed : (d e : Alphabet) (line : ℕ) (bytes : List ℕ) (token : Token) (place : ℕ) (rest : Tokens) → letters d ≡ letters e → tokens_of d line bytes ≡ next token place rest → Followed d e line bytes token place rest
+unfolding tokens_of lexemes_of
 followed d e line bytes token place rest same is = from_alike (alike_raw d e line bytes same)
   where
-    from_alike : Alike d e (raw_tokens d line bytes) (raw_tokens e line bytes) → Followed d e line bytes token place rest
-    from_alike (ends ending at p q) = let h = ap with_keywords p in absurd cc
+    from_alike : Alike d e (raw_lexemes d line bytes) (raw_lexemes e line bytes) → Followed d e line bytes token place rest
+    from_alike (ends ending at p q) = let h = ap tokens_from p in absurd cc
     from_alike (goes t at further more p q) =
-        let h = ap with_keywords p in
-        let g = ap with_keywords q in
+        let h = ap tokens_from p in
+        let g = ap tokens_from q in
         record { further = further; more = more; own = cc; others = cc }
 
 -- the same two tokens
-both_followed : (d e : Dots) (line : ℕ) (bytes : List ℕ) (first second : Token) (l m : ℕ) (rest : Tokens) → dots_now d ≡ dots_now e → dots_now (one_later d) ≡ dots_now (one_later e) →
+both_followed : (d e : Alphabet) (line : ℕ) (bytes : List ℕ) (first second : Token) (l m : ℕ) (rest : Tokens) → letters d ≡ letters e → letters (later d) ≡ letters (later e) →
     tokens_of d line bytes ≡ next first l (next second m rest) → (others : Tokens) × (tokens_of e line bytes ≡ next first l (next second m others))
-both_followed d e line bytes first second l m rest same later is =
+both_followed d e line bytes first second l m rest same same_later is =
     let f = followed d e line bytes first l (next second m rest) same is in
-    let g = followed (one_later d) (one_later e) f.further f.more second m rest later (sym f.own) in
-    (tokens_of (one_later (one_later e)) g.further g.more, f.others ∙ ap (next first l) g.others)
+    let g = followed (later d) (later e) f.further f.more second m rest same_later (sym f.own) in
+    (tokens_of (later (later e)) g.further g.more, f.others ∙ ap (next first l) g.others)
 
 -- these tokens begin with `plan` and this version
 record Announced (from : Tokens) (version : Version) : Type 0 where

@@ -1,5 +1,6 @@
 -- The grammar of plan texts: which tokens spell which plan.
 use Rattle.std.specs.Prelude.{◌≡◌, ℕ, ◌<◌, List, [], ◌∷◌, None, codes}
+use Rattle.lexer.specs.Lexemes.{Alphabet, no_dots, dots_after, text_end}
 use Rattle.message_tree.specs.declared.counts.Count.{Count}
 use Rattle.message_tree.specs.Trees.{FrameTree, write, read, PayloadTree, byte, last, TailTree, stop, again}
 use Rattle.plan_core.specs.Contents.{Contents, empty}
@@ -10,7 +11,7 @@ use Rattle.plan_text.specs.declared.symbols.Keyword.TheVariants as keywords
 use Rattle.plan_text.specs.declared.versions.Version.{Version}
 use Rattle.plan_text.specs.declared.versions.Version.TheVariants.{One, Two}
 use Rattle.plan_text.specs.Canonical.{address_word, pattern_word, interrupt_word}
-use Rattle.plan_text.specs.Tokens.{Token, keyword, word, semicolon, text_end, Tokens, tokens_of, Dots, no_dots}
+use Rattle.plan_text.specs.Tokens.{Token, keyword, word, semicolon, Tokens, tokens_of}
 use Rattle.plan_text.specs.Tokens as tokens
 use Rattle.plan_text.specs.Words.{WritesCount}
 
@@ -100,9 +101,9 @@ version_word One = codes "1"
 version_word Two = codes "2"
 
 -- `.` is a part of words after the first two tokens of a text of the second version
-abbrev pub dots_of : Version → Dots
+abbrev pub dots_of : Version → Alphabet
 dots_of One = no_dots
-dots_of Two = tokens.dots_after 2
+dots_of Two = dots_after 2
 
 -- the text begins with `plan` and this version, and these tokens follow
 abbrev pub Begins : List ℕ → Version → Tokens → Type 0

@@ -3,6 +3,7 @@
 use Rattle.std.specs.Prelude.{ℕ, zero, suc, ◌+◌, Bool, true, false, nat_le, nat_lt, List, [], ◌∷◌, ◌++◌, Option}
 use Rattle.std.specs.Prelude.{Some, None, Result, Ok, Err, codes, if◌then◌else◌}
 use Rattle.std.specs.Str.{bytes_eq}
+use Rattle.lexer.specs.Lexemes.{Ending, text_end, foreign, stray, no_dots}
 use Rattle.message_tree.specs.declared.bits.Address.{Address}
 use Rattle.message_tree.specs.declared.bits.Pattern.{Pattern}
 use Rattle.message_tree.specs.declared.counts.Count.{Count}
@@ -23,8 +24,7 @@ use Rattle.plan_text.specs.declared.symbols.Keyword.TheVariants as keywords
 use Rattle.plan_text.specs.declared.versions.Version.{Version}
 use Rattle.plan_text.specs.declared.versions.Version.TheVariants.{One, Two}
 use Rattle.plan_text.specs.Grammar.{dots_of}
-use Rattle.plan_text.specs.Tokens.{Token, keyword, word, semicolon, Ending, text_end, foreign, stray, Tokens, next, last}
-use Rattle.plan_text.specs.Tokens.{tokens_of, no_dots}
+use Rattle.plan_text.specs.Tokens.{Token, keyword, word, semicolon, Tokens, next, last, tokens_of}
 use Rattle.plan_text.specs.Values.{address_of, pattern_of, known_address_of, count_of}
 use Rattle.plan_text.specs.Words.{count_ends}
 

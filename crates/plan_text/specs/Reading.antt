@@ -1,7 +1,8 @@
 -- What the functions of the reader say of the tokens that are left.
 -- Only private contracts and proofs use this.
-use Rattle.std.specs.Prelude.{◌≡◌, ℕ, Bool, true, false, ◌||◌, ◌==◌, List, [], ◌∷◌, length, Option, Some, None}
-use Rattle.message_tree.specs.Codes.{code}
+use Rattle.std.specs.Prelude.{ℕ, Option, Some, None}
+use Rattle.lexer.specs.Lexemes.{Alphabet, text_end, foreign, stray}
+use Rattle.lexer.specs.Reading.{alphabet}
 use Rattle.plan_text.specs.declared.errors.PlanError.{PlanError}
 use Rattle.plan_text.specs.declared.errors.PlanError.TheVariants as errors
 use Rattle.plan_text.specs.declared.symbols.Symbol.{Symbol}
@@ -10,38 +11,21 @@ use Rattle.plan_text.specs.declared.symbols.Token.{Token}
 use Rattle.plan_text.specs.declared.tokens.Tokens.{Tokens}
 use Rattle.plan_text.specs.Tokens as spec
 
--- the bytes that are left
-abbrev pub unread : Tokens → ℕ
-unread tokens = length tokens.rest.now
-
 -- the tokens that are left
-abbrev pub left_of : spec.Dots → Tokens → spec.Tokens
-left_of dots tokens = spec.tokens_of dots tokens.line tokens.rest.now
-
--- white space, or the sign that begins a comment
-abbrev pub is_skipped : ℕ → Bool
-is_skipped byte = byte == code "\n" || byte == code " " || byte == code "\t" || byte == code "\r" || byte == code "#"
-
--- neither white space nor a comment stands at the front
-abbrev pub BeginsHere : List ℕ → Type 0
-BeginsHere [] = Unit {0}
-BeginsHere (byte ∷ bytes) = is_skipped byte ≡ false
-
-abbrev pub dots_from : Bool → spec.Dots
-dots_from true = spec.dots_after 0
-dots_from false = spec.no_dots
+abbrev pub left_of : Alphabet → Tokens → spec.Tokens
+left_of a tokens = spec.tokens_of a tokens.lexer.line tokens.lexer.rest.now
 
 abbrev pub left : Tokens → spec.Tokens
-left tokens = left_of (dots_from tokens.dots) tokens
+left tokens = left_of (alphabet tokens.lexer.letters) tokens
 
 -- a symbol on its line, and these tokens after it
 abbrev pub with_symbol : Symbol → ℕ → spec.Tokens → spec.Tokens
 with_symbol (symbols.Keyword k) line rest = spec.next (spec.keyword k) line rest
 with_symbol (symbols.Word w) line rest = spec.next (spec.word w.now) line rest
 with_symbol symbols.Semicolon line rest = spec.next spec.semicolon line rest
-with_symbol symbols.Stray line rest = spec.last spec.stray line
-with_symbol symbols.Foreign line rest = spec.last spec.foreign line
-with_symbol symbols.End line rest = spec.last spec.text_end line
+with_symbol symbols.Stray line rest = spec.last stray line
+with_symbol symbols.Foreign line rest = spec.last foreign line
+with_symbol symbols.End line rest = spec.last text_end line
 
 -- the token that the symbol is
 abbrev pub token_of_symbol : Symbol → Option spec.Token

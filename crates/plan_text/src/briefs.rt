@@ -14,9 +14,6 @@ pub enum NoBrief {
     /// or `any`.
     #[error("brief name")]
     Name,
-    /// No name is such a word, and what was written does not mean the plan. No test has met this.
-    #[error("brief text")]
-    Unwritten,
     /// There is no memory.
     #[error("out of memory")]
     NoMemory,

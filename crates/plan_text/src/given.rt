@@ -88,6 +88,7 @@ impl<'a> Names<'a> {
 pub fn names_in(alloc: Global, text: &[u8]) -> Result<Names<'_>, AllocError> {
     let mut names = Names::new(alloc);
     let mut tokens = Tokens::new(text);
+    tokens.allow_dots();
     for _ in 0..text.len() {
         let token = tokens.next();
         match token.symbol {

@@ -4,6 +4,7 @@
 ghost use Rattle.std.specs.Prelude.{◌≡◌};
 
 use crate::errors::PlanError;
+pub use lexer::Spot;
 
 /// The two languages in which people write plans.
 #[derive(Clone, Copy, Debug, PartialEq, Eq)]
@@ -93,15 +94,6 @@ pub struct Further {
     pub bytes: bool,
     /// `)` in place of `;`.
     pub is_inner: bool,
-}
-
-/// Where a token stands: how many bytes of its text are left where the token before it ends, where it begins itself, and
-/// where it ends.
-#[derive(Clone, Copy)]
-pub struct Spot {
-    pub before: usize,
-    pub start: usize,
-    pub end: usize,
 }
 
 /// A token that was refused, a character that belongs to none, or the end of a text.

@@ -4,8 +4,10 @@ ghost use Rattle.std.specs.Prelude.{◌≡◌, Some};
 ghost use Rattle.plan_text.specs.Tokens.{keyword_of, token_of_word};
 ghost use Rattle.plan_text.specs.Reading.{token_of_symbol};
 ghost use Rattle.plan_text.specs.Tokens as tokens;
+ghost use Rattle.lexer.specs.Lexemes as lexemes;
 
 use crate::errors::PlanError;
+use lexer::Lexeme;
 
 /// A word that the grammar has in fixed places.
 #[derive(Clone, Copy)]
@@ -47,8 +49,28 @@ pub(crate) struct Token<'a> {
 }
 
 impl<'a> Token<'a> {
+    ghost use Rattle.lexer.specs.Reading.{with_lexeme};
     ghost use Rattle.plan_text.specs.Reading.{unexpected_at, with_token};
     ghost use Rattle.plan_text.specs.Reader.{no_version};
+    ghost use Rattle.plan_text.specs.Tokens.{tokens_from};
+
+    /// The token that a lexeme is.
+    pub(crate) fn of(lexeme: Lexeme<'a>) -> Self
+        ensures { (rest : lexemes.Lexemes) →
+            tokens_from (with_lexeme lexeme.entry rest) ≡ with_token result (tokens_from rest) }
+    {
+        let symbol = match lexeme.symbol {
+            lexer::Symbol::Word(word) => word_symbol(word),
+            lexer::Symbol::Sign(_) => Symbol::Semicolon,
+            lexer::Symbol::Stray => Symbol::Stray,
+            lexer::Symbol::Foreign => Symbol::Foreign,
+            lexer::Symbol::End => Symbol::End,
+        };
+        Token {
+            symbol,
+            line: lexeme.line,
+        }
+    }
 
     /// The refusal of this token where the grammar does not allow it.
     pub(crate) fn unexpected(&self) -> PlanError

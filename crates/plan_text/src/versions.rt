@@ -4,7 +4,8 @@ ghost use Rattle.std.specs.Prelude.{◌≡◌, Ok, Err, IfOk, IfErr};
 ghost use Rattle.plan_text.specs.Grammar.{dots_of};
 ghost use Rattle.plan_text.specs.Reader.{version_of, version_at, after_one};
 ghost use Rattle.plan_text.specs.Reading.{left};
-ghost use Rattle.plan_text.specs.Tokens.{tokens_of, no_dots};
+ghost use Rattle.plan_text.specs.Tokens.{tokens_of};
+ghost use Rattle.lexer.specs.Lexemes.{no_dots};
 
 use crate::places::{Expected, Refused};
 use crate::symbols::{Keyword, Symbol};

@@ -5,9 +5,9 @@
 //! are made here: the exact lines of reports have the names of the plan.
 #![tactic(auto)]
 
-use brief_text::{ControllerOrigin, Origins, Spot};
+use brief_text::{ControllerOrigin, FamilyOrigin, Origins, Spot};
 use growing_text::Text;
-use plan_core::{Participant, Plan};
+use plan_core::{Name, Participant, Plan};
 use std::alloc::{AllocError, Global};
 
 /// The files of the briefs that mean a plan, as the command line names them.
@@ -125,6 +125,45 @@ impl<'a> PlanWords<'a> {
         text.finish()
     }
 
+    /// The number of the family that makes this message of the plan. None where no brief means the plan, or no family makes it.
+    pub fn family_of(self, message: u32) -> Option<usize> {
+        if self.plan.messages() <= message {
+            return None;
+        }
+        let name = self.plan.message_name(message);
+        let families = self.origins?.families.as_slice();
+        families.iter().position(|family| makes(family, name))
+    }
+
+    /// The label of a family in a `never`, as this controller of the plan has it: `bmc/page`. Nothing of it for a number that is
+    /// none.
+    ///
+    /// # Errors
+    ///
+    /// Where an allocation fails.
+    pub fn family_label(
+        self,
+        alloc: Global,
+        controller: u32,
+        family: usize,
+    ) -> Result<String, AllocError> {
+        let mut text = Text::new(alloc);
+        text.push(self.name(controller));
+        text.push("/");
+        text.push(self.family_name(family));
+        text.finish()
+    }
+
+    fn family_name(self, family: usize) -> &'a str {
+        match self.origins {
+            Some(origins) => match origins.families.get(family) {
+                Some(family) => family.name.as_str(),
+                None => "",
+            },
+            None => "",
+        }
+    }
+
     /// Whether this controller of the plan is what a label stands for.
     pub fn is_part(self, controller: u32) -> bool {
         match self.origin(controller) {
@@ -136,6 +175,12 @@ impl<'a> PlanWords<'a> {
     /// Whether these two controllers of the plan are parts of one controller.
     pub fn is_one(self, one: u32, other: u32) -> bool {
         self.name(one) == self.name(other)
+    }
+
+    /// The message of a participant that is no interrupt.
+    pub fn message_of(self, p: u32) -> Option<u32> {
+        let (_, message) = self.sending(p)?;
+        Some(message)
     }
 
     /// Where the message of a participant stands.
@@ -169,8 +214,8 @@ impl<'a> PlanWords<'a> {
         self.origins?.controllers.get(controller as usize)
     }
 
-    // The name of a controller, or of the one of which it is a part.
-    fn name(self, controller: u32) -> &'a str {
+    /// The name of a controller of the plan, or of the one of which it is a part. Nothing for a number that is none.
+    pub fn name(self, controller: u32) -> &'a str {
         match self.origin(controller) {
             Some(origin) => origin.controller.as_str(),
             None if controller < self.plan.controllers() => {
@@ -188,4 +233,8 @@ impl<'a> PlanWords<'a> {
             line: spot.line,
         })
     }
+}
+
+fn makes(family: &FamilyOrigin, message: &Name) -> bool {
+    family.messages.iter().any(|name| *name == *message)
 }

@@ -55,5 +55,3 @@ pub gives_no_brief : (text slice : List ℕ) (plan : Contents) (e : NoBrief) →
 gives_no_brief text slice plan cause.NoMemory same spelled h = tt
 gives_no_brief text slice plan cause.Name same spelled (inl gone) = cc
 gives_no_brief text slice plan cause.Name same spelled (inr why) = (plan, subst (λ (t : List ℕ). Spells t plan) same spelled, why)
-gives_no_brief text slice plan cause.Unwritten same spelled (inl gone) = cc
-gives_no_brief text slice plan cause.Unwritten same spelled (inr why) = (plan, subst (λ (t : List ℕ). Spells t plan) same spelled, why)

@@ -26,6 +26,13 @@ pub struct GivenPlan {
     pub origins: Option<Origins>,
 }
 
+/// A plan, and the text that gives it.
+#[derive(Drop)]
+pub struct GivenText {
+    pub given: GivenPlan,
+    pub text: Vec<u8>,
+}
+
 /// A text that was refused, for people.
 #[derive(Drop)]
 pub struct RefusedText {
@@ -98,15 +105,23 @@ impl From<AllocError> for NoPlan {
 ///
 /// `Read` where the reader failed or gave no end, and `Plan` with the first refusal of the plan text or of the brief: P2 of the
 /// plan text where it begins as neither. `NoMemory` where an allocation fails.
-pub fn find_given<I: Input>(alloc: Global, text: &mut I) -> Result<GivenPlan, NoPlan>
-    ensures found { IfOk result (λ it. Finds (ReadsText I.reader) GivesPlan text.old (plan_contents it.plan) text.new) }
+pub fn find_given<I: Input>(alloc: Global, text: &mut I) -> Result<GivenText, NoPlan>
+    ensures found { IfOk result (λ it.
+        Finds (ReadsText I.reader) GivesPlan text.old (plan_contents it.given.plan) text.new) }
     ensures stops { IfErr result (λ e. HaltsAtText I.reader RefusesGiven text.old e.error text.new) }
 {
     let text = read_within(alloc, text, READS)?;
     match plan_of(alloc, text.as_slice()) {
-        Ok(given) => Ok(given),
+        Ok(given) => Ok(GivenText { given, text }),
         Err(refusal) => Err(NoPlan::refused(text, 0, refusal)),
     }
+}
+
+/// Briefs, and the text of the last one of them, in which the names of its items can be looked for.
+#[derive(Drop)]
+pub struct Further {
+    pub briefs: Briefs,
+    pub text: Vec<u8>,
 }
 
 /// The briefs, with a further one that the reader gives. It has this number among those that give the plan.
@@ -120,14 +135,15 @@ pub fn find_further<I: Input>(
     briefs: Briefs,
     file: u32,
     text: &mut I,
-) -> Result<Briefs, NoPlan>
-    ensures found { IfOk result (λ it. Finds (ReadsText I.reader) (Adds (together briefs)) text.old (together it) text.new) }
+) -> Result<Further, NoPlan>
+    ensures found { IfOk result (λ it.
+        Finds (ReadsText I.reader) (Adds (together briefs)) text.old (together it.briefs) text.new) }
     ensures stops { IfErr result (λ e.
         HaltsAtText I.reader (RefusesFurther (together briefs)) text.old e.error text.new) }
 {
     let text = read_within(alloc, text, READS)?;
     match briefs.with_at(text.as_slice()) {
-        Ok(briefs) => Ok(briefs),
+        Ok(briefs) => Ok(Further { briefs, text }),
         Err(refused) => {
             let refusal = Refusal {
                 language: Language::Brief,

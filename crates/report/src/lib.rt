@@ -27,7 +27,9 @@ pub use checks::{run_check, run_check_with};
 pub use faulty::{FaultyReader, FaultyWriter};
 pub use finding::find_plan;
 pub use found::Checked;
-pub use given::{GivenPlan, NoPlan, RefusedText, find_further, find_given, given_by};
+pub use given::{
+    Further, GivenPlan, GivenText, NoPlan, RefusedText, find_further, find_given, given_by,
+};
 pub use lines::{check_report, push_count, push_fault};
 pub use live::live_capture;
 pub use run_parts::{Input, Opened, Output, RunError, Status, Watched, read_within, write_report};

@@ -1,16 +1,16 @@
 // Further lines for people on standard error, after a refusal or a report.
 
 use crate::endings::{Recorded, Remark};
-use crate::inputs::Inputs;
+use crate::inputs::{Inputs, NamedSources};
 use crate::runs::Extras;
 use crate::voices::{Voice, refused_timescale, say};
 use dump_tokens::BusLines;
 use explain::Seen;
 use growing_text::Text;
 use hints::{
-    Hints, Named, Names, RefusedIn, file_word, on_bytes, on_choice, on_closed_input, on_dump,
-    on_fault, on_memory, on_no_timescale, on_opening, on_reading, on_recording, on_signals,
-    on_silence, on_text, on_unexplained, on_workers, on_writing,
+    Hints, Named, Names, file_word, on_bytes, on_choice, on_closed_input, on_dump, on_fault,
+    on_memory, on_no_timescale, on_opening, on_reading, on_recording, on_signals, on_silence,
+    on_text, on_unexplained, on_workers, on_writing,
 };
 use plan_text::PlanError;
 use report::{Probe, RunError, Status};
@@ -82,14 +82,14 @@ pub fn no_lines() -> BusLines<'static> {
     }
 }
 
-/// How a run has ended, and what is to be said of what it has found. `file` has the text that is refused, where several files
-/// give the plan. `output` is the file that was to be written in place of
-/// standard output, and `error` why it was not. Hints are written by this voice.
+/// How a run has ended, and what is to be said of what it has found. `named` are the files that it was over, or those
+/// that were to give its plan. `output` is the file that was to be written in place of standard output, and `error` why
+/// it was not. Hints are written by this voice.
 #[derive(Drop)]
 pub struct Closing<'a> {
     pub ended: Result<Status, RunError>,
     pub remark: Remark,
-    pub file: Option<&'a str>,
+    pub named: NamedSources<'a>,
     pub output: Option<&'a str>,
     pub error: Option<io::Error>,
     pub about: About<'a>,
@@ -202,13 +202,13 @@ fn on_refusal<F: Read + Seek + Drop>(
     let Inputs { last, error, other } = read;
     let Closing {
         remark,
-        file,
+        named,
         output,
         error: reason,
         ..
     } = closing;
     match ended {
-        RunError::Plan(refusal) => on_refused_text(alloc, refusal, &remark, file),
+        RunError::Plan(refusal) => on_refused_text(alloc, refusal, &remark, named),
         RunError::Brief(_) | RunError::Bench(_) => Ok(said(alloc, remark)),
         RunError::Vcd(refusal) => on_dump(alloc, other, names, refusal, remark.wrong()),
         RunError::Read => on_reading(alloc, last, error.as_ref()),
@@ -222,20 +222,15 @@ fn on_refused_text(
     alloc: Global,
     error: PlanError,
     remark: &Remark,
-    file: Option<&str>,
+    named: NamedSources<'_>,
 ) -> Result<Hints, AllocError> {
-    let Remark::Text(refused) = remark else {
+    let Remark::Text(source) = remark else {
         return Ok(Hints::new(alloc));
     };
+    let earlier = source.earlier(alloc, named)?;
     on_text(
         alloc,
-        RefusedIn {
-            error,
-            place: refused.place,
-            language: refused.language,
-            text: refused.text.as_slice(),
-            file,
-        },
+        source.refused_in(error, source.file(named), earlier.as_slice()),
     )
 }
 
@@ -243,6 +238,7 @@ fn on_refused_text(
 fn said(alloc: Global, remark: Remark) -> Hints {
     match remark {
         Remark::Hints(hints) => hints,
+        Remark::Starters(_label, hints) => hints,
         _ => Hints::new(alloc),
     }
 }
@@ -258,6 +254,7 @@ fn on_report<F: Read + Seek + Drop>(
     match remark {
         Remark::Nothing | Remark::Refused(_) | Remark::Text(_) => Ok(Hints::new(alloc)),
         Remark::Hints(hints) => Ok(hints),
+        Remark::Starters(_label, hints) => Ok(hints),
         Remark::Fault => on_fault(alloc, output),
         Remark::Recording(recorded) => on_recorded(alloc, read.other, names, status, recorded),
     }

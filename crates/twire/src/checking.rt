@@ -13,7 +13,9 @@ use crate::sources::Sources;
 use brief_text::Origins;
 use cert_check::{Answer, Judged, check_certificate_at};
 use certificate::Refusal;
-use explain::{Mistake, Paint, Reasons, explain_answer, explain_check, mistake_of, reasons_of};
+use explain::{
+    Mistake, Paint, Reasons, explain_answer, explain_check, kept_apart, mistake_of, reasons_of,
+};
 use hints::{on_certificate, on_checked, on_safe};
 use lint::{Oddity, oddities};
 use objects::{write_answer, write_check, write_order};
@@ -60,7 +62,7 @@ pub fn check<R: Files + Print + Eprint + Clock + AllocGlobal + Threads + Sync, I
     let GivenPlan { plan, origins } = plans.find(rt.alloc())?;
     let checked = check_found(rt, rt.alloc(), plan, look.workers, &gate)?;
     let words = plans.words(&checked.plan, &origins);
-    let odd = odd_in(rt.alloc(), &checked.plan, &origins)?;
+    let odd = odd_in(rt.alloc(), &checked.plan, &origins, plans.texts.as_slice())?;
     let status = tell_checked(
         rt.alloc(),
         &checked,
@@ -84,9 +86,10 @@ fn odd_in<'a>(
     alloc: Global,
     plan: &Plan,
     origins: &'a Option<Origins>,
+    texts: &[Vec<u8>],
 ) -> Result<Vec<Oddity<'a>>, AllocError> {
     match origins {
-        Some(origins) => oddities(alloc, plan, origins),
+        Some(origins) => oddities(alloc, plan, origins, texts),
         None => Ok(Vec::new(alloc)),
     }
 }
@@ -99,7 +102,13 @@ fn remark_on(
     extras: Extras,
 ) -> Remark {
     if extras.hints {
-        Remark::hints(on_checked(alloc, words, odd, checked.faults.is_safe()))
+        Remark::hints(on_checked(
+            alloc,
+            words,
+            odd,
+            checked.faults.is_safe(),
+            kept_apart(words),
+        ))
     } else {
         Remark::Nothing
     }
@@ -180,7 +189,7 @@ pub fn verify<I: Input, J: Input, O: Output>(
         refusal,
     } = verify_found(alloc, plan, cert)?;
     let words = plans.words(&plan, &origins);
-    let status = tell_answer(alloc, words, answer, None, out, extras)?;
+    let status = tell_answer(alloc, words, answer, refusal.as_ref(), None, out, extras)?;
     Ok(Ended {
         status,
         remark: remark_on_answer(alloc, words, answer, refusal.as_ref(), extras),
@@ -198,25 +207,27 @@ fn verify_kept<J: Input, O: Output>(
     let cert = read_within(alloc, cert, READS)?;
     let Judged { answer, refusal } = check_certificate_at(alloc, plan, cert.as_slice())?;
     let mistake = mistake_of(alloc, plan, cert.as_slice(), answer)?;
-    let status = tell_answer(alloc, words, answer, mistake, out, extras)?;
+    let status = tell_answer(alloc, words, answer, refusal.as_ref(), mistake, out, extras)?;
     Ok(Ended {
         status,
         remark: remark_on_answer(alloc, words, answer, refusal.as_ref(), extras),
     })
 }
 
-/// Writes the answer to a certificate of the plan of these words, and what is wrong with it, where that was found.
+/// Writes the answer to a certificate of the plan of these words, which may be refused there, and what is wrong with
+/// it, where that was found.
 pub fn tell_answer<O: Output>(
     alloc: Global,
     words: PlanWords<'_>,
     answer: Answer,
+    refusal: Option<&Refusal>,
     mistake: Option<Mistake>,
     out: &mut O,
     extras: Extras,
 ) -> Result<Status, RunError> {
     let status = status_of_answer(answer);
     match extras.style() {
-        Style::Objects => write_answer(alloc, words, answer, mistake, out)?,
+        Style::Objects => write_answer(alloc, words, answer, refusal, mistake, out)?,
         Style::Lines(Paint::Plain) if mistake.is_none() => {
             let line = answer_line(alloc, answer)?;
             write_lines(out, line.as_bytes(), status)?;
@@ -235,7 +246,7 @@ pub fn remark_on_answer(
     extras: Extras,
 ) -> Remark {
     match answer {
-        Answer::Safe if extras.hints => Remark::hints(on_safe(alloc, words)),
+        Answer::Safe if extras.hints => Remark::hints(on_safe(alloc, words, kept_apart(words))),
         Answer::Wrong(fault) if extras.hints => {
             Remark::hints(on_certificate(alloc, fault, refusal))
         }

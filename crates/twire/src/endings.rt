@@ -1,11 +1,13 @@
 // How runs end.
 
+use crate::inputs::NamedSources;
 use dump_tokens::Window;
 use explain::Seen;
-use hints::Hints;
-use objects::Detail;
+use hints::{Earlier, Hints, RefusedIn, first_stand, missing_semicolon_at};
+use objects::{Detail, EarlierAt, TextDetail};
+use plan_text::PlanError;
 use report::{NoPlan, RefusedText, RunError, Status};
-use std::alloc::AllocError;
+use std::alloc::{AllocError, Global};
 use std::io;
 use vcd_read::Wrong;
 
@@ -38,7 +40,105 @@ pub enum Remark {
     /// What is wrong with a dump that is refused.
     Refused(Wrong),
     /// The text of a plan or of a brief that is refused.
-    Text(RefusedText),
+    Text(RefusedSource),
+    /// The label of the first starter that the plan does not have, where one is refused for that, and hints.
+    Starters(Option<String>, Hints),
+}
+
+/// The text of a plan or of a brief that is refused, and those of the briefs before it.
+#[derive(Drop)]
+pub struct RefusedSource {
+    pub refused: RefusedText,
+    pub before: Vec<Vec<u8>>,
+    pub takes: Takes,
+}
+
+/// What may stand in the place of a text: a plan text or a brief, or one of them alone.
+#[derive(Clone, Copy, PartialEq, Eq)]
+pub enum Takes {
+    One,
+    Either,
+}
+
+impl RefusedSource {
+    /// The name of its file, where several give the plan.
+    pub fn file<'a>(&self, named: NamedSources<'a>) -> Option<&'a str> {
+        named.path(self.refused.file)
+    }
+
+    /// The texts before it, with the names of their files.
+    pub fn earlier<'a>(
+        &'a self,
+        alloc: Global,
+        named: NamedSources<'a>,
+    ) -> Result<Vec<Earlier<'a>>, AllocError> {
+        let mut earlier = Vec::new(alloc);
+        let mut number = 0u32;
+        for text in self.before.iter() {
+            if let Some(file) = named.path(number) {
+                earlier.push(Earlier {
+                    text: text.as_slice(),
+                    file,
+                })?;
+            }
+            number = number.saturating_add(1);
+        }
+        Ok(earlier)
+    }
+
+    /// The same for hints.
+    pub fn refused_in<'a>(
+        &'a self,
+        error: PlanError,
+        file: Option<&'a str>,
+        earlier: &'a [Earlier<'a>],
+    ) -> RefusedIn<'a> {
+        RefusedIn {
+            error,
+            place: self.refused.place,
+            language: self.refused.language,
+            text: self.refused.text.as_slice(),
+            file,
+            earlier,
+            takes_either: self.takes == Takes::Either,
+        }
+    }
+
+    // What is known of the refusal. Where there is no memory for what stands already, that is not told.
+    fn detail<'a>(
+        &'a self,
+        alloc: Global,
+        error: RunError,
+        named: NamedSources<'a>,
+    ) -> TextDetail<'a> {
+        let file = self.file(named);
+        let mut detail = TextDetail {
+            place: self.refused.place,
+            file,
+            semicolon: None,
+            earlier: None,
+        };
+        if let RunError::Plan(error) = error {
+            if let Ok(earlier) = self.earlier(alloc, named) {
+                let refused = self.refused_in(error, file, earlier.as_slice());
+                detail.semicolon = missing_semicolon_at(refused);
+                detail.earlier = earlier_at(alloc, refused, named);
+            }
+        }
+        detail
+    }
+}
+
+fn earlier_at<'a>(
+    alloc: Global,
+    refused: RefusedIn<'_>,
+    named: NamedSources<'a>,
+) -> Option<EarlierAt<'a>> {
+    let spot = first_stand(alloc, refused).ok()??;
+    Some(EarlierAt {
+        file: named.path(spot.file),
+        line: spot.line,
+    })
 }
 
 /// What is made of a dump.
@@ -64,7 +164,7 @@ impl Remark {
     }
 
     /// The text of a plan or of a brief that is refused, where one is.
-    pub fn text(text: Option<RefusedText>) -> Remark {
+    pub fn text(text: Option<RefusedSource>) -> Remark {
         match text {
             Some(text) => Remark::Text(text),
             None => Remark::Nothing,
@@ -87,11 +187,17 @@ impl Remark {
         }
     }
 
-    /// What is known of a refusal. A text that is refused stands in this file, where several give the plan.
-    pub fn detail<'a>(&'a self, file: Option<&'a str>) -> Detail<'a> {
+    /// What is known of a refusal, beside what was read last: these files were to give a plan.
+    pub fn detail<'a>(
+        &'a self,
+        alloc: Global,
+        error: RunError,
+        named: NamedSources<'a>,
+    ) -> Detail<'a> {
         match self {
-            Remark::Text(text) => Detail::Text(text.place, file),
+            Remark::Text(text) => Detail::Text(text.detail(alloc, error, named)),
             Remark::Refused(wrong) => Detail::Dump(wrong),
+            Remark::Starters(Some(label), _) => Detail::Label(label.as_str()),
             _ => Detail::Nothing,
         }
     }
@@ -104,7 +210,10 @@ pub enum Halt {
     /// The same of a run over a dump, with what is wrong where that is refused.
     Dump(RunError, Option<Wrong>),
     /// There is no plan. The text is there where one was refused.
-    Text(RunError, Option<RefusedText>),
+    Text(RunError, Option<RefusedSource>),
+    /// Starters are refused: the label of the first one that the plan does not have, where that is why, and what is to
+    /// be said to people.
+    Starters(RunError, Option<String>, Hints),
     /// The same with what is to be said to people of the plan.
     Said(RunError, Hints),
     /// A time was given with a unit, and the dump does not say what its numbers count.
@@ -113,16 +222,25 @@ pub enum Halt {
     Undrawn(RunError, Option<io::Error>),
 }
 
-impl From<RunError> for Halt {
-    fn from(error: RunError) -> Halt {
-        Halt::Run(error)
+impl Halt {
+    /// There is no plan, where these briefs were read before, and this may stand in the place of the last text.
+    pub fn without_plan(none: NoPlan, before: Vec<Vec<u8>>, takes: Takes) -> Halt {
+        let NoPlan { error, text } = none;
+        let source = match text {
+            Some(refused) => Some(RefusedSource {
+                refused,
+                before,
+                takes,
+            }),
+            None => None,
+        };
+        Halt::Text(error, source)
     }
 }
 
-impl From<NoPlan> for Halt {
-    fn from(none: NoPlan) -> Halt {
-        let NoPlan { error, text } = none;
-        Halt::Text(error, text)
+impl From<RunError> for Halt {
+    fn from(error: RunError) -> Halt {
+        Halt::Run(error)
     }
 }
 

@@ -91,6 +91,7 @@ fn open_all<'a, 'n, R: Files + Input + Eprint + Clock + AllocGlobal>(
         first,
         further,
         files: named.files(),
+        texts: Vec::new(rt.alloc()),
     })
 }
 
@@ -163,7 +164,7 @@ fn unopened<R: Eprint + AllocGlobal>(rt: &R, file: Named<'_>, error: &io::Error,
         refused(rt, RunError::NoMemory, Detail::Nothing, voice);
         return;
     }
-    refused(rt, RunError::Read, Detail::Nothing, voice);
+    refused(rt, RunError::Read, Detail::File(file.path), voice);
     if !extras.hints {
         return;
     }

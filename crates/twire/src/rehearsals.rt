@@ -12,7 +12,7 @@ use crate::sources::Sources;
 use bench_run::{NoGate, Outcome, Rehearsal, outcome_report, rehearse, status_of_outcome};
 use bus_bench::opening::MOST_SLOTS;
 use explain::{Paint, explain_answer, explain_rehearsal, mistake_of};
-use hints::{Hints, on_no_answers, on_starters};
+use hints::{Hints, on_no_answers, on_starters, unknown_starter};
 use message_tree::Item;
 use objects::write_rehearsal;
 use plan_core::Plan;
@@ -54,7 +54,8 @@ pub fn bench_alone<
 ) -> Result<Ended, Halt> {
     let GivenPlan { plan, origins } = plans.find(rt.alloc())?;
     let cert = certificate_of(rt.alloc(), &plan)?;
-    let outcome = outcome_of(rt, plan, cert.as_slice(), play, extras)?;
+    let said = said_of(rt.alloc(), plans.words(&plan, &origins), play, extras)?;
+    let outcome = outcome_of(rt, plan, cert.as_slice(), play, said)?;
     let words = plans.words(plan_of(&outcome), &origins);
     tell_outcome(
         rt,
@@ -91,7 +92,8 @@ pub fn bench<
 ) -> Result<Ended, Halt> {
     let GivenPlan { plan, origins } = plans.find(rt.alloc())?;
     let cert = read_within(rt.alloc(), cert, READS)?;
-    let outcome = outcome_of(rt, plan, cert.as_slice(), play, extras)?;
+    let said = said_of(rt.alloc(), plans.words(&plan, &origins), play, extras)?;
+    let outcome = outcome_of(rt, plan, cert.as_slice(), play, said)?;
     let words = plans.words(plan_of(&outcome), &origins);
     tell_outcome(
         rt,
@@ -113,24 +115,48 @@ fn plan_of(outcome: &Outcome) -> &Plan {
     }
 }
 
-// What comes of it. What is to be said of starters that are refused is found before the rehearsal, which keeps the plan.
+// What is to be said of starters where they are refused: the label that the plan does not have, and hints.
+#[derive(Drop)]
+struct Said {
+    label: Option<String>,
+    hints: Hints,
+}
+
+// It is found before the rehearsal, which keeps the plan.
+fn said_of(
+    alloc: Global,
+    words: PlanWords<'_>,
+    play: Play<'_>,
+    extras: Extras,
+) -> Result<Said, AllocError> {
+    let label = match unknown_starter(alloc, words.plan(), play.starters)? {
+        Some(label) => Some(String::from_str(alloc, label)?),
+        None => None,
+    };
+    let hints = if extras.hints {
+        on_starters(alloc, words, play.starters)?
+    } else {
+        Hints::new(alloc)
+    };
+    Ok(Said { label, hints })
+}
+
+// What comes of it.
 fn outcome_of<R: AllocGlobal + Threads + Wait + Clock + Sync>(
     rt: &R,
     plan: Plan,
     cert: &[u8],
     play: Play<'_>,
-    extras: Extras,
+    said: Said,
 ) -> Result<Outcome, Halt>
     ensures { IfOk result HasWinners }
 {
-    let hints = if extras.hints {
-        on_starters(rt.alloc(), &plan, play.starters)?
-    } else {
-        Hints::new(rt.alloc())
-    };
     match outcome_of_plan(rt, plan, cert, play) {
         Ok(outcome) => Ok(outcome),
-        Err(error @ RunError::Bench(_)) => Err(Halt::Said(error, hints)),
+        Err(error @ RunError::Bench(_)) => {
+            let Said { label, hints } = said;
+            Err(Halt::Starters(error, label, hints))
+        }
         Err(error) => Err(Halt::Run(error)),
     }
 }
@@ -220,10 +246,11 @@ fn write_outcome<O: Output>(
             } else {
                 None
             };
-            let status = tell_answer(alloc, words, it.answer, mistake, out, extras)?;
+            let refusal = it.refusal.as_ref();
+            let status = tell_answer(alloc, words, it.answer, refusal, mistake, out, extras)?;
             Ok(Ended {
                 status,
-                remark: remark_on_answer(alloc, words, it.answer, it.refusal.as_ref(), extras),
+                remark: remark_on_answer(alloc, words, it.answer, refusal, extras),
             })
         }
     }

@@ -1,13 +1,13 @@
 // Runs that write a text in another form.
 
-use crate::endings::{Ended, Halt, Remark};
+use crate::endings::{Ended, Halt, Remark, Takes};
 use crate::sources::Sources;
 use brief_text::brief_of;
 use hints::on_no_brief;
 use plan_core::Plan;
 use plan_text::{Language, NoBrief, Refused, read_plan_at};
 use report::{
-    Input, Output, RefusedText, RunError, Status, certify_found, print_found, read_within,
+    Input, NoPlan, Output, RefusedText, RunError, Status, certify_found, print_found, read_within,
 };
 use run_parts::devices::reading::READS;
 use run_parts::write_lines;
@@ -64,11 +64,14 @@ fn write_brief<I: Input, O: Output>(
     let text = read_within(alloc, text, READS)?;
     match read_plan_at(alloc, text.as_slice()) {
         Ok(plan) => write_brief_of(alloc, &plan, out),
-        Err(refused) => Err(refused_plan(text, refused)),
+        Err(refused) => {
+            let none = refused_plan(text, refused);
+            Err(Halt::without_plan(none, Vec::new(alloc), Takes::One))
+        }
     }
 }
 
-fn refused_plan(text: Vec<u8>, refused: Refused) -> Halt {
+fn refused_plan(text: Vec<u8>, refused: Refused) -> NoPlan {
     let Refused { error, place } = refused;
     let text = match place {
         Some(place) => Some(RefusedText {
@@ -79,7 +82,10 @@ fn refused_plan(text: Vec<u8>, refused: Refused) -> Halt {
         }),
         None => None,
     };
-    Halt::Text(RunError::from(error), text)
+    NoPlan {
+        error: RunError::from(error),
+        text,
+    }
 }
 
 fn write_brief_of<O: Output>(alloc: Global, plan: &Plan, out: &mut O) -> Result<Status, Halt> {

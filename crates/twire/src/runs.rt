@@ -317,20 +317,24 @@ fn finish<'a, R: Files + Print + Eprint + Clock + AllocGlobal>(
         }
         Err(Halt::Text(error, text)) => (Err(error), Remark::text(text), files.output, None),
         Err(Halt::Said(error, hints)) => (Err(error), Remark::Hints(hints), files.output, None),
+        Err(Halt::Starters(error, label, hints)) => {
+            (
+                Err(error),
+                Remark::Starters(label, hints),
+                files.output,
+                None,
+            )
+        }
         Err(Halt::Undrawn(error, reason)) => (Err(error), Remark::Nothing, files.wave, reason),
         Err(Halt::NoTimescale) => return no_timescale(rt, extras),
     };
     let ended = out.settle(ended);
-    let file = match &remark {
-        Remark::Text(text) => named.path(text.file),
-        _ => None,
-    };
-    let status = exit_code_of(rt, ended, remark.detail(file), extras);
+    let status = exit_code_of(rt, ended, &remark, named, read.last.path, extras);
     if extras.hints {
         let closing = Closing {
             ended,
             remark,
-            file,
+            named,
             output,
             error: reason.or(out.into_error()),
             about,
@@ -341,11 +345,14 @@ fn finish<'a, R: Files + Print + Eprint + Clock + AllocGlobal>(
     status
 }
 
-// The exit code of a run that has ended, with the line of a refusal, which may name a file. The line that told how far it was goes away.
+// The exit code of a run that has ended, with the line of a refusal, which may name a file: one of those that give a
+// plan, or the one that was read last. The line that told how far it was goes away.
 fn exit_code_of<R: Clock + Eprint + AllocGlobal>(
     rt: &R,
     ended: Result<Status, RunError>,
-    detail: Detail<'_>,
+    remark: &Remark,
+    named: NamedSources<'_>,
+    last: &str,
     extras: Extras,
 ) -> u8 {
     extras.watcher.clear(rt);
@@ -353,7 +360,11 @@ fn exit_code_of<R: Clock + Eprint + AllocGlobal>(
         Ok(Status::Good) => 0,
         Ok(Status::Bad) => 1,
         Ok(Status::Refused) => 2,
-        Err(error) => refused(rt, error, detail, extras.voice()),
+        Err(error @ RunError::Read) => refused(rt, error, Detail::File(last), extras.voice()),
+        Err(error) => {
+            let detail = remark.detail(rt.alloc(), error, named);
+            refused(rt, error, detail, extras.voice())
+        }
     }
 }
 

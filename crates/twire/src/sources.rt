@@ -1,9 +1,10 @@
 // What a run is over.
 
+use crate::endings::{Halt, Takes};
 use brief_text::{Briefs, Origins};
 use plan_core::Plan;
 use plan_words::{BriefFiles, PlanWords};
-use report::{GivenPlan, Input, NoPlan, find_further, find_given, given_by};
+use report::{Further, GivenPlan, GivenText, Input, RunError, find_further, find_given, given_by};
 use std::alloc::Global;
 
 /// The text that a run is over, or the briefs that give its plan, one after another.
@@ -13,6 +14,8 @@ pub struct Sources<'a, I> {
     pub further: Vec<I>,
     /// What people call these.
     pub files: BriefFiles<'a>,
+    /// What the plan was read from, where there is one.
+    pub texts: Vec<Vec<u8>>,
 }
 
 impl<'a, I: Input> Sources<'a, I> {
@@ -22,11 +25,17 @@ impl<'a, I: Input> Sources<'a, I> {
     /// # Errors
     ///
     /// Those of `find_given`, or of `find_further`.
-    pub fn find(&mut self, alloc: Global) -> Result<GivenPlan, NoPlan> {
-        if self.further.is_empty() {
-            return find_given(alloc, &mut self.first);
+    pub fn find(&mut self, alloc: Global) -> Result<GivenPlan, Halt> {
+        if !self.further.is_empty() {
+            return self.find_in_briefs(alloc);
         }
-        self.find_in_briefs(alloc)
+        match find_given(alloc, &mut self.first) {
+            Ok(GivenText { given, text }) => match self.texts.push(text) {
+                Ok(()) => Ok(given),
+                Err(_) => Err(Halt::Run(RunError::NoMemory)),
+            },
+            Err(none) => Err(Halt::without_plan(none, Vec::new(alloc), Takes::Either)),
+        }
     }
 
     /// The same, where one text has to be a brief too.
@@ -34,14 +43,17 @@ impl<'a, I: Input> Sources<'a, I> {
     /// # Errors
     ///
     /// Those of `find_further`.
-    pub fn find_in_briefs(&mut self, alloc: Global) -> Result<GivenPlan, NoPlan> {
-        let mut briefs = find_further(alloc, Briefs::new(alloc), 0, &mut self.first)?;
+    pub fn find_in_briefs(&mut self, alloc: Global) -> Result<GivenPlan, Halt> {
+        let mut read = BriefsRead::none(alloc).with(alloc, 0, &mut self.first)?;
         let mut file = 0u32;
         for text in self.further.iter_mut() {
             file = file.saturating_add(1);
-            briefs = find_further(alloc, briefs, file, text)?;
+            read = read.with(alloc, file, text)?;
         }
-        Ok(given_by(briefs)?)
+        let BriefsRead { briefs, texts } = read;
+        self.texts = texts;
+        let given = given_by(briefs)?;
+        Ok(given)
     }
 
     /// The plan that these give, in the words of people.
@@ -50,5 +62,33 @@ impl<'a, I: Input> Sources<'a, I> {
         'a: 'p,
     {
         PlanWords::new(plan, origins.as_ref(), self.files)
+    }
+}
+
+// Briefs that have been read, and their texts: what hints say of a later one may stand in these.
+#[derive(Drop)]
+struct BriefsRead {
+    briefs: Briefs,
+    texts: Vec<Vec<u8>>,
+}
+
+impl BriefsRead {
+    fn none(alloc: Global) -> BriefsRead {
+        BriefsRead {
+            briefs: Briefs::new(alloc),
+            texts: Vec::new(alloc),
+        }
+    }
+
+    // With the one that the reader gives, which has this number.
+    fn with<I: Input>(self, alloc: Global, file: u32, text: &mut I) -> Result<BriefsRead, Halt> {
+        let BriefsRead { briefs, mut texts } = self;
+        match find_further(alloc, briefs, file, text) {
+            Ok(Further { briefs, text }) => match texts.push(text) {
+                Ok(()) => Ok(BriefsRead { briefs, texts }),
+                Err(_) => Err(Halt::Run(RunError::NoMemory)),
+            },
+            Err(none) => Err(Halt::without_plan(none, texts, Takes::One)),
+        }
     }
 }

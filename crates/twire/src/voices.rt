@@ -1,7 +1,7 @@
 // What goes to standard error: refusals, and hints for people.
 
 use hints::{Hints, shown};
-use objects::{Detail, hint_objects, refusal_object, timescale_object};
+use objects::{Detail, TextDetail, hint_objects, refusal_object, timescale_object};
 use report::RunError;
 use std::alloc::{AllocError, Global};
 
@@ -34,7 +34,15 @@ pub fn refused<R: Eprint + AllocGlobal>(
 ) -> u8 {
     match (voice, detail) {
         (Voice::Objects, _) => say_refusal(rt, refusal_object(rt.alloc(), error, detail)),
-        (_, Detail::Text(_, Some(file))) => say_refused_file(rt, error, file),
+        (
+            _,
+            Detail::Text(
+                TextDetail {
+                    file: Some(file),
+                    ..
+                },
+            ),
+        ) => say_refused_file(rt, error, file),
         _ => say_refused(rt, error),
     }
     2

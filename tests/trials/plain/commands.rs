@@ -272,14 +272,14 @@ pub fn expand(briefs: &[File]) -> Answer {
     }
 }
 
-/// `twire brief PLAN`. A brief that does not mean the plan is said to be none.
+/// `twire brief PLAN`.
 pub fn brief(plan: &[u8]) -> Answer {
     match items_of(&String::from_utf8_lossy(plan)) {
         Ok(items) if has_brief_word(&items) => Answer::refused("brief name"),
         Ok(items) => {
             let brief = written(&items);
-            let is_meant = spelling(brief.as_bytes()) == items.to_string();
-            if is_meant { Answer::written(0, brief) } else { Answer::refused("brief text") }
+            assert_eq!(spelling(brief.as_bytes()), items.to_string());
+            Answer::written(0, brief)
         }
         Err(refusal) => Answer::refused(refusal),
     }

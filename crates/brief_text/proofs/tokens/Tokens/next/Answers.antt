@@ -1,5 +1,5 @@
 use Rattle.std.proofs.Common.{◌≡◌, refl, ap, sym, ◌∙◌, get_or, take, true, false, Some}
-use Rattle.plan_text.proofs.TokenLemmas.{front_is, none_left}
+use Rattle.lexer.proofs.LexemeLemmas.{front_is, none_left}
 use Rattle.brief_text.specs.Tokens.{is_word_part, tokens_of, token_of_word}
 use Rattle.brief_text.specs.Reading.{left}
 use Rattle.brief_text.proofs.TokenLemmas.{class_sign, class_stray, class_foreign, not_skipped, ends_here, sign_here, word_here, stray_here, foreign_here, symbol_stands, symbol_in_place}

@@ -1,5 +1,5 @@
 use Rattle.std.proofs.Common.{rules, refl, ◌∙◌}
-use Rattle.plan_text.proofs.TokenLemmas.{front_is}
+use Rattle.lexer.proofs.LexemeLemmas.{front_is}
 use Rattle.brief_text.proofs.TokenLemmas.{skips_line_feed, skips_space, skips_comment}
 use Rattle.brief_text.proofs.tokens.Tokens.skip_blank.Goals as goal
 
