@@ -61,8 +61,9 @@ pub(crate) struct Board {
     /// The parties with labels, as they were first named.
     pub(crate) labels: Vec<Party>,
     pub(crate) nevers: Vec<Never>,
-    /// Where each message stands, and which brief is read, from 0 on.
+    /// Where each message stands, where each interrupt does, and which brief is read, from 0 on.
     pub(crate) spots: Vec<Spot>,
+    pub(crate) interrupts: Vec<Spot>,
     pub(crate) file: u32,
     /// Which devices and data bytes stand where, and which of them are used.
     pub(crate) uses: Uses,
@@ -91,6 +92,7 @@ impl Board {
             labels: Vec::new(alloc),
             nevers: Vec::new(alloc),
             spots: Vec::new(alloc),
+            interrupts: Vec::new(alloc),
             file: 0,
             uses: Uses::new(alloc),
         }
@@ -287,14 +289,18 @@ impl Board {
 
     /// Adds an interrupt that is not refused.
     #[tactic(auto, using(crate::proofs::MessageLemmas::same_messages))]
-    pub(crate) fn add_interrupt(&mut self, name: Name, address: u8) -> Result<(), AllocError>
-        requires new { interrupt_refusal (draft self.old).plan (name_bytes name) ≡ None }
+    pub(crate) fn add_interrupt(&mut self, named: NameFound, address: u8) -> Result<(), AllocError>
+        requires new { interrupt_refusal (draft self.old).plan (name_bytes named.name) ≡ None }
         requires small { address < 128 }
         ensures { OnOk result (draft self.new ≡ record (draft self.old) {
-          plan = with_interrupt (draft self.old).plan (name_bytes name) address;
+          plan = with_interrupt (draft self.old).plan (name_bytes named.name) address;
         }) }
     {
-        self.builder.add_interrupt(name, address)
+        self.interrupts.push(Spot {
+            file: self.file,
+            line: named.line,
+        })?;
+        self.builder.add_interrupt(named.name, address)
     }
 
     // The controller of this name.

@@ -75,7 +75,8 @@ impl Briefs {
         self.board.finish()
     }
 
-    /// Where the controllers and the messages of that plan stand in the briefs, and what people call them there.
+    /// Where the controllers, the messages and the interrupts of that plan stand in the briefs, and what people call them
+    /// there.
     pub fn origins(&self) -> Result<Origins, AllocError> {
         self.board.origins()
     }

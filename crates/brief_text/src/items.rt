@@ -247,7 +247,7 @@ fn interrupt(source: &mut Source<'_>, board: &mut Board) -> Result<(), PlanError
     };
     source.semicolon()?;
     board.uses.address(&to.value);
-    board.add_interrupt(named.name, address)?;
+    board.add_interrupt(named, address)?;
     Ok(())
 }
 

@@ -32,12 +32,14 @@ pub struct FamilyOrigin {
     pub messages: Vec<Name>,
 }
 
-/// Where the controllers and the messages of a plan come from, by their numbers in the plan.
+/// Where the controllers, the messages and the interrupts of a plan come from, by their numbers in the plan.
 #[derive(Drop)]
 pub struct Origins {
     pub controllers: Vec<ControllerOrigin>,
     /// Where each message stands. Those of a family stand where the family stands.
     pub messages: Vec<Spot>,
+    /// Where each interrupt stands.
+    pub interrupts: Vec<Spot>,
     /// The families, in the order of the briefs.
     pub families: Vec<FamilyOrigin>,
     /// The devices and the data bytes with names, in the order of the briefs.

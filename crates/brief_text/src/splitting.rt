@@ -51,7 +51,7 @@ impl Board {
         Ok(builder.finish())
     }
 
-    /// Where the controllers and the messages of the plan come from.
+    /// Where the controllers, the messages and the interrupts of the plan come from.
     pub(crate) fn origins(&self) -> Result<Origins, AllocError> {
         let mut controllers = Vec::new(self.alloc);
         for part in self.parts()?.as_slice() {
@@ -61,6 +61,7 @@ impl Board {
         Ok(Origins {
             controllers,
             messages: Vec::from_slice(self.alloc, self.spots.as_slice())?,
+            interrupts: Vec::from_slice(self.alloc, self.interrupts.as_slice())?,
             families: self.all_families()?,
             devices: self.uses.all_devices()?,
             bytes: self.uses.all_bytes()?,
