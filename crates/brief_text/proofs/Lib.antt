@@ -4,7 +4,6 @@ pub mod WordLemmas
 pub mod NamingLemmas
 pub mod ValueLemmas
 pub mod TextLemmas
-pub mod NameLemmas
 pub mod LabelLemmas
 pub mod BoardLemmas
 pub mod LoopLemmas
@@ -25,11 +24,3 @@ pub mod ItemAgainLemmas
 pub mod SizeLemmas
 pub mod SaidLemmas
 pub mod GrowLemmas
-pub mod WrittenFrames
-pub mod WrittenItems
-pub mod WrittenNevers
-pub mod WrittenPlans
-pub mod SpelledWords
-pub mod SpelledPhrases
-pub mod SpelledBriefs
-pub mod WritingLemmas

@@ -15,7 +15,4 @@ pub mod Meanings
 pub mod Parting
 pub mod Grammar
 pub mod Fitting
-pub mod Writing
-pub mod Spelling
-pub mod Runs
 pub mod Together

@@ -1,15 +1,11 @@
 // What holds of every text of briefs. A law does nothing: its contract is the theorem.
 
-ghost use Rattle.std.specs.Prelude.{◌≡◌, ℕ, List, Ok, false};
+ghost use Rattle.std.specs.Prelude.{◌≡◌, ℕ, List, Ok};
 ghost use Rattle.plan_core.specs.Contents.{Contents};
-ghost use Rattle.plan_core.specs.Limits.{IsWithinLimits};
 ghost use Rattle.brief_text.specs.Briefs.{text_read, Means};
 ghost use Rattle.brief_text.specs.Drafts.{Draft, no_items};
-ghost use Rattle.brief_text.specs.Fitting.{MakeUp, Says};
-ghost use Rattle.brief_text.specs.Names.{has_brief_word};
-ghost use Rattle.brief_text.specs.Spelling.{brief_spelled};
+ghost use Rattle.brief_text.specs.Fitting.{Says};
 ghost use Rattle.brief_text.specs.Splitting.{plan_meant};
-ghost use Rattle.brief_text.specs.Writing.{brief_items};
 
 /// The definition by which a text is read after others gives the items that the grammar spells, where each fits, and it
 /// gives what all such items make up.
@@ -23,15 +19,4 @@ pub fn briefs_mean_what_they_say()
     ensures said { (text : List ℕ) (plan : Contents) → Means text plan
         → (draft : Draft) × Says text no_items draft × (plan ≡ plan_meant draft) }
     ensures meant { (text : List ℕ) (draft : Draft) → Says text no_items draft → Means text (plan_meant draft) }
-{}
-
-/// Each plan has items that make up a draft which means it.
-pub fn plans_have_briefs()
-    ensures { (plan : Contents) → IsWithinLimits plan
-        → (draft : Draft) × MakeUp no_items (brief_items plan) draft × (plan_meant draft ≡ plan) }
-{}
-
-/// A brief that is written for a plan means it, where the words of briefs are none of its names.
-pub fn briefs_are_written()
-    ensures { (plan : Contents) → IsWithinLimits plan → has_brief_word plan ≡ false → Means (brief_spelled plan) plan }
 {}

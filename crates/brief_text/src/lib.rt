@@ -1,5 +1,4 @@
-//! The text of a brief, the short form of a plan that people write: `expand_brief` reads the plan that it means, `brief_of`
-//! writes a brief of a plan.
+//! The text of a brief, the short form of a plan that people write: `expand_brief` reads the plan that it means.
 //!
 //! A text is cut into tokens, one at a time, each with its line (`tokens`, `symbols`). What a single word spells out is in
 //! `words`, the parts of items that are one token in `sources`. `frames` has a function for each rule of a message, and
@@ -7,13 +6,11 @@
 //! are looked up in it, and each next name is judged by it. `meanings` writes the tree of a message out, `splitting` splits
 //! controllers by labels. `specs/Briefs.antt` and the files that it stands on define what a brief means, and each function
 //! that reads is proved equal to its rule there. `laws` says that a text is read exactly where the grammar spells items
-//! that fit, and that the text which `writing` writes for a plan means it. `families` finds messages that are one. Where a
-//! brief is refused stands in `traces`, and `given` has the names before.
+//! that fit. Where a brief is refused stands in `traces`, and `given` has the names before.
 #![tactic(auto)]
 
 mod boards;
 mod briefs;
-mod families;
 mod frames;
 mod given;
 mod items;
@@ -25,17 +22,18 @@ mod numbers;
 mod origins;
 mod sources;
 mod splitting;
-mod symbols;
+pub mod symbols;
 mod syntax;
 mod tokens;
 mod traces;
 mod words;
-mod writing;
 
 pub use briefs::Briefs;
 pub use given::names_in;
 pub use items::{expand_brief, expand_brief_at};
 pub use lint::{Device, NamedByte};
+pub use meanings::member_text;
 pub use origins::{ControllerOrigin, FamilyOrigin, Origins, Spot};
 pub use plan_text::PlanError as BriefError;
-pub use writing::{brief_of, brief_word};
+pub use syntax::Lengths;
+pub use words::is_brief_word;

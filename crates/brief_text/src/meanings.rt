@@ -236,8 +236,12 @@ fn member(alloc: Global, name: &Name, n: u32) -> Result<Name, AllocError>
     spelled(alloc, member_text(alloc, name, n)?.as_str())
 }
 
-/// The text of that name, which may be too long for one.
-pub(crate) fn member_text(alloc: Global, name: &Name, n: u32) -> Result<String, AllocError>
+/// The text of the name of the message with `n` bytes in the family with this name, which may be too long for a name.
+///
+/// # Errors
+///
+/// Where an allocation fails.
+pub fn member_text(alloc: Global, name: &Name, n: u32) -> Result<String, AllocError>
     ensures { IfOk result (λ it. string_bytes it ≡ member_name (name_bytes name.now) n) }
 {
     let mut text = String::from_str(alloc, name.as_str())?;

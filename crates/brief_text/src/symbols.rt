@@ -10,7 +10,7 @@ use plan_text::PlanError;
 
 /// A word that the language has in fixed places.
 #[derive(Clone, Copy)]
-pub(crate) enum Keyword {
+pub enum Keyword {
     Brief,
     Device,
     Byte,
@@ -27,7 +27,7 @@ pub(crate) enum Keyword {
 
 /// A character that is a token by itself.
 #[derive(Clone, Copy)]
-pub(crate) enum Sign {
+pub enum Sign {
     Semicolon,
     Open,
     Close,

@@ -37,9 +37,9 @@ pub(crate) enum Often {
 
 /// The ends of a range: LO and HI.
 #[derive(Clone, Copy)]
-pub(crate) struct Lengths {
-    pub(crate) least: u8,
-    pub(crate) greatest: u8,
+pub struct Lengths {
+    pub least: u8,
+    pub greatest: u8,
 }
 
 /// A frame, and what follows it.

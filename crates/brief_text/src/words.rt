@@ -174,7 +174,7 @@ fn slash_of(word: &[u8]) -> usize
 }
 
 /// Whether this is a word of briefs and none of plans.
-pub(crate) fn is_brief_word(name: &str) -> bool
+pub fn is_brief_word(name: &str) -> bool
     ensures { result ≡ is_brief_word name.now }
 {
     matches!(name, "brief" | "device" | "byte" | "any")

@@ -2,8 +2,8 @@
 
 use crate::lines::Lines;
 use crate::values::Hints;
-use brief_text::brief_word;
 use plan_core::Plan;
+use spellings::brief_word;
 use std::alloc::{AllocError, Global};
 
 /// What to say of a plan that has no brief.

@@ -8,6 +8,5 @@ pub mod CheckLemmas
 pub mod GivenLemmas
 pub mod CaptureLemmas
 pub mod TellingLemmas
-pub mod SpellingLemmas
 pub mod LiveLemmas
 pub mod FrontLemmas

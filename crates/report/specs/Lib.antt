@@ -8,7 +8,6 @@ pub mod FaultyStreams
 pub mod Answers
 pub mod Certificates
 pub mod Answering
-pub mod Spellings
 pub mod CaptureLines
 pub mod CaptureViews
 pub mod Captures

@@ -15,7 +15,6 @@ pub mod given;
 pub mod laws;
 pub mod lines;
 pub mod live;
-pub mod spellings;
 pub mod telling;
 
 pub use answers::{answer_line, status_of_answer};
@@ -33,7 +32,6 @@ pub use given::{
 pub use lines::{check_report, push_count, push_fault};
 pub use live::live_capture;
 pub use run_parts::{Input, Opened, Output, RunError, Status, Watched, read_within, write_report};
-pub use spellings::{print_found, run_brief, run_expand, run_print};
 pub use telling::{CaptureCounts, CaptureReport, Telling};
 pub use vcd_read::{Probe, Wrong};
 pub use verdicts::{Gate, NoGate};

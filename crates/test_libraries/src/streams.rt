@@ -3,9 +3,10 @@
 use bench_run::{NoGate, run_bench};
 use plan_text::PlanError;
 use report::{
-    FaultyReader, FaultyWriter, RunError, Status, read_within, run_brief, run_capture, run_certify,
-    run_check, run_expand, run_print, run_verify,
+    FaultyReader, FaultyWriter, RunError, Status, read_within, run_capture, run_certify, run_check,
+    run_verify,
 };
+use spellings::{run_brief, run_expand, run_print};
 use std::alloc::{AllocError, Global};
 use std::sync::Wait;
 use std::test::Fail;

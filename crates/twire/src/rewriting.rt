@@ -2,15 +2,13 @@
 
 use crate::endings::{Ended, Halt, Remark, Takes};
 use crate::sources::Sources;
-use brief_text::brief_of;
 use hints::on_no_brief;
 use plan_core::Plan;
 use plan_text::{Language, NoBrief, Refused, read_plan_at};
-use report::{
-    Input, NoPlan, Output, RefusedText, RunError, Status, certify_found, print_found, read_within,
-};
+use report::{Input, NoPlan, Output, RefusedText, RunError, Status, certify_found, read_within};
 use run_parts::devices::reading::READS;
 use run_parts::write_lines;
+use spellings::{brief_of, print_found};
 use std::alloc::Global;
 
 /// A run that writes a text in another form.

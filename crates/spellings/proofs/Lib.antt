@@ -1,0 +1,10 @@
+pub mod NameLemmas
+pub mod WrittenFrames
+pub mod WrittenItems
+pub mod WrittenNevers
+pub mod WrittenPlans
+pub mod SpelledWords
+pub mod SpelledPhrases
+pub mod SpelledBriefs
+pub mod WritingLemmas
+pub mod SpellingLemmas

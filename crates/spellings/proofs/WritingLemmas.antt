@@ -1,0 +1,142 @@
+-- What the writer of briefs adds, bit by bit.
+use Rattle.std.proofs.Common.{◌≡◌, ◌≢◌, ℕ, ◌+◌, ◌<◌, ◌≤◌, ◌^◌, Bool, true, false, ◌&&◌, List, [], ◌∷◌, ◌++◌, length, get_or, map, take, drop, Option, Some, slice_get, inl, inr, refl, ap, sym, ◌∙◌, subst, arith, append_assoc, append-nil}
+use Rattle.std.specs.List.{list_all}
+use Rattle.std.specs.Prelude.{◌⊎◌, ◌==◌, None, Result, Ok, Err, OnOk, codes, if◌then◌else◌}
+use Rattle.std.proofs.lemmas.Bool.Decides.{nat_tests}
+use Rattle.std.proofs.Math.Pow.{pow_mono}
+use Rattle.std.proofs.lemmas.List.{drop_more, take_all}
+use Rattle.message_tree.specs.declared.bits.Bit.{Bit}
+use Rattle.message_tree.specs.declared.bits.Pattern.{Pattern}
+use Rattle.message_tree.specs.declared.bits.Address.{Address}
+use Rattle.message_tree.specs.Patterns.{address_bits, pattern_bits}
+use Rattle.message_tree.specs.Bits.{bits_below}
+use Rattle.message_tree.proofs.BitLemmas.{bits_below-masked}
+use Rattle.plan_text.specs.Canonical.{Adds, spaced, item_line, bit_symbol}
+use Rattle.plan_text.specs.Values.{address_by}
+use Rattle.plan_text.proofs.Adding.{adds_then, then_adds}
+use Rattle.spellings.specs.Spelling.{digit_symbol, data_of, data_word, target_of, target_word}
+
+-- eight bits, each of which is known
+pub eight : (bits : List Bit) (a b c d e f g h : Bit) → length bits ≡ 8 → slice_get bits 0 ≡ Some a → slice_get bits 1 ≡ Some b → slice_get bits 2 ≡ Some c → slice_get bits 3 ≡ Some d → slice_get bits 4 ≡ Some e → slice_get bits 5 ≡ Some f → slice_get bits 6 ≡ Some g → slice_get bits 7 ≡ Some h
+    → a ∷ b ∷ c ∷ d ∷ e ∷ f ∷ g ∷ h ∷ [] ≡ bits
+eight (p ∷ q ∷ r ∷ s ∷ t ∷ u ∷ v ∷ w ∷ []) a b c d e f g h long at_a at_b at_c at_d at_e at_f at_g at_h = cc
+eight bits a b c d e f g h long at_a at_b at_c at_d at_e at_f at_g at_h = absurd (omega arith)
+
+pub seven : (bits : List Bit) (a b c d e f g : Bit) → length bits ≡ 7 → slice_get bits 0 ≡ Some a → slice_get bits 1 ≡ Some b → slice_get bits 2 ≡ Some c → slice_get bits 3 ≡ Some d → slice_get bits 4 ≡ Some e → slice_get bits 5 ≡ Some f → slice_get bits 6 ≡ Some g
+    → a ∷ b ∷ c ∷ d ∷ e ∷ f ∷ g ∷ [] ≡ bits
+seven (p ∷ q ∷ r ∷ s ∷ t ∷ u ∷ v ∷ []) a b c d e f g long at_a at_b at_c at_d at_e at_f at_g = cc
+seven bits a b c d e f g long at_a at_b at_c at_d at_e at_f at_g = absurd (omega arith)
+
+module _ {X : Type 0} (xs : List X) (k : ℕ) (d x : X) (within : k < length xs) (is : get_or xs k d ≡ x) where
+  pub rest_is : drop k xs ≡ x ∷ drop (k + 1) xs
+  rest_is = drop_more xs k d within ∙ ap (λ y. y ∷ drop (k + 1) xs) is
+
+  -- one test more of all tests
+  pub all_here : (test : X → Bool) (all : Bool) → list_all test (drop k xs) ≡ all → test x ≡ true → list_all test (drop (k + 1) xs) ≡ all
+  all_here test all before here = sym (ap (λ b. b && list_all test (drop (k + 1) xs)) here) ∙ ap (list_all test) (sym rest_is) ∙ before
+
+  pub none_here : (test : X → Bool) (all : Bool) → list_all test (drop k xs) ≡ all → test x ≡ false → false ≡ all
+  none_here test all before here = sym (ap (λ b. b && list_all test (drop (k + 1) xs)) here) ∙ ap (list_all test) (sym rest_is) ∙ before
+
+-- at most four digits in base 2
+pub four_digits : (n k : ℕ) → n < 2 ^ k → k ≤ 4 → n < 16
+four_digits n k small few = omega (arith, small, pow_mono few)
+
+-- all bits are written after this front
+pub bits_after : (front old b : List ℕ) (bits : List Bit) (n : ℕ) → length bits ≤ n → b ≡ (old ++ (32 ∷ front)) ++ map bit_symbol (take n bits) → Adds old b ((front ++ map bit_symbol bits) ∷ [])
+bits_after front old b bits n long written =
+    written ∙ ap (λ l. (old ++ (32 ∷ front)) ++ map bit_symbol l) (take_all n bits long) ∙ append_assoc old (32 ∷ front) (map bit_symbol bits) ∙ ap (λ l. old ++ l) (sym (append-nil (32 ∷ (front ++ map bit_symbol bits))))
+
+-- ---- words one after the other
+
+pub adds_three : {X E : Type 0} (r : Result X E) (t0 t1 t2 t3 : List ℕ) (word : List ℕ) (xs ys : List (List ℕ)) → Adds t0 t1 (word ∷ []) → Adds t1 t2 xs → OnOk r (Adds t2 t3 ys) → OnOk r (Adds t0 t3 (word ∷ (xs ++ ys)))
+adds_three r t0 t1 t2 t3 word xs ys e1 e2 e3 = then_adds r t0 t1 t3 (word ∷ []) (xs ++ ys) e1 (then_adds r t1 t2 t3 xs ys e2 e3)
+
+pub adds_four : {X E : Type 0} (r : Result X E) (t0 t1 t2 t3 t4 : List ℕ) (kind word : List ℕ) (xs ys : List (List ℕ)) → Adds t0 t1 (kind ∷ []) → Adds t1 t2 (word ∷ []) → Adds t2 t3 xs → OnOk r (Adds t3 t4 ys) → OnOk r (Adds t0 t4 (kind ∷ (word ∷ (xs ++ ys))))
+adds_four r t0 t1 t2 t3 t4 kind word xs ys e1 e2 e3 e4 = then_adds r t0 t1 t4 (kind ∷ []) (word ∷ (xs ++ ys)) e1 (adds_three r t1 t2 t3 t4 word xs ys e2 e3 e4)
+
+pub adds_five : {X E : Type 0} (r : Result X E) (t0 t1 t2 t3 t4 t5 : List ℕ) (kind word count : List ℕ) (xs ys : List (List ℕ)) → Adds t0 t1 (kind ∷ []) → Adds t1 t2 (word ∷ []) → Adds t2 t3 (count ∷ []) → Adds t3 t4 xs → OnOk r (Adds t4 t5 ys)
+    → OnOk r (Adds t0 t5 (kind ∷ (word ∷ (count ∷ (xs ++ ys)))))
+adds_five r t0 t1 t2 t3 t4 t5 kind word count xs ys e1 e2 e3 e4 e5 = then_adds r t0 t1 t5 (kind ∷ []) (word ∷ (count ∷ (xs ++ ys))) e1 (adds_four r t1 t2 t3 t4 t5 word count xs ys e2 e3 e4 e5)
+
+-- ---- addresses and data bytes
+
+other_high : (high low : ℕ) → high ≢ 88 → (high == 88 && low == 88) ≡ false
+other_high high low differ = grind (arith, nat_tests)
+
+other_low : (high low : ℕ) → low ≢ 88 → (high == 88 && low == 88) ≡ false
+other_low high low differ = grind (arith, nat_tests)
+
+low_four : (p : Pattern) → take 4 (drop 4 (pattern_bits p)) ≡ drop 4 (pattern_bits p)
+unfolding pattern_bits
+low_four p = refl
+
+module _ (p : Pattern) (bits : List Bit) (is : bits ≡ pattern_bits p) where
+  low_are : take 4 (drop 4 bits) ≡ drop 4 (pattern_bits p)
+  low_are = ap (λ l. take 4 (drop 4 l)) is ∙ low_four p
+
+  module _ (high low : ℕ) (first : Some high ≡ digit_symbol (take 4 bits)) (second : Some low ≡ digit_symbol (take 4 (drop 4 bits))) where
+    by_digits : data_word p ≡ data_of (Some high) (Some low) (pattern_bits p)
+    by_digits = λ i. data_of (digits_first i) (digits_second i) (pattern_bits p)
+      where
+        digits_first : digit_symbol (take 4 (pattern_bits p)) ≡ Some high
+        digits_first = ap (λ l. digit_symbol (take 4 l)) (sym is) ∙ sym first
+
+        digits_second : digit_symbol (drop 4 (pattern_bits p)) ≡ Some low
+        digits_second = ap digit_symbol (sym low_are) ∙ sym second
+
+    pub hex_high : high ≢ 88 → codes "0x" ++ high ∷ low ∷ [] ≡ data_word p
+    hex_high differ = sym (by_digits ∙ ap (λ (t : Bool). if t then codes "any" else (codes "0x" ++ high ∷ low ∷ [])) (other_high high low differ))
+
+    pub hex_low : low ≢ 88 → codes "0x" ++ high ∷ low ∷ [] ≡ data_word p
+    hex_low differ = sym (by_digits ∙ ap (λ (t : Bool). if t then codes "any" else (codes "0x" ++ high ∷ low ∷ [])) (other_low high low differ))
+
+    pub any_word : high ≡ 88 → low ≡ 88 → codes "any" ≡ data_word p
+    any_word a b = sym (by_digits ∙ rw (a, b) refl)
+
+  pub bits_word : (high low : Option ℕ) → high ≡ digit_symbol (take 4 bits) → low ≡ digit_symbol (take 4 (drop 4 bits)) → (high ≡ None) ⊎ (low ≡ None) → codes "0b" ++ map bit_symbol bits ≡ data_word p
+  bits_word high low first second none =
+      in_two high low none ∙ (λ i. data_of (first i) (second i) bits) ∙ (λ i. data_of (digit_symbol (take 4 (is i))) (digit_symbol (low_are i)) (is i))
+    where
+      in_two : (a b : Option ℕ) → (a ≡ None) ⊎ (b ≡ None) → codes "0b" ++ map bit_symbol bits ≡ data_of a b bits
+      in_two None b e = refl
+      in_two (Some a) None e = refl
+      in_two (Some a) (Some b) (inl e) = absurd cc
+      in_two (Some a) (Some b) (inr e) = absurd cc
+
+low_bits : (a : Address) → take 4 (drop 3 (address_bits a)) ≡ drop 3 (address_bits a)
+unfolding address_bits
+low_bits a = refl
+
+module _ (a : Address) (bits : List Bit) (is : bits ≡ address_bits a) (high low : Option ℕ) (first : high ≡ digit_symbol (take 3 bits)) (second : low ≡ digit_symbol (take 4 (drop 3 bits))) where
+  target_digits : target_of high low bits ≡ target_word a
+  target_digits = (λ i. target_of (first i) (second i) bits) ∙ (λ i. target_of (digit_symbol (take 3 (is i))) (digit_symbol ((ap (λ l. take 4 (drop 3 l)) is ∙ low_bits a) i)) (is i))
+
+  pub target_hex : (h l : ℕ) → high ≡ Some h → low ≡ Some l → codes "0x" ++ h ∷ l ∷ [] ≡ target_word a
+  target_hex h l e f = (λ i. target_of (sym e i) (sym f i) bits) ∙ target_digits
+
+  pub target_bits : (high ≡ None) ⊎ (low ≡ None) → codes "0b" ++ map bit_symbol bits ≡ target_word a
+  target_bits none = in_two high low none ∙ target_digits
+    where
+      in_two : (x y : Option ℕ) → (x ≡ None) ⊎ (y ≡ None) → codes "0b" ++ map bit_symbol bits ≡ target_of x y bits
+      in_two None y e = refl
+      in_two (Some x) None e = refl
+      in_two (Some x) (Some y) (inl e) = absurd cc
+      in_two (Some x) (Some y) (inr e) = absurd cc
+
+-- a word in the place of an equal one
+pub same_word : {X E : Type 0} (r : Result X E) (a b v w : List ℕ) → v ≡ w → OnOk r (Adds a b (v ∷ [])) → OnOk r (Adds a b (w ∷ []))
+same_word r a b v w e h = subst (λ x. OnOk r (Adds a b (x ∷ []))) e h
+
+-- the address of an interrupt, as it is written
+pub interrupt_target : (a : Address) (n : ℕ) → address_bits a ≡ bits_below 7 127 n → target_word a ≡ target_word (address_by 127 n)
+unfolding address_bits
+interrupt_target a n e = ap (λ bits. target_of (digit_symbol (take 3 bits)) (digit_symbol (drop 3 bits)) bits) (e ∙ sym (bits_below-masked 7 127 n))
+
+-- an item of two words
+pub line_made : {X E : Type 0} (r : Result X E) (t0 t1 t2 t3 t4 first name word : List ℕ) → t1 ≡ t0 ++ first → Adds t1 t2 (name ∷ []) → Adds t2 t3 (word ∷ []) → OnOk r (t4 ≡ t3 ++ codes " ;\n") → OnOk r (t4 ≡ t0 ++ item_line first (name ∷ (word ∷ [])))
+line_made (Err e) t0 t1 t2 t3 t4 first name word e1 e2 e3 e4 = tt
+line_made (Ok x) t0 t1 t2 t3 t4 first name word e1 e2 e3 e4 =
+    let words : List ℕ = spaced (name ∷ (word ∷ [])) in
+    e4 ∙ ap (λ l. l ++ codes " ;\n") (adds_then t1 t2 t3 (name ∷ []) (word ∷ []) e2 e3 ∙ ap (λ l. l ++ words) e1 ∙ append_assoc t0 first words)
+    ∙ append_assoc t0 (first ++ words) (codes " ;\n") ∙ ap (λ l. t0 ++ l) (append_assoc first words (codes " ;\n"))

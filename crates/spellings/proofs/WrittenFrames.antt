@@ -1,0 +1,123 @@
+-- The frames of a brief that is written mean the message that they are written for, and need no name and no range.
+use Rattle.std.proofs.Common.{◌≡◌, ℕ, zero, suc, ◌+◌, Bool, true, false, Option, Some, None, refl, ap, sym, ◌∙◌, arith}
+use Rattle.std.specs.Prelude.{◌==◌, nat_lt, map, if◌then◌else◌}
+use Rattle.std.proofs.lemmas.Bool.{and_parts, eqb-true}
+use Rattle.message_tree.specs.Bits.{bits_below}
+use Rattle.message_tree.specs.Patterns.{pattern_bits}
+use Rattle.message_tree.specs.Trees.{FrameTree, write, read, PayloadTree, last, TailTree, stop, again}
+use Rattle.message_tree.specs.Trees as trees
+use Rattle.message_tree.specs.declared.bits.Pattern.{Pattern}
+use Rattle.plan_text.specs.Canonical.{bit_symbol, pattern_word}
+use Rattle.plan_text.proofs.ValueLemmas.{pattern_found}
+use Rattle.brief_text.specs.Drafts.{Draft, frame_meant, bytes_meant, tail_meant, repeated}
+use Rattle.brief_text.specs.Fitting.{KnowsFrame, KnowsBytes, KnowsTail, frame_ranges, bytes_ranges, tail_ranges}
+use Rattle.brief_text.specs.Trees.{spelled, times, BriefBytes, data_byte, no_more, go_on}
+use Rattle.spellings.specs.Writing.{Run, same_pattern, goes_on, ended_by, with_byte, after_run, frame_brief, bytes_brief, tail_brief}
+
+some_is : {A : Type 0} (x y : A) → Some x ≡ Some y → x ≡ y
+some_is x y e = cc
+
+-- ---- runs
+
+pub pattern_is : (p q : Pattern) → same_pattern p q ≡ true → p ≡ q
+unfolding pattern_bits
+pattern_is p q e =
+    let parts = and_parts (p.known == q.known) (p.value == q.value) e in
+    let known = eqb-true p.known q.known parts.0 in
+    let value = eqb-true p.value q.value parts.1 in
+    let words : pattern_word q ≡ pattern_word p = λ i. map bit_symbol (bits_below 8 (sym known i) (sym value i)) in
+    let first = pattern_found (pattern_word p) p refl in
+    let second = pattern_found (pattern_word p) q words in
+    some_is p q (sym first ∙ second)
+
+-- a run of a byte, and this byte after it
+one_more : (n : ℕ) (bits : Pattern) (acked : PayloadTree) (refused : TailTree) → repeated (n + 1) bits acked refused ≡ repeated n bits (trees.byte bits acked refused) refused
+one_more zero bits acked refused = refl
+one_more (suc n) bits acked refused =
+    let next : suc n + 1 ≡ suc (n + 1) = omega arith in
+    ap (λ k. repeated k bits acked refused) next ∙ ap (λ p. trees.byte bits p refused) (one_more n bits acked refused)
+
+-- a payload after a run
+abbrev in_run : Option Run → PayloadTree → PayloadTree
+in_run None p = p
+in_run (Some run) p = repeated run.1 run.0 p stop
+
+module _ (draft : Draft) (n : ℕ) where
+  run_meant : (run : Option Run) (b : BriefBytes) → bytes_meant draft n (after_run run b) ≡ in_run run (bytes_meant draft n b)
+  run_meant None b = refl
+  run_meant (Some run) b = refl
+
+  -- a byte that goes on with the run, or ends it
+  run_goes : (run : Option Run) (bits : Pattern) (acked : PayloadTree) → in_run (ended_by run bits) (in_run (Some (with_byte run bits)) acked) ≡ in_run run (trees.byte bits acked stop)
+  run_goes None bits acked = refl
+  run_goes (Some run) bits acked = by_test (goes_on run bits) refl
+    where
+      by_test : (t : Bool) → goes_on run bits ≡ t → in_run (if t then None else Some run) (repeated (if t then run.1 + 1 else 1) bits acked stop) ≡ repeated run.1 run.0 (trees.byte bits acked stop) stop
+      by_test true is =
+          let same = pattern_is run.0 bits (and_parts (same_pattern run.0 bits) (nat_lt run.1 255) is).0 in
+          one_more run.1 bits acked stop ∙ ap (λ b. repeated run.1 b (trees.byte bits acked stop) stop) (sym same)
+      by_test false is = refl
+
+  mutual
+    pub frame_said : (f : FrameTree) → frame_meant draft n (frame_brief f) ≡ f
+    frame_said (write address acked refused) = λ i. write address (bytes_said acked None i) (tail_said refused i)
+    frame_said (read address count after refused) = λ i. read address count (tail_said after i) (tail_said refused i)
+
+    bytes_said : (p : PayloadTree) (run : Option Run) → bytes_meant draft n (bytes_brief p run) ≡ in_run run p
+    bytes_said (trees.byte bits acked stop) run =
+        run_meant (ended_by run bits) (bytes_brief acked (Some (with_byte run bits)))
+        ∙ ap (in_run (ended_by run bits)) (bytes_said acked (Some (with_byte run bits)))
+        ∙ run_goes run bits acked
+    bytes_said (trees.byte bits acked (again frame)) run =
+        run_meant run (data_byte (spelled bits) (times 1) (go_on (frame_brief frame)) (bytes_brief acked None))
+        ∙ (λ i. in_run run (trees.byte bits (bytes_said acked None i) (again (frame_said frame i))))
+    bytes_said (last tail) run = run_meant run (no_more (tail_brief tail)) ∙ (λ i. in_run run (last (tail_said tail i)))
+
+    tail_said : (t : TailTree) → tail_meant draft n (tail_brief t) ≡ t
+    tail_said stop = refl
+    tail_said (again frame) = λ i. again (frame_said frame i)
+
+-- every value is spelled out
+module _ (draft : Draft) where
+  run_knows : (run : Option Run) (b : BriefBytes) → KnowsBytes draft b → KnowsBytes draft (after_run run b)
+  run_knows None b known = known
+  run_knows (Some run) b known = (refl, tt, known)
+
+  mutual
+    pub frame_known : (f : FrameTree) → KnowsFrame draft (frame_brief f)
+    frame_known (write address acked refused) = (refl, tail_known refused, bytes_known acked None)
+    frame_known (read address count after refused) = (refl, tail_known refused, tail_known after)
+
+    bytes_known : (p : PayloadTree) (run : Option Run) → KnowsBytes draft (bytes_brief p run)
+    bytes_known (trees.byte bits acked stop) run =
+        run_knows (ended_by run bits) (bytes_brief acked (Some (with_byte run bits))) (bytes_known acked (Some (with_byte run bits)))
+    bytes_known (trees.byte bits acked (again frame)) run =
+        run_knows run (data_byte (spelled bits) (times 1) (go_on (frame_brief frame)) (bytes_brief acked None)) (refl, frame_known frame, bytes_known acked None)
+    bytes_known (last tail) run = run_knows run (no_more (tail_brief tail)) (tail_known tail)
+
+    tail_known : (t : TailTree) → KnowsTail draft (tail_brief t)
+    tail_known stop = tt
+    tail_known (again frame) = frame_known frame
+
+-- no byte has a range
+run_free : (run : Option Run) (b : BriefBytes) → bytes_ranges b ≡ 0 → bytes_ranges (after_run run b) ≡ 0
+run_free None b none = none
+run_free (Some run) b none = omega (arith, none)
+
+mutual
+  pub frame_free : (f : FrameTree) → frame_ranges (frame_brief f) ≡ 0
+  frame_free (write address acked refused) = let a = bytes_free acked None in let r = tail_free refused in omega (arith, a, r)
+  frame_free (read address count after refused) = let a = tail_free after in let r = tail_free refused in omega (arith, a, r)
+
+  bytes_free : (p : PayloadTree) (run : Option Run) → bytes_ranges (bytes_brief p run) ≡ 0
+  bytes_free (trees.byte bits acked stop) run =
+      run_free (ended_by run bits) (bytes_brief acked (Some (with_byte run bits))) (bytes_free acked (Some (with_byte run bits)))
+  bytes_free (trees.byte bits acked (again frame)) run =
+      let f = frame_free frame in
+      let a = bytes_free acked None in
+      run_free run (data_byte (spelled bits) (times 1) (go_on (frame_brief frame)) (bytes_brief acked None)) (omega (arith, f, a))
+  bytes_free (last tail) run = run_free run (no_more (tail_brief tail)) (tail_free tail)
+
+  tail_free : (t : TailTree) → tail_ranges (tail_brief t) ≡ 0
+  tail_free stop = refl
+  tail_free (again frame) = frame_free frame

@@ -1,0 +1,12 @@
+use Rattle.std.proofs.Common.{◌≡◌, drop}
+use Rattle.std.specs.List.{find}
+use Rattle.std.specs.Map.{keys_of}
+use Rattle.plan_core.specs.PlanContents.{plan_contents}
+use Rattle.brief_text.specs.Names.{is_brief_word}
+use Rattle.spellings.proofs.writing.word_of_interrupt.Given as goal
+
+-- no name before this one is such a word
+abbrev pub invariant-loop-k : goal.invariant-loop-k
+invariant-loop-k l =
+    let names = keys_of (plan_contents l.plan).interrupts in
+    find is_brief_word (drop l.k names) ≡ find is_brief_word names

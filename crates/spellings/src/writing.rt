@@ -1,0 +1,542 @@
+// A brief of a plan.
+
+ghost use Rattle.std.specs.Prelude.{◌≡◌, ◌<◌, ◌≤◌, ◌⊎◌, [], ◌∷◌, ◌++◌, All, IfOk, IfErr, IfSome, OnOk, length, map};
+ghost use Rattle.std.specs.Prelude.{codes, string_bytes, true, false, is_some};
+ghost use Rattle.std.specs.List.{find, flat_map, list_all};
+ghost use Rattle.std.specs.Map.{keys_of};
+ghost use Rattle.std.specs.Option.{option_map};
+ghost use Rattle.message_tree.specs.Patterns.{address_bits, pattern_bits};
+ghost use Rattle.message_tree.specs.Trees.{frame_tree, payload_tree, tail_tree};
+ghost use Rattle.plan_core.specs.Labels.{name_at};
+ghost use Rattle.plan_core.specs.NameBytes.{name_bytes};
+ghost use Rattle.plan_core.specs.PlanContents.{plan_contents};
+ghost use Rattle.plan_text.specs.Canonical.{Adds, bit_symbol, count_word, item_line, controller_line, never_line};
+ghost use Rattle.brief_text.specs.Briefs.{Means};
+ghost use Rattle.brief_text.specs.Names.{is_brief_word, has_brief_word, first_brief_word, LacksBrief};
+ghost use Rattle.spellings.specs.Runs.{run_of, run_before};
+ghost use Rattle.spellings.specs.Spelling.{hex_symbol, is_open, digit_symbol, target_word, data_word, run_word};
+ghost use Rattle.spellings.specs.Spelling.{run_words, frame_words, bytes_words, refused_words, next_words};
+ghost use Rattle.spellings.specs.Spelling.{message_line, interrupt_line, brief_spelled};
+ghost use Rattle.brief_text.specs.Words.{known_number};
+ghost use Rattle.spellings.specs.Writing.{ended_by, with_byte};
+
+use crate::families::gathered;
+use brief_text::{expand_brief, is_brief_word};
+use message_tree::{Address, Bit, Count, Frame, Pattern, Payload, Tail};
+use plan_core::{Name, Plan};
+use plan_text::{NoBrief, PlanError, print_plan};
+use std::alloc::{AllocError, Global};
+
+/// A brief that means this plan: addresses and data bytes in hex where their bits allow it, runs of equal bytes with
+/// their number, no `else stop`, and families where messages in a row differ in how often one byte stands.
+///
+/// # Errors
+///
+/// `Name` exactly where a name of the plan is a word of briefs, before memory is asked for; and `NoMemory`.
+pub fn brief_of(alloc: Global, plan: &Plan) -> Result<Vec<u8>, NoBrief>
+    ensures meant { IfOk result (λ text. Means text.items (plan_contents plan.now)) }
+    ensures names { IfOk result (λ text. has_brief_word (plan_contents plan.now) ≡ false) }
+    ensures refused { IfErr result (λ e. (e ≡ NoBrief.NoMemory) ⊎ LacksBrief (plan_contents plan.now) e) }
+{
+    if brief_word(plan).is_some() {
+        return Err(NoBrief::Name);
+    }
+    if let Some(brief) = gathered(alloc, plan)? {
+        if is_brief_of(alloc, brief.as_slice(), plan)? {
+            return Ok(brief);
+        }
+    }
+    Ok(written(alloc, plan)?)
+}
+
+// Whether the text means this plan: the plan that it means is spelled alike.
+fn is_brief_of(alloc: Global, text: &[u8], plan: &Plan) -> Result<bool, NoBrief>
+    ensures meant { IfOk result (λ yes. yes ≡ true → Means text.now (plan_contents plan.now)) }
+    ensures memory { IfErr result (λ e. e ≡ NoBrief.NoMemory) }
+{
+    match expand_brief(alloc, text) {
+        Ok(meant) => {
+            let one = print_plan(alloc, &meant)?;
+            let other = print_plan(alloc, plan)?;
+            Ok(one.as_slice() == other.as_slice())
+        }
+        Err(PlanError::NoMemory) => Err(NoBrief::NoMemory),
+        Err(_) => Ok(false),
+    }
+}
+
+/// The first name of the plan that is a word of briefs: of the messages, then of the controllers, then of the
+/// interrupts, each in plan order. There is none in a plan whose names a brief can say.
+pub fn brief_word(plan: &Plan) -> Option<&Name>
+    ensures some { is_some result ≡ has_brief_word (plan_contents plan.now) }
+    ensures first { option_map (λ name. name_bytes name.now) result ≡ first_brief_word (plan_contents plan.now) }
+{
+    word_of_message(plan)
+        .or(word_of_controller(plan))
+        .or(word_of_interrupt(plan))
+}
+
+fn word_of_message(plan: &Plan) -> Option<&Name>
+    ensures { option_map (λ name. name_bytes name.now) result ≡
+        find is_brief_word (keys_of (plan_contents plan.now).messages) }
+{
+    for k in 0..plan.messages() {
+        let name = plan.message_name(k);
+        if is_brief_word(name.as_str()) {
+            return Some(name);
+        }
+    }
+    None
+}
+
+fn word_of_controller(plan: &Plan) -> Option<&Name>
+    ensures { option_map (λ name. name_bytes name.now) result ≡
+        find is_brief_word (keys_of (plan_contents plan.now).controllers) }
+{
+    for k in 0..plan.controllers() {
+        let name = plan.controller_name(k);
+        if is_brief_word(name.as_str()) {
+            return Some(name);
+        }
+    }
+    None
+}
+
+fn word_of_interrupt(plan: &Plan) -> Option<&Name>
+    ensures { option_map (λ name. name_bytes name.now) result ≡
+        find is_brief_word (keys_of (plan_contents plan.now).interrupts) }
+{
+    for k in 0..plan.interrupts() {
+        let name = plan.interrupt_name(k);
+        if is_brief_word(name.as_str()) {
+            return Some(name);
+        }
+    }
+    None
+}
+
+// The text of a brief that means the plan.
+#[tactic(auto, unfolding(crate::specs::Spelling::brief_spelled))]
+fn written(alloc: Global, plan: &Plan) -> Result<Vec<u8>, AllocError>
+    ensures { IfOk result (λ text. text.items ≡ brief_spelled (plan_contents plan.now)) }
+{
+    let mut text = String::new(alloc);
+    text.push_str("brief 1\n")?;
+    messages(&mut text, plan)?;
+    controllers(&mut text, plan)?;
+    interrupts(&mut text, plan)?;
+    nevers(&mut text, plan)?;
+    Ok(text.into_bytes())
+}
+
+fn messages(text: &mut String, plan: &Plan) -> Result<(), AllocError>
+    ensures { OnOk result (string_bytes text.new ≡ string_bytes text.old ++
+        flat_map message_line (plan_contents plan.now).messages) }
+{
+    for k in 0..plan.messages() {
+        message(text, plan.message_name(k).as_str(), plan.message(k))?;
+    }
+    Ok(())
+}
+
+pub(crate) fn message(text: &mut String, name: &str, it: &Frame) -> Result<(), AllocError>
+    ensures { OnOk result (string_bytes text.new ≡ string_bytes text.old ++
+        message_line (name.now, frame_tree it.now)) }
+{
+    text.push_str("message")?;
+    word(text, name)?;
+    frames(text, it)?;
+    end(text)
+}
+
+fn controllers(text: &mut String, plan: &Plan) -> Result<(), AllocError>
+    ensures { OnOk result (string_bytes text.new ≡ string_bytes text.old ++
+        flat_map (controller_line (plan_contents plan.now)) (plan_contents plan.now).controllers) }
+{
+    for k in 0..plan.controllers() {
+        let name = plan.controller_name(k).as_str();
+        controller(text, plan, name, plan.controller_messages(k))?;
+    }
+    Ok(())
+}
+
+fn controller(text: &mut String, plan: &Plan, name: &str, sends: &[u32]) -> Result<(), AllocError>
+    requires { All (λ m. m < length (plan_contents plan.now).messages) sends.now }
+    ensures { OnOk result (string_bytes text.new ≡ string_bytes text.old ++
+        controller_line (plan_contents plan.now) (name.now, sends.now)) }
+{
+    text.push_str("controller")?;
+    word(text, name)?;
+    message_names(text, plan, sends)?;
+    end(text)
+}
+
+// The names of the messages with these numbers.
+fn message_names(text: &mut String, plan: &Plan, numbers: &[u32]) -> Result<(), AllocError>
+    requires { All (λ m. m < length (plan_contents plan.now).messages) numbers.now }
+    ensures { OnOk result (Adds (string_bytes text.old) (string_bytes text.new)
+        (map (name_at (plan_contents plan.now).messages) numbers.now)) }
+{
+    for message in numbers {
+        word(text, plan.message_name(*message).as_str())?;
+    }
+    Ok(())
+}
+
+pub(crate) fn interrupts(text: &mut String, plan: &Plan) -> Result<(), AllocError>
+    ensures { OnOk result (string_bytes text.new ≡ string_bytes text.old ++
+        flat_map interrupt_line (plan_contents plan.now).interrupts) }
+{
+    for k in 0..plan.interrupts() {
+        let name = plan.interrupt_name(k).as_str();
+        interrupt(text, name, plan.interrupt_address(k))?;
+    }
+    Ok(())
+}
+
+fn interrupt(text: &mut String, name: &str, target: u8) -> Result<(), AllocError>
+    ensures { OnOk result (string_bytes text.new ≡ string_bytes text.old ++ interrupt_line (name.now, target)) }
+{
+    text.push_str("interrupt")?;
+    word(text, name)?;
+    address(text, &Address::new(0x7f, target))?;
+    end(text)
+}
+
+pub(crate) fn nevers(text: &mut String, plan: &Plan) -> Result<(), AllocError>
+    ensures { OnOk result (string_bytes text.new ≡ string_bytes text.old ++
+        flat_map (never_line (plan_contents plan.now)) (plan_contents plan.now).nevers) }
+{
+    for k in 0..plan.nevers() {
+        let (first, second) = plan.never(k);
+        let first = plan.controller_name(first).as_str();
+        never(text, first, plan.controller_name(second).as_str())?;
+    }
+    Ok(())
+}
+
+fn never(text: &mut String, first: &str, second: &str) -> Result<(), AllocError>
+    ensures { OnOk result (string_bytes text.new ≡ string_bytes text.old ++
+        item_line (codes "never") (first.now ∷ (second.now ∷ []))) }
+{
+    text.push_str("never")?;
+    word(text, first)?;
+    word(text, second)?;
+    end(text)
+}
+
+// A frame, and those that follow it.
+#[cycle(frames)]
+fn frames(text: &mut String, it: &Frame) -> Result<(), AllocError>
+    ensures { OnOk result (Adds (string_bytes text.old) (string_bytes text.new) (frame_words (frame_tree it.now))) }
+{
+    match it {
+        Frame::Write {
+            address: target,
+            acked,
+            refused,
+        } => {
+            word(text, "write")?;
+            address(text, target)?;
+            after_refusal(text, refused)?;
+            payload(text, acked, None)
+        }
+        Frame::Read {
+            address: target,
+            count: bytes,
+            after,
+            refused,
+        } => {
+            word(text, "read")?;
+            address(text, target)?;
+            count(text, bytes)?;
+            after_refusal(text, refused)?;
+            following(text, after)
+        }
+    }
+}
+
+// Equal bytes that nothing follows where they are refused.
+#[derive(Clone, Copy)]
+pub(crate) struct Run {
+    bits: Pattern,
+    length: u8,
+}
+
+// What follows this run, of which nothing is written yet.
+#[cycle(frames)]
+fn payload(text: &mut String, it: &Payload, run: Option<Run>) -> Result<(), AllocError>
+    ensures { OnOk result (Adds (string_bytes text.old) (string_bytes text.new)
+        (bytes_words (payload_tree it.now) (run_before run))) }
+{
+    match it {
+        Payload::Byte {
+            bits,
+            acked,
+            refused,
+        } => match refused {
+            Tail::Stop => {
+                let longer = with_byte(text, run, *bits)?;
+                payload(text, acked, Some(longer))
+            }
+            Tail::Again(_) => {
+                end_run(text, run)?;
+                pattern(text, bits)?;
+                after_refusal(text, refused)?;
+                payload(text, acked, None)
+            }
+        },
+        Payload::Last(tail) => {
+            end_run(text, run)?;
+            following(text, tail)
+        }
+    }
+}
+
+// `else` and frames, where there are any.
+#[cycle(frames)]
+fn after_refusal(text: &mut String, it: &Tail) -> Result<(), AllocError>
+    ensures { OnOk result (Adds (string_bytes text.old) (string_bytes text.new) (refused_words (tail_tree it.now))) }
+{
+    match it {
+        Tail::Stop => Ok(()),
+        Tail::Again(frame) => {
+            word(text, "else")?;
+            word(text, "(")?;
+            frames(text, frame)?;
+            word(text, ")")
+        }
+    }
+}
+
+#[cycle(frames)]
+fn following(text: &mut String, it: &Tail) -> Result<(), AllocError>
+    ensures { OnOk result (Adds (string_bytes text.old) (string_bytes text.new) (next_words (tail_tree it.now))) }
+{
+    match it {
+        Tail::Stop => Ok(()),
+        Tail::Again(frame) => frames(text, frame),
+    }
+}
+
+// The run with one byte more. One of other bytes ends.
+pub(crate) fn with_byte(
+    text: &mut String,
+    run: Option<Run>,
+    bits: Pattern,
+) -> Result<Run, AllocError>
+    ensures run { IfOk result (λ longer. run_of longer ≡ with_byte (run_before run) bits) }
+    ensures ended { OnOk result (Adds (string_bytes text.old) (string_bytes text.new)
+        (run_words (ended_by (run_before run) bits))) }
+{
+    let Some(before) = run else {
+        return Ok(Run { bits, length: 1 });
+    };
+    if before.bits == bits && before.length < 255 {
+        return Ok(Run {
+            bits,
+            length: before.length + 1,
+        });
+    }
+    repeated(text, before)?;
+    Ok(Run { bits, length: 1 })
+}
+
+pub(crate) fn end_run(text: &mut String, run: Option<Run>) -> Result<(), AllocError>
+    ensures { OnOk result (Adds (string_bytes text.old) (string_bytes text.new) (run_words (run_before run))) }
+{
+    match run {
+        None => Ok(()),
+        Some(run) => repeated(text, run),
+    }
+}
+
+// A byte with its number.
+fn repeated(text: &mut String, run: Run) -> Result<(), AllocError>
+    ensures { OnOk result (Adds (string_bytes text.old) (string_bytes text.new) (run_word (run_of run) ∷ [])) }
+{
+    pattern(text, &run.bits)?;
+    if run.length > 1 {
+        let length = run.length;
+        write!(text, "*{length}")
+    } else {
+        Ok(())
+    }
+}
+
+// A space, and the word.
+pub(crate) fn word(text: &mut String, it: &str) -> Result<(), AllocError>
+    ensures { OnOk result (Adds (string_bytes text.old) (string_bytes text.new) (it.now ∷ [])) }
+{
+    text.push(' ')?;
+    text.push_str(it)
+}
+
+// The end of an item.
+pub(crate) fn end(text: &mut String) -> Result<(), AllocError>
+    ensures { OnOk result (string_bytes text.new ≡ string_bytes text.old ++ codes " ;\n") }
+{
+    text.push_str(" ;\n")
+}
+
+pub(crate) fn pattern(text: &mut String, it: &Pattern) -> Result<(), AllocError>
+    ensures { OnOk result (Adds (string_bytes text.old) (string_bytes text.new) (data_word it.now ∷ [])) }
+{
+    let bits = bits_of_pattern(it);
+    let (Some(high), Some(low)) = (digit(&bits[..4]), digit(&bits[4..])) else {
+        return in_bits(text, &bits);
+    };
+    if high != 'X' {
+        return in_hex(text, high, low);
+    }
+    if low != 'X' {
+        return in_hex(text, high, low);
+    }
+    word(text, "any")
+}
+
+pub(crate) fn address(text: &mut String, it: &Address) -> Result<(), AllocError>
+    ensures { OnOk result (Adds (string_bytes text.old) (string_bytes text.new) (target_word it.now ∷ [])) }
+{
+    let bits = bits_of_address(it);
+    let (Some(high), Some(low)) = (digit(&bits[..3]), digit(&bits[3..])) else {
+        return in_bits(text, &bits);
+    };
+    in_hex(text, high, low)
+}
+
+fn bits_of_pattern(it: &Pattern) -> [Bit; 8]
+    ensures { result ≡ pattern_bits it.now }
+{
+    [
+        it.bit(0),
+        it.bit(1),
+        it.bit(2),
+        it.bit(3),
+        it.bit(4),
+        it.bit(5),
+        it.bit(6),
+        it.bit(7),
+    ]
+}
+
+fn bits_of_address(it: &Address) -> [Bit; 7]
+    ensures { result ≡ address_bits it.now }
+{
+    [
+        it.bit(0),
+        it.bit(1),
+        it.bit(2),
+        it.bit(3),
+        it.bit(4),
+        it.bit(5),
+        it.bit(6),
+    ]
+}
+
+fn in_hex(text: &mut String, high: char, low: char) -> Result<(), AllocError>
+    requires { (high < 128) × (low < 128) }
+    ensures { OnOk result (Adds (string_bytes text.old) (string_bytes text.new)
+        ((codes "0x" ++ high ∷ low ∷ []) ∷ [])) }
+{
+    text.push_str(" 0x")?;
+    text.push(high)?;
+    text.push(low)
+}
+
+fn in_bits(text: &mut String, bits: &[Bit]) -> Result<(), AllocError>
+    ensures { OnOk result (Adds (string_bytes text.old) (string_bytes text.new)
+        ((codes "0b" ++ map bit_symbol bits.now) ∷ [])) }
+{
+    text.push_str(" 0b")?;
+    for bit in bits {
+        text.push(symbol(*bit))?;
+    }
+    Ok(())
+}
+
+// The digit of these bits, where all of them are known or all are open.
+fn digit(bits: &[Bit]) -> Option<char>
+    requires { length bits.now ≤ 4 }
+    ensures digit { result ≡ digit_symbol bits.now }
+    ensures ascii { IfSome result (λ digit. digit < 128) }
+{
+    if are_open(bits) {
+        return Some('X');
+    }
+    match known_value(bits) {
+        Some(value) => Some(hex_symbol(value)),
+        None => None,
+    }
+}
+
+fn are_open(bits: &[Bit]) -> bool
+    ensures { result ≡ list_all is_open bits.now }
+{
+    for bit in bits {
+        if !is_open(*bit) {
+            return false;
+        }
+    }
+    true
+}
+
+fn is_open(bit: Bit) -> bool
+    ensures { result ≡ is_open bit }
+{
+    match bit {
+        Bit::Zero => false,
+        Bit::One => false,
+        Bit::Either => true,
+    }
+}
+
+fn known_value(bits: &[Bit]) -> Option<u8>
+    requires { length bits.now ≤ 4 }
+    ensures value { result ≡ known_number 0 bits.now }
+    ensures small { IfSome result (λ n. n < 16) }
+{
+    let mut value = 0u8;
+    for bit in bits {
+        value = match *bit {
+            Bit::Zero => value * 2,
+            Bit::One => value * 2 + 1,
+            Bit::Either => return None,
+        };
+    }
+    Some(value)
+}
+
+fn hex_symbol(value: u8) -> char
+    requires { value < 16 }
+    ensures digit { result ≡ hex_symbol value }
+    ensures ascii { result < 128 }
+{
+    if value < 10 {
+        (b'0' + value) as char
+    } else {
+        (b'A' + (value - 10)) as char
+    }
+}
+
+fn symbol(bit: Bit) -> char
+    ensures { result ≡ bit_symbol bit }
+{
+    match bit {
+        Bit::Zero => '0',
+        Bit::One => '1',
+        Bit::Either => 'x',
+    }
+}
+
+// One number, or the least and the greatest around `..`.
+pub(crate) fn count(text: &mut String, it: &Count) -> Result<(), AllocError>
+    ensures { OnOk result (Adds (string_bytes text.old) (string_bytes text.new) (count_word it.now ∷ [])) }
+{
+    let (least, greatest) = (it.least(), it.greatest());
+    if least == greatest {
+        write!(text, " {least}")
+    } else {
+        write!(text, " {least}..{greatest}")
+    }
+}
