@@ -551,6 +551,35 @@ advice "eight clashes" "16 of 45" "never bmc/a1 host/get ; never bmc/a2 host/get
     "never bmc/a3 host/get ; never bmc/a4 host/get ; never bmc/a5 host/get ;" \
     "never bmc/a6 host/get ; never bmc/page host/get ; never bmc/page host/put ;" "(leaves 22 pairs unchecked)"
 
+# Interrupts, two of them on one line.
+brief 'brief 1' 'device sensor 0x48 ;' 'message get read sensor 1 ;' 'controller a get ;' '' \
+    'interrupt al sensor ; interrupt second sensor ;'
+want 1 "pair 0 a/get !al: answer against claim after 10010001
+    bus    S 48 Rd
+    a/get  S 48 Rd          next: a target's bit
+    !al    S 48 Rd (waits)  next: a wait for the answer
+    slot 8, the profile of interrupts: a target's bit meets a wait for the
+    answer. Both send alike until here.
+    see board.brief:3 and board.brief:6
+pair 1 a/get !second: answer against claim after 10010001
+    bus      S 48 Rd
+    a/get    S 48 Rd          next: a target's bit
+    !second  S 48 Rd (waits)  next: a wait for the answer
+    slot 8, the profile of interrupts: a target's bit meets a wait for the
+    answer. Both send alike until here.
+    see board.brief:3 and board.brief:6
+pair 2 !al !second: claim against claim after 10010001
+    bus      S 48 Rd
+    !al      S 48 Rd (waits)  next: a wait for the answer
+    !second  S 48 Rd (waits)  next: a wait for the answer
+    slot 8, the profile of interrupts: a wait for the answer meets a wait for
+    the answer. Both send alike until here.
+    see board.brief:6
+unsafe: 3 of 3 pairs
+    to mend each: a bit before its slot, known in both and different
+    no shape and no 'never' mends a pair with an interrupt: pair 0 pair 1 pair 2" ""
+run "interrupts of a brief" check --explain board.brief
+
 # Several files.
 printf '%s\n' 'brief 1' 'message set write 0x48 0x01 any ;' 'message get write 0x48 0x01 read 0x48 1 ;' \
     'controller bmc set ;' >first.brief
@@ -570,6 +599,13 @@ sed -i '/^message get/d' first.brief
 sed -i '2s/.*/message get write 0x48 0x01 read 0x48 1 ;/' second.brief
 sed -i 's/<stdin>:2 and <stdin>:3/first.brief:2 and second.brief:2/' want_out
 run "messages of two files" check --explain first.brief --with second.brief
+printf '%s\n' 'brief 1' 'interrupt al 0x48 ;' >alert.brief
+printf '%s\n' 'brief 1' 'message get read 0x48 1 ;' 'controller a get ;' >get.brief
+want 1 "    see get.brief:2 and alert.brief:2" ""
+"$twire" check --explain get.brief --with alert.brief >report 2>err
+echo "$?" >status
+grep '^    see' report >out
+compare "a message and an interrupt of two files"
 
 # The paths of places stay whole. Neither is a line too long, unless a path alone is, nor does 'see' stand alone.
 see() {
@@ -609,6 +645,15 @@ want 2 "wrong C5 pair 0
     and different there
     a plan that was changed wants a new certificate: twire certify PLAN" ""
 run "a certificate of a brief" verify --explain board.brief c.cert
+brief 'brief 1' 'message set write 0x48 0x01 ;' 'controller bmc set ;' '# the sensor' 'interrupt al 0x49 ;'
+printf '%s\n' 'cert 1' 'pairs 1' 'P1' >c.cert
+want 2 "wrong C5 pair 0
+    pair 0 is bmc/set and !al: what the certificate says of them is not so
+    see board.brief:2 and board.brief:5
+    it breaks off at word 1, in slot 0: no bit of this number is known in both
+    and different there
+    a plan that was changed wants a new certificate: twire certify PLAN" ""
+run "a certificate of a brief, of an interrupt" verify --explain board.brief c.cert
 
 brief 'brief 1' 'message set write 0x48 0x01 any ;' 'message page write 0x50 any*1..2 ;' 'controller bmc set page ;' \
     'interrupt al 0x48 ;' 'controller pch ;' 'never bmc/page pch ;'

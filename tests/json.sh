@@ -255,13 +255,13 @@ run "a rehearsal of an interrupt, explained" 0 '{"kind":"wire","wire":"01000011c
 {"kind":"won","participants":["!keypad"]}' "" \
     bench --format json --explain --certify "$examples/interrupts.plan" '!sensor,!keypad'
 
-# Places in briefs: of a split controller, of a family, of two files, and none of an interrupt.
+# Places in briefs: of a split controller, of a family, of two files, and of an interrupt.
 printf '%s\n' 'brief 1' 'message set write 0x48 0x01 any ;' 'message get write 0x48 0x01 read 0x48 1 ;' \
     'message page write 0x50 any*1..2 ;' 'controller bmc set page ;' >bmc.brief
-printf '%s\n' 'brief 1' 'controller pch get ; interrupt al 0x48 ;' 'never bmc/page pch ;' >'p"h.brief'
+printf '%s\n' 'brief 1' 'controller pch get ;' 'interrupt al 0x48 ;' 'never bmc/page pch ;' >'p"h.brief'
 board=(bmc.brief --with 'p"h.brief')
 set='{"file":"bmc.brief","line":2}' get='{"file":"bmc.brief","line":3}' page='{"file":"bmc.brief","line":4}'
-bmc='{"file":"bmc.brief","line":5}' pch='{"file":"p\"h.brief","line":2}'
+bmc='{"file":"bmc.brief","line":5}' pch='{"file":"p\"h.brief","line":2}' al='{"file":"p\"h.brief","line":3}'
 met='"participants":["bmc/set","pch/get"],"meet":["data","restart"],"after":"10010000l00000001l","places":['$set,$get']'
 run "an unsafe pair of two briefs" 1 '{"kind":"pair","pair":0,'"$met"'}
 {"kind":"plan","safe":false,"pairs":5,"unsafe_pairs":1}' "" check --format json "${board[@]}"
@@ -271,12 +271,12 @@ run "an unsafe pair of two briefs, explained" 1 '{"kind":"pair","pair":0,'"$met"
 "$twire" order --format json "${board[@]}" | sed -n '1,2p; /total/p' >out 2>err
 cat >want_out <<END
 {"kind":"order","pair":0,"participants":["bmc/set","pch/get"],"places":[$set,$get],"unsafe":true}
-{"kind":"order","pair":1,"participants":["bmc/set","!al"],"places":[$set,null],"first":[7,7]}
+{"kind":"order","pair":1,"participants":["bmc/set","!al"],"places":[$set,$al],"first":[7,7]}
 {"kind":"total","participant":"bmc/set","places":[$set,$bmc],"wins":1,"may_win":0,"loses":0}
 {"kind":"total","participant":"bmc_page/page_1","places":[$page,$bmc],"wins":0,"may_win":0,"loses":1}
 {"kind":"total","participant":"bmc_page/page_2","places":[$page,$bmc],"wins":0,"may_win":0,"loses":1}
 {"kind":"total","participant":"pch/get","places":[$get,$pch],"wins":1,"may_win":0,"loses":0}
-{"kind":"total","participant":"!al","wins":2,"may_win":0,"loses":2}
+{"kind":"total","participant":"!al","places":[$al],"wins":2,"may_win":0,"loses":2}
 END
 : >want_err
 echo 1 | tee want_status >status
@@ -285,17 +285,28 @@ run "participants of two briefs, counted" 1 '{"kind":"participant","participant"
 {"kind":"participant","participant":"bmc_page/page_1","places":['$page,$bmc'],"alone":0,"with_others":0}
 {"kind":"participant","participant":"bmc_page/page_2","places":['$page,$bmc'],"alone":0,"with_others":0}
 {"kind":"participant","participant":"pch/get","places":['$get,$pch'],"alone":0,"with_others":0}
-{"kind":"participant","participant":"!al","alone":0,"with_others":0}
+{"kind":"participant","participant":"!al","places":['$al'],"alone":0,"with_others":0}
 {"kind":"count","what":"unexplained","transactions":1}
 {"kind":"count","what":"cut","transactions":0}
 {"kind":"count","what":"unfinished","transactions":0}
 {"kind":"transactions","transactions":1,"unexplained":1}' "" capture --format json --summary "${board[@]}" "$dump"
 echo 'never bmc pch ;' >>'p"h.brief'
-run "a rehearsal of two briefs, explained" 0 '{"kind":"wire","wire":"10010000hs","explain":{"bytes":"S 48 Wr NA P","starters":[{"participant":"bmc/set","places":['$set,$bmc'],"puts":"10010000.s"},{"participant":"!al","puts":"10010001","lost":7}]}}
+run "a rehearsal of two briefs, explained" 0 '{"kind":"wire","wire":"10010000hs","explain":{"bytes":"S 48 Wr NA P","starters":[{"participant":"bmc/set","places":['$set,$bmc'],"puts":"10010000.s"},{"participant":"!al","places":['$al'],"puts":"10010001","lost":7}]}}
 {"kind":"won","participants":["bmc/set"]}' "" bench --format json --explain --certify "${board[@]}" 'bmc/set,!al'
+printf '%s\n' 'brief 1' 'message ask read 0x48 1 ;' 'controller a ask ;' >ask.brief
+printf '%s\n' 'brief 1' '' 'interrupt al' '0x48 ;' 'interrupt other 0x48 ;' >al.brief
+ask='{"file":"ask.brief","line":2}' first='{"file":"al.brief","line":3}' second='{"file":"al.brief","line":5}'
+run "unsafe pairs with interrupts of a brief" 1 '{"kind":"pair","pair":0,"participants":["a/ask","!al"],"meet":["answer","claim"],"after":"10010001","places":['$ask,$first']}
+{"kind":"pair","pair":1,"participants":["a/ask","!other"],"meet":["answer","claim"],"after":"10010001","places":['$ask,$second']}
+{"kind":"pair","pair":2,"participants":["!al","!other"],"meet":["claim","claim"],"after":"10010001","places":['$first,$second']}
+{"kind":"plan","safe":false,"pairs":3,"unsafe_pairs":3}' "" check --format json ask.brief --with al.brief
+sed -i 's/48/49/; 5s/49/4A/' al.brief
+printf '%s\n' 'cert 1' 'pairs 3' 'P6' 'P5' 'P1' >al.cert
+run "a proof that names another bit of two interrupts, explained" 2 '{"kind":"certificate","accepted":false,"code":"C5","pair":2,"explain":{"participants":["!al","!other"],"places":['$first,$second'],"word":1,"slot":0,"why":"no_split"}}' \
+    "" verify --format json --explain ask.brief --with al.brief al.cert --hints never
 echo 'never bmc seq ;' >>'p"h.brief'
 "$twire" check --format json "${board[@]}" 2>&1 >out | sed 's/,"byte".*}/}/' >err
-echo '{"kind":"refusal","code":"P8","line":5,"file":"p\"h.brief"}' >want_err
+echo '{"kind":"refusal","code":"P8","line":6,"file":"p\"h.brief"}' >want_err
 : >want_out
 echo 2 | tee want_status >status
 compare "a refusal in the second of two briefs"

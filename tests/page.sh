@@ -61,6 +61,13 @@ want "a capture: its explained report" \
 "$twire" page examples/two_writers.plan --capture examples/two_buses.vcd --scope board.i2c1 -o page.html
 want "a capture that the plan does not explain" 1 $?
 
+# Where participants stand in briefs: messages and interrupts.
+printf '%s\n' 'brief 1' 'message get read 0x48 1 ;' 'controller a get ;' >get.brief
+printf '%s\n' 'brief 1' '' 'interrupt al 0x48 ;' >alert.brief
+"$twire" page get.brief --with alert.brief -o page.html
+want "the places of a message and of an interrupt" '"label":"a/get","place":"get.brief:2"
+"label":"!al","place":"alert.brief:3"' "$(grep -o '"label":"[^"]*","place":"[^"]*"' page.html)"
+
 # A part of it, of which the data has the times as they are and as they are told.
 "$tests/../tools/dump" 100100000 2 | sed 's/^#20 .*/&\n#21 0"\n#22 1"/' >part.vcd
 printf '%s\n' 'plan 1' 'message m write 1001000 stop else stop ;' 'controller a m ;' >part.plan

@@ -151,23 +151,21 @@ fn file_line(place: Value) -> Result<(), String> {
     place.end()
 }
 
-// A participant, and where its message and its controller stand, where a brief was given.
+// A participant, and where its message and its controller stand, or where an interrupt does, where a brief was given.
 fn participant(fields: &mut Fields) -> Result<String, String> {
     let label = fields.text("participant")?;
-    places(fields, label.starts_with('!'))?;
+    places(fields, if label.starts_with('!') { 1 } else { 2 })?;
     Ok(label)
 }
 
-// Two lines of files, where a brief was given. Interrupts have none.
-fn places(fields: &mut Fields, is_interrupt: bool) -> Result<(), String> {
+// So many lines of files, where a brief was given.
+fn places(fields: &mut Fields, count: usize) -> Result<(), String> {
     let Some(places) = fields.maybe("places", Value::into_items)? else {
         return Ok(());
     };
-    only_if(places.len() == 2 && !is_interrupt, "there are two places of what stands in a brief")?;
+    only_if(places.len() == count, "there are other places of what stands in a brief")?;
     for place in places {
-        if !matches!(place, Value::Null) {
-            file_line(place)?;
-        }
+        file_line(place)?;
     }
     Ok(())
 }
@@ -268,7 +266,7 @@ fn quoted(code: &str) -> String {
 fn order(fields: &mut Fields) -> Result<String, String> {
     let pair = fields.number("pair")?;
     let [x, y] = fields.two("participants")?;
-    places(fields, false)?;
+    places(fields, 2)?;
     let head = format!("pair {pair} {x} {y}:");
     if let Some(is_unsafe) = fields.maybe("unsafe", Value::into_bool)? {
         return if is_unsafe { Ok(format!("{head} unsafe")) } else { Err("'unsafe' is false".to_owned()) };
@@ -291,7 +289,7 @@ fn pair(fields: &mut Fields) -> Result<String, String> {
     let [x, y] = fields.two("participants")?;
     let [one, other] = fields.two("meet")?;
     let wire = fields.text("after")?;
-    places(fields, false)?;
+    places(fields, 2)?;
     if let Some(mut explain) = fields.explain()? {
         let slot = explain.number("slot")?;
         let rule = explain.text("rule")?;
@@ -394,7 +392,7 @@ fn explained_certificate(explain: &mut Fields, code: &str) -> Result<(), String>
     }
     only_if(code == "C5", "of this code nothing is explained")?;
     explain.two("participants")?;
-    places(explain, false)?;
+    places(explain, 2)?;
     let word = explain.maybe("word", Value::into_number)?;
     if word.is_some() {
         explain.number("slot")?;

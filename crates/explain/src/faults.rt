@@ -107,14 +107,14 @@ fn tell_open(alloc: Global, lines: &mut Lines, label: &str, side: &Side) {
     say_all(lines, words);
 }
 
-/// Where the messages of two participants stand in briefs, if they do.
+/// Where the messages of two participants stand in briefs, or the interrupts that they are, if they do.
 pub(crate) fn tell_places(
     alloc: Global,
     lines: &mut Lines,
     words: PlanWords<'_>,
     both: (u32, u32),
 ) {
-    let told = match (words.message_at(both.0), words.message_at(both.1)) {
+    let told = match (words.item_at(both.0), words.item_at(both.1)) {
         (Some(first), Some(second)) if first != second => tell_two(alloc, lines, first, second),
         (Some(only), _) | (None, Some(only)) => tell_one(alloc, lines, only),
         (None, None) => Ok(()),

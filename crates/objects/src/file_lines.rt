@@ -12,11 +12,11 @@ pub(crate) struct At {
     line: u64,
 }
 
-/// Where the messages of a pair stand, of which an interrupt has none.
+/// Where the messages or the interrupts of a pair stand.
 pub(crate) type BothAt = (Option<At>, Option<At>);
 
-/// Where the message and the controller of a participant stand.
-pub(crate) type OneAt = (At, At);
+/// Where the message and the controller of a participant stand, or the interrupt that it is.
+pub(crate) type OneAt = Vec<At>;
 
 /// The places of a pair; nothing where no brief means the plan.
 ///
@@ -31,12 +31,12 @@ pub(crate) fn both_at(
     if !words.has_briefs() {
         return Ok(None);
     }
-    let first = message_at(alloc, words, both.0)?;
-    let second = message_at(alloc, words, both.1)?;
+    let first = item_at(alloc, words, both.0)?;
+    let second = item_at(alloc, words, both.1)?;
     Ok(Some((first, second)))
 }
 
-/// The places of a participant; nothing where no brief means the plan, and of an interrupt.
+/// The places of a participant; nothing where no brief means the plan.
 ///
 /// # Errors
 ///
@@ -46,17 +46,19 @@ pub(crate) fn one_at(
     words: PlanWords<'_>,
     p: u32,
 ) -> Result<Option<OneAt>, AllocError> {
-    match (words.message_at(p), words.controller_at(p)) {
-        (Some(message), Some(controller)) => {
-            let message = line_of(alloc, message)?;
-            let controller = line_of(alloc, controller)?;
-            Ok(Some((message, controller)))
-        }
-        _ => Ok(None),
+    let Some(item) = words.item_at(p) else {
+        return Ok(None);
+    };
+    let mut places = Vec::new(alloc);
+    places.push(line_of(alloc, item)?)?;
+    if let Some(controller) = words.controller_at(p) {
+        places.push(line_of(alloc, controller)?)?;
     }
+    Ok(Some(places))
 }
 
-/// The places of the messages of all participants, as they are written; nothing where no brief means the plan.
+/// The places of the messages and the interrupts of all participants, as they are written; nothing where no brief means
+/// the plan.
 ///
 /// # Errors
 ///
@@ -77,7 +79,7 @@ pub(crate) fn all_at(
 }
 
 fn written_at(alloc: Global, words: PlanWords<'_>, p: u32) -> Result<String, AllocError> {
-    let place = message_at(alloc, words, p)?;
+    let place = item_at(alloc, words, p)?;
     match serde_json::to_string(alloc, &place) {
         Ok(text) => Ok(text),
         // (out of memory: every key is a text)
@@ -97,8 +99,8 @@ pub(crate) fn line_at(
     }
 }
 
-fn message_at(alloc: Global, words: PlanWords<'_>, p: u32) -> Result<Option<At>, AllocError> {
-    match words.message_at(p) {
+fn item_at(alloc: Global, words: PlanWords<'_>, p: u32) -> Result<Option<At>, AllocError> {
+    match words.item_at(p) {
         Some(place) => Ok(Some(line_of(alloc, place)?)),
         None => Ok(None),
     }

@@ -254,7 +254,7 @@ function meetingText(pair, run) {
     : 'Slot ' + run.end + ': ' + winner + ' sends 0 and wins; the other one has lost.';
 }
 
-// Where the messages of the two stand in briefs.
+// Where the messages of the two, or the interrupts, stand in briefs.
 function placesOf(pair) {
   const places = [...new Set([pair.first, pair.second].map(one => one.place).filter(place => place))];
   return places.length > 0 ? element('p', {}, 'See ' + places.join(' and ') + '.') : null;

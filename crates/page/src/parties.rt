@@ -57,7 +57,7 @@ struct Interrupt<'a> {
 #[derive(Drop, Serialize)]
 struct Party {
     label: String,
-    // where its message stands in a brief
+    // where its message, or the interrupt itself, stands in a brief
     #[serde(skip_serializing_if = "Option::is_none")]
     place: Option<String>,
     #[serde(skip_serializing_if = "Option::is_none")]
@@ -189,9 +189,9 @@ impl Participants<'_> {
     }
 }
 
-// Where the message of a participant stands.
+// Where the message of a participant stands, or the interrupt that it is.
 fn place_of(alloc: Global, words: PlanWords<'_>, p: u32) -> Result<Option<String>, AllocError> {
-    let Some(place) = words.message_at(p) else {
+    let Some(place) = words.item_at(p) else {
         return Ok(None);
     };
     let mut text = Text::new(alloc);

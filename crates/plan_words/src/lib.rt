@@ -183,14 +183,20 @@ impl<'a> PlanWords<'a> {
         Some(message)
     }
 
-    /// Where the message of a participant stands.
-    pub fn message_at(self, p: u32) -> Option<FileLine<'a>> {
-        let (_, message) = self.sending(p)?;
+    /// Where what a participant sends stands: its message, or the interrupt that it is.
+    pub fn item_at(self, p: u32) -> Option<FileLine<'a>> {
         let origins = self.origins?;
-        self.at(*origins.messages.get(message as usize)?)
+        if self.plan.participants() <= p {
+            return None;
+        }
+        let spot = match self.plan.participant(p) {
+            Participant::Sending { message, .. } => origins.messages.get(message as usize)?,
+            Participant::Interrupt(interrupt) => origins.interrupts.get(interrupt as usize)?,
+        };
+        self.at(*spot)
     }
 
-    /// Where the controller of a participant stands.
+    /// Where the controller of a participant stands. None for an interrupt.
     pub fn controller_at(self, p: u32) -> Option<FileLine<'a>> {
         let (controller, _) = self.sending(p)?;
         self.at(self.origin(controller)?.spot)
