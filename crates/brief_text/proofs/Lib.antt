@@ -24,6 +24,7 @@ pub mod FrameAgainLemmas
 pub mod ItemAgainLemmas
 pub mod SizeLemmas
 pub mod SaidLemmas
+pub mod OneReadingLemmas
 pub mod GrowLemmas
 pub mod WrittenFrames
 pub mod WrittenItems
