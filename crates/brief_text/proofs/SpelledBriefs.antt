@@ -16,6 +16,7 @@ use Rattle.plan_text.specs.Canonical.{spaced, item_line, controller_line, never_
 use Rattle.lexer.specs.Lexemes.{text_end}
 use Rattle.plan_text.specs.Values.{address_by}
 use Rattle.plan_text.proofs.CanonicalItems.{All-here, message_named, controller_named, sent_named, interrupt_named, both_named}
+use Rattle.lexer.specs.Lexemes.{lexemes_of}
 use Rattle.brief_text.specs.declared.symbols.Keyword.{Keyword}
 use Rattle.brief_text.specs.declared.symbols.Keyword.TheVariants as keywords
 use Rattle.brief_text.specs.declared.symbols.Sign.TheVariants as signs
@@ -41,7 +42,7 @@ use Rattle.brief_text.proofs.WrittenPlans.{plan_said}
 end_token : (line : ℕ) (rest : List ℕ) → tokens_of line (codes " ;\n" ++ rest) ≡ next (sign signs.Semicolon) line (tokens_of (line + 1) rest)
 end_token line rest =
     sym (skips_space line 32 (codes " ;\n" ++ rest) (codes ";\n" ++ rest) refl (inr (inr refl)))
-    ∙ sign_here line 59 signs.Semicolon (codes ";\n" ++ rest) (codes "\n" ++ rest) refl refl
+    ∙ sign_here line 59 (codes ";\n" ++ rest) (codes "\n" ++ rest) refl refl
     ∙ ap (next (sign signs.Semicolon) line) (sym (skips_line_feed line (codes "\n" ++ rest) rest refl))
 
 -- the words of an item with its end
@@ -183,7 +184,7 @@ module _ (plan : Contents) (limits : IsWithinLimits plan) (free : has_brief_word
       (spelled_from interrupt_brief interrupt_line t (λ before x after e. interrupt_said x (interrupt_named plan limits before x after e) (All-here before x after t e (λ y. IsFree y.0) (free_entries t free_two.1))) [] t refl _ _ nevers))
 
   spelled : Spells (brief_spelled plan) (brief_items plan)
-  unfolding brief_spelled tokens_of token_of_word
+  unfolding brief_spelled tokens_of token_of_word lexemes_of
   spelled =
       let lines : List ℕ = flat_map message_line plan.messages ++ (flat_map (controller_line plan) plan.controllers ++ (flat_map interrupt_line plan.interrupts ++ flat_map (never_line plan) plan.nevers)) in
       let items = items_said 2 in

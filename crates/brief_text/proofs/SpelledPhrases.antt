@@ -15,15 +15,14 @@ use Rattle.plan_core.specs.Names.{IsName}
 use Rattle.plan_text.specs.Canonical.{spaced, count_word}
 use Rattle.plan_text.specs.Words.{is_digits}
 use Rattle.plan_text.proofs.Adding.{spaced-append}
-use Rattle.lexer.specs.declared.lexemes.Letters.TheVariants.{Dots}
+use Rattle.lexer.specs.declared.lexemes.Letters.TheVariants.{Dots, Brief}
+use Rattle.lexer.specs.Lexemes.{is_sign, is_word_part}
 use Rattle.plan_text.proofs.CanonicalWords.{count_is_word, decimal_digits, name_is_word}
 use Rattle.brief_text.specs.declared.symbols.Keyword.TheVariants as keywords
-use Rattle.brief_text.specs.declared.symbols.Sign.{Sign}
-use Rattle.brief_text.specs.declared.symbols.Sign.TheVariants as signs
 use Rattle.brief_text.specs.Grammar.{Phrase, one, ◌▸◌, SpellsName, SpellsNames, SpellsData, SpellsOften, SpellsCount, SpellsFrame, SpellsBytes, SpellsNext, SpellsRefused}
 use Rattle.brief_text.specs.Names.{is_brief_word}
 use Rattle.brief_text.specs.Spelling.{data_word, run_word, run_words, frame_words, bytes_words, refused_words, next_words}
-use Rattle.brief_text.specs.Tokens.{Token, keyword, word, sign, tokens_of, token_of_word, class_of, token_sign, is_word_part}
+use Rattle.brief_text.specs.Tokens.{Token, keyword, word, sign, sign_of, tokens_of, token_of_word}
 use Rattle.brief_text.specs.Trees.{spelled, times, BriefBytes, data_byte, no_more, go_on}
 use Rattle.brief_text.specs.Words.{repetition_by, so_often, is_countable}
 use Rattle.brief_text.specs.Writing.{Run, goes_on, same_pattern, ended_by, with_byte, after_run, frame_brief, bytes_brief, tail_brief}
@@ -54,9 +53,9 @@ said_word s = said_spaced s.says
 pub said_one : (w : List ℕ) (t : Token) → is_word w ≡ true → token_of_word w ≡ t → Said (w ∷ []) (one t)
 said_one w t is e = said_word (record { is_word = is; says = λ line rest apart. (line, word_token line w rest t is e apart) })
 
-said_sign : (byte : ℕ) (s : Sign) → class_of byte ≡ token_sign s → Said ((byte ∷ []) ∷ []) (one (sign s))
-said_sign byte s class = record {
-  says = λ line rest apart. (line, sym (skips_space line 32 (32 ∷ byte ∷ rest) (byte ∷ rest) refl (inr (inr refl))) ∙ sign_here line byte s (byte ∷ rest) rest refl class);
+said_sign : (byte : ℕ) → is_sign Brief byte ≡ true → Said ((byte ∷ []) ∷ []) (one (sign (sign_of byte)))
+said_sign byte is = record {
+  says = λ line rest apart. (line, sym (skips_space line 32 (32 ∷ byte ∷ rest) (byte ∷ rest) refl (inr (inr refl))) ∙ sign_here line byte (byte ∷ rest) rest refl is);
 }
 
 pub said_then : {xs ys : List (List ℕ)} {P Q : Phrase} → Said xs P → Said ys Q → Said (xs ++ ys) (P ▸ Q)
@@ -108,10 +107,10 @@ RunFits (Some run) = (1 ≤ run.1) × (run.1 ≤ 255)
 countable : (n : ℕ) → 1 ≤ n → n ≤ 255 → is_countable n ≡ true
 countable n low high = grind (arith, nat_tests)
 
-digit_part : (byte : ℕ) → is_ascii_digit byte ≡ true → is_word_part byte ≡ true
+digit_part : (byte : ℕ) → is_ascii_digit byte ≡ true → is_word_part Brief byte ≡ true
 digit_part byte h = grind (arith, nat_tests)
 
-digit_parts : (digits : List ℕ) → list_all is_ascii_digit digits ≡ true → list_all is_word_part digits ≡ true
+digit_parts : (digits : List ℕ) → list_all is_ascii_digit digits ≡ true → list_all (is_word_part Brief) digits ≡ true
 digit_parts [] h = refl
 digit_parts (b ∷ digits) h = let parts = and_parts _ _ h in and_from _ _ (digit_part b parts.0) (digit_parts digits parts.1)
 
@@ -136,7 +135,7 @@ often_said false n is low high line rest apart = inl (refl, grind (arith, nat_te
 often_said true n is low high line rest apart =
     let d = decimal_digits n (omega arith) in
     let token = subst (λ w. token_of_word w ≡ word w) (append-nil (decimal n)) (digits_token (decimal n) [] d.0) in
-    inr ((tokens_of line (decimal n ++ rest), (line, sign_here line 42 signs.Star (42 ∷ (decimal n ++ rest)) (decimal n ++ rest) refl refl), (decimal n, (line, word_token line (decimal n) rest (word (decimal n)) (digits_word (decimal n) d.0) token apart), number_read n (omega arith))), countable n low high)
+    inr ((tokens_of line (decimal n ++ rest), (line, sign_here line 42 (42 ∷ (decimal n ++ rest)) (decimal n ++ rest) refl refl), (decimal n, (line, word_token line (decimal n) rest (word (decimal n)) (digits_word (decimal n) d.0) token apart), number_read n (omega arith))), countable n low high)
 
 said_run : (run : Run) → 1 ≤ run.1 → run.1 ≤ 255 → Said (run_word run ∷ []) (SpellsData (spelled run.0) ▸ SpellsOften None (times run.1))
 said_run run low high = said_spaced (λ line rest apart.
@@ -207,7 +206,7 @@ mutual
 
   said_refused : (t : TailTree) → Said (refused_words t) (SpellsRefused None (tail_brief t))
   said_refused stop = said_none (λ line rest. inl refl)
-  said_refused (again frame) = record { says = (said_then said_else (said_then (said_sign 40 signs.Open refl) (said_then (said_frame frame) (said_sign 41 signs.Close refl)))).says }
+  said_refused (again frame) = record { says = (said_then said_else (said_then (said_sign 40 refl) (said_then (said_frame frame) (said_sign 41 refl)))).says }
 
   said_next : (t : TailTree) → Said (next_words t) (SpellsNext None (tail_brief t))
   said_next stop = said_none (λ line rest. refl)

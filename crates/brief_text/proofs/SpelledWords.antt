@@ -14,15 +14,15 @@ use Rattle.message_tree.specs.Patterns.{address_bits, pattern_bits}
 use Rattle.plan_core.specs.Names.{IsName, is_name, is_reserved, reserved_words}
 use Rattle.plan_text.specs.Canonical.{bit_symbol, address_word, pattern_word}
 use Rattle.plan_text.specs.Values.{pattern_of}
-use Rattle.lexer.specs.declared.lexemes.Letters.TheVariants.{Dots}
-use Rattle.lexer.specs.Lexemes as plain
+use Rattle.lexer.specs.declared.lexemes.Letters.TheVariants.{Dots, Brief}
+use Rattle.lexer.specs.Lexemes.{is_word_part, begins_with_part}
 use Rattle.plan_text.proofs.CanonicalWords as words
 use Rattle.plan_text.proofs.ValueLemmas.{address_found, pattern_found}
 use Rattle.brief_text.specs.declared.symbols.Keyword.TheVariants as keywords
 use Rattle.brief_text.specs.Grammar.{Phrase, SpellsData, SpellsTo}
 use Rattle.brief_text.specs.Names.{is_brief_word}
 use Rattle.brief_text.specs.Spelling.{digit_symbol, target_of, target_word, data_of, data_word}
-use Rattle.brief_text.specs.Tokens.{Token, keyword, word, next, tokens_of, is_word_part, begins_with_part, token_of_word}
+use Rattle.brief_text.specs.Tokens.{Token, keyword, word, next, tokens_of, token_of_word}
 use Rattle.brief_text.specs.Trees.{spelled}
 use Rattle.brief_text.specs.Words.{digit_bits, any_byte, data_by, address_by, hex_bits, eight_bits, seven_bits}
 use Rattle.brief_text.proofs.TokenLemmas.{word_here}
@@ -31,26 +31,26 @@ use Rattle.brief_text.proofs.WordLemmas.{data_base_2, data_base_16, address_base
 -- a part of words, and then more of them or none
 abbrev pub is_word : List ℕ → Bool
 is_word [] = false
-is_word (byte ∷ bytes) = is_word_part byte && list_all is_word_part bytes
+is_word (byte ∷ bytes) = is_word_part Brief byte && list_all (is_word_part Brief) bytes
 
 -- these bytes do not go on with a word
 abbrev pub Apart : List ℕ → Type 0
-Apart rest = begins_with_part rest ≡ false
+Apart rest = begins_with_part Brief rest ≡ false
 
-parts_before : (w rest : List ℕ) → list_all is_word_part w ≡ true → Apart rest → prefix_len is_word_part (w ++ rest) ≡ length w
+parts_before : (w rest : List ℕ) → list_all (is_word_part Brief) w ≡ true → Apart rest → prefix_len (is_word_part Brief) (w ++ rest) ≡ length w
 parts_before [] [] all apart = refl
-parts_before [] (b ∷ rest) all apart = ap (λ t. cond t (1 + prefix_len is_word_part rest) 0) apart
+parts_before [] (b ∷ rest) all apart = ap (λ t. cond t (1 + prefix_len (is_word_part Brief) rest) 0) apart
 parts_before (b ∷ w) rest all apart =
     let parts = and_parts _ _ all in
-    ap (λ t. cond t (1 + prefix_len is_word_part (w ++ rest)) 0) parts.0 ∙ one-add (prefix_len is_word_part (w ++ rest)) ∙ ap suc (parts_before w rest parts.1 apart)
+    ap (λ t. cond t (1 + prefix_len (is_word_part Brief) (w ++ rest)) 0) parts.0 ∙ one-add (prefix_len (is_word_part Brief) (w ++ rest)) ∙ ap suc (parts_before w rest parts.1 apart)
 
 -- a word is one token
 pub word_token : (line : ℕ) (w rest : List ℕ) (t : Token) → is_word w ≡ true → token_of_word w ≡ t → Apart rest → tokens_of line (w ++ rest) ≡ next t line (tokens_of line rest)
 word_token line [] rest t is e apart = absurd (true≢false (sym is))
 word_token line (b ∷ bytes) rest t is e apart =
     let w : List ℕ = b ∷ bytes in
-    let parts = and_parts (is_word_part b) _ is in
-    let count : suc (length bytes) ≡ prefix_len is_word_part (w ++ rest) = sym (parts_before w rest is apart) in
+    let parts = and_parts (is_word_part Brief b) _ is in
+    let count : suc (length bytes) ≡ prefix_len (is_word_part Brief) (w ++ rest) = sym (parts_before w rest is apart) in
     word_here line b (suc (length bytes)) (w ++ rest) (bytes ++ rest) refl parts.0 count
     ∙ ap (λ x. next (token_of_word x) line (tokens_of line (drop (suc (length bytes)) (w ++ rest)))) (take_at w rest (suc (length bytes)) refl)
     ∙ ap (λ x. next x line (tokens_of line (drop (suc (length bytes)) (w ++ rest)))) e
@@ -63,10 +63,10 @@ digit_first byte bytes small =
     rw (ne_eqb byte 98 (λ e. omega arith), ne_eqb byte 100 (λ e. omega arith), ne_eqb byte 97 (λ e. omega arith), ne_eqb byte 109 (λ e. omega arith), ne_eqb byte 99 (λ e. omega arith), ne_eqb byte 105 (λ e. omega arith), ne_eqb byte 110 (λ e. omega arith), ne_eqb byte 119 (λ e. omega arith), ne_eqb byte 114 (λ e. omega arith), ne_eqb byte 101 (λ e. omega arith), ne_eqb byte 115 (λ e. omega arith)) refl
 
 -- what is a part of words of plans is one of briefs
-part_too : (byte : ℕ) → plain.is_word_part Dots byte ≡ true → is_word_part byte ≡ true
+part_too : (byte : ℕ) → is_word_part Dots byte ≡ true → is_word_part Brief byte ≡ true
 part_too byte h = grind (arith, nat_tests)
 
-parts_too : (w : List ℕ) → list_all (plain.is_word_part Dots) w ≡ true → list_all is_word_part w ≡ true
+parts_too : (w : List ℕ) → list_all (is_word_part Dots) w ≡ true → list_all (is_word_part Brief) w ≡ true
 parts_too [] h = refl
 parts_too (b ∷ w) h = let parts = and_parts _ _ h in and_from _ _ (part_too b parts.0) (parts_too w parts.1)
 
@@ -110,19 +110,19 @@ name_token name is no_word =
 
 -- ---- digits
 
-symbol_is_part : (bit : Bit) → is_word_part (bit_symbol bit) ≡ true
+symbol_is_part : (bit : Bit) → is_word_part Brief (bit_symbol bit) ≡ true
 symbol_is_part Zero = refl
 symbol_is_part One = refl
 symbol_is_part Either = refl
 
-symbols_are_parts : (bits : List Bit) → list_all is_word_part (map bit_symbol bits) ≡ true
+symbols_are_parts : (bits : List Bit) → list_all (is_word_part Brief) (map bit_symbol bits) ≡ true
 symbols_are_parts [] = refl
 symbols_are_parts (bit ∷ bits) = and_from _ _ (symbol_is_part bit) (symbols_are_parts bits)
 
 -- where there is a digit, it stands for these bits
 abbrev Digit : Option ℕ → List ℕ → Type 0
 Digit None bits = Unit {0}
-Digit (Some d) bits = (is_word_part d ≡ true) × (digit_bits d ≡ Some bits)
+Digit (Some d) bits = (is_word_part Brief d ≡ true) × (digit_bits d ≡ Some bits)
 
 four_bits : (a b c e : Bit) → Digit (digit_symbol (a ∷ b ∷ c ∷ e ∷ [])) (map bit_symbol (a ∷ b ∷ c ∷ e ∷ []))
 unfolding digit_bits
@@ -140,7 +140,7 @@ four_of bits h = absurd (omega arith)
 -- the first of its bits is no 1
 abbrev TopDigit : Option ℕ → List ℕ → Type 0
 TopDigit None bits = Unit {0}
-TopDigit (Some d) bits = (is_word_part d ≡ true) × ((top : ℕ) × (digit_bits d ≡ Some (top ∷ bits)) × ((top == 49) ≡ false))
+TopDigit (Some d) bits = (is_word_part Brief d ≡ true) × ((top : ℕ) × (digit_bits d ≡ Some (top ∷ bits)) × ((top == 49) ≡ false))
 
 three_bits : (a b c : Bit) → TopDigit (digit_symbol (a ∷ b ∷ c ∷ [])) (map bit_symbol (a ∷ b ∷ c ∷ []))
 unfolding digit_bits

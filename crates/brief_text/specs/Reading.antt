@@ -1,7 +1,6 @@
 -- What the functions of the reader say of the tokens that are left.
 -- Only private contracts and proofs use this.
-use Rattle.std.specs.Prelude.{◌≡◌, ℕ, false, List, [], ◌∷◌, length, Option, Some, None}
-use Rattle.lexer.specs.Reading.{is_skipped}
+use Rattle.std.specs.Prelude.{ℕ, Option, Some, None}
 use Rattle.lexer.specs.Lexemes.{text_end, foreign, stray}
 use Rattle.plan_text.specs.Words.{number}
 use Rattle.plan_text.specs.declared.errors.PlanError.{PlanError}
@@ -15,18 +14,9 @@ use Rattle.brief_text.specs.declared.words.Repetition.TheVariants as repetitions
 use Rattle.brief_text.specs.Tokens as spec
 use Rattle.brief_text.specs.Words as spoken
 
--- the bytes that are left
-abbrev pub unread : Tokens → ℕ
-unread tokens = length tokens.rest.now
-
 -- the tokens that are left
 abbrev pub left : Tokens → spec.Tokens
-left tokens = spec.tokens_of tokens.line tokens.rest.now
-
--- neither white space nor a comment stands at the front
-abbrev pub BeginsHere : List ℕ → Type 0
-BeginsHere [] = Unit {0}
-BeginsHere (byte ∷ bytes) = is_skipped byte ≡ false
+left tokens = spec.tokens_of tokens.lexer.line tokens.lexer.rest.now
 
 -- a symbol on its line, and these tokens after it
 abbrev pub with_symbol : Symbol → ℕ → spec.Tokens → spec.Tokens

@@ -3,7 +3,9 @@
 ghost use Rattle.std.specs.Prelude.{◌≡◌, Some, true, false};
 ghost use Rattle.brief_text.specs.Tokens.{keyword_of, token_of_word, sign_of};
 ghost use Rattle.brief_text.specs.Reading.{token_of_symbol};
+ghost use Rattle.lexer.specs.Lexemes as lexemes;
 
+use lexer::Lexeme;
 use plan_text::PlanError;
 
 /// A word that the language has in fixed places.
@@ -57,9 +59,29 @@ pub(crate) struct Token<'a> {
 }
 
 impl<'a> Token<'a> {
+    ghost use Rattle.lexer.specs.Reading.{with_lexeme};
     ghost use Rattle.brief_text.specs.Reading.{unexpected_at, with_token};
     ghost use Rattle.brief_text.specs.Briefs.{no_version};
+    ghost use Rattle.brief_text.specs.Tokens.{tokens_from};
     ghost use Rattle.brief_text.specs.Tokens as tokens;
+
+    /// The token that a lexeme is.
+    pub(crate) fn of(lexeme: Lexeme<'a>) -> Self
+        ensures { (rest : lexemes.Lexemes) →
+            tokens_from (with_lexeme lexeme.entry rest) ≡ with_token result (tokens_from rest) }
+    {
+        let symbol = match lexeme.symbol {
+            lexer::Symbol::Word(word) => word_symbol(word),
+            lexer::Symbol::Sign(byte) => Symbol::Sign(sign_of(byte)),
+            lexer::Symbol::Stray => Symbol::Stray,
+            lexer::Symbol::Foreign => Symbol::Foreign,
+            lexer::Symbol::End => Symbol::End,
+        };
+        Token {
+            symbol,
+            line: lexeme.line,
+        }
+    }
 
     /// The refusal of this token where the grammar does not allow it.
     pub(crate) fn unexpected(&self) -> PlanError
@@ -92,7 +114,7 @@ impl<'a> Token<'a> {
 
 /// The symbol that this word is.
 #[tactic(auto, unfolding(crate::specs::Tokens::token_of_word))]
-pub(crate) fn word_symbol(word: &[u8]) -> Symbol<'_>
+fn word_symbol(word: &[u8]) -> Symbol<'_>
     ensures { token_of_symbol result ≡ Some (token_of_word word.now) }
 {
     match keyword_of(word) {
@@ -133,15 +155,14 @@ fn keyword_of(word: &[u8]) -> Option<Keyword>
     }
 }
 
-/// The sign that this byte is.
-pub(crate) fn sign_of(byte: u8) -> Option<Sign>
+// The character that stands by itself: no other does in a brief.
+fn sign_of(byte: u8) -> Sign
     ensures { result ≡ sign_of byte }
 {
     match byte {
-        b';' => Some(Sign::Semicolon),
-        b'(' => Some(Sign::Open),
-        b')' => Some(Sign::Close),
-        b'*' => Some(Sign::Star),
-        _ => None,
+        b'(' => Sign::Open,
+        b')' => Sign::Close,
+        b'*' => Sign::Star,
+        _ => Sign::Semicolon,
     }
 }
