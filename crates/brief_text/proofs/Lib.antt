@@ -23,4 +23,5 @@ pub mod FrameAgainLemmas
 pub mod ItemAgainLemmas
 pub mod SizeLemmas
 pub mod SaidLemmas
+pub mod OneReadingLemmas
 pub mod GrowLemmas

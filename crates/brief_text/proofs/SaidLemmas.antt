@@ -20,7 +20,7 @@ use Rattle.brief_text.proofs.SaysLemmas.{text_takes}
 use Rattle.brief_text.proofs.SizeLemmas.{tokens_small}
 use Rattle.brief_text.proofs.ValueLemmas.{size}
 
-not_end : (item : BriefItem) (from to : Tokens) → SpellsItem item from to → is_end from ≡ false
+pub not_end : (item : BriefItem) (from to : Tokens) → SpellsItem item from to → is_end from ≡ false
 not_end (device name address) from to s = ap is_end s.1.1
 not_end (byte name bits) from to s = ap is_end s.1.1
 not_end (message name range frame) from to s = ap is_end s.1.1

@@ -1,7 +1,8 @@
 // What holds of every text of briefs. A law does nothing: its contract is the theorem.
 
-ghost use Rattle.std.specs.Prelude.{◌≡◌, ℕ, List, Ok};
+ghost use Rattle.std.specs.Prelude.{◌≡◌, ◌⊎◌, ℕ, List, Ok, Err};
 ghost use Rattle.plan_core.specs.Contents.{Contents};
+ghost use Rattle.plan_text.specs.declared.errors.PlanError.{PlanError};
 ghost use Rattle.brief_text.specs.Briefs.{text_read, Means};
 ghost use Rattle.brief_text.specs.Drafts.{Draft, no_items};
 ghost use Rattle.brief_text.specs.Fitting.{Says};
@@ -12,6 +13,17 @@ ghost use Rattle.brief_text.specs.Splitting.{plan_meant};
 pub fn texts_are_read_as_spelled()
     ensures read { (text : List ℕ) (draft after : Draft) → text_read draft text ≡ Ok after → Says text draft after }
     ensures spelled { (text : List ℕ) (draft after : Draft) → Says text draft after → text_read draft text ≡ Ok after }
+{}
+
+/// A text, read after others, says exactly one list of items that fit and has no refusal, or it has one and says none.
+pub fn texts_have_one_reading()
+    ensures one_tree { (text : List ℕ) (draft P Q : Draft) (p : Says text draft P) (q : Says text draft Q)
+        → p.items ≡ q.items }
+    ensures one_draft { (text : List ℕ) (draft P Q : Draft) → Says text draft P → Says text draft Q → P ≡ Q }
+    ensures not_both { (text : List ℕ) (draft after : Draft) (e : PlanError)
+        → Says text draft after → text_read draft text ≡ Err e → ⊥ }
+    ensures one_of_both { (text : List ℕ) (draft : Draft) → ((after : Draft) × Says text draft after)
+        ⊎ ((e : PlanError) × (text_read draft text ≡ Err e)) }
 {}
 
 /// A brief means the plan that its items make up, and no other.
