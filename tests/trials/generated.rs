@@ -92,7 +92,7 @@ fn asked_of(made: Made, dice: &mut Dice) -> Asked {
         Made::Certified => asked(Command::Certify, generated::plan(dice), String::new()),
         Made::Capture => captured(generated::plan(dice), dice, generated::dump),
         Made::WrongCapture => captured(generated::plan(dice), dice, generated::wrong_dump),
-        Made::Lengths => captured(generated::plan_of_lengths(dice), dice, generated::dump),
+        Made::Lengths => captured(generated::plan_of_lengths(dice), dice, generated::clean_dump),
         Made::Bench => {
             let (plan, starters) = started(dice);
             let (fill, answers) = (dice.index(2) == 1, generated::answers(dice));
