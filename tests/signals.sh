@@ -761,7 +761,7 @@ controller seen write_50_any_0 write_50_any_1 write_50_any_2 write_50_2 write_50
 expect "a family, and data put together" 0 "$("$twire" learn lengths --widen)" "" learn lengths --merge --widen
 
 # Lengths with gaps, one of which does something else after a NACK, and one whose second data byte was not acknowledged.
-seen_in 1000 >gaps <<'BYTES'
+seen_in 2000 >gaps <<'BYTES'
 50w 00 a1 a2 a3 a4
 50w 00 a1
 50w 00 b1 b2 b3 b4 b5
@@ -775,21 +775,21 @@ expect "families with gaps" 0 'brief 1
 # seen: 8 transactions, 5 messages
 
 # 1 times, first at 1000: S 50 Wr A 00 A a1 A a2 A a3 A a4 A P
-# 1 times, first at 4000: S 50 Wr A 00 A b1 A b2 NA P
-# 1 times, first at 7000: S 50 Wr NA Sr 51 Wr A 00 A P
+# 1 times, first at 7000: S 50 Wr A 00 A b1 A b2 NA P
+# 1 times, first at 13000: S 50 Wr NA Sr 51 Wr A 00 A P
 # never seen: 0x00 NA, 51 Wr NA,
 message write_50 write 0x50 else ( write 0x51 0x00 ) 0x00 any*4 ;
 
-# 2 times, first at 2000: S 50 Wr A 00 A a1 A P
-# 1 times, first at 5000: S 50 Wr A 00 A c1 A c2 A P
+# 2 times, first at 3000: S 50 Wr A 00 A a1 A P
+# 1 times, first at 9000: S 50 Wr A 00 A c1 A c2 A P
 # never seen: 50 Wr NA, 0x00 NA, any NA,
 message write_50_2_any write 0x50 0x00 any*1..2 ;
 
-# 1 times, first at 3000: S 50 Wr A 00 A b1 A b2 A b3 A b4 A b5 A P
+# 1 times, first at 5000: S 50 Wr A 00 A b1 A b2 A b3 A b4 A b5 A P
 # never seen: 50 Wr NA, 0x00 NA, any NA,
 message write_50_3 write 0x50 0x00 any*5 ;
 
-# 1 times, first at 6000: S 50 Wr A 00 A d1 A d2 A d3 A d4 A d5 A d6 A d7 A P
+# 1 times, first at 11000: S 50 Wr A 00 A d1 A d2 A d3 A d4 A d5 A d6 A d7 A P
 # never seen: 50 Wr NA, 0x00 NA, any NA,
 message write_50_4 write 0x50 0x00 any*7 ;
 
