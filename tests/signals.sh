@@ -669,22 +669,182 @@ message write_48 write 0x48 0x01 ;
 message write_48_2 write 0x48 0x02 ;
 
 controller seen write_48_read_48 write_48 write_48_2 ;' "" learn lesson
-expect "messages of one shape put together" 1 'brief 1
-# seen: 7 transactions, 2 messages
-# in no message: 2, first at 6000: a START or STOP stands in the midst of a
-#   byte, or no byte between two
+expect "registers are not put together" 1 "$("$twire" learn lesson)" "" learn lesson --merge
+expect "registers are not widened" 1 "$("$twire" learn lesson)" "" learn lesson --widen
 
-# 1 times, first at 1000: S 48 Wr A 01 A Sr 48 Rd A (2 bytes) P
-# 1 times, first at 2000: S 48 Wr NA Sr 50 Wr A 00 A P
-# never seen: 0x01 NA, 48 Rd NA, 50 Wr NA, 0x00 NA,
-message write_48_read_48 write 0x48 else ( write 0x50 0x00 ) 0x01 read 0x48 2 ;
+# levels BYTE..: the levels of these bytes. After two digits of an address stands w or r, after what is not acknowledged `!`,
+# and a repeated START is `sr`.
+levels() {
+    local byte value k text=
+    for byte; do
+        [[ $byte == sr ]] && text+=r && continue
+        value=$((16#${byte:0:2}))
+        case $byte in
+            ??w*) value=$((2 * value)) ;;
+            ??r*) value=$((2 * value + 1)) ;;
+        esac
+        for k in 7 6 5 4 3 2 1 0; do text+=$((value >> k & 1)); done
+        [[ $byte == *! ]] && text+=1 || text+=0
+    done
+    echo "$text"
+}
 
-# 2 times, first at 3000: S 48 Wr A 01 A P
-# 1 times, first at 4000: S 48 Wr A 02 A P
-# never seen: 48 Wr NA, 0b000000xx NA,
-message write_48 write 0x48 0b000000xx ;
+# seen_in: a dump of the transactions on standard input, one a line, each of the bytes of `levels`; they begin at 1000 and at
+# what follows in steps of so many.
+seen_in() {
+    local time=1000
+    printf '%s\n' '$var wire 1 ! scl $end' '$var wire 1 " sda $end' '$enddefinitions $end' '#0 1! 1"'
+    while read -ra bytes; do
+        transaction ! '"' "$(levels "${bytes[@]}")" $time
+        time=$((time + $1))
+    done
+}
 
-controller seen write_48_read_48 write_48 ;' "" learn lesson --merge
+seen_in 1000 >registers <<'BYTES'
+48w 01 10 25
+48w 01 1f 27
+48w 02 10 25
+48w 01 15
+BYTES
+expect "data put together" 0 'brief 1
+# seen: 4 transactions, 3 messages
+
+# 1 times, first at 1000: S 48 Wr A 01 A 10 A 25 A P
+# 1 times, first at 2000: S 48 Wr A 01 A 1f A 27 A P
+# never seen: 48 Wr NA, 0x01 NA, 0x1X NA, 0b001001x1 NA,
+message write_48 write 0x48 0x01 0x1X 0b001001x1 ;
+
+# 1 times, first at 3000: S 48 Wr A 02 A 10 A 25 A P
+# never seen: 48 Wr NA, 0x02 NA, 0x10 NA, 0x25 NA,
+message write_48_2 write 0x48 0x02 0x10 0x25 ;
+
+# 1 times, first at 4000: S 48 Wr A 01 A 15 A P
+# never seen: 48 Wr NA, 0x01 NA, 0x15 NA,
+message write_48_3 write 0x48 0x01 0x15 ;
+
+controller seen write_48 write_48_2 write_48_3 ;' "" learn registers --merge
+
+# The example of docs/CAPTURES.md.
+seen_in 1000 >lengths <<'BYTES'
+50w 00
+50w 00 11
+50w 00 22 33
+50w 10 44 55 66 77
+50w 00 sr 50r aa!
+BYTES
+expect "a family" 0 'brief 1
+# seen: 5 transactions, 5 messages
+
+# 1 times, first at 1000: S 50 Wr A 00 A P
+# 1 times, first at 2000: S 50 Wr A 00 A 11 A P
+# 1 times, first at 3000: S 50 Wr A 00 A 22 A 33 A P
+# never seen: 50 Wr NA, 0x00 NA, any NA,
+message write_50_any write 0x50 0x00 any*0..2 ;
+
+# 1 times, first at 4000: S 50 Wr A 10 A 44 A 55 A 66 A 77 A P
+# never seen: 50 Wr NA, 0x10 NA, any NA,
+message write_50_2 write 0x50 0x10 any*4 ;
+
+# 1 times, first at 5000: S 50 Wr A 00 A Sr 50 Rd A (1 bytes) P
+# never seen: 50 Wr NA, 0x00 NA, 50 Rd NA,
+message write_50_read_50 write 0x50 0x00 read 0x50 1 ;
+
+controller seen write_50_any write_50_2 write_50_read_50 ;' "" learn lengths --widen
+"$twire" learn lengths --widen -o learned
+expect "its messages" 0 "plan 1
+message write_50_any_0 write 1010000 00000000 stop else stop else stop ;
+message write_50_any_1 write 1010000 00000000 xxxxxxxx stop else stop else stop else stop ;
+message write_50_any_2 write 1010000 00000000 xxxxxxxx xxxxxxxx stop else stop else stop else stop else stop ;
+message write_50_2 write 1010000 00010000 xxxxxxxx xxxxxxxx xxxxxxxx xxxxxxxx stop$(printf ' else stop%.0s' 1 2 3 4 5 6) ;
+message write_50_read_50 write 1010000 00000000 again read 1010000 1 stop else stop else stop else stop ;
+controller seen write_50_any_0 write_50_any_1 write_50_any_2 write_50_2 write_50_read_50 ;" "" expand learned
+expect "a family, and data put together" 0 "$("$twire" learn lengths --widen)" "" learn lengths --merge --widen
+
+# Lengths with gaps, one of which does something else after a NACK, and one whose second data byte was not acknowledged.
+seen_in 2000 >gaps <<'BYTES'
+50w 00 a1 a2 a3 a4
+50w 00 a1
+50w 00 b1 b2 b3 b4 b5
+50w 00 b1 b2!
+50w 00 c1 c2
+50w 00 d1 d2 d3 d4 d5 d6 d7
+50w! sr 51w 00
+50w 00 a1
+BYTES
+expect "families with gaps" 0 'brief 1
+# seen: 8 transactions, 5 messages
+
+# 1 times, first at 1000: S 50 Wr A 00 A a1 A a2 A a3 A a4 A P
+# 1 times, first at 7000: S 50 Wr A 00 A b1 A b2 NA P
+# 1 times, first at 13000: S 50 Wr NA Sr 51 Wr A 00 A P
+# never seen: 0x00 NA, 51 Wr NA,
+message write_50 write 0x50 else ( write 0x51 0x00 ) 0x00 any*4 ;
+
+# 2 times, first at 3000: S 50 Wr A 00 A a1 A P
+# 1 times, first at 9000: S 50 Wr A 00 A c1 A c2 A P
+# never seen: 50 Wr NA, 0x00 NA, any NA,
+message write_50_2_any write 0x50 0x00 any*1..2 ;
+
+# 1 times, first at 5000: S 50 Wr A 00 A b1 A b2 A b3 A b4 A b5 A P
+# never seen: 50 Wr NA, 0x00 NA, any NA,
+message write_50_3 write 0x50 0x00 any*5 ;
+
+# 1 times, first at 11000: S 50 Wr A 00 A d1 A d2 A d3 A d4 A d5 A d6 A d7 A P
+# never seen: 50 Wr NA, 0x00 NA, any NA,
+message write_50_4 write 0x50 0x00 any*7 ;
+
+controller seen write_50 write_50_2_any write_50_3 write_50_4 ;' "" learn gaps --widen
+
+# A run ends where something is done after a NACK. What is done there has runs too, and is no family.
+seen_in 1000 >refusals <<'BYTES'
+50w 00 a1! sr 51w 10 b1 b2
+50w 00 a1 a2 a3 a4
+50w 00 a1
+50w 00 a1! sr 51w 10 b1
+50w 00 a1 a2 a3
+BYTES
+expect "runs beside refusals" 0 'brief 1
+# seen: 5 transactions, 3 messages
+
+# 1 times, first at 1000: S 50 Wr A 00 A a1 NA Sr 51 Wr A 10 A b1 A b2 A P
+# 1 times, first at 2000: S 50 Wr A 00 A a1 A a2 A a3 A a4 A P
+# never seen: 50 Wr NA, 0x00 NA, 51 Wr NA, 0x10 NA,
+message write_50 write 0x50 0x00 any else ( write 0x51 0x10 any*2 ) any*3 ;
+
+# 1 times, first at 3000: S 50 Wr A 00 A a1 A P
+# 1 times, first at 4000: S 50 Wr A 00 A a1 NA Sr 51 Wr A 10 A b1 A P
+# never seen: 50 Wr NA, 0x00 NA, 51 Wr NA, 0x10 NA,
+message write_50_2 write 0x50 0x00 any else ( write 0x51 0x10 any ) ;
+
+# 1 times, first at 5000: S 50 Wr A 00 A a1 A a2 A a3 A P
+# never seen: 50 Wr NA, 0x00 NA, any NA,
+message write_50_3 write 0x50 0x00 any*3 ;
+
+controller seen write_50 write_50_2 write_50_3 ;' "" learn refusals --widen
+
+# More paths than are told.
+for value in 1 2 3 4 5; do
+    printf '50w 00 0%s
+50w 00 0%s 00
+' $value $value
+done | seen_in 1000 >more
+expect "a family of many paths" 0 'brief 1
+# seen: 10 transactions, 2 messages
+
+# 1 times, first at 1000: S 50 Wr A 00 A 01 A P
+# 1 times, first at 2000: S 50 Wr A 00 A 01 A 00 A P
+# 1 times, first at 3000: S 50 Wr A 00 A 02 A P
+# 1 times, first at 4000: S 50 Wr A 00 A 02 A 00 A P
+# 1 times, first at 5000: S 50 Wr A 00 A 03 A P
+# 1 times, first at 6000: S 50 Wr A 00 A 03 A 00 A P
+# 1 times, first at 7000: S 50 Wr A 00 A 04 A P
+# 1 times, first at 8000: S 50 Wr A 00 A 04 A 00 A P
+# and 2 others
+# never seen: 50 Wr NA, 0x00 NA, any NA,
+message write_50_any write 0x50 0x00 any*1..2 ;
+
+controller seen write_50_any ;' "" learn more --widen
+refuses "a summary that is widened" "unexpected argument '--widen' found" decode more --widen
 # Lines are not broken within a header, its count and its answer: here column 80 is in the midst of those of the read.
 {
     printf '%s\n' '$var wire 1 ! scl $end' '$var wire 1 " sda $end' '$enddefinitions $end' '#0 1! 1"'
@@ -775,7 +935,7 @@ again() {
     local name=$1 dump=$2
     shift 2
     local merge
-    for merge in "" --merge; do
+    for merge in "" --merge --widen; do
         if "$twire" learn "$dump" $merge "$@" >brief && "$twire" expand brief >learned_plan &&
             "$twire" capture learned_plan "$dump" "$@" >report && grep -q ' transactions, 0 unexplained$' report; then
             passed=$((passed + 1))
@@ -794,6 +954,46 @@ again "a path of 255 bytes that ends in a read" bytes_255
 again "the first bus" two --scope top.i2c0
 again "the second bus" two --scope top.i2c1
 again "names with blanks" blanks --scl "I2C SCL" --sda "I2C SDA"
+again "neighbouring lengths" lengths
+again "lengths with gaps" gaps
+again "runs beside refusals" refusals
+
+# page LENGTH..: writes of so many data bytes to one register.
+page() {
+    local length k
+    for length; do
+        echo "50w 00$(for ((k = 0; k < length; k++)); do printf ' %02x' $(((7 * length + k) % 256)); done)"
+    done
+}
+page {1..32} {32..0} | seen_in 10000 >pages
+again "pages" pages
+page 254 253 | seen_in 100000 >long_pages
+again "the longest pages" long_pages
+expect "a family of the longest pages" 0 "$(
+    for length in 253 254; do
+        echo "message write_50_any_$length write 1010000 00000000$(printf ' xxxxxxxx%.0s' $(seq $length))" \
+            "stop$(printf ' else stop%.0s' $(seq $((length + 2)))) ;"
+    done | sed '1i plan 1'
+    echo "controller seen write_50_any_253 write_50_any_254 ;"
+)" "" expand brief
+
+# 256 registers, of the first of which 1 and 2 data bytes are written: with 0 it is a family of 3, which is 258 messages.
+{
+    for value in {0..255}; do printf '50w %02x\n' $value; done
+    printf '50w 00 01\n50w 00 01 02\n50w 00 03 04\n50w 01\n'
+} | seen_in 1000 >full
+"$twire" learn full --widen >full_brief
+if [[ $? == 1 && $(sed -n '2,6p' full_brief) == "# seen: 260 transactions, 256 messages
+# in no message: 3, first at 257000: a plan has at most 256 messages
+
+# 1 times, first at 1000: S 50 Wr A 00 A P
+# never seen: 50 Wr NA, 0x00 NA," && $("$twire" expand full_brief | grep -c '^message ') == 256 ]]; then
+    passed=$((passed + 1))
+else
+    failed=$((failed + 1))
+    echo "FAILED: more messages than a plan has, with --widen"
+    head -n 8 full_brief
+fi
 
 # Generated dumps: transactions of one to three frames, to few addresses, of few data bytes, refused at times.
 for seed in 1 2 3 4 5 6 7 8; do

@@ -89,7 +89,8 @@ impl Case {
 
     /// Whether the first file is a dump, and may be left before its end: its refusal may come before that.
     pub fn leaves_first(&self) -> bool {
-        matches!(self.asked.command, Command::Decode { .. }) && self.wanted.refusal.starts_with('V')
+        matches!(self.asked.command, Command::Decode { .. } | Command::Learn { .. })
+            && self.wanted.refusal.starts_with('V')
     }
 
     /// Whether the second file may be left before its end, or not be read at all: the refusal of a plan comes before it, and

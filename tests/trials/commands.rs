@@ -1,5 +1,6 @@
 //! The commands of the cases: those of twire, and one more, `seats`, which runs a script on the seats of a bench.
 
+use crate::plain::learned::Data;
 use crate::unreadable::Unreadable;
 
 /// A command without the names of its files.
@@ -19,6 +20,12 @@ pub enum Command {
         scl: String,
         sda: String,
         summary: bool,
+    },
+    /// Its dump is the first file too.
+    Learn {
+        scl: String,
+        sda: String,
+        data: Data,
     },
     Bench {
         starters: String,
@@ -43,6 +50,7 @@ impl Command {
             Command::Verify => "verify",
             Command::Capture { .. } => "capture",
             Command::Decode { .. } => "decode",
+            Command::Learn { .. } => "learn",
             Command::Bench { .. } => "bench",
             Command::Order => "order",
             Command::Print => "print",
@@ -59,7 +67,7 @@ impl Command {
 
     /// Whether it writes a report, and no plan, brief or certificate.
     pub fn reports(&self) -> bool {
-        !matches!(self, Command::Certify | Command::Print | Command::Expand | Command::Brief)
+        !matches!(self, Command::Certify | Command::Print | Command::Expand | Command::Brief | Command::Learn { .. })
     }
 
     /// The command that a line has: its name, the starters of a bench, and its options. The word `""` is empty.

@@ -1,5 +1,5 @@
-//! The dumps of captures, decoded without a plan, explained, and told while they are read: in lines and objects, at once and byte
-//! by byte.
+//! The dumps of captures, decoded without a plan, learned from, explained, and told while they are read: in lines and objects, at
+//! once and byte by byte.
 
 use crate::cases::{Asked, Case};
 use crate::commands::Command;
@@ -7,6 +7,7 @@ use crate::crew::Crew;
 use crate::deeds::Deed;
 use crate::desks::Desk;
 use crate::disagreements::{Disagreement, Score};
+use crate::plain::learned::Data;
 use crate::plainly::said_plainly;
 use crate::runs::{judge, Due, Run};
 use crate::setups::Setup;
@@ -26,6 +27,10 @@ pub fn decoding_fault(desk: &mut Desk, name: &str, asked: &Asked) -> io::Result<
     let mut tried = vec![(asked.clone(), in_objects(true))];
     for summary in [false, true] {
         tried.extend([in_lines(), in_objects(false)].map(|run| (decode(summary), run)));
+    }
+    for data in Data::ALL {
+        let command = Command::Learn { scl: scl.clone(), sda: sda.clone(), data };
+        tried.push((Asked::of_one(command, asked.second.clone(), Vec::new()), in_lines()));
     }
     for objects in [false, true] {
         tried.extend(live_runs(objects).map(|run| (decode(false), run)));

@@ -2,6 +2,7 @@
 
 use crate::cases::{Asked, FURTHER, NAMES};
 use crate::commands::Command;
+use crate::plain::learned::Data;
 
 /// What is done for a case.
 #[derive(Clone, Copy, Debug)]
@@ -143,6 +144,15 @@ fn command_line(command: &Command) -> Line {
             let mut options = vec![format!("--scl={scl}"), format!("--sda={sda}")];
             options.extend(summary.then(|| "--summary".to_owned()));
             twire_line("decode", options, 1)
+        }
+        Command::Learn { scl, sda, data } => {
+            let mut options = vec![format!("--scl={scl}"), format!("--sda={sda}")];
+            options.extend(match data {
+                Data::AsSeen => None,
+                Data::Merged => Some("--merge".to_owned()),
+                Data::Widened => Some("--widen".to_owned()),
+            });
+            twire_line("learn", options, 1)
         }
         Command::Bench { starters, fill, answers } => {
             let options = vec![format!("--fill={}", u8::from(*fill)), format!("--answers={answers}")];

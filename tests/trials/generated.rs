@@ -23,6 +23,8 @@ enum Made {
     Certified,
     /// A capture of runs of a plan, with wrong bits in it.
     Capture,
+    /// A capture of a plan that writes data of several lengths.
+    Lengths,
     /// A capture some of whose tokens are wrong.
     WrongCapture,
     /// A safe plan, rehearsed.
@@ -32,13 +34,14 @@ enum Made {
 }
 
 // What is made up, and how often.
-const LOTS: [(&str, Made, u64); 6] = [
+const LOTS: [(&str, Made, u64); 7] = [
     ("plans that are checked", Made::Checked, 200),
     ("plans that are certified", Made::Certified, 200),
     ("captures", Made::Capture, 100),
     ("captures with wrong tokens", Made::WrongCapture, 600),
     ("rehearsals", Made::Bench, 300),
     ("scripts for seats", Made::Script, 300),
+    ("captures of several lengths", Made::Lengths, 200),
 ];
 
 // Each of these is to come up.
@@ -87,8 +90,9 @@ fn asked_of(made: Made, dice: &mut Dice) -> Asked {
     match made {
         Made::Checked => asked(Command::Check { workers: 1 }, generated::plan(dice), String::new()),
         Made::Certified => asked(Command::Certify, generated::plan(dice), String::new()),
-        Made::Capture => captured(dice, generated::dump),
-        Made::WrongCapture => captured(dice, generated::wrong_dump),
+        Made::Capture => captured(generated::plan(dice), dice, generated::dump),
+        Made::WrongCapture => captured(generated::plan(dice), dice, generated::wrong_dump),
+        Made::Lengths => captured(generated::plan_of_lengths(dice), dice, generated::clean_dump),
         Made::Bench => {
             let (plan, starters) = started(dice);
             let (fill, answers) = (dice.index(2) == 1, generated::answers(dice));
@@ -108,8 +112,7 @@ fn asked(command: Command, first: String, second: String) -> Asked {
     Asked::of_one(command, first.into_bytes(), second.into_bytes())
 }
 
-fn captured(dice: &mut Dice, dump: fn(&str, &mut Dice) -> String) -> Asked {
-    let plan = generated::plan(dice);
+fn captured(plan: String, dice: &mut Dice, dump: fn(&str, &mut Dice) -> String) -> Asked {
     let dump = dump(&plan, dice);
     asked(Command::Capture { scl: "scl".to_owned(), sda: "sda".to_owned() }, plan, dump)
 }

@@ -31,6 +31,7 @@ pub fn said_plainly(asked: &Asked) -> Answer {
         Command::Capture { scl, sda } => plain::capture(first, second, scl, sda),
         Command::Decode { scl, sda, summary: false } => plain::decode(first, scl, sda),
         Command::Decode { scl, sda, summary: true } => plain::decode_summary(first, scl, sda),
+        Command::Learn { scl, sda, data } => plain::learn(first, scl, sda, *data),
         Command::Bench { starters, fill, answers } => plain::bench(first, second, starters, *fill, answers),
         Command::Order => plain::order(first),
         Command::Print => spelt_plainly(first),
@@ -55,7 +56,9 @@ pub fn said_so_far(asked: &Asked) -> String {
 pub fn place_of(asked: &Asked) -> Option<(usize, usize)> {
     match &asked.command {
         Command::Capture { scl, sda } => plain::place_of_refusal(&asked.second, scl, sda),
-        Command::Decode { scl, sda, .. } => plain::place_of_refusal(&asked.first, scl, sda),
+        Command::Decode { scl, sda, .. } | Command::Learn { scl, sda, .. } => {
+            plain::place_of_refusal(&asked.first, scl, sda)
+        }
         _ => None,
     }
 }

@@ -83,11 +83,13 @@ pub enum Request<'a> {
         vcd: &'a str,
         limits: Limits,
     },
-    /// A brief of what was recorded, where bytes of messages of one shape are put together if `merge` says so.
+    /// A brief of what was recorded, in which data after registers is put together if `merge` says so, and is any if `widen`
+    /// does.
     Learn {
         vcd: &'a str,
         bus: Bus<'a>,
         merge: bool,
+        widen: bool,
         output: Option<&'a str>,
     },
     /// What these starters of an accepted plan do on a bus. Without a certificate one is to be made. The answers are bits, 0
@@ -390,6 +392,7 @@ fn learn_of<'a>(matches: &ArgMatches<'a>, bus: Bus<'a>) -> Request<'a> {
         vcd: word(matches, "VCD"),
         bus,
         merge: matches.get_flag("merge"),
+        widen: matches.get_flag("widen"),
         output: output_of(matches),
     }
 }

@@ -246,9 +246,15 @@ how often and when first each was seen, and which answers of targets never were.
   message write_48 write 0x48 0x01 ;
 
 What was done after a refusal stands in the message, as 'else ( .. )'; where
-nothing was seen it is a STOP. With '--merge' messages that differ in data bytes
-alone are one, and the bits that differ are open, as 0x0X. A brief is a draft:
-give names to devices and bytes, and share the messages out among controllers.
+nothing was seen it is a STOP. The first data byte of a write is a register.
+With '--merge' messages that differ in data after registers alone are one, and
+the bits that differ are open, as 0x0X. With '--widen' data after registers is
+any, and messages of neighbouring lengths are one family:
+
+  message write_50_any write 0x50 0x00 any*1..16 ;
+
+A brief is a draft: give names to devices and bytes, and share the messages out
+among controllers.
 
 Expanded by 'twire expand', it explains the capture that it was learned from,
 except for transactions that no message can have, which comments count.

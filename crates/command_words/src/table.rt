@@ -206,7 +206,7 @@ const LEARN: Entry = Entry {
     usage: None,
     after_help: AFTER_LEARN_HELP,
     arguments: &[
-        VCD, SCL, SDA, SCOPE, SCL_CODE, SDA_CODE, MIN_PULSE, FROM, TO, TIMES, MERGE, OUTPUT,
+        VCD, SCL, SDA, SCOPE, SCL_CODE, SDA_CODE, MIN_PULSE, FROM, TO, TIMES, MERGE, WIDEN, OUTPUT,
     ],
 };
 
@@ -383,7 +383,12 @@ const SDA_CODE: Argument = Argument::Name {
 
 const MERGE: Argument = Argument::Flag {
     id: "merge",
-    help: "Put messages of one shape together, with open bits",
+    help: "Merge data after registers: bits that differ are open",
+};
+
+const WIDEN: Argument = Argument::Flag {
+    id: "widen",
+    help: "Make data after registers any, and lengths families",
 };
 
 const MIN_PULSE: Argument = Argument::Option {

@@ -26,7 +26,7 @@ mod waiting;
 pub use beginning::{Again, read_beginning};
 pub use definitions::{Found, Header, Listing};
 pub use dumps::Dump;
-pub use lessons::{Learned, Sights, brief_of};
+pub use lessons::{Learned, Likeness, Sights, brief_of};
 pub use listing::{Listed, Pair, Signal, SignalDump, bus_options};
 pub use masks::MOST as CANDIDATES;
 pub use picking::{Picked, needs_picking, pick};

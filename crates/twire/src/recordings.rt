@@ -13,7 +13,7 @@ use report::{
     CaptureCounts, CaptureReport, GivenPlan, Input, Output, RunError, Status, Telling, live_capture,
 };
 use run_parts::write_lines;
-use signals::{Dump, Learned, Listed, Sights, SignalDump, brief_of, needs_picking};
+use signals::{Dump, Learned, Likeness, Listed, Sights, SignalDump, brief_of, needs_picking};
 use std::alloc::Global;
 use std::thread::Threads;
 
@@ -350,14 +350,14 @@ pub fn learn<J: Input, O: Output>(
     vcd: &mut J,
     out: &mut O,
     bus: Bus<'_>,
-    merge: bool,
+    likeness: Likeness,
 ) -> Result<Ended, Halt> {
     let mut dump = open(alloc, vcd, bus)?;
     let mut seen = Sights::new(alloc, bus.view, dump.scale());
     if let Err(error) = dump.decode(alloc, &mut seen) {
         return Err(halted(dump, error));
     }
-    let Learned { brief, status } = brief_of(alloc, seen, merge)?;
+    let Learned { brief, status } = brief_of(alloc, seen, likeness)?;
     write_lines(out, brief.as_bytes(), status)?;
     Ok(Ended {
         status,

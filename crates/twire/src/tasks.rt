@@ -16,6 +16,7 @@ use command_words::Request;
 use dump_tokens::{Bus, BusLines, Limits};
 use hints::Named;
 use report::{Input, Output};
+use signals::Likeness;
 use std::rt::Files;
 use std::sync::Wait;
 use std::thread::Threads;
@@ -38,7 +39,7 @@ pub enum Over<'a> {
     Bench(Play<'a>),
     Decode { bus: Bus<'a>, live: bool },
     Signals(Limits),
-    Learn { bus: Bus<'a>, merge: bool },
+    Learn { bus: Bus<'a>, likeness: Likeness },
 }
 
 /// A run over what gives a plan, and a second text.
@@ -132,9 +133,13 @@ pub fn task_of<'a>(request: Request<'a>) -> Task<'a> {
             vcd,
             bus,
             merge,
+            widen,
             output,
         } => {
-            let learn = Over::Learn { bus, merge };
+            let learn = Over::Learn {
+                bus,
+                likeness: Likeness::of(merge, widen),
+            };
             Task::One(the_capture(vcd), learn, Form::of(output))
         }
         Request::Certify { plan, output } => {
@@ -241,7 +246,9 @@ impl<'a> Over<'a> {
             Over::Signals(limits) => {
                 list_signals(rt.alloc(), &mut sources.first, out, limits, extras.style())
             }
-            Over::Learn { bus, merge } => learn(rt.alloc(), &mut sources.first, out, bus, merge),
+            Over::Learn { bus, likeness } => {
+                learn(rt.alloc(), &mut sources.first, out, bus, likeness)
+            }
         }
     }
 

@@ -7,6 +7,7 @@ use super::captures::{Transaction, Until};
 use super::decoded::{bytes_of, calls_of};
 use super::found::{checked, decoded, decoded_so_far, explainers, ordered, played, verified};
 use super::found::{Checked, Decoded, Fault, Order, Ordered};
+use super::learned::{is_path, learned, Data};
 use super::order::{Span, Totals};
 use super::pairs::{first_clash, proof_of};
 use super::participants::{Participant, Participants};
@@ -190,6 +191,21 @@ pub fn decode_summary(dump: &[u8], scl: &str, sda: &str) -> Answer {
         let cut = all - decoded.stopped() - unfinished;
         called.collect::<String>() + &format!("cut {cut}\nunfinished {unfinished}\n")
     })
+}
+
+/// `twire learn VCD`. The brief explains each transaction that is in one of its messages.
+pub fn learn(dump: &[u8], scl: &str, sda: &str, data: Data) -> Answer {
+    let decoded = match decoded(dump, scl, sda) {
+        Ok(decoded) => decoded,
+        Err(refusal) => return Answer::refused(refusal),
+    };
+    let learned = learned(&decoded.transactions, data);
+    let of_path = |it: &&Transaction| matches!(it.until, Until::Stopped(_)) && is_path(&it.marks);
+    let paths: Vec<&Transaction> = decoded.transactions.iter().filter(of_path).collect();
+    let explained =
+        with_plan(learned.brief.as_bytes(), |plan| paths.iter().filter(|it| !explainers(plan, it).is_empty()).count());
+    assert!(explained.is_ok_and(|count| count >= paths.len() - learned.left), "{}", learned.brief);
+    Answer::written(u8::from(!learned.is_all), learned.brief)
 }
 
 /// The lines of `twire decode --live VCD` before the last one, where the dump comes byte by byte and is refused.

@@ -5,5 +5,5 @@ mod plans;
 
 #[cfg(test)]
 pub use dumps::{changes, dump_of};
-pub use dumps::{dump, wrong_dump};
-pub use plans::{answers, plan, safe_plan, script, starters};
+pub use dumps::{clean_dump, dump, wrong_dump};
+pub use plans::{answers, plan, plan_of_lengths, safe_plan, script, starters};

@@ -15,6 +15,7 @@ mod dumps;
 pub mod explained;
 pub mod found;
 pub mod generated;
+pub mod learned;
 mod order;
 mod pairs;
 mod participants;
@@ -34,7 +35,7 @@ mod writing;
 pub use certificates::{read_certificate, Certificate, Wrong};
 pub use commands::{
     bench, brief, capture, captured_so_far, certify, check, decode, decode_summary, decoded_lines_so_far, expand,
-    labels, order, seats, spelling, verify, with_plan, Answer, File,
+    labels, learn, order, seats, spelling, verify, with_plan, Answer, File,
 };
 pub use dumps::place_of_refusal;
 pub use order::Ways;

@@ -4,12 +4,13 @@
 
 use super::benches::{play_on, Answers, Player};
 use super::briefs::expansion_of;
-use super::captures::{events_of, explains, samples_of, transactions_of, Until};
-use super::commands::{capture, certify, check, expand, seats, verify, Answer, File};
+use super::captures::{events_of, explains, samples_of, transactions_of, Mark, Transaction, Until};
+use super::commands::{capture, certify, check, expand, learn, seats, verify, Answer, File};
 use super::dumps::{changes_of, DumpRefusal};
 use super::explained::{decided, kept_apart, mends, Decided};
 use super::found::checked;
 use super::generated;
+use super::learned::{learned, Data};
 use super::pairs::proof_of;
 use super::participants::Participants;
 use super::plans::{items_of, Items};
@@ -547,4 +548,63 @@ fn several_briefs_make_one_plan() {
         let wanted = wanted.map(String::from).map_err(|(number, refusal)| (number, refusal.to_string()));
         assert_eq!(found, wanted, "{briefs:?}");
     }
+}
+
+// So trials with such dumps have what `learn --widen` puts together, and what it does not.
+#[test]
+fn generated_captures_of_several_lengths_make_families() {
+    let mut dice = Dice { state: 20_261_127 };
+    let (mut families, mut lengths, mut refusals, mut odd) = (0, 0, 0, 0);
+    for _ in 0..100 {
+        let plan = generated::plan_of_lengths(&mut dice);
+        let dump = generated::clean_dump(&plan, &mut dice);
+        let learnt = learn(dump.as_bytes(), "scl", "sda", Data::Widened);
+        let messages: Vec<&str> = learnt.out.lines().filter(|line| line.starts_with("message ")).collect();
+        let count = |word: &str| messages.iter().filter(|line| line.contains(word)).count();
+        families += count("..");
+        lengths += count("any*") - count("..");
+        refusals += count(" else ");
+        odd += usize::from(learnt.status == 1);
+    }
+    // Each is common.
+    let counts = [families, lengths, refusals, odd];
+    assert!(counts.iter().all(|count| *count > 10), "{counts:?}");
+}
+
+// The example of docs/CAPTURES.md, "Writes of several lengths".
+#[test]
+fn what_was_seen_of_an_eeprom_is_learnt_as_the_page_says() {
+    let write = |bytes: &[u8]| [&[0xa0], bytes].concat();
+    let frames = [
+        vec![write(&[0x00])],
+        vec![write(&[0x00, 0x11])],
+        vec![write(&[0x00, 0x22, 0x33])],
+        vec![write(&[0x10, 0x44, 0x55, 0x66, 0x77])],
+        vec![write(&[0x00]), vec![0xa1, 0xaa]],
+    ];
+    let transactions: Vec<Transaction> = (1..).zip(&frames).map(|(k, frames)| transaction(k * 1000, frames)).collect();
+    let learnt = learned(&transactions, Data::Widened).brief;
+    let page = include_str!("../../../docs/CAPTURES.md");
+    let (_, page) = page.split_once("and a random read:\n\n").unwrap();
+    let (page, _) = page.split_once("\n## ").unwrap_or((page, ""));
+    let page: String = page.lines().map(|line| format!("{}\n", line.strip_prefix("    ").unwrap_or(line))).collect();
+    let controller = "controller seen write_50_any write_50_2 write_50_read_50 ;\n";
+    assert_eq!(learnt, format!("brief 1\n# seen: 5 transactions, 5 messages\n\n{page}\n{controller}"));
+}
+
+// All is acknowledged but the last byte of a read.
+fn transaction(from: u64, frames: &[Vec<u8>]) -> Transaction {
+    let mut marks = Vec::new();
+    for frame in frames {
+        if !marks.is_empty() {
+            marks.push(Mark::Again);
+        }
+        for (k, byte) in frame.iter().enumerate() {
+            let is_nack = frame[0] % 2 == 1 && k + 1 == frame.len();
+            let bits = (0..8).rev().map(|bit| byte >> bit & 1 == 1).chain([is_nack]);
+            marks.extend(bits.map(Mark::Level));
+        }
+    }
+    marks.push(Mark::Stop);
+    Transaction { from, until: Until::Stopped(from + 1), marks }
 }

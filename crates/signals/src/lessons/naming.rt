@@ -1,16 +1,18 @@
 // The names of messages.
 
+use crate::lessons::families::Item;
 use crate::lessons::paths::Sent;
 use crate::lessons::trees::{After, Tree};
 use growing_text::Text;
 use std::alloc::{AllocError, Global};
 
-/// The name of a message: its first two headers, and how many messages up to it have the same.
+/// The name of a message: its first two headers, how many messages up to it have the same, and whether it is a family.
 #[derive(Clone, Copy)]
 pub(crate) struct Name {
     first: Option<Sent>,
     second: Option<Sent>,
     number: u64,
+    is_family: bool,
 }
 
 impl Name {
@@ -22,6 +24,9 @@ impl Name {
         if self.number > 1 {
             text.push("_");
             text.push_number(self.number);
+        }
+        if self.is_family {
+            text.push("_any");
         }
         text.finish()
     }
@@ -38,19 +43,26 @@ fn push_header(text: &mut Text, before: &str, header: Option<Sent>) {
     text.push_hex(address);
 }
 
-/// A name for each message.
-pub(crate) fn names_of(alloc: Global, trees: &Vec<Tree>) -> Result<Vec<Name>, AllocError> {
+/// A name for each message or family.
+pub(crate) fn names_of(
+    alloc: Global,
+    trees: &Vec<Tree>,
+    items: &Vec<Item>,
+) -> Result<Vec<Name>, AllocError> {
     let mut names = Vec::new(alloc);
-    for tree in trees.iter() {
-        let name = name_of(tree, names.as_slice());
+    for item in items.iter() {
+        let name = name_of(item, trees, names.as_slice());
         names.push(name)?;
     }
     Ok(names)
 }
 
 // The name of a message after those with these names.
-fn name_of(tree: &Tree, names: &[Name]) -> Name {
-    let (first, second) = headers_of(tree);
+fn name_of(item: &Item, trees: &Vec<Tree>, names: &[Name]) -> Name {
+    let (first, second) = match trees.get(item.written) {
+        Some(tree) => headers_of(tree),
+        None => (None, None),
+    };
     let mut number = 1u64;
     for name in names {
         if name.first == first && name.second == second {
@@ -61,6 +73,7 @@ fn name_of(tree: &Tree, names: &[Name]) -> Name {
         first,
         second,
         number,
+        is_family: item.is_family(),
     }
 }
 
@@ -90,6 +103,6 @@ fn header_of(sent: Sent) -> Option<Sent> {
     match sent {
         Sent::Write(_) => Some(sent),
         Sent::Read(address, _) => Some(Sent::Read(address, None)),
-        Sent::Data(_) => None,
+        Sent::Register(_) | Sent::Data(_) => None,
     }
 }

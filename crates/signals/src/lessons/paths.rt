@@ -3,11 +3,12 @@
 use capture_check::Mark;
 use std::alloc::{AllocError, Global};
 
-/// What a controller sends at one place: the header of a write, a data byte, or the header of a read, after which it reads so
-/// many bytes (how many, only an acknowledged one tells).
+/// What a controller sends at one place: the header of a write, the first data byte after it, which is a register, a further
+/// one, or the header of a read, after which it reads so many bytes (how many, only an acknowledged one tells).
 #[derive(Clone, Copy, PartialEq, Eq)]
 pub(crate) enum Sent {
     Write(u8),
+    Register(u8),
     Data(u8),
     Read(u8, Option<u8>),
 }
@@ -66,7 +67,9 @@ pub(crate) fn path_of(
 enum Place {
     // after a START or repeated START
     Begun,
-    // in a write
+    // after the header of a write
+    Called,
+    // after a data byte of a write
     Writing,
     // in a read of so many bytes so far
     Reading(u8),
@@ -108,7 +111,7 @@ impl Path {
                 match self.place {
                     Place::Begun => return Ok(Err(NoPath::Broken)),
                     Place::Reading(_) => return Ok(Err(NoPath::OddRead)),
-                    Place::Writing | Place::Over => self.place = Place::Begun,
+                    Place::Called | Place::Writing | Place::Over => self.place = Place::Begun,
                 }
             }
         }
@@ -131,7 +134,8 @@ impl Path {
         let byte = self.byte;
         match self.place {
             Place::Begun => self.header(byte, refused)?,
-            Place::Writing => self.step(Sent::Data(byte), refused)?,
+            Place::Called => self.step(Sent::Register(byte), refused, Place::Writing)?,
+            Place::Writing => self.step(Sent::Data(byte), refused, Place::Writing)?,
             Place::Reading(count) => return Ok(self.read(count, refused)),
             Place::Over => return Ok(Err(NoPath::OnRefused)),
         }
@@ -141,17 +145,14 @@ impl Path {
     fn header(&mut self, byte: u8, refused: bool) -> Result<(), AllocError> {
         let address = byte / 2;
         if byte % 2 == 0 {
-            return self.step(Sent::Write(address), refused);
+            return self.step(Sent::Write(address), refused, Place::Called);
         }
-        self.step(Sent::Read(address, None), refused)?;
-        if !refused {
-            self.place = Place::Reading(0);
-        }
-        Ok(())
+        self.step(Sent::Read(address, None), refused, Place::Reading(0))
     }
 
-    fn step(&mut self, sent: Sent, refused: bool) -> Result<(), AllocError> {
-        self.place = if refused { Place::Over } else { Place::Writing };
+    // What is sent, and where the next byte stands if it is acknowledged.
+    fn step(&mut self, sent: Sent, refused: bool, next: Place) -> Result<(), AllocError> {
+        self.place = if refused { Place::Over } else { next };
         self.steps.push(Step { sent, refused })?;
         Ok(())
     }
@@ -181,7 +182,7 @@ pub(crate) fn key_of(alloc: Global, path: &[Step]) -> Result<Vec<u8>, AllocError
     for step in path {
         let (kind, byte, count) = match step.sent {
             Sent::Write(address) => (0u8, address, 0u8),
-            Sent::Data(byte) => (1, byte, 0),
+            Sent::Register(byte) | Sent::Data(byte) => (1, byte, 0),
             Sent::Read(address, count) => (2, address, count.unwrap_or(0)),
         };
         key.extend_from_slice(&[kind, byte, count, u8::from(step.refused)])?;

@@ -1,8 +1,9 @@
 // From what was seen to the brief.
 
+use crate::lessons::families::{families_of, messages_of};
 use crate::lessons::paths::NoPath;
 use crate::lessons::seen::{Sight, Sights};
-use crate::lessons::trees::Tree;
+use crate::lessons::trees::{Likeness, Tree};
 use crate::lessons::writing::written;
 use run_parts::Status;
 use std::alloc::{AllocError, Global};
@@ -18,15 +19,23 @@ pub struct Learned {
     pub status: Status,
 }
 
-/// The brief of what was seen. Data bytes of messages of one shape are put together if `merge` says so.
+/// The brief of what was seen. What differs in data bytes is put together as far as the likeness says.
 ///
 /// # Errors
 ///
 /// Where an allocation fails.
-pub fn brief_of(alloc: Global, mut seen: Sights, merge: bool) -> Result<Learned, AllocError> {
-    let trees = put_together(alloc, &mut seen, merge)?;
+pub fn brief_of(
+    alloc: Global,
+    mut seen: Sights,
+    likeness: Likeness,
+) -> Result<Learned, AllocError> {
+    let trees = put_together(alloc, &mut seen, likeness)?;
+    let items = match likeness {
+        Likeness::Widened => families_of(alloc, &trees)?,
+        Likeness::Exact | Likeness::Merged => messages_of(alloc, &trees)?,
+    };
     Ok(Learned {
-        brief: written(alloc, &seen, &trees)?,
+        brief: written(alloc, &seen, &trees, &items)?,
         status: status_of(&seen),
     })
 }
@@ -40,12 +49,16 @@ fn status_of(seen: &Sights) -> Status {
 }
 
 // Each path goes into the first message that takes it, or into a new one.
-fn put_together(alloc: Global, seen: &mut Sights, merge: bool) -> Result<Vec<Tree>, AllocError> {
+fn put_together(
+    alloc: Global,
+    seen: &mut Sights,
+    likeness: Likeness,
+) -> Result<Vec<Tree>, AllocError> {
     let mut trees: Vec<Tree> = Vec::new(alloc);
     let mut left = 0u64;
     let mut first = 0u64;
     for (number, sight) in seen.sights.iter().enumerate() {
-        if put(alloc, &mut trees, sight, number, merge)? {
+        if put(alloc, &mut trees, sight, number, likeness)? {
             continue;
         }
         if left == 0 {
@@ -65,11 +78,11 @@ fn put(
     trees: &mut Vec<Tree>,
     sight: &Sight,
     number: usize,
-    merge: bool,
+    likeness: Likeness,
 ) -> Result<bool, AllocError> {
     let path = sight.path.as_slice();
     for tree in trees.iter_mut() {
-        if tree.takes(path, merge) {
+        if tree.takes(path) {
             tree.put(path, number)?;
             return Ok(true);
         }
@@ -77,7 +90,7 @@ fn put(
     if trees.len() >= MOST_MESSAGES {
         return Ok(false);
     }
-    let mut tree = Tree::new(alloc);
+    let mut tree = Tree::new(alloc, likeness);
     tree.put(path, number)?;
     trees.push(tree)?;
     Ok(true)

@@ -3,6 +3,30 @@
 use crate::lessons::paths::{Sent, Step};
 use std::alloc::{AllocError, Global};
 
+/// How far data bytes after the register of a write make messages differ.
+#[derive(Clone, Copy, PartialEq, Eq)]
+pub enum Likeness {
+    /// As they were seen.
+    Exact,
+    /// Not at all, and the bits that differ are open.
+    Merged,
+    /// Not at all, and all their bits are open. Neighbouring lengths make families.
+    Widened,
+}
+
+impl Likeness {
+    /// What two options ask for, of which the second asks for more.
+    pub fn of(merge: bool, widen: bool) -> Likeness {
+        if widen {
+            Likeness::Widened
+        } else if merge {
+            Likeness::Merged
+        } else {
+            Likeness::Exact
+        }
+    }
+}
+
 /// What was done after an acknowledge, or after a refusal.
 #[derive(Clone, Copy, PartialEq, Eq)]
 pub(crate) enum After {
@@ -22,9 +46,17 @@ pub(crate) struct Node {
     pub(crate) refused: After,
 }
 
+/// Data bytes that end a message if all is acknowledged: the place of the first, and how many there are.
+#[derive(Clone, Copy)]
+pub(crate) struct Run {
+    pub(crate) start: Option<usize>,
+    pub(crate) length: u64,
+}
+
 /// A message: its places, of which the first is its beginning, and the paths that were put into it.
 #[derive(Drop)]
 pub(crate) struct Tree {
+    pub(crate) likeness: Likeness,
     pub(crate) nodes: Vec<Node>,
     pub(crate) paths: Vec<usize>,
 }
@@ -34,15 +66,16 @@ const MOST_NODES: usize = 4_096;
 
 impl Tree {
     /// No path yet.
-    pub(crate) fn new(alloc: Global) -> Tree {
+    pub(crate) fn new(alloc: Global, likeness: Likeness) -> Tree {
         Tree {
+            likeness,
             nodes: Vec::new(alloc),
             paths: Vec::new(alloc),
         }
     }
 
-    /// Whether the path can be one of this message, with data bytes that differ where `merge` says so.
-    pub(crate) fn takes(&self, path: &[Step], merge: bool) -> bool {
+    /// Whether the path can be one of this message.
+    pub(crate) fn takes(&self, path: &[Step]) -> bool {
         if self.nodes.len().saturating_add(path.len()) > MOST_NODES {
             return false;
         }
@@ -58,7 +91,7 @@ impl Tree {
             let Some(node) = self.nodes.get(place) else {
                 return false;
             };
-            if !are_alike(node.sent, step.sent, merge) {
+            if !are_alike(node.sent, step.sent, self.likeness) {
                 return false;
             }
             at = if step.refused {
@@ -92,9 +125,10 @@ impl Tree {
     // A new place, to which what was last sent leads.
     fn grow(&mut self, sent: Sent, last: Option<(usize, bool)>) -> Result<usize, AllocError> {
         let place = self.nodes.len();
+        let known = self.known(sent);
         self.nodes.push(Node {
             sent,
-            known: 0xff,
+            known,
             acked: After::Unseen,
             refused: After::Unseen,
         })?;
@@ -102,6 +136,14 @@ impl Tree {
             self.lead(from, refused, After::On(place));
         }
         Ok(place)
+    }
+
+    // Which bits of what is sent at a new place are known.
+    fn known(&self, sent: Sent) -> u8 {
+        match (sent, self.likeness) {
+            (Sent::Data(_), Likeness::Widened) => 0,
+            _ => 0xff,
+        }
     }
 
     fn lead(&mut self, from: usize, refused: bool, to: After) {
@@ -131,11 +173,69 @@ impl Tree {
             _ => None,
         }
     }
+
+    /// The data bytes that end the message.
+    pub(crate) fn run(&self) -> Run {
+        let mut start = None;
+        let mut length = 0u64;
+        let mut place = 0usize;
+        for _ in 0..self.nodes.len() {
+            let Some(node) = self.nodes.get(place) else {
+                break;
+            };
+            if self.is_of_run(node) {
+                start = Some(start.unwrap_or(place));
+                length = length.saturating_add(1);
+            } else {
+                start = None;
+                length = 0;
+            }
+            match node.acked {
+                After::On(next) => place = next,
+                _ => break,
+            }
+        }
+        Run { start, length }
+    }
+
+    // Whether what stands here is written together with the like of it.
+    fn is_of_run(&self, node: &Node) -> bool {
+        self.likeness == Likeness::Widened
+            && matches!(node.sent, Sent::Data(_))
+            && !matches!(node.refused, After::On(_))
+    }
+
+    /// What stands at this place and is written once: so many data bytes with the last of them, or one of anything else.
+    pub(crate) fn together(&self, place: usize) -> Option<(u64, Node)> {
+        let mut last = *self.nodes.get(place)?;
+        let mut count = 1u64;
+        for _ in 0..self.nodes.len() {
+            let Some(next) = self.next_of_run(&last) else {
+                break;
+            };
+            last = next;
+            count = count.saturating_add(1);
+        }
+        Some((count, last))
+    }
+
+    // What follows in the same run.
+    fn next_of_run(&self, node: &Node) -> Option<Node> {
+        let After::On(place) = node.acked else {
+            return None;
+        };
+        let next = self.nodes.get(place)?;
+        if self.is_of_run(node) && self.is_of_run(next) {
+            Some(*next)
+        } else {
+            None
+        }
+    }
 }
 
-fn are_alike(one: Sent, other: Sent, merge: bool) -> bool {
+fn are_alike(one: Sent, other: Sent, likeness: Likeness) -> bool {
     match (one, other) {
-        (Sent::Data(_), Sent::Data(_)) if merge => true,
+        (Sent::Data(_), Sent::Data(_)) if likeness != Likeness::Exact => true,
         (Sent::Read(one, None), Sent::Read(other, _)) => one == other,
         (Sent::Read(one, _), Sent::Read(other, None)) => one == other,
         _ => one == other,

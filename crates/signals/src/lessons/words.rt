@@ -1,12 +1,9 @@
 // Paths and messages in words.
 
 use crate::lessons::paths::{NoPath, Sent, Step};
-use crate::lessons::trees::{After, Node, Tree};
+use crate::lessons::trees::Node;
 use growing_text::{Lines, Text};
 use std::alloc::{AllocError, Global};
-
-// How many answers that were never seen are told.
-const UNSEEN: u32 = 8;
 
 /// The bytes of a path, as `S 48 Wr A 01 A P`. What is sent stays on one line with the answer to it.
 pub(crate) fn push_path(alloc: Global, line: &mut Lines, path: &[Step]) {
@@ -35,7 +32,7 @@ fn push_sent(text: &mut Text, start: &str, sent: Sent) {
     match sent {
         Sent::Write(address) => push_header(text, start, address, " Wr"),
         Sent::Read(address, _) => push_header(text, start, address, " Rd"),
-        Sent::Data(byte) => text.push_hex(byte),
+        Sent::Register(byte) | Sent::Data(byte) => text.push_hex(byte),
     }
 }
 
@@ -90,34 +87,15 @@ pub(crate) fn why(no: NoPath) -> &'static str {
     }
 }
 
-/// The places of a message after which something never came, the first few.
-pub(crate) fn push_unseen(alloc: Global, line: &mut Lines, tree: &Tree) {
-    let mut count = 0u32;
-    for node in tree.nodes.iter() {
-        if node.acked == After::Unseen {
-            count = count.saturating_add(1);
-            push_never(alloc, line, node, " A,", count);
-        }
-        if node.refused == After::Unseen {
-            count = count.saturating_add(1);
-            push_never(alloc, line, node, " NA,", count);
-        }
-    }
-}
-
-// A place after which this answer never came, by its number among all.
-fn push_never(alloc: Global, line: &mut Lines, node: &Node, answer: &str, number: u32) {
-    if number <= UNSEEN {
-        line.word_made(answered(alloc, node, answer));
-    } else if number == UNSEEN + 1 {
-        line.word("..");
-    }
+/// A place of a message after which this answer never came.
+pub(crate) fn push_never(alloc: Global, line: &mut Lines, node: &Node, answer: &str) {
+    line.word_made(answered(alloc, node, answer));
 }
 
 fn answered(alloc: Global, node: &Node, answer: &str) -> Result<String, AllocError> {
     let mut text = Text::new(alloc);
     match node.sent {
-        Sent::Data(byte) => push_data(&mut text, byte, node.known),
+        Sent::Register(byte) | Sent::Data(byte) => push_data(&mut text, byte, node.known),
         header => push_sent(&mut text, "", header),
     }
     text.push(answer);

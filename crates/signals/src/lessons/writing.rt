@@ -1,45 +1,60 @@
 // Messages, written as a brief.
 
+use crate::lessons::families::Item;
+use crate::lessons::frames::{push_frames, push_run};
 use crate::lessons::naming::{Name, names_of};
-use crate::lessons::paths::Sent;
 use crate::lessons::seen::{Odd, Sight, Sights};
-use crate::lessons::trees::{After, Node, Tree};
-use crate::lessons::words::{push_data, push_path, push_unseen, why};
+use crate::lessons::trees::Tree;
+use crate::lessons::unseen::push_unseen;
+use crate::lessons::words::{push_path, why};
 use dump_tokens::Scale;
-use growing_text::{Lines, Text};
+use growing_text::Lines;
 use std::alloc::{AllocError, Global};
 
 // How many paths are told above a message.
 const TOLD: usize = 8;
 
-// No message has more places than this, and each is written once with what opens and closes an `else`.
-const MOST_WORDS: u32 = 20_000;
-
-/// The brief of these messages.
+/// The brief of these messages and families.
 pub(crate) fn written(
     alloc: Global,
     seen: &Sights,
     trees: &Vec<Tree>,
+    items: &Vec<Item>,
 ) -> Result<String, AllocError> {
-    let names = names_of(alloc, trees)?;
+    let names = names_of(alloc, trees, items)?;
     let mut line = Lines::new(alloc);
-    push_brief(alloc, &mut line, seen, trees, names.as_slice());
+    push_brief(alloc, &mut line, seen, trees, items, names.as_slice());
     line.finish()
 }
 
-fn push_brief(alloc: Global, line: &mut Lines, seen: &Sights, trees: &Vec<Tree>, names: &[Name]) {
+fn push_brief(
+    alloc: Global,
+    line: &mut Lines,
+    seen: &Sights,
+    trees: &Vec<Tree>,
+    items: &Vec<Item>,
+    names: &[Name],
+) {
     line.begin("brief 1", "");
     line.end();
-    push_counts(alloc, line, seen, trees.len());
+    push_counts(alloc, line, seen, messages_in(items));
     for (k, name) in names.iter().enumerate() {
-        if let Some(tree) = trees.get(k) {
+        if let Some(item) = items.get(k) {
             line.end();
-            push_sights(alloc, line, tree, seen);
-            push_message(alloc, line, tree, *name);
+            push_sights(alloc, line, item, trees, seen);
+            push_message(alloc, line, item, trees, *name);
         }
     }
     line.end();
     push_controller(alloc, line, names);
+}
+
+fn messages_in(items: &Vec<Item>) -> u64 {
+    let mut count = 0u64;
+    for item in items.iter() {
+        count = count.saturating_add(item.messages());
+    }
+    count
 }
 
 fn push_controller(alloc: Global, line: &mut Lines, names: &[Name]) {
@@ -51,11 +66,11 @@ fn push_controller(alloc: Global, line: &mut Lines, names: &[Name]) {
     line.end();
 }
 
-fn push_counts(alloc: Global, line: &mut Lines, seen: &Sights, messages: usize) {
+fn push_counts(alloc: Global, line: &mut Lines, seen: &Sights, messages: u64) {
     line.begin("# seen:", "#");
     line.number(seen.stopped, "");
     line.word("transactions,");
-    line.number(messages as u64, "");
+    line.number(messages, "");
     line.word("messages");
     line.end();
     for odd in seen.odd.iter() {
@@ -71,22 +86,66 @@ fn push_odd(alloc: Global, line: &mut Lines, odd: Odd, scale: Option<Scale>) {
     line.end();
 }
 
-// How often and when first each path of a message was seen, and what never was.
-fn push_sights(alloc: Global, line: &mut Lines, tree: &Tree, seen: &Sights) {
-    for number in tree.paths.iter().take(TOLD) {
-        if let Some(sight) = seen.sights.get(*number) {
+// How often and when first each path was seen, and what never was.
+fn push_sights(alloc: Global, line: &mut Lines, item: &Item, trees: &Vec<Tree>, seen: &Sights) {
+    let mut last = None;
+    for _ in 0..TOLD {
+        let Some(number) = next_path(item, trees, last) else {
+            break;
+        };
+        last = Some(number);
+        if let Some(sight) = seen.sights.get(number) {
             push_sight(alloc, line, sight, seen.told_scale());
         }
     }
-    let others = tree.paths.len().saturating_sub(TOLD);
+    let others = paths_in(item, trees).saturating_sub(TOLD);
     if others > 0 {
         line.begin("# and", "#");
         line.number(others as u64, " others");
         line.end();
     }
     line.begin("# never seen:", "#    ");
-    push_unseen(alloc, line, tree);
+    push_unseen(alloc, line, item, trees);
     line.end();
+}
+
+// How many paths were put into all its messages.
+fn paths_in(item: &Item, trees: &Vec<Tree>) -> usize {
+    let mut count = 0usize;
+    for number in item.members.iter() {
+        if let Some(tree) = trees.get(*number) {
+            count = count.saturating_add(tree.paths.len());
+        }
+    }
+    count
+}
+
+// The next path after this one of those that its messages tell, or the first.
+fn next_path(item: &Item, trees: &Vec<Tree>, after: Option<usize>) -> Option<usize> {
+    let mut next = None;
+    for number in item.members.iter() {
+        if let Some(tree) = trees.get(*number) {
+            next = nearer(next, tree, after);
+        }
+    }
+    next
+}
+
+// The first path of a message after this one, or the one that is at hand if that comes before.
+fn nearer(at_hand: Option<usize>, tree: &Tree, after: Option<usize>) -> Option<usize> {
+    for path in tree.paths.iter().take(TOLD) {
+        let is_later = match after {
+            Some(after) => *path > after,
+            None => true,
+        };
+        if is_later {
+            return match at_hand {
+                Some(at_hand) if at_hand < *path => Some(at_hand),
+                _ => Some(*path),
+            };
+        }
+    }
+    at_hand
 }
 
 fn push_sight(alloc: Global, line: &mut Lines, sight: &Sight, scale: Option<Scale>) {
@@ -113,73 +172,13 @@ fn first_word(alloc: Global, time: u64, scale: Scale) -> Result<String, AllocErr
     Ok(word)
 }
 
-fn push_message(alloc: Global, line: &mut Lines, tree: &Tree, name: Name) {
+fn push_message(alloc: Global, line: &mut Lines, item: &Item, trees: &Vec<Tree>, name: Name) {
     line.begin("message", "   ");
     line.word_made(name.word(alloc));
-    let mut waiting = Vec::new(alloc);
-    push_waiting(line, &mut waiting, Waiting::Place(0));
-    for _ in 0..MOST_WORDS {
-        match waiting.pop() {
-            Some(Waiting::Close) => line.word(")"),
-            Some(Waiting::Place(place)) => push_place(
-                alloc,
-                line,
-                tree.nodes.get(place),
-                &mut waiting,
-            ),
-            None => break,
-        }
+    if let Some(tree) = trees.get(item.written) {
+        push_frames(alloc, line, tree, item.end);
     }
+    push_run(alloc, line, item.least, item.most);
     line.word(";");
     line.end();
-}
-
-// What is still to be written of a message, the last one first.
-#[derive(Clone, Copy)]
-enum Waiting {
-    Place(usize),
-    Close,
-}
-
-fn push_waiting(line: &mut Lines, waiting: &mut Vec<Waiting>, next: Waiting) {
-    if waiting.push(next).is_err() {
-        line.cut();
-    }
-}
-
-// What is sent at a place, and then what follows: after a refusal in brackets, which stand before what follows an acknowledge.
-fn push_place(alloc: Global, line: &mut Lines, node: Option<&Node>, waiting: &mut Vec<Waiting>) {
-    let Some(node) = node else {
-        return;
-    };
-    line.word_made(sent_word(alloc, node));
-    if let After::On(place) = node.acked {
-        push_waiting(line, waiting, Waiting::Place(place));
-    }
-    if let After::On(place) = node.refused {
-        line.words("else (");
-        push_waiting(line, waiting, Waiting::Close);
-        push_waiting(line, waiting, Waiting::Place(place));
-    }
-}
-
-// A header or a data byte, as a brief has it, on one line.
-fn sent_word(alloc: Global, node: &Node) -> Result<String, AllocError> {
-    let mut text = Text::new(alloc);
-    match node.sent {
-        Sent::Write(address) => push_address(&mut text, "write 0x", address),
-        Sent::Data(byte) => push_data(&mut text, byte, node.known),
-        Sent::Read(address, count) => {
-            push_address(&mut text, "read 0x", address);
-            text.push(" ");
-            // a read that was always refused has some count
-            text.push_number(u64::from(count.unwrap_or(1)));
-        }
-    }
-    text.finish()
-}
-
-fn push_address(text: &mut Text, before: &str, address: u8) {
-    text.push(before);
-    text.push_hex(address);
 }

@@ -14,6 +14,11 @@ pub fn dump(plan: &str, dice: &mut Dice) -> String {
     dump_of(&changes(plan, dice), dice)
 }
 
+/// The same with few mistakes, so that most participants send what they have to.
+pub fn clean_dump(plan: &str, dice: &mut Dice) -> String {
+    dump_of(&changes_at(FEW, plan, dice), dice)
+}
+
 /// A dump with these changes.
 pub fn dump_of(changes: &[Change], dice: &mut Dice) -> String {
     let tokens = tokens_of(changes, dice);
@@ -132,9 +137,27 @@ fn spelling(change: &Change, dice: &mut Dice) -> String {
     format!("{level}{code}")
 }
 
+// One of how many acknowledges is not, one of how many bits is wrong, changes come at one time, and
+// levels are unknown.
+#[derive(Clone, Copy)]
+struct Odds {
+    nack: u32,
+    wrong: u32,
+    together: u32,
+    unknown: u32,
+}
+
+const MANY: Odds = Odds { nack: 6, wrong: 100, together: 60, unknown: 500 };
+
+const FEW: Odds = Odds { nack: 16, wrong: 3_000, together: 3_000, unknown: 6_000 };
+
 /// What happens on the wires when each of the plan's participants starts in turn.
 pub fn changes(plan: &str, dice: &mut Dice) -> Vec<Change> {
-    let mut wires = Wires { changes: Vec::new(), time: 0 };
+    changes_at(MANY, plan, dice)
+}
+
+fn changes_at(odds: Odds, plan: &str, dice: &mut Dice) -> Vec<Change> {
+    let mut wires = Wires { odds, changes: Vec::new(), time: 0 };
     if let Ok(items) = items_of(plan) {
         for participant in Participants::of(&items).all {
             wires.put(Item::Again, dice);
@@ -145,6 +168,7 @@ pub fn changes(plan: &str, dice: &mut Dice) -> Vec<Change> {
 }
 
 struct Wires {
+    odds: Odds,
     changes: Vec<Change>,
     time: u64,
 }
@@ -155,7 +179,7 @@ impl Wires {
         let mut place = Place::START;
         while !sender.is_over(place) {
             let item = match dice.pick(sender.offers(place), Item::Stop) {
-                Item::Heard(_) => Item::Heard(dice.throw(6) == 0),
+                Item::Heard(_) => Item::Heard(dice.throw(self.odds.nack) == 0),
                 item => item,
             };
             self.put(item, dice);
@@ -166,7 +190,7 @@ impl Wires {
     // What an item does with the wires. A claim is followed by a level and a STOP.
     fn put(&mut self, item: Item, dice: &mut Dice) {
         let (bit, levels) = match item {
-            Item::Sent(bit) => (bit != (dice.throw(100) == 0), "d1C"),
+            Item::Sent(bit) => (bit != (dice.throw(self.odds.wrong) == 0), "d1C"),
             Item::Heard(bit) => (bit, "d1C"),
             Item::Again => (true, "d1DC"),
             Item::Stop => (false, "d1D"),
@@ -184,11 +208,11 @@ impl Wires {
 
     // A line takes a level, most often at a later time and sometimes one that nobody knows.
     fn take(&mut self, signal: Signal, high: bool, dice: &mut Dice) {
-        if dice.throw(60) != 0 {
+        if dice.throw(self.odds.together) != 0 {
             self.time += 1;
             self.changes.push(Change::At(self.time));
         }
-        let level = match (dice.throw(500), high) {
+        let level = match (dice.throw(self.odds.unknown), high) {
             (0, _) => Level::Unknown,
             (_, true) => Level::High,
             (_, false) => Level::Low,

@@ -17,6 +17,26 @@ pub fn plan(dice: &mut Dice) -> String {
     text
 }
 
+/// A plan of up to 24 messages, most of which write to a register and differ in how much data follows:
+/// some read after that, or do more after a NACK.
+pub fn plan_of_lengths(dice: &mut Dice) -> String {
+    let mut text = String::from("plan 2");
+    let mut names = String::new();
+    for k in 0..4 + dice.index(21) {
+        let address = dice.pick(&["1010000", "1010000", "1010000", "1010001"], "");
+        let register = dice.pick(&["00000000", "00000000", "00010000"], "");
+        let bytes = 1 + dice.index(5);
+        let read = format!("again read {address} 1 stop else stop");
+        let end = if dice.throw(6) == 0 { read.as_str() } else { "stop" };
+        let nack = if dice.throw(3) == 0 { read.as_str() } else { "stop" };
+        text += &format!(" message m{k} write {address} {register}{} {end}", " xxxxxxxx".repeat(bytes - 1));
+        text += &" else stop".repeat(bytes - 1);
+        text += &format!(" else {nack} else stop ;");
+        names += &format!(" m{k}");
+    }
+    text + &format!(" controller c{names} ;")
+}
+
 /// A safe plan of at most so many participants, each of which may start with each other:
 /// controllers of one message each, many of one shape, and interrupts. What would make it unsafe is
 /// left out.
