@@ -1,5 +1,5 @@
 -- The groups that the firsts of an order make.
-use Rattle.std.proofs.Common.{◌≡◌, ℕ, ◌+◌, ◌<◌, Some, List, length, slice_get, refl, ap, sym, subst, ◌∙◌, arith}
+use Rattle.std.proofs.Common.{◌≡◌, ℕ, ◌<◌, Some, List, length, slice_get, ap, sym, subst, ◌∙◌, arith}
 use Rattle.std.specs.Prelude.{nat_eq}
 use Rattle.std.specs.List.{count_by}
 use Rattle.std.proofs.Math.Seq.{take-length}
@@ -13,7 +13,7 @@ use Rattle.causes.specs.declared.families.Family.{Family}
 use Rattle.causes.specs.declared.groups.Group.{Group}
 use Rattle.causes.specs.declared.meetings.Cause.{Cause}
 use Rattle.causes.specs.Groupings.{AreGroups, IsNoLater}
-use Rattle.causes.specs.Orders.{IsOrder, AreFirsts, AreNumbers, AreCounts, AreGroupsAt, IsWithin, AreWithin, AllKnown}
+use Rattle.causes.specs.Orders.{IsOrder, AreFirsts, AreNumbers, AreCounts, AreGroupsAt, IsWithin, AllKnown}
 
 -- a plan has as many causes as wires
 pub same_count : (plan : Contents) (families : List Family) (faults : List (ℕ × Fault)) (causes : List Cause) → causes ≡ causes_of plan families faults → length (wires_of faults) ≡ length causes

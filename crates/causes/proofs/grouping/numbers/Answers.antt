@@ -1,4 +1,3 @@
-use Rattle.std.proofs.Common.{Some, ap, sym, ◌∙◌}
 use Rattle.std.proofs.lemmas.Option.{slice_get-get_or}
 use Rattle.indexmap.specs.IndexSet.{keys}
 use Rattle.causes.proofs.StepLemmas.{numbers_none, numbers_more}

@@ -1,4 +1,4 @@
-use Rattle.std.proofs.Common.{◌≡◌, ℕ, List, length, ap, sym, subst, ◌∙◌}
+use Rattle.std.proofs.Common.{ℕ, List, length, ap, sym, subst, ◌∙◌}
 use Rattle.causes.specs.Orders.{AreCounts, AreGroupsAt}
 use Rattle.causes.proofs.GroupLemmas.{order_within, grouped}
 use Rattle.causes.proofs.groups.grouped.Goals as goal

@@ -1,4 +1,4 @@
-use Rattle.std.proofs.Common.{Some, get_or, slice_get, ap, sym, ◌∙◌, arith}
+use Rattle.std.proofs.Common.{Some, get_or, ap, sym, ◌∙◌, arith}
 use Rattle.std.proofs.lemmas.Option.{slice_get-get_or}
 use Rattle.causes.proofs.StepLemmas.{groups_none, groups_more}
 use Rattle.causes.proofs.groups.groups_at.Goals as goal

@@ -1,8 +1,8 @@
-use Rattle.std.proofs.Common.{◌≡◌, ℕ, List, length, ap, sym, subst, ◌∙◌}
+use Rattle.std.proofs.Common.{List, subst, ◌∙◌}
 use Rattle.plan_core.specs.PlanContents.{plan_contents}
 use Rattle.verdicts.specs.Faults.{fault_list}
 use Rattle.causes.specs.declared.meetings.Cause.{Cause}
-use Rattle.causes.specs.Causes.{causes_of, wires_of}
+use Rattle.causes.specs.Causes.{wires_of}
 use Rattle.causes.specs.Groupings.{AreGroups, group_list, number_list}
 use Rattle.causes.proofs.GroupLemmas.{same_count}
 use Rattle.causes.proofs.groups.groups_of.Goals as goal
