@@ -79,12 +79,10 @@ fn push_count(words: &mut Text, count: usize, what: &str) {
 fn why(cause: Cause) -> &'static str {
     match (cause.first.kind, cause.second.kind) {
         (Kind::Claim, _) | (_, Kind::Claim) => "an interrupt has the same header",
-        (Kind::Again, Kind::Stop) | (Kind::Stop, Kind::Again) => {
-            "one ends where the other sends a repeated START"
-        }
-        (Kind::Again, _) | (_, Kind::Again) => "one goes on where the other sends a repeated START",
+        (Kind::Again, Kind::Stop) | (Kind::Stop, Kind::Again) => "one ends, one repeats START",
+        (Kind::Again, _) | (_, Kind::Again) => "one goes on, one repeats START",
         (Kind::Stop, _) | (_, Kind::Stop) => "lengths differ",
-        _ => "one sends where the other listens",
+        _ => "one sends, one listens",
     }
 }
 
