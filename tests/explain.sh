@@ -76,10 +76,12 @@ plan() {
 # ---- Unsafe pairs: a kind that meets another.
 
 want 1 "pair 0 main/write_output service/probe_10: data against stop after 00100000l
+    group 0, as pair 0:
     bus                S 10 Wr A
     main/write_output  S 10 Wr A xxxxxxxx  next: a data bit
     service/probe_10   S 10 Wr A P         next: a STOP
     slot 9, UM10204 3.1.8: a data bit meets a STOP. Both send alike until here.
+    main/write_output × service/probe_*: 1 pair, lengths differ
 unsafe: 1 of 2 pairs
     to mend it: a bit before that slot, known in both and different; or the same
     shape from there on; or never main service ; (leaves 2 pairs unchecked)" ""
@@ -90,12 +92,14 @@ plan 'plan 1' \
     'message r write 1001000 0000000x again read 1001000 2 stop else stop else stop else stop ;' \
     'controller a w ;' 'controller b r ;'
 want 1 "pair 0 a/w b/r: data against restart after 10010000l00000001l
+    group 0, as pair 0:
     bus  S 48 Wr A 01 A
     a/w  S 48 Wr A 01 A 02        next: a data bit
     b/r  S 48 Wr A 0000000x A Sr  next: a repeated START
     slot 18, UM10204 3.1.8: a data bit meets a repeated START. Both send alike
     until here.
     b/r may send either bit before it in slot 16
+    a/w × b/r: 1 pair, one goes on, one repeats START
 unsafe: 1 of 1 pairs
     to mend it: a bit before that slot, known in both and different; or the same
     shape from there on; or never a b ; (leaves 1 pairs unchecked)" ""
@@ -104,23 +108,29 @@ run "a repeated START meets a data bit, after an open bit" check --explain p.pla
 plan 'plan 1' 'message get read 1001000 1 stop else stop ;' 'controller a get ;' 'interrupt al 1001000 ;' \
     'interrupt second 1001000 ;'
 want 1 "pair 0 a/get !al: answer against claim after 10010001
+pair 1 a/get !second: answer against claim after 10010001
+pair 2 !al !second: claim against claim after 10010001
+    group 0, as pair 0:
     bus    S 48 Rd
     a/get  S 48 Rd          next: a target's bit
     !al    S 48 Rd (waits)  next: a wait for the answer
     slot 8, the profile of interrupts: a target's bit meets a wait for the
     answer. Both send alike until here.
-pair 1 a/get !second: answer against claim after 10010001
+    a/get × !al: 1 pair, an interrupt has the same header
+    group 1, as pair 1:
     bus      S 48 Rd
     a/get    S 48 Rd          next: a target's bit
     !second  S 48 Rd (waits)  next: a wait for the answer
     slot 8, the profile of interrupts: a target's bit meets a wait for the
     answer. Both send alike until here.
-pair 2 !al !second: claim against claim after 10010001
+    a/get × !second: 1 pair, an interrupt has the same header
+    group 2, as pair 2:
     bus      S 48 Rd
     !al      S 48 Rd (waits)  next: a wait for the answer
     !second  S 48 Rd (waits)  next: a wait for the answer
     slot 8, the profile of interrupts: a wait for the answer meets a wait for
     the answer. Both send alike until here.
+    !al × !second: 1 pair, an interrupt has the same header
 unsafe: 3 of 3 pairs
     to mend each: a bit before its slot, known in both and different
     no shape and no 'never' mends a pair with an interrupt: pair 0 pair 1 pair 2" ""
@@ -129,36 +139,43 @@ run "interrupts, which no never keeps away" check --explain p.plan
 plan 'plan 2' 'message one read 1001000 1 again write 1001000 stop else stop else stop ;' \
     'message few read 1001000 1..3 stop else stop ;' 'controller a one ;' 'controller b few ;'
 want 1 "pair 0 a/one b/few: restart against stop after 10010001lllllllll1
+    group 0, as pair 0:
     bus    S 48 Rd A 00 NA
     a/one  S 48 Rd A 00 NA Sr   next: a repeated START
     b/few  S 48 Rd A 00 A/NA P  next: a STOP
     slot 18, UM10204 3.1.8: a repeated START meets a STOP. Both send alike until
     here.
     b/few may send either bit before it in slot 17
+    a/one × b/few: 1 pair, one ends, one repeats START
 unsafe: 1 of 1 pairs
     to mend it: a bit before that slot, known in both and different; or the same
     shape from there on; or never a b ; (leaves 1 pairs unchecked)" ""
 run "reads that may end alike: the last acknowledge of one is open" check --explain p.plan
 
-# ---- How many are explained.
+# ---- Groups, and how many of them are explained.
 
 plan 'plan 2' 'message w write 1001000 00000001 stop else stop else stop ;' 'message p write 1001000 stop else stop ;' \
     'controller a w ;' 'controller b p ;' 'controller c p ;'
-want 1 "pair 0 a/w b/p: data against stop after 10010000l
+one="    group 0, as pair 0:
     bus  S 48 Wr A
     a/w  S 48 Wr A 01  next: a data bit
     b/p  S 48 Wr A P   next: a STOP
     slot 9, UM10204 3.1.8: a data bit meets a STOP. Both send alike until here.
-pair 1 a/w c/p: data against stop after 10010000l
-    (not explained from here on: 1; --most N explains N pairs)
+    a/w × b/p, a/w × c/p: 2 pairs, lengths differ
 unsafe: 2 of 3 pairs
     to mend each: a bit before its slot, known in both and different; or the
     same shape from there on; or never a b ; never a c ; (leaves 2 pairs
-    unchecked)" ""
-run "one pair is explained where --most is 1" check --explain --most 1 p.plan
+    unchecked)"
 want 1 "pair 0 a/w b/p: data against stop after 10010000l
-    (not explained from here on: 2; --most N explains N pairs)
 pair 1 a/w c/p: data against stop after 10010000l
+$one" ""
+run "pairs of several controllers are one group" check --explain --most 1 p.plan
+want 1 "$one" ""
+run "a group without its pairs" check --summary p.plan
+run "the same where --explain is given too" check --explain --summary p.plan
+want 1 "pair 0 a/w b/p: data against stop after 10010000l
+pair 1 a/w c/p: data against stop after 10010000l
+    (not explained: 1 group of 2 pairs; --most N explains N groups)
 unsafe: 2 of 3 pairs
     to mend each: a bit before its slot, known in both and different; or the
     same shape from there on; or never a b ; never a c ; (leaves 2 pairs
@@ -170,30 +187,53 @@ want 0 "safe: 1 pairs
     end: 0; alike to the end: 1
     2 pairs were not checked: 'never' keeps their controllers apart" ""
 run "the never items that are named make the plan safe" check --explain p.plan
+run "a safe plan, without pairs" check --summary p.plan
 
 plan 'plan 2' 'message w write 1001000 00000001 stop else stop else stop ;' \
     'message v write 1001000 00000010 stop else stop else stop ;' 'message p write 1001000 stop else stop ;' \
     'message q read 0010000 1 stop else stop ;' 'controller a w v ;' 'controller b p q ;' 'controller c p w ;' \
     'interrupt al 0010000 ;'
-want 1 "pair 0 a/w b/p: data against stop after 10010000l
-    (not explained from here on: 6; --most N explains N pairs)
+six="pair 0 a/w b/p: data against stop after 10010000l
 pair 2 a/w c/p: data against stop after 10010000l
 pair 5 a/v b/p: data against stop after 10010000l
 pair 7 a/v c/p: data against stop after 10010000l
 pair 11 b/p c/w: stop against data after 10010000l
-pair 15 b/q !al: answer against claim after 00100001
+pair 15 b/q !al: answer against claim after 00100001"
+want 1 "$six
+    (not explained: 3 groups of 6 pairs; --most N explains N groups)
 unsafe: 6 of 18 pairs
     to mend each: a bit before its slot, known in both and different; or the
     same shape from there on; or never a b ; never a c ; never b c ; (leaves 12
     pairs unchecked)
     no shape and no 'never' mends a pair with an interrupt: pair 15" ""
 run "several pairs of two controllers, beside one with an interrupt" check --explain --most 0 p.plan
+want 1 "$six
+    group 0, as pair 15:
+    bus  S 10 Rd
+    b/q  S 10 Rd          next: a target's bit
+    !al  S 10 Rd (waits)  next: a wait for the answer
+    slot 8, the profile of interrupts: a target's bit meets a wait for the
+    answer. Both send alike until here.
+    b/q × !al: 1 pair, an interrupt has the same header
+    group 1, as pair 0:
+    bus  S 48 Wr A
+    a/w  S 48 Wr A 01  next: a data bit
+    b/p  S 48 Wr A P   next: a STOP
+    slot 9, UM10204 3.1.8: a data bit meets a STOP. Both send alike until here.
+    a/w × b/p, a/w × c/p, b/p × c/w: 3 pairs, lengths differ
+    (not explained: 1 group of 2 pairs; --most N explains N groups)
+unsafe: 6 of 18 pairs
+    to mend each: a bit before its slot, known in both and different; or the
+    same shape from there on; or never a b ; never a c ; never b c ; (leaves 12
+    pairs unchecked)
+    no shape and no 'never' mends a pair with an interrupt: pair 15" ""
+run "the shortest wire first" check --explain --most 2 p.plan
 printf 'never b a ;\n' >>p.plan
 want 1 "pair 0 a/w c/p: data against stop after 10010000l
-    (not explained from here on: 4; --most N explains N pairs)
 pair 3 a/v c/p: data against stop after 10010000l
 pair 7 b/p c/w: stop against data after 10010000l
 pair 11 b/q !al: answer against claim after 00100001
+    (not explained: 3 groups of 4 pairs; --most N explains N groups)
 unsafe: 4 of 14 pairs
     to mend each: a bit before its slot, known in both and different; or the
     same shape from there on; or never a c ; never b c ; (leaves 8 pairs
@@ -203,12 +243,61 @@ unsafe: 4 of 14 pairs
 run "a never that the plan has is not named" check --explain --most 0 p.plan
 printf 'never a c ; never b c ;\n' >>p.plan
 want 1 "pair 3 b/q !al: answer against claim after 00100001
-    (not explained from here on: 1; --most N explains N pairs)
+    (not explained: 1 group of 1 pair; --most N explains N groups)
 unsafe: 1 of 6 pairs
     to mend it: a bit before that slot, known in both and different
     no shape and no 'never' mends a pair with an interrupt: pair 3
     12 pairs were not checked: 'never' keeps their controllers apart" ""
 run "with these items the pair with the interrupt is left" check --explain --most 0 p.plan
+
+# between NAME LINE..: the last line of each group, where a summary of p.plan explains all of them.
+between() {
+    local name=$1
+    shift
+    want 1 "$(printf '    %s\n' "$@")" ""
+    "$twire" check --summary --most 100 p.plan 2>err >explained
+    echo "$?" >status
+    grep ' × ' explained >out
+    compare "$name"
+}
+
+# A family of writes of one to three bytes and one of four to six; three plain writes, which meet in their second byte or
+# third; a read at the address of an interrupt; and two writes that go on after a repeated START.
+tails() {
+    printf ' stop'
+    printf ' else stop%.0s' $(seq "$1")
+    printf ' ;'
+}
+any() {
+    printf ' xxxxxxxx%.0s' $(seq "$1")
+}
+plan 'plan 1' "message a_1 write 1010000$(any 1)$(tails 2)" "message a_2 write 1010000$(any 2)$(tails 3)" \
+    "message a_03 write 1010000$(any 3)$(tails 4)" "message b1 write 1010000$(any 4)$(tails 5)" \
+    "message b2 write 1010000$(any 5)$(tails 6)" "message b12 write 1010000$(any 6)$(tails 7)" \
+    "message p write 1010001$(any 2)$(tails 3)" "message q write 1010001$(any 1)$(tails 2)" \
+    "message r write 1010001$(any 3)$(tails 4)" "message g read 1010010 1 stop else stop ;" \
+    "message d write 1010011 again write 1010011$(any 1)$(tails 3)" \
+    "message e write 1010011 again write 1010011$(any 2)$(tails 4)" \
+    'controller left a_1 a_2 a_03 p q g d ;' 'controller right b1 b2 b12 p q r g e ;' 'interrupt s 1010010 ;'
+between "families, bytes, frames and interrupts" \
+    "left/g × !s, right/g × !s: 2 pairs, an interrupt has the same header" \
+    "left/a_* × right/b*: 9 pairs, lengths differ" "left/p × right/q, left/q × right/p: 2 pairs, lengths differ" \
+    "left/q × right/r: 1 pair, lengths differ" "left/p × right/r: 1 pair, lengths differ" \
+    "left/d × right/e: 1 pair, lengths differ"
+# In the first frame, and in the second.
+plan 'plan 1' 'message m write 1010011 again write 1010011 xxxxxxxx stop else stop else stop else stop ;' \
+    'message n write 1010011 again write 1010011 stop else stop else stop ;' \
+    'message o write 1010011 stop else again write 1010011 stop else stop ;' 'controller a m ;' 'controller b n o ;'
+between "one frame and another" "a/m × b/o: 1 pair, one ends, one repeats START" "a/m × b/n: 1 pair, lengths differ"
+# Whoever sends them, on either side.
+plan 'plan 1' 'message w write 1001000 00000001 stop else stop else stop ;' 'message p write 1001000 stop else stop ;' \
+    'controller a w p ;' 'controller b w p ;' 'controller c w p ;' 'controller d w p ;' 'controller e w p ;'
+want 1 "    a/w × b/p, a/w × c/p, a/w × d/p, a/w × e/p and 16 more: 20 pairs, lengths
+    differ" ""
+"$twire" check --summary p.plan >explained 2>err
+echo "$?" >status
+grep -A 1 ' × ' explained | sed '/^unsafe/d' >out
+compare "two messages of five controllers"
 
 # ---- Safe plans.
 
@@ -416,30 +505,26 @@ brief() {
 brief 'brief 1' 'device sensor 0x48 ;' 'message set write sensor 0x01 any ;' \
     'message get write sensor 0x01 read sensor 1 ;' 'message page write 0x50 any*1..2 ;' \
     'controller bmc set page ;' 'controller pch get page ;' 'never bmc/set pch/page ;'
-pages="    slot 18, UM10204 3.1.8"
 want 1 "pair 2 bmc/page_1 pch_page/page_2: stop against data after 10100000l00000000l
+pair 4 bmc/page_2 pch_page/page_1: data against stop after 10100000l00000000l
+pair 6 bmc_set/set pch/get: data against restart after 10010000l00000001l
+    group 0, as pair 2:
     bus         S 50 Wr A 00 A
     bmc/page_1  S 50 Wr A xxxxxxxx A P         next: a STOP
     pch/page_2  S 50 Wr A xxxxxxxx A xxxxxxxx  next: a data bit
-$pages: a STOP meets a data bit. Both send alike until here.
+    slot 18, UM10204 3.1.8: a STOP meets a data bit. Both send alike until here.
     bmc/page_1 may send either bit before it in slot 9..16
     pch/page_2 may send either bit before it in slot 9..16
     see board.brief:5
-pair 4 bmc/page_2 pch_page/page_1: data against stop after 10100000l00000000l
-    bus         S 50 Wr A 00 A
-    bmc/page_2  S 50 Wr A xxxxxxxx A xxxxxxxx  next: a data bit
-    pch/page_1  S 50 Wr A xxxxxxxx A P         next: a STOP
-$pages: a data bit meets a STOP. Both send alike until here.
-    bmc/page_2 may send either bit before it in slot 9..16
-    pch/page_1 may send either bit before it in slot 9..16
-    see board.brief:5
-pair 6 bmc_set/set pch/get: data against restart after 10010000l00000001l
+    bmc/page_* × pch/page_*: 2 pairs, lengths differ
+    group 1, as pair 6:
     bus      S 48 Wr A 01 A
     bmc/set  S 48 Wr A 01 A xxxxxxxx  next: a data bit
     pch/get  S 48 Wr A 01 A Sr        next: a repeated START
     slot 18, UM10204 3.1.8: a data bit meets a repeated START. Both send alike
     until here.
     see board.brief:3 and board.brief:4
+    bmc/set × pch/get: 1 pair, one goes on, one repeats START
 unsafe: 3 of 7 pairs
     to mend each: a bit before its slot, known in both and different; or the
     same shape from there on; or never bmc/page_1 pch/page_2 ; never bmc/page_2
@@ -453,6 +538,16 @@ want 0 "safe: 4 pairs
     end: 0; alike to the end: 2
     5 pairs were not checked: 'never' keeps their controllers apart" ""
 run "the items that are named mend the brief" check --explain board.brief
+
+# The family of a brief, and messages whose names are alike beside it.
+brief 'brief 1' 'message page write 0x50 any*1..3 ;' 'message page_4 write 0x50 any*4 ; message page_5 write 0x50 any*5 ;' \
+    'controller bmc page ;' 'controller pch page_4 page_5 ; controller seq page_2 ;'
+want 1 "    bmc/page_* × pch/page_*, pch/page_* × seq/page_*: 8 pairs, lengths differ
+    bmc/page_* × seq/page_*: 2 pairs, lengths differ" ""
+"$twire" check --summary --most 100 board.brief >explained 2>err
+echo "$?" >status
+grep ' × ' explained >out
+compare "a family and messages that are alike"
 
 # Families are named by their labels, and controllers of one message themselves.
 brief 'brief 1' 'message page write 0x50 any*1..3 ;' 'message get write 0x50 any read 0x50 1 ;' \
@@ -585,12 +680,14 @@ printf '%s\n' 'brief 1' 'message set write 0x48 0x01 any ;' 'message get write 0
     'controller bmc set ;' >first.brief
 printf '%s\n' 'brief 1' '' 'controller pch get ;' >second.brief
 want 1 "pair 0 bmc/set pch/get: data against restart after 10010000l00000001l
+    group 0, as pair 0:
     bus      S 48 Wr A 01 A
     bmc/set  S 48 Wr A 01 A xxxxxxxx  next: a data bit
     pch/get  S 48 Wr A 01 A Sr        next: a repeated START
     slot 18, UM10204 3.1.8: a data bit meets a repeated START. Both send alike
     until here.
     see <stdin>:2 and <stdin>:3
+    bmc/set × pch/get: 1 pair, one goes on, one repeats START
 unsafe: 1 of 1 pairs
     to mend it: a bit before that slot, known in both and different; or the same
     shape from there on; or never bmc pch ; (leaves 1 pairs unchecked)" ""
@@ -612,7 +709,7 @@ see() {
     local name=$1
     shift
     want 0 "$(printf '    %s\n' "$@")" ""
-    "$twire" check --explain "$first" --with "$second" 2>err | sed -n '/^    see/,/^unsafe/p' | sed '$d' >out
+    "$twire" check --explain "$first" --with "$second" 2>err | sed -n '/^    see/,/ × /p' | sed '$d' >out
     echo 0 >status
     compare "$name"
 }
@@ -696,6 +793,7 @@ alike "a rehearsal of 250 bytes" bench p.plan c.cert "$long/$long"
 brief 'brief 1' 'message short write 0x50 any*3 ;' 'message long write 0x50 any*8 ;' 'controller bmc short ;' \
     'controller host long ;'
 want 1 "pair 0 bmc/short host/long: stop against data after 10100000l00000000l00000000l00000000l
+    group 0, as pair 0:
     bus        S 50 Wr A .. A 00 A 00 A
     bmc/short  S 50 Wr A .. A xxxxxxxx A xxxxxxxx A P         next: a STOP
     host/long  S 50 Wr A .. A xxxxxxxx A xxxxxxxx A xxxxxxxx  next: a data bit
@@ -703,6 +801,7 @@ want 1 "pair 0 bmc/short host/long: stop against data after 10100000l00000000l00
     bmc/short may send either bit before it in slot 9..16, 18..25, 27..34
     host/long may send either bit before it in slot 9..16, 18..25, 27..34
     see board.brief:2 and board.brief:3
+    bmc/short × host/long: 1 pair, lengths differ
 unsafe: 1 of 1 pairs
     to mend it: a bit before that slot, known in both and different; or the same
     shape from there on; or never bmc host ; (leaves 1 pairs unchecked)" ""
@@ -713,15 +812,15 @@ brief 'brief 1' 'message short write 0x50 0x01*6 read 0x50 1 ;' 'message long wr
 want 0 "    bus        S 50 Wr A .. A 01 A 01 A
     bmc/short  S 50 Wr A .. A 01 A 01 A Sr  next: a repeated START
     host/long  S 50 Wr A .. A xxxxxxxx A xxxxxxxx A xxxxxxxx  next: a data bit" ""
-"$twire" check --explain board.brief 2>err | sed -n '2,4p' >out
+"$twire" check --explain board.brief 2>err | sed -n '3,5p' >out
 echo 0 >status
 compare "known bytes in a row that is too long"
 
 # ---- Many pairs.
 
-# names PREFIX COUNT: so many names of 32 characters.
+# names PREFIX COUNT: so many names of 32 characters, none of which is like another.
 names() {
-    seq -f "$1%031.0f" "$2" | tr '\n' ' '
+    seq -f "$1%030.0fn" "$2" | tr '\n' ' '
 }
 {
     echo 'plan 1'
@@ -736,12 +835,12 @@ names() {
         echo "controller $name $(names m 16);"
     done
 } >p.plan
-alike "720 unsafe pairs, all explained" check p.plan --most 1000000
-want 0 720 ""
+alike "720 unsafe pairs, all groups explained" check p.plan --most 1000000
+want 0 120 ""
 grep -c '^    slot [0-9]*, UM10204 3\.1\.8: a' explained >out
 : >err
 echo 0 >status
-compare "each of 720 pairs has its reason"
+compare "each of 120 groups has its reason"
 want 2 "" "refused write"
 "$twire" check p.plan --explain --most 1000000 >/dev/full 2>err
 echo "$?" >status

@@ -90,7 +90,7 @@ done
 
 # Each kind of object has been met, and with --explain each that holds more then.
 sort -u kinds >met
-printf '%s\n' address bus certificate "certificate explained" count hint lint order pair "pair explained" participant plan "plan explained" \
+printf '%s\n' address bus certificate "certificate explained" count group "group explained" hint lint order pair participant plan "plan explained" \
     refusal signal signals too_few total transaction "transaction explained" transactions "transactions explained" wire "wire explained" won >wanted
 if diff -u --label wanted --label met wanted met; then
     passed=$((passed + 1))
@@ -119,11 +119,13 @@ dump=$examples/stop_meets_data.vcd
 
 run "an unsafe plan" 1 '{"kind":"pair","pair":0,"participants":["main/write_output","service/probe_10"],"meet":["data","stop"],"after":"00100000l"}
 {"kind":"plan","safe":false,"pairs":2,"unsafe_pairs":1}' "" check --format json "$stop"
-run "an unsafe plan, explained" 1 '{"kind":"pair","pair":0,"participants":["main/write_output","service/probe_10"],"meet":["data","stop"],"after":"00100000l","explain":{"slot":9,"rule":"UM10204 3.1.8","bus":"S 10 Wr A","bytes":["S 10 Wr A xxxxxxxx","S 10 Wr A P"],"open":[[],[]]}}
-{"kind":"plan","safe":false,"pairs":2,"unsafe_pairs":1,"explain":{"explained":1,"never":[["main","service"]],"unchecked":2,"interrupts":[],"kept_apart":0}}' \
+run "an unsafe plan, explained" 1 '{"kind":"pair","pair":0,"participants":["main/write_output","service/probe_10"],"meet":["data","stop"],"after":"00100000l","group":0}
+{"kind":"group","group":0,"pairs":1,"between":[["main/write_output","service/probe_*"]],"frame":0,"part":"data","example":{"pair":0,"participants":["main/write_output","service/probe_10"],"meet":["data","stop"],"after":"00100000l","explain":{"slot":9,"rule":"UM10204 3.1.8","bus":"S 10 Wr A","bytes":["S 10 Wr A xxxxxxxx","S 10 Wr A P"],"open":[[],[]]}}}
+{"kind":"plan","safe":false,"pairs":2,"unsafe_pairs":1,"explain":{"explained":1,"groups":1,"never":[["main","service"]],"unchecked":2,"interrupts":[],"kept_apart":0}}' \
     "" --format json check --explain "$stop"
-run "open bits before a fault" 1 '{"kind":"pair","pair":0,"participants":["main/read_register","guard/set_register"],"meet":["restart","stop"],"after":"10010000l00000010l","explain":{"slot":18,"rule":"UM10204 3.1.8","bus":"S 48 Wr A 02 A","bytes":["S 48 Wr A 000000xx A Sr","S 48 Wr A 0000001x A P"],"open":[[[15,16]],[[16,16]]]}}
-{"kind":"plan","safe":false,"pairs":2,"unsafe_pairs":1,"explain":{"explained":1,"never":[["main","guard"]],"unchecked":2,"interrupts":[],"kept_apart":0}}' \
+run "open bits before a fault" 1 '{"kind":"pair","pair":0,"participants":["main/read_register","guard/set_register"],"meet":["restart","stop"],"after":"10010000l00000010l","group":0}
+{"kind":"group","group":0,"pairs":1,"between":[["main/read_register","guard/set_register"]],"frame":0,"part":"data","byte":2,"example":{"pair":0,"participants":["main/read_register","guard/set_register"],"meet":["restart","stop"],"after":"10010000l00000010l","explain":{"slot":18,"rule":"UM10204 3.1.8","bus":"S 48 Wr A 02 A","bytes":["S 48 Wr A 000000xx A Sr","S 48 Wr A 0000001x A P"],"open":[[[15,16]],[[16,16]]]}}}
+{"kind":"plan","safe":false,"pairs":2,"unsafe_pairs":1,"explain":{"explained":1,"groups":1,"never":[["main","guard"]],"unchecked":2,"interrupts":[],"kept_apart":0}}' \
     "" check --format json --explain "$examples/restart_meets_stop.plan"
 cat >p.plan <<'PLAN'
 plan 2
@@ -136,15 +138,17 @@ controller c p ;
 interrupt al 0010000 ;
 never b c ;
 PLAN
-run "a pair with an interrupt, and pairs that are kept apart" 1 '{"kind":"pair","pair":0,"participants":["a/w","b/p"],"meet":["data","stop"],"after":"10010000l","explain":{"slot":9,"rule":"UM10204 3.1.8","bus":"S 48 Wr A","bytes":["S 48 Wr A 01","S 48 Wr A P"],"open":[[],[]]}}
-{"kind":"pair","pair":2,"participants":["a/w","c/p"],"meet":["data","stop"],"after":"10010000l","explain":{"slot":9,"rule":"UM10204 3.1.8","bus":"S 48 Wr A","bytes":["S 48 Wr A 01","S 48 Wr A P"],"open":[[],[]]}}
-{"kind":"pair","pair":5,"participants":["b/q","!al"],"meet":["answer","claim"],"after":"00100001","explain":{"slot":8,"rule":"interrupts","bus":"S 10 Rd","bytes":["S 10 Rd","S 10 Rd (waits)"],"open":[[],[]]}}
-{"kind":"plan","safe":false,"pairs":7,"unsafe_pairs":3,"explain":{"explained":3,"never":[["a","b"],["a","c"]],"unchecked":3,"interrupts":[5],"kept_apart":2}}' \
-    "" check --format json --explain p.plan
-run "one of three pairs is explained" 1 '{"kind":"pair","pair":0,"participants":["a/w","b/p"],"meet":["data","stop"],"after":"10010000l","explain":{"slot":9,"rule":"UM10204 3.1.8","bus":"S 48 Wr A","bytes":["S 48 Wr A 01","S 48 Wr A P"],"open":[[],[]]}}
-{"kind":"pair","pair":2,"participants":["a/w","c/p"],"meet":["data","stop"],"after":"10010000l"}
-{"kind":"pair","pair":5,"participants":["b/q","!al"],"meet":["answer","claim"],"after":"00100001"}
-{"kind":"plan","safe":false,"pairs":7,"unsafe_pairs":3,"explain":{"explained":1,"never":[["a","b"],["a","c"]],"unchecked":3,"interrupts":[5],"kept_apart":2}}' \
+pairs='{"kind":"pair","pair":0,"participants":["a/w","b/p"],"meet":["data","stop"],"after":"10010000l","group":1}
+{"kind":"pair","pair":2,"participants":["a/w","c/p"],"meet":["data","stop"],"after":"10010000l","group":1}
+{"kind":"pair","pair":5,"participants":["b/q","!al"],"meet":["answer","claim"],"after":"00100001","group":0}'
+answer='{"kind":"group","group":0,"pairs":1,"between":[["b/q","!al"]],"frame":0,"part":"header","example":{"pair":5,"participants":["b/q","!al"],"meet":["answer","claim"],"after":"00100001","explain":{"slot":8,"rule":"interrupts","bus":"S 10 Rd","bytes":["S 10 Rd","S 10 Rd (waits)"],"open":[[],[]]}}}'
+data='{"kind":"group","group":1,"pairs":2,"between":[["a/w","b/p"],["a/w","c/p"]],"frame":0,"part":"data","byte":1,"example":{"pair":0,"participants":["a/w","b/p"],"meet":["data","stop"],"after":"10010000l"'
+groups=$answer$'\n'$data',"explain":{"slot":9,"rule":"UM10204 3.1.8","bus":"S 48 Wr A","bytes":["S 48 Wr A 01","S 48 Wr A P"],"open":[[],[]]}}}
+{"kind":"plan","safe":false,"pairs":7,"unsafe_pairs":3,"explain":{"explained":2,"groups":2,"never":[["a","b"],["a","c"]],"unchecked":3,"interrupts":[5],"kept_apart":2}}'
+run "a pair with an interrupt, and pairs that are kept apart" 1 "$pairs"$'\n'"$groups" "" check --format json --explain p.plan
+run "groups alone" 1 "$groups" "" check --format json --summary p.plan
+run "one of two groups is explained" 1 "$pairs"$'\n'"$answer"$'\n'"$data"'}}
+{"kind":"plan","safe":false,"pairs":7,"unsafe_pairs":3,"explain":{"explained":1,"groups":2,"never":[["a","b"],["a","c"]],"unchecked":3,"interrupts":[5],"kept_apart":2}}' \
     "" check --format json --explain --most 1 p.plan
 run "a safe plan" 0 '{"kind":"plan","safe":true,"pairs":2,"unsafe_pairs":0}' "" check --format=json "$two"
 run "a safe plan, explained" 0 '{"kind":"plan","safe":true,"pairs":2,"unsafe_pairs":0,"explain":{"decided":{"header":0,"later":1,"read":0,"alike":1},"unsent":[],"kept_apart":0}}' \
@@ -265,8 +269,9 @@ bmc='{"file":"bmc.brief","line":5}' pch='{"file":"p\"h.brief","line":2}' al='{"f
 met='"participants":["bmc/set","pch/get"],"meet":["data","restart"],"after":"10010000l00000001l","places":['$set,$get']'
 run "an unsafe pair of two briefs" 1 '{"kind":"pair","pair":0,'"$met"'}
 {"kind":"plan","safe":false,"pairs":5,"unsafe_pairs":1}' "" check --format json "${board[@]}"
-run "an unsafe pair of two briefs, explained" 1 '{"kind":"pair","pair":0,'"$met"',"explain":{"slot":18,"rule":"UM10204 3.1.8","bus":"S 48 Wr A 01 A","bytes":["S 48 Wr A 01 A xxxxxxxx","S 48 Wr A 01 A Sr"],"open":[[],[]]}}
-{"kind":"plan","safe":false,"pairs":5,"unsafe_pairs":1,"explain":{"explained":1,"never":[["bmc/set","pch"]],"unchecked":1,"interrupts":[],"kept_apart":2}}' \
+run "an unsafe pair of two briefs, explained" 1 '{"kind":"pair","pair":0,'"$met"',"group":0}
+{"kind":"group","group":0,"pairs":1,"between":[["bmc/set","pch/get"]],"frame":0,"part":"data","byte":2,"example":{"pair":0,'"$met"',"explain":{"slot":18,"rule":"UM10204 3.1.8","bus":"S 48 Wr A 01 A","bytes":["S 48 Wr A 01 A xxxxxxxx","S 48 Wr A 01 A Sr"],"open":[[],[]]}}}
+{"kind":"plan","safe":false,"pairs":5,"unsafe_pairs":1,"explain":{"explained":1,"groups":1,"never":[["bmc/set","pch"]],"unchecked":1,"interrupts":[],"kept_apart":2}}' \
     "" check --format json --explain "${board[@]}"
 "$twire" order --format json "${board[@]}" | sed -n '1,2p; /total/p' >out 2>err
 cat >want_out <<END

@@ -40,7 +40,9 @@ fn run() -> Result<u8, Box<dyn Error>> {
     let reports = command.is_some_and(|name| REPORTING.contains(&name));
     let (mut out, err) = in_lines(&output, reports)?;
     log(&output)?;
-    let is_explained = words.iter().any(|word| word == "--explain");
+    // (of a summary each command has lines of its own but 'check', which has those for people)
+    let asks = |name: &str| words.iter().any(|word| word == name);
+    let is_explained = asks("--explain") || command == Some("check") && asks("--summary");
     if is_explained && command.is_some_and(|name| EXPLAINED.contains(&name)) {
         out = with_people(&ask(&words, false)?, &output, &out, &err)?;
     }

@@ -28,21 +28,22 @@ fn two((first, last): (usize, usize)) -> Value {
     Value::Array(vec![Value::of(first), Value::of(last)])
 }
 
-/// Of a plan, of which so many unsafe pairs are explained at most.
-pub fn of_plan(plan: &Participants, checked: &Checked, most: usize) -> Value {
+/// Of a plan, of which so many groups of unsafe pairs are explained at most.
+pub fn of_plan(plan: &Participants, checked: &Checked, groups: usize, most: usize) -> Value {
     if checked.faults.is_empty() {
         of_safe(plan)
     } else {
-        of_unsafe(plan, &checked.faults, most)
+        of_unsafe(plan, &checked.faults, groups, most)
     }
 }
 
-fn of_unsafe(plan: &Participants, faults: &[Fault], most: usize) -> Value {
+fn of_unsafe(plan: &Participants, faults: &[Fault], groups: usize, most: usize) -> Value {
     let mends = mends(plan.items, faults);
     let name = |place: usize| plan.items.controllers[place].name;
     let nevers = mends.nevers.iter().map(|(c, d)| Value::list([name(*c), name(*d)]));
     object(vec![
-        ("explained", Value::of(faults.len().min(most))),
+        ("explained", Value::of(groups.min(most))),
+        ("groups", Value::of(groups)),
         ("never", Value::Array(nevers.collect())),
         ("unchecked", Value::of(mends.unchecked)),
         ("interrupts", Value::Array(mends.interrupts.iter().map(|pair| Value::of(*pair)).collect())),

@@ -45,7 +45,7 @@ fn line_of(line: &str) -> Result<String, String> {
     let mut fields = Fields::of(read(line)?)?;
     let told = told(&mut fields)?;
     fields.end()?;
-    // (what is likely a mistake in a brief has a hint, and no line of a report)
+    // (a group has lines for people alone, and what is likely a mistake in a brief has a hint)
     Ok(if told.is_empty() { told } else { format!("{told}\n") })
 }
 
@@ -54,6 +54,7 @@ fn told(fields: &mut Fields) -> Result<String, String> {
     let kind = fields.text("kind")?;
     Ok(match kind.as_str() {
         "pair" => pair(fields)?,
+        "group" => group(fields)?,
         "plan" => plan(fields)?,
         "certificate" => certificate(fields)?,
         "transaction" => transaction(fields)?,
@@ -285,22 +286,52 @@ fn order(fields: &mut Fields) -> Result<String, String> {
 }
 
 fn pair(fields: &mut Fields) -> Result<String, String> {
+    let (line, _) = unsafe_pair(fields)?;
+    fields.maybe("group", Value::into_number)?;
+    Ok(line)
+}
+
+// Unsafe pairs that are alike, with an example.
+fn group(fields: &mut Fields) -> Result<String, String> {
+    fields.number("group")?;
+    fields.number("pairs")?;
+    let between = fields.take("between")?.into_items()?;
+    only_if(!between.is_empty(), "a group is between somebody")?;
+    for meet in between {
+        two_of(meet)?;
+    }
+    fields.number("frame")?;
+    let part = fields.text("part")?;
+    let byte = fields.maybe("byte", Value::into_number)?;
+    let is_part = part == "data" && byte.as_deref() != Some("0") || part == "header" && byte.is_none();
+    only_if(is_part, "there is no such part of a frame")?;
+    let mut example = Fields::of(fields.take("example")?)?;
+    let (_, slots) = unsafe_pair(&mut example)?;
+    if let Some(mut explain) = example.explain()? {
+        explained_pair(&mut explain, slots)?;
+        explain.end()?;
+    }
+    example.end().map(|()| String::new())
+}
+
+// An unsafe pair: its line, and how many slots its wire has.
+fn unsafe_pair(fields: &mut Fields) -> Result<(String, usize), String> {
     let pair = fields.number("pair")?;
     let [x, y] = fields.two("participants")?;
     let [one, other] = fields.two("meet")?;
     let wire = fields.text("after")?;
     places(fields, 2)?;
-    if let Some(mut explain) = fields.explain()? {
-        let slot = explain.number("slot")?;
-        let rule = explain.text("rule")?;
-        let is_so = slot == wire.len().to_string() && ["UM10204 3.1.8", "interrupts"].contains(&rule.as_str());
-        only_if(is_so, "the slot is another one, or there is no such rule")?;
-        explain.text("bus")?;
-        explain.two("bytes")?;
-        open_slots(explain.take("open")?)?;
-        explain.end()?;
-    }
-    Ok(format!("pair {pair} {x} {y}: {one} against {other} after {wire}"))
+    Ok((format!("pair {pair} {x} {y}: {one} against {other} after {wire}"), wire.len()))
+}
+
+fn explained_pair(explain: &mut Fields, slots: usize) -> Result<(), String> {
+    let slot = explain.number("slot")?;
+    let rule = explain.text("rule")?;
+    let is_so = slot == slots.to_string() && ["UM10204 3.1.8", "interrupts"].contains(&rule.as_str());
+    only_if(is_so, "the slot is another one, or there is no such rule")?;
+    explain.text("bus")?;
+    explain.two("bytes")?;
+    open_slots(explain.take("open")?)
 }
 
 // Of each of the two the first and the last ones of some slots.
@@ -337,6 +368,7 @@ fn explained_plan(explain: &mut Fields, is_safe: bool) -> Result<(), String> {
         explain.texts("unsent")?;
     } else {
         explain.number("explained")?;
+        explain.number("groups")?;
         for never in explain.take("never")?.into_items()? {
             two_of(never)?;
         }

@@ -9,8 +9,10 @@ use crate::plain::captures::{Transaction, Until};
 use crate::plain::decoded::{bits_behind, bytes_of, calls_of};
 use crate::plain::found::{checked, decoded, decoded_so_far, explainers, ordered, played, verified};
 use crate::plain::found::{Decoded, Fault, Ordered};
+use crate::plain::groups::{groups_of, Group};
 use crate::plain::{symbols, with_plan, Participant, Participants, Ways, Wrong};
 use crate::values::object;
+use std::collections::HashMap;
 
 /// What is due of a command with `--format json`, and with `--explain` or without. None of a command whose report is no
 /// objects. Nothing is due of a plan, of a dump, or of starters, that are refused.
@@ -63,38 +65,64 @@ pub fn so_far_of(asked: &Asked) -> Vec<Value> {
     }
 }
 
-// How many pairs `--explain` explains, where `--most` does not say it.
+// How many groups `--explain` explains, where `--most` does not say it.
 const MOST: usize = 10;
 
 fn of_check(plan: &Participants, explain: bool) -> Vec<Value> {
     let checked = checked(plan);
-    let most = if explain { MOST } else { 0 };
+    let groups = if explain { groups_of(plan, &checked.faults) } else { Vec::new() };
+    let numbered = groups.iter().enumerate();
+    let numbers: HashMap<usize, usize> =
+        numbered.flat_map(|(number, group)| group.pairs.iter().map(move |place| (*place, number))).collect();
     let faults = checked.faults.iter().enumerate();
-    let mut objects: Vec<Value> = faults.map(|(k, fault)| of_fault(fault, k < most)).collect();
+    let mut objects: Vec<Value> = faults.map(|(place, fault)| of_fault(fault, numbers.get(&place))).collect();
+    let numbered = groups.iter().enumerate();
+    objects.extend(numbered.map(|(number, group)| of_group(number, group, &checked.faults)));
     let mut fields = vec![
         ("safe", Value::Bool(checked.faults.is_empty())),
         ("pairs", Value::of(checked.pairs)),
         ("unsafe_pairs", Value::of(checked.faults.len())),
     ];
     if explain {
-        fields.push(("explain", explains::of_plan(plan, &checked, most)));
+        fields.push(("explain", explains::of_plan(plan, &checked, groups.len(), MOST)));
     }
     objects.push(of_kind("plan", fields));
     objects
 }
 
-fn of_fault(fault: &Fault, explain: bool) -> Value {
-    let Fault { pair, x, y, clash } = fault;
+fn of_fault(fault: &Fault, group: Option<&usize>) -> Value {
+    let mut fields = fields_of(fault);
+    fields.extend(group.map(|number| ("group", Value::of(*number))));
+    of_kind("pair", fields)
+}
+
+fn of_group(number: usize, group: &Group, faults: &[Fault]) -> Value {
+    let between = group.between.iter().map(|[first, second]| Value::list([first.as_str(), second.as_str()]));
     let mut fields = vec![
+        ("group", Value::of(number)),
+        ("pairs", Value::of(group.pairs.len())),
+        ("between", Value::Array(between.collect())),
+        ("frame", Value::of(group.likeness.frame)),
+        ("part", Value::text(if group.likeness.in_data { "data" } else { "header" })),
+    ];
+    fields.extend(group.likeness.byte.map(|byte| ("byte", Value::of(byte))));
+    let example = &faults[group.pairs[0]];
+    let mut shown = fields_of(example);
+    if number < MOST {
+        shown.push(("explain", explains::of_fault(example)));
+    }
+    fields.push(("example", object(shown)));
+    of_kind("group", fields)
+}
+
+fn fields_of(fault: &Fault) -> Vec<(&'static str, Value)> {
+    let Fault { pair, x, y, clash } = fault;
+    vec![
         ("pair", Value::of(*pair)),
         ("participants", both(x, y)),
         ("meet", Value::list([clash.first, clash.second].map(|kind| kind.word()))),
         ("after", Value::text(symbols(&clash.wire))),
-    ];
-    if explain {
-        fields.push(("explain", explains::of_fault(fault)));
-    }
-    of_kind("pair", fields)
+    ]
 }
 
 fn of_order(plan: &Participants) -> Vec<Value> {

@@ -33,8 +33,10 @@ pub enum Request<'a> {
     Check {
         plan: &'a str,
         workers: u32,
-        /// How many unsafe pairs are to be explained.
+        /// How many groups of unsafe pairs are to be explained.
         explain: Option<u32>,
+        /// Whether these stand there without the pairs.
+        summary: bool,
         /// The file for the waves of an unsafe pair: of the first one, or of the one with this number.
         wave: Option<&'a str>,
         pair: Option<u32>,
@@ -317,14 +319,15 @@ fn check_of<'a>(matches: &ArgMatches<'a>) -> Result<Request<'a>, Fault> {
         plan: word(matches, "PLAN"),
         workers: matches.get_one::<u32>("workers").unwrap_or(1),
         explain: most_of(matches),
+        summary: matches.get_flag("summary"),
         wave: wave_of(matches)?,
         pair: matches.get_one::<u32>("pair"),
     })
 }
 
-// How many unsafe pairs are to be explained.
+// How many groups of unsafe pairs are to be explained.
 fn most_of(matches: &ArgMatches<'_>) -> Option<u32> {
-    if matches.get_flag("explain") {
+    if matches.get_flag("explain") || matches.get_flag("summary") {
         matches.get_one::<u32>("most")
     } else {
         None

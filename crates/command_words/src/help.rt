@@ -49,6 +49,9 @@ put into one slot of the bus, and the wire before it, slot by slot:
   l h  an answer: low (ACK), high (NACK)  s  a STOP
   c    an interrupt waits for its answer
 
+Pairs that are alike in what meets, where, and between which families are one
+group. '--explain' shows an example of each, and '--summary' the groups alone.
+
 A refused plan is named on standard error with a code and a line, as
 'refused P3 line 2' (and on a terminal, or with '--hints always', its place is
 shown):

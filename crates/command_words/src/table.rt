@@ -144,7 +144,7 @@ const CHECK: Entry = Entry {
     about: "Is a plan safe, whoever starts together and whatever targets answer?",
     usage: None,
     after_help: AFTER_CHECK_HELP,
-    arguments: &[PLAN, WITH, WORKERS, EXPLAIN, MOST, WAVE, PAIR],
+    arguments: &[PLAN, WITH, WORKERS, EXPLAIN, GROUPS, MOST, WAVE, PAIR],
 };
 
 const CERTIFY: Entry = Entry {
@@ -326,11 +326,17 @@ const EXPLAIN: Argument = Argument::Flag {
     help: "Say below each line what it means, in bytes",
 };
 
+// Where pairs that are unsafe for one cause are a group.
+const GROUPS: Argument = Argument::Flag {
+    id: "summary",
+    help: "Groups of unsafe pairs, explained, list no pairs",
+};
+
 const MOST: Argument = Argument::Number {
     id: "most",
     value_name: "N",
     default: "10",
-    help: "How many unsafe pairs --explain explains",
+    help: "How many groups are explained",
 };
 
 const WAVE: Argument = Argument::Option {

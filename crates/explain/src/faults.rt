@@ -1,4 +1,4 @@
-// Lines below those of unsafe pairs.
+// Lines of unsafe pairs, and below the count of them.
 
 use crate::below::{begin, say, say_all};
 use crate::meetings::{Meeting, Rule, Side};
@@ -22,25 +22,20 @@ const RANGES: usize = 6;
 // How many pairs with an interrupt are named.
 const NAMED: usize = 6;
 
-/// What is said below the line of an unsafe pair: the bytes on the bus and those of both participants up to the slot in which
+/// What is said of an unsafe pair: the bytes on the bus and those of both participants up to the slot in which
 /// they meet, what meets there, which bits before it are open, and where the two stand in briefs.
-pub(crate) fn below_pair(
+pub(crate) fn tell_pair(
     alloc: Global,
+    lines: &mut Lines,
     words: PlanWords<'_>,
     both: (u32, u32),
     meeting: &Meeting,
-) -> Result<String, AllocError> {
+) -> Result<(), AllocError> {
     let first = words.label(alloc, both.0)?;
     let second = words.label(alloc, both.1)?;
-    let mut lines = Lines::new(alloc);
-    tell_sides(
-        alloc,
-        &mut lines,
-        (first.as_str(), second.as_str()),
-        meeting,
-    );
-    tell_places(alloc, &mut lines, words, both);
-    lines.finish()
+    tell_sides(alloc, lines, (first.as_str(), second.as_str()), meeting);
+    tell_places(alloc, lines, words, both);
+    Ok(())
 }
 
 fn tell_sides(alloc: Global, lines: &mut Lines, labels: (&str, &str), meeting: &Meeting) {

@@ -1,8 +1,9 @@
 //! What people read of a run: bytes in the place of slots, and why a line says what it says.
 //!
-//! Each thing that is explained is a value first: `meetings` has where an unsafe pair meets, `mends` what mends a plan (`keeping` by labels of a brief), `safety`
-//! how the pairs of a safe one are kept apart, `reasons` which of the two a plan has, `mistakes` and `breaks` what is wrong with a certificate, `tracks` what starters put
-//! along a wire. `reports` writes a report with lines for people between its own, made of these values by `faults`, `plans`,
+//! Each thing that is explained is a value first: `meetings` has where an unsafe pair meets, `groups` which unsafe pairs have one cause (`families` which messages
+//! count as one there), `mends` what mends a plan (`keeping` by labels of a brief), `safety` how the pairs of a safe one are kept
+//! apart, `reasons` which of the two a plan has, `mistakes` and `breaks` what is wrong with a certificate, `tracks` what starters put
+//! along a wire. `reports` writes a report with lines for people between its own, made of these values by `faults`, `group_lines`, `plans`,
 //! `certificates` and `benches`; each of these lines begins with four spaces and has at most 80 columns, however long the names
 //! are. The exact lines are those of the crates below.
 //!
@@ -24,8 +25,11 @@ mod captures;
 mod cells;
 mod certificates;
 mod decode_lines;
+mod families;
 mod faults;
 mod glitches;
+mod group_lines;
+mod groups;
 mod keeping;
 mod labels;
 mod leaving;
@@ -52,6 +56,7 @@ pub use breaks::{Break, Reason};
 pub use capture_lines::{CaptureLines, Layout};
 pub use decode_lines::DecodeLines;
 pub use glitches::{Cut, Cuts};
+pub use groups::Grouped;
 pub use labels::{Labels, label_of, labels_of};
 pub use leaving::{Leaves, mark_words, nearest, offer_words};
 pub use meetings::{Meeting, Rule, Side, meeting_of};
@@ -59,7 +64,7 @@ pub use mends::{Mends, Never, kept_apart};
 pub use mistakes::{Mistake, mistake_of};
 pub use paints::Paint;
 pub use reasons::{Reasons, reasons_of};
-pub use reports::{explain_answer, explain_check, explain_rehearsal};
+pub use reports::{Detail, explain_answer, explain_check, explain_rehearsal};
 pub use safety::{Decided, Safety};
 pub use selecting::{Seen, Selection};
 pub use tallies::{Explains, Others, Tallies};

@@ -3,6 +3,7 @@
 ghost use Rattle.plan_core.specs.PlanContents.{plan_contents};
 ghost use Rattle.verdicts.specs.Faults.{AreFaults, fault_list};
 
+use crate::groups::{Grouped, grouped_of};
 use crate::mends::{Mends, mends_of};
 use crate::safety::{Safety, safety_of};
 use plan_words::PlanWords;
@@ -13,7 +14,7 @@ use std::alloc::{AllocError, Global};
 #[derive(Drop)]
 pub enum Reasons {
     Safe(Safety),
-    Unsafe(Mends),
+    Unsafe(Mends, Grouped),
 }
 
 /// What explains the verdict on a plan that was checked, in these words of it. Of a safe one the proof of each two senders is looked at once more.
@@ -32,6 +33,8 @@ pub fn reasons_of(
     if faults.is_safe() {
         Ok(Reasons::Safe(safety_of(alloc, words)?))
     } else {
-        Ok(Reasons::Unsafe(mends_of(alloc, plan, words, faults)?))
+        let mends = mends_of(alloc, plan, words, faults)?;
+        let groups = grouped_of(alloc, plan, words, faults)?;
+        Ok(Reasons::Unsafe(mends, groups))
     }
 }

@@ -3,8 +3,11 @@
 use crate::file_lines::all_at;
 use crate::oddities::add_oddities;
 use crate::writing::ObjectLines;
+use causes::{Group, Place};
 use certificate::Fault;
-use explain::{Labels, Meeting, Mends, Reasons, Rule, Safety, labels_of, meeting_of};
+use explain::{
+    Detail, Grouped, Labels, Meeting, Mends, Reasons, Rule, Safety, labels_of, meeting_of,
+};
 use growing_text::Text;
 use lint::Oddity;
 use plan_core::Plan;
@@ -45,6 +48,7 @@ enum Why<'a> {
 #[derive(Drop, Serialize)]
 struct Mended<'a> {
     explained: usize,
+    groups: usize,
     never: &'a [[&'a str; 2]],
     unchecked: u64,
     interrupts: &'a [u32],
@@ -67,9 +71,9 @@ struct Decided {
     alike: u64,
 }
 
-/// Writes an object for each unsafe pair of a plan that was checked, one for each likely mistake in the briefs that mean it, and
-/// one for the plan. The words are those of the plan. Where there are reasons, the last one has them, and the first so many pairs
-/// are explained.
+/// Writes an object for each unsafe pair of a plan that was checked, one for each group of them, one for each likely mistake in the
+/// briefs that mean it, and one for the plan. The words are those of the plan. There are groups where there are reasons. Then the
+/// last object has these, and the first so many groups are explained.
 ///
 /// # Errors
 ///
@@ -80,42 +84,155 @@ pub fn write_check<O: Output>(
     words: PlanWords<'_>,
     odd: &[Oddity<'_>],
     reasons: Option<&Reasons>,
-    most: u32,
+    detail: Detail,
     out: &mut O,
 ) -> Result<(), RunError> {
-    let Checked { plan, faults } = checked;
-    let labels = labels_of(alloc, plan)?;
     let places = all_at(alloc, words)?;
-    let explained = match reasons {
-        Some(_) => faults.len().min(most as usize),
-        None => 0,
+    let told = Told {
+        checked,
+        labels: labels_of(alloc, &checked.plan)?,
+        places,
+        groups: match reasons {
+            Some(Reasons::Unsafe(_, groups)) => Some(groups),
+            _ => None,
+        },
     };
     let mut lines = ObjectLines::new(alloc);
-    for k in 0..faults.len() {
-        let (pair, fault) = faults.get(k);
-        if pair < plan.pair_count() {
-            let both = plan.pair(pair);
-            add_pair(&mut lines.text, &labels, (pair, both), fault);
-            if let Some(places) = &places {
-                add_places(&mut lines.text, places.as_slice(), both);
-            }
-            if k < explained {
-                add_met(&mut lines, plan, both, fault)?;
-            }
-            lines.text.push("}\n");
-        }
-        lines.write_block(out)?;
+    if detail.pairs {
+        told.write_pairs(&mut lines, out)?;
     }
+    told.write_groups(&mut lines, detail.groups as usize, out)?;
     add_oddities(&mut lines, words, odd)?;
-    add_plan(&mut lines, checked, reasons, explained)?;
+    add_plan(&mut lines, checked, reasons, detail.groups as usize)?;
     lines.write_rest(out)
 }
 
-// The fields of an unsafe pair, by its number and its participants. Names, words and wires have nothing that JSON escapes.
-// They are pushed word by word, since serde's events for all pairs cost more than the check itself.
-fn add_pair(text: &mut Text, labels: &Labels, pair: (u32, (u32, u32)), fault: &Fault) {
-    let (pair, (x, y)) = pair;
-    text.push("{\"kind\":\"pair\",\"pair\":");
+// What pairs and groups are told of.
+#[derive(Drop)]
+struct Told<'a> {
+    checked: &'a Checked,
+    labels: Labels,
+    // where the message of each participant stands, if briefs mean the plan
+    places: Option<Vec<String>>,
+    groups: Option<&'a Grouped>,
+}
+
+impl Told<'_> {
+    fn write_pairs<O: Output>(&self, lines: &mut ObjectLines, out: &mut O) -> Result<(), RunError> {
+        let Checked { plan, faults } = self.checked;
+        for k in 0..faults.len() {
+            let (pair, fault) = faults.get(k);
+            if pair < plan.pair_count() {
+                lines.text.push("{\"kind\":\"pair\",");
+                self.add_pair(&mut lines.text, pair, plan.pair(pair), fault);
+                self.add_number(&mut lines.text, k);
+                lines.text.push("}\n");
+            }
+            lines.write_block(out)?;
+        }
+        Ok(())
+    }
+
+    // All groups, of which so many are explained.
+    fn write_groups<O: Output>(
+        &self,
+        lines: &mut ObjectLines,
+        most: usize,
+        out: &mut O,
+    ) -> Result<(), RunError> {
+        let Some(groups) = self.groups else {
+            return Ok(());
+        };
+        for g in 0..groups.len() {
+            if let Some(group) = groups.group(g) {
+                add_group(&mut lines.text, groups, g, group);
+                self.add_example(lines, group.example, g < most)?;
+                lines.text.push("}\n");
+            }
+            lines.write_block(out)?;
+        }
+        Ok(())
+    }
+
+    // The fields of an unsafe pair, by its number and its participants. Names, words and wires have nothing that JSON escapes.
+    // They are pushed word by word, since serde's events for all pairs cost more than the check itself.
+    fn add_pair(&self, text: &mut Text, pair: u32, both: (u32, u32), fault: &Fault) {
+        add_fields(text, &self.labels, pair, both, fault);
+        if let Some(places) = &self.places {
+            add_places(text, places.as_slice(), both);
+        }
+    }
+
+    // The number of the group of the `k`th unsafe pair.
+    fn add_number(&self, text: &mut Text, k: usize) {
+        if let Some(groups) = self.groups {
+            if let Some(g) = groups.number_of(k) {
+                text.push(",\"group\":");
+                text.push_number(g as u64);
+            }
+        }
+    }
+
+    // The example of a group, the `k`th unsafe pair.
+    fn add_example(
+        &self,
+        lines: &mut ObjectLines,
+        k: usize,
+        is_explained: bool,
+    ) -> Result<(), AllocError> {
+        let Checked { plan, faults } = self.checked;
+        if faults.len() <= k {
+            return Ok(());
+        }
+        let (pair, fault) = faults.get(k);
+        if pair < plan.pair_count() {
+            let both = plan.pair(pair);
+            lines.text.push(",\"example\":{");
+            self.add_pair(&mut lines.text, pair, both, fault);
+            if is_explained {
+                add_met(lines, plan, both, fault)?;
+            }
+            lines.text.push("}");
+        }
+        Ok(())
+    }
+}
+
+// The fields of a group before its example.
+fn add_group(text: &mut Text, groups: &Grouped, g: usize, group: Group) {
+    text.push("{\"kind\":\"group\",\"group\":");
+    text.push_number(g as u64);
+    text.push(",\"pairs\":");
+    text.push_number(group.pairs as u64);
+    text.push(",\"between\":[");
+    for i in 0..groups.meets(g) {
+        let (first, second) = groups.meet(g, i);
+        text.push(if i == 0 { "[\"" } else { ",[\"" });
+        text.push(first);
+        text.push("\",\"");
+        text.push(second);
+        text.push("\"]");
+    }
+    text.push("],\"frame\":");
+    text.push_number(group.cause.frame as u64);
+    add_part(text, group.cause.place);
+}
+
+// In which part of the frame the two meet, and in which byte of it where that counts.
+fn add_part(text: &mut Text, place: Place) {
+    text.push(match place {
+        Place::Header => ",\"part\":\"header\"",
+        Place::Data | Place::Byte(_) => ",\"part\":\"data\"",
+    });
+    if let Place::Byte(byte) = place {
+        text.push(",\"byte\":");
+        text.push_number(byte as u64);
+    }
+}
+
+fn add_fields(text: &mut Text, labels: &Labels, pair: u32, both: (u32, u32), fault: &Fault) {
+    let (x, y) = both;
+    text.push("\"pair\":");
     text.push_number(pair as u64);
     add_two(text, "participants", labels.of(x), labels.of(y));
     add_two(text, "meet", fault.first.word(), fault.second.word());
@@ -185,17 +302,19 @@ fn met_of(meeting: &Meeting) -> Met<'_> {
     }
 }
 
-// The verdict, where so many pairs were explained.
+// The verdict, where so many groups are explained at most.
 fn add_plan(
     lines: &mut ObjectLines,
     checked: &Checked,
     reasons: Option<&Reasons>,
-    explained: usize,
+    most: usize,
 ) -> Result<(), AllocError> {
     match reasons {
         None => Ok(add_verdict(lines, checked, None)),
         Some(Reasons::Safe(safety)) => add_safe(lines, checked, safety),
-        Some(Reasons::Unsafe(mends)) => add_unsafe(lines, checked, mends, explained),
+        Some(Reasons::Unsafe(mends, groups)) => {
+            add_unsafe(lines, checked, mends, groups.len(), most)
+        }
     }
 }
 
@@ -248,11 +367,13 @@ fn add_unsafe(
     lines: &mut ObjectLines,
     checked: &Checked,
     mends: &Mends,
-    explained: usize,
+    groups: usize,
+    most: usize,
 ) -> Result<(), AllocError> {
     let never = nevers_of(lines.alloc, mends)?;
     let why = Mended {
-        explained,
+        explained: groups.min(most),
+        groups,
         never: never.as_slice(),
         unchecked: mends.unchecked,
         interrupts: mends.interrupted.as_slice(),

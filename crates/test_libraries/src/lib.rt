@@ -41,4 +41,6 @@ mod seats;
 #[cfg(test)]
 mod streams;
 #[cfg(test)]
+mod unsafe_groups;
+#[cfg(test)]
 mod workers;

@@ -14,7 +14,8 @@ use brief_text::Origins;
 use cert_check::{Answer, Judged, check_certificate_at};
 use certificate::Refusal;
 use explain::{
-    Mistake, Paint, Reasons, explain_answer, explain_check, kept_apart, mistake_of, reasons_of,
+    Detail, Mistake, Paint, Reasons, explain_answer, explain_check, kept_apart, mistake_of,
+    reasons_of,
 };
 use hints::{on_certificate, on_checked, on_safe};
 use lint::{Oddity, oddities};
@@ -34,12 +35,12 @@ use std::thread::Threads;
 use std::time::Clock;
 use verdicts::MOST_WORKERS;
 
-/// How a plan is looked at: by so many workers, with so many unsafe pairs explained, and with the waves of one of them in a
+/// How a plan is looked at: by so many workers, explained in this detail, and with the waves of an unsafe pair in a
 /// file: of the first one, or of the one with this number.
 #[derive(Clone, Copy)]
 pub struct Look<'a> {
     pub workers: u32,
-    pub explain: Option<u32>,
+    pub explain: Option<Detail>,
     pub wave: Option<&'a str>,
     pub pair: Option<u32>,
 }
@@ -114,26 +115,41 @@ fn remark_on(
     }
 }
 
-// Writes what was found, with the reasons and so many unsafe pairs explained where that is wanted.
+// Writes what was found, with the reasons and the groups of unsafe pairs where that is wanted.
 fn tell_checked<O: Output>(
     alloc: Global,
     checked: &Checked,
     words: PlanWords<'_>,
     odd: &[Oddity<'_>],
     out: &mut O,
-    explain: Option<u32>,
+    explain: Option<Detail>,
     style: Style,
 ) -> Result<Status, RunError>
     requires { AreFaults (plan_contents checked.now.plan) (fault_list checked.now.faults) }
 {
     match explain {
-        Some(most) => {
+        Some(detail) => {
             let reasons = reasons_of(alloc, checked, words)?;
-            write_checked(alloc, checked, words, odd, Some(&reasons), most, style, out)
+            write_checked(
+                alloc,
+                checked,
+                words,
+                odd,
+                Some(&reasons),
+                detail,
+                style,
+                out,
+            )
         }
-        None => write_checked(alloc, checked, words, odd, None, 0, style, out),
+        None => write_checked(alloc, checked, words, odd, None, EXACT, style, out),
     }
 }
+
+// Each unsafe pair, and nothing explained.
+const EXACT: Detail = Detail {
+    pairs: true,
+    groups: 0,
+};
 
 fn write_checked<O: Output>(
     alloc: Global,
@@ -141,18 +157,18 @@ fn write_checked<O: Output>(
     words: PlanWords<'_>,
     odd: &[Oddity<'_>],
     reasons: Option<&Reasons>,
-    most: u32,
+    detail: Detail,
     style: Style,
     out: &mut O,
 ) -> Result<Status, RunError> {
     let status = status_of(checked);
     match style {
-        Style::Objects => write_check(alloc, checked, words, odd, reasons, most, out)?,
+        Style::Objects => write_check(alloc, checked, words, odd, reasons, detail, out)?,
         Style::Lines(Paint::Plain) if reasons.is_none() => {
             let report = check_report(alloc, checked)?;
             return write_lines(out, report.as_bytes(), status);
         }
-        Style::Lines(paint) => explain_check(alloc, checked, words, reasons, most, paint, out)?,
+        Style::Lines(paint) => explain_check(alloc, checked, words, reasons, detail, paint, out)?,
     }
     Ok(status)
 }

@@ -14,6 +14,7 @@ use crate::runs::Extras;
 use crate::sources::Sources;
 use command_words::Request;
 use dump_tokens::{Bus, BusLines, Limits};
+use explain::Detail;
 use hints::Named;
 use report::{Input, Output};
 use signals::Likeness;
@@ -60,12 +61,13 @@ pub fn task_of<'a>(request: Request<'a>) -> Task<'a> {
             plan,
             workers,
             explain,
+            summary,
             wave,
             pair,
         } => {
             let look = Look {
                 workers,
-                explain,
+                explain: detail_of(explain, summary),
                 wave,
                 pair,
             };
@@ -155,6 +157,14 @@ pub fn task_of<'a>(request: Request<'a>) -> Task<'a> {
             rewrite(Rewriting::Brief, the_plan(plan), Form::of(output))
         }
     }
+}
+
+// So many groups of unsafe pairs, and in a summary these alone.
+fn detail_of(groups: Option<u32>, summary: bool) -> Option<Detail> {
+    Some(Detail {
+        pairs: !summary,
+        groups: groups?,
+    })
 }
 
 fn page_of<'a>(

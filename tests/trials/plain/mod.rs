@@ -15,6 +15,7 @@ mod dumps;
 pub mod explained;
 pub mod found;
 pub mod generated;
+pub mod groups;
 pub mod learned;
 mod order;
 mod pairs;

@@ -1,7 +1,10 @@
 // The report of a check, explained.
 
-use crate::faults::{below_pair, below_unsafe};
+use crate::faults::below_unsafe;
+use crate::group_lines::{of_group, of_rest};
+use crate::groups::Grouped;
 use crate::meetings::meeting_of;
+use crate::mends::both_of;
 use crate::paints::Paint;
 use crate::plans::below_safe;
 use crate::reasons::Reasons;
@@ -12,11 +15,18 @@ use plan_core::Plan;
 use plan_words::PlanWords;
 use report::{Checked, Output, RunError, push_count, push_fault};
 use std::alloc::{AllocError, Global};
-use std::cmp::Ordering;
 use std::mem;
+use verdicts::Faults;
 
-/// Writes the report of a check. The words are those of its plan. Where there are reasons, they stand at its end, and below the lines of the first so many unsafe
-/// pairs the bytes of both participants.
+/// What is written of unsafe pairs: whether each of them is, and how many groups are explained.
+#[derive(Clone, Copy)]
+pub struct Detail {
+    pub pairs: bool,
+    pub groups: u32,
+}
+
+/// Writes the report of a check. The words are those of its plan. Where there are reasons, they stand at its end, and before its
+/// last line an example of each group of unsafe pairs, with the bytes of both participants.
 ///
 /// # Errors
 ///
@@ -26,28 +36,64 @@ pub fn explain_check<O: Output>(
     checked: &Checked,
     words: PlanWords<'_>,
     reasons: Option<&Reasons>,
-    most: u32,
+    detail: Detail,
     paint: Paint,
     out: &mut O,
 ) -> Result<(), RunError> {
     let Checked { plan, faults } = checked;
     let mut text = Text::new(alloc);
-    for k in 0..faults.len() {
-        let (pair, fault) = faults.get(k);
-        text.push_made(line_of(alloc, plan, pair, fault));
-        if reasons.is_some() {
-            match k.cmp(&(most as usize)) {
-                Ordering::Less => text.push_made(below_fault(alloc, words, pair, fault)),
-                Ordering::Equal => push_left(&mut text, faults.len().saturating_sub(k)),
-                Ordering::Greater => {}
-            }
-        }
-        if BLOCK <= text.len() || !text.is_whole() {
-            write_block(mem::replace(&mut text, Text::new(alloc)), out)?;
-        }
+    if detail.pairs {
+        write_pairs(alloc, plan, faults, &mut text, out)?;
+    }
+    if let Some(Reasons::Unsafe(_, groups)) = reasons {
+        write_groups(alloc, words, faults, groups, detail.groups, &mut text, out)?;
     }
     push_end(alloc, &mut text, checked, reasons, paint);
     write_block(text, out)
+}
+
+fn write_pairs<O: Output>(
+    alloc: Global,
+    plan: &Plan,
+    faults: &Faults,
+    text: &mut Text,
+    out: &mut O,
+) -> Result<(), RunError> {
+    for k in 0..faults.len() {
+        let (pair, fault) = faults.get(k);
+        text.push_made(line_of(alloc, plan, pair, fault));
+        write_full(alloc, text, out)?;
+    }
+    Ok(())
+}
+
+// So many groups, and how many more there are.
+fn write_groups<O: Output>(
+    alloc: Global,
+    words: PlanWords<'_>,
+    faults: &Faults,
+    groups: &Grouped,
+    most: u32,
+    text: &mut Text,
+    out: &mut O,
+) -> Result<(), RunError> {
+    let explained = groups.len().min(most as usize);
+    for g in 0..explained {
+        text.push_made(example_of(alloc, words, faults, groups, g));
+        write_full(alloc, text, out)?;
+    }
+    if explained < groups.len() {
+        text.push_made(of_rest(alloc, groups, explained));
+    }
+    Ok(())
+}
+
+// Writes what was gathered, where that is much.
+fn write_full<O: Output>(alloc: Global, text: &mut Text, out: &mut O) -> Result<(), RunError> {
+    if BLOCK <= text.len() || !text.is_whole() {
+        write_block(mem::replace(text, Text::new(alloc)), out)?;
+    }
+    Ok(())
 }
 
 // The last line, and the reasons below it.
@@ -64,7 +110,7 @@ fn push_end(
     paint.push_verdict(text, last_line(alloc, plan, faults.len()), word, is_safe);
     match reasons {
         Some(Reasons::Safe(safety)) => text.push_made(below_safe(alloc, plan, safety)),
-        Some(Reasons::Unsafe(mends)) => text.push_made(below_unsafe(alloc, mends)),
+        Some(Reasons::Unsafe(mends, _)) => text.push_made(below_unsafe(alloc, mends)),
         None => {}
     }
 }
@@ -78,26 +124,24 @@ fn line_of(alloc: Global, plan: &Plan, pair: u32, fault: &Fault) -> Result<Strin
     Ok(line)
 }
 
-fn below_fault(
+// The lines of a group.
+fn example_of(
     alloc: Global,
     words: PlanWords<'_>,
-    pair: u32,
-    fault: &Fault,
+    faults: &Faults,
+    groups: &Grouped,
+    g: usize,
 ) -> Result<String, AllocError> {
     let plan = words.plan();
-    if plan.pair_count() <= pair {
-        return Ok(String::new(alloc));
+    match groups.group(g) {
+        Some(group) if group.example < faults.len() => {
+            let (pair, fault) = faults.get(group.example);
+            let both = both_of(plan, pair);
+            let meeting = meeting_of(alloc, plan, both, fault.wire.as_slice())?;
+            of_group(alloc, words, groups, g, (pair, both), &meeting)
+        }
+        _ => Ok(String::new(alloc)),
     }
-    let both = plan.pair(pair);
-    let meeting = meeting_of(alloc, plan, both, fault.wire.as_slice())?;
-    below_pair(alloc, words, both, &meeting)
-}
-
-// How many pairs are left where so many were explained.
-fn push_left(text: &mut Text, left: usize) {
-    text.push("    (not explained from here on: ");
-    text.push_number(left as u64);
-    text.push("; --most N explains N pairs)\n");
 }
 
 fn last_line(alloc: Global, plan: &Plan, unsafe_pairs: usize) -> Result<String, AllocError> {

@@ -1,0 +1,4 @@
+pub mod Causes
+pub mod Families
+pub mod Groupings
+pub mod Orders

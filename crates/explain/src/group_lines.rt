@@ -1,0 +1,110 @@
+// Lines of a group of unsafe pairs.
+
+use crate::below::{begin, say_all};
+use crate::faults::tell_pair;
+use crate::groups::Grouped;
+use crate::meetings::Meeting;
+use causes::{Cause, Group};
+use growing_text::{Lines, Text};
+use message_tree::Kind;
+use plan_words::PlanWords;
+use std::alloc::{AllocError, Global};
+
+// How many of those who meet are named.
+const NAMED: usize = 4;
+
+/// What is said of a group: its number and that of its example, what is said of that one, how many pairs are like it, and
+/// between whom.
+pub(crate) fn of_group(
+    alloc: Global,
+    words: PlanWords<'_>,
+    groups: &Grouped,
+    g: usize,
+    example: (u32, (u32, u32)),
+    meeting: &Meeting,
+) -> Result<String, AllocError> {
+    let (pair, both) = example;
+    let mut lines = Lines::new(alloc);
+    begin(&mut lines);
+    lines.word("group");
+    lines.number(g as u64, ",");
+    lines.words("as pair");
+    lines.number(pair as u64, ":");
+    lines.end();
+    tell_pair(alloc, &mut lines, words, both, meeting)?;
+    if let Some(group) = groups.group(g) {
+        tell_alike(alloc, &mut lines, groups, g, group);
+    }
+    lines.finish()
+}
+
+// Who meets in the group, how many pairs it has, and why they are unsafe.
+fn tell_alike(alloc: Global, lines: &mut Lines, groups: &Grouped, g: usize, group: Group) {
+    let mut words = Text::new(alloc);
+    push_meets(&mut words, groups, g);
+    words.push(": ");
+    push_count(&mut words, group.pairs, "pair");
+    words.push(", ");
+    words.push(why(group.cause));
+    say_all(lines, words);
+}
+
+fn push_meets(words: &mut Text, groups: &Grouped, g: usize) {
+    let all = groups.meets(g);
+    for i in 0..all.min(NAMED) {
+        let (first, second) = groups.meet(g, i);
+        words.push(if i == 0 { "" } else { ", " });
+        words.push(first);
+        words.push(" × ");
+        words.push(second);
+    }
+    if NAMED < all {
+        words.push(" and ");
+        words.push_number(all.saturating_sub(NAMED) as u64);
+        words.push(" more");
+    }
+}
+
+// `1 pair`, `2 pairs`.
+fn push_count(words: &mut Text, count: usize, what: &str) {
+    words.push_number(count as u64);
+    words.push(" ");
+    words.push(what);
+    if count != 1 {
+        words.push("s");
+    }
+}
+
+// Why those are unsafe that meet so.
+fn why(cause: Cause) -> &'static str {
+    match (cause.first.kind, cause.second.kind) {
+        (Kind::Claim, _) | (_, Kind::Claim) => "an interrupt has the same header",
+        (Kind::Again, Kind::Stop) | (Kind::Stop, Kind::Again) => "one ends, one repeats START",
+        (Kind::Again, _) | (_, Kind::Again) => "one goes on, one repeats START",
+        (Kind::Stop, _) | (_, Kind::Stop) => "lengths differ",
+        _ => "one sends, one listens",
+    }
+}
+
+/// How many groups are left where so many were explained, and how many pairs these have.
+pub(crate) fn of_rest(
+    alloc: Global,
+    groups: &Grouped,
+    explained: usize,
+) -> Result<String, AllocError> {
+    let mut pairs = 0usize;
+    for g in explained..groups.len() {
+        if let Some(group) = groups.group(g) {
+            pairs = pairs.saturating_add(group.pairs);
+        }
+    }
+    let mut words = Text::new(alloc);
+    words.push("(not explained: ");
+    push_count(&mut words, groups.len().saturating_sub(explained), "group");
+    words.push(" of ");
+    push_count(&mut words, pairs, "pair");
+    words.push("; --most N explains N groups)");
+    let mut lines = Lines::new(alloc);
+    say_all(&mut lines, words);
+    lines.finish()
+}

@@ -1,0 +1,205 @@
+// The unsafe pairs of a plan, in groups of one cause each, and between whom each group is.
+
+ghost use Rattle.plan_core.specs.PlanContents.{plan_contents};
+ghost use Rattle.verdicts.specs.Faults.{AreFaults, fault_list};
+
+use crate::families::{families_of, party_of};
+use crate::mends::both_of;
+use causes::{Family, Group, Groups, groups_of};
+use plan_core::Plan;
+use plan_words::PlanWords;
+use std::alloc::{AllocError, Global};
+use verdicts::Faults;
+
+// Participants of a group that meet: its number, and the first of each who is called so.
+type Meet = (usize, u32, u32);
+
+/// The unsafe pairs of a plan, in groups of one cause each: the shortest wire first.
+#[derive(Drop)]
+pub struct Grouped {
+    groups: Groups,
+    /// What each participant is called with all of its family.
+    parties: Vec<String>,
+    /// Who meets in the groups, group by group, and no two twice.
+    meets: Vec<Meet>,
+    /// Where those of each group begin.
+    starts: Vec<usize>,
+}
+
+impl Grouped {
+    /// How many groups there are.
+    pub fn len(&self) -> usize {
+        self.groups.len()
+    }
+
+    /// The group with this number.
+    pub fn group(&self, g: usize) -> Option<Group> {
+        if g < self.groups.len() {
+            Some(self.groups.get(g))
+        } else {
+            None
+        }
+    }
+
+    /// The number of the group in which the `k`th unsafe pair stands.
+    pub fn number_of(&self, k: usize) -> Option<usize> {
+        if k < self.groups.pairs() {
+            Some(self.groups.group_of(k))
+        } else {
+            None
+        }
+    }
+
+    /// How often two meet in this group who are called otherwise.
+    pub fn meets(&self, g: usize) -> usize {
+        let (from, to) = self.range(g);
+        to.saturating_sub(from)
+    }
+
+    /// What the two of the `i`th of these are called.
+    pub fn meet(&self, g: usize, i: usize) -> (&str, &str) {
+        let (from, _) = self.range(g);
+        match self.meets.get(from.saturating_add(i)) {
+            Some((_, x, y)) => (self.party(*x), self.party(*y)),
+            None => ("", ""),
+        }
+    }
+
+    // Where those who meet in this group begin, and where they end.
+    fn range(&self, g: usize) -> (usize, usize) {
+        let end = self.meets.len();
+        (
+            at(self.starts.as_slice(), g, end),
+            at(self.starts.as_slice(), g.saturating_add(1), end),
+        )
+    }
+
+    fn party(&self, p: u32) -> &str {
+        match self.parties.get(p as usize) {
+            Some(party) => party.as_str(),
+            None => "",
+        }
+    }
+}
+
+fn at(starts: &[usize], g: usize, end: usize) -> usize {
+    match starts.get(g) {
+        Some(start) => *start,
+        None => end,
+    }
+}
+
+/// The groups of the plan, which has these faults, in these words of it.
+///
+/// # Errors
+///
+/// Where an allocation fails.
+pub(crate) fn grouped_of(
+    alloc: Global,
+    plan: &Plan,
+    words: PlanWords<'_>,
+    faults: &Faults,
+) -> Result<Grouped, AllocError>
+    requires { AreFaults (plan_contents plan.now) (fault_list faults.now) }
+{
+    let families = families_of(alloc, plan, words)?;
+    let groups = groups_of(alloc, plan, families.as_slice(), faults)?;
+    let parties = parties_of(alloc, words, families.as_slice())?;
+    let meets = meets_of(alloc, plan, faults, &groups, parties.as_slice())?;
+    let starts = starts_of(alloc, meets.as_slice())?;
+    Ok(Grouped {
+        groups,
+        parties,
+        meets,
+        starts,
+    })
+}
+
+fn parties_of(
+    alloc: Global,
+    words: PlanWords<'_>,
+    families: &[Family],
+) -> Result<Vec<String>, AllocError> {
+    let participants = words.plan().participants();
+    let mut parties = Vec::with_capacity(alloc, participants as usize)?;
+    for p in 0..participants {
+        parties.push(party_of(alloc, words, families, p)?)?;
+    }
+    Ok(parties)
+}
+
+// For each participant the first one that is called as it is.
+fn firsts_of(alloc: Global, parties: &[String]) -> Result<Vec<u32>, AllocError> {
+    let mut firsts = Vec::with_capacity(alloc, parties.len())?;
+    for party in parties {
+        firsts.push(first_called(parties, party.as_str()))?;
+    }
+    Ok(firsts)
+}
+
+fn first_called(parties: &[String], name: &str) -> u32 {
+    let mut first = 0u32;
+    for party in parties {
+        if party.as_str() == name {
+            return first;
+        }
+        first = first.saturating_add(1);
+    }
+    first
+}
+
+// Who meets in the groups, in their order.
+fn meets_of(
+    alloc: Global,
+    plan: &Plan,
+    faults: &Faults,
+    groups: &Groups,
+    parties: &[String],
+) -> Result<Vec<Meet>, AllocError> {
+    let firsts = firsts_of(alloc, parties)?;
+    let mut all = Vec::with_capacity(alloc, faults.len())?;
+    for k in 0..faults.len() {
+        let (pair, _) = faults.get(k);
+        if k < groups.pairs() {
+            all.push(meet_of(plan, groups.group_of(k), pair, firsts.as_slice()))?;
+        }
+    }
+    all.sort()?;
+    once_each(alloc, all.as_slice())
+}
+
+fn meet_of(plan: &Plan, g: usize, pair: u32, firsts: &[u32]) -> Meet {
+    let (x, y) = both_of(plan, pair);
+    (g, first_at(firsts, x), first_at(firsts, y))
+}
+
+fn first_at(firsts: &[u32], p: u32) -> u32 {
+    match firsts.get(p as usize) {
+        Some(first) => *first,
+        None => p,
+    }
+}
+
+// The same without those that stand there already: equal ones stand side by side.
+fn once_each(alloc: Global, all: &[Meet]) -> Result<Vec<Meet>, AllocError> {
+    let mut meets = Vec::new(alloc);
+    let mut last = None;
+    for meet in all {
+        if last != Some(*meet) {
+            meets.push(*meet)?;
+            last = Some(*meet);
+        }
+    }
+    Ok(meets)
+}
+
+// Where those of each group begin. Each group has one.
+fn starts_of(alloc: Global, meets: &[Meet]) -> Result<Vec<usize>, AllocError> {
+    let mut starts = Vec::new(alloc);
+    for (k, meet) in meets.iter().enumerate() {
+        if meet.0 == starts.len() {
+            starts.push(k)?;
+        }
+    }
+    Ok(starts)
+}

@@ -1,0 +1,95 @@
+//! Unsafe pairs that are alike (docs/COMMAND_LINE.md, "Groups of unsafe pairs").
+
+use super::found::Fault;
+use super::participants::Participants;
+use super::wires::Item;
+use std::collections::HashMap;
+
+/// What is alike in a group.
+#[derive(Clone, Debug, PartialEq, Eq, Hash)]
+pub struct Likeness {
+    /// The families that meet, each with the word of its kind: in the order of these words.
+    pub sides: [(String, &'static str); 2],
+    pub frame: usize,
+    /// Whether they meet after the header of the frame.
+    pub in_data: bool,
+    /// The data byte of the frame, from 1 on, where it counts.
+    pub byte: Option<usize>,
+}
+
+/// A group of unsafe pairs, by their places among all of them: its example is the first one.
+#[derive(Clone, Debug)]
+pub struct Group {
+    pub likeness: Likeness,
+    pub pairs: Vec<usize>,
+    /// Who meets in it, by controllers and families.
+    pub between: Vec<[String; 2]>,
+}
+
+/// The groups of these unsafe pairs of a plan, by the wires of their examples.
+pub fn groups_of(plan: &Participants, faults: &[Fault]) -> Vec<Group> {
+    let mut order: Vec<usize> = (0..faults.len()).collect();
+    order.sort_by_key(|place| faults[*place].clash.wire.len());
+    let mut numbers: HashMap<Likeness, usize> = HashMap::new();
+    let mut groups: Vec<Group> = Vec::new();
+    for place in order {
+        let likeness = likeness_of(plan, &faults[place]);
+        let number = *numbers.entry(likeness.clone()).or_insert(groups.len());
+        if number == groups.len() {
+            groups.push(Group { likeness, pairs: Vec::new(), between: Vec::new() });
+        }
+        groups[number].pairs.push(place);
+    }
+    let parties: Vec<String> = plan.all.iter().map(|one| party(plan, &one.label)).collect();
+    let called: HashMap<&str, usize> = plan.all.iter().enumerate().map(|(k, one)| (one.label.as_str(), k)).collect();
+    for group in &mut groups {
+        let first = |label: &str| parties.iter().position(|it| *it == parties[called[label]]);
+        let both = |place: &usize| (first(&faults[*place].x.label), first(&faults[*place].y.label));
+        let mut meets: Vec<_> = group.pairs.iter().map(both).collect();
+        meets.sort_unstable();
+        meets.dedup();
+        let name = |place: Option<usize>| place.map(|k| parties[k].clone()).unwrap_or_default();
+        group.between = meets.into_iter().map(|(x, y)| [name(x), name(y)]).collect();
+    }
+    groups
+}
+
+fn likeness_of(plan: &Participants, fault: &Fault) -> Likeness {
+    let families = [&fault.x.label, &fault.y.label].map(|label| family(plan, label));
+    let has_several = families.iter().any(|it| it.ends_with('*'));
+    let wire = &fault.clash.wire;
+    let slot = wire.iter().rev().take_while(|item| **item != Item::Again).count();
+    let [first, second] = families;
+    let mut sides = [(first, fault.clash.first.word()), (second, fault.clash.second.word())];
+    sides.sort_unstable();
+    Likeness {
+        sides,
+        frame: wire.iter().filter(|item| **item == Item::Again).count(),
+        in_data: slot >= 9,
+        byte: (slot >= 9 && !has_several).then_some(slot / 9),
+    }
+}
+
+// The family of a participant: that of its message, or the interrupt.
+fn family(plan: &Participants, label: &str) -> String {
+    let Some((_, name)) = label.split_once('/') else {
+        return label.to_owned();
+    };
+    match stem(name) {
+        Some(it) if plan.items.messages.iter().filter(|other| stem(other.name) == Some(it)).count() > 1 => format!("{it}*"),
+        _ => name.to_owned(),
+    }
+}
+
+// What stands before the number at the end of a name.
+fn stem(name: &str) -> Option<&str> {
+    let stem = name.trim_end_matches(|it: char| it.is_ascii_digit());
+    (stem != name).then_some(stem)
+}
+
+fn party(plan: &Participants, label: &str) -> String {
+    match label.split_once('/') {
+        Some((controller, _)) => format!("{controller}/{}", family(plan, label)),
+        None => label.to_owned(),
+    }
+}
