@@ -765,10 +765,25 @@ run "a rehearsal of a brief" bench --explain --certify board.brief 'bmc_page/pag
 want 1 "5-160 unexplained
     S 10 Wr A P
     bmc/set leaves at slot 0: it sends 1 there, the wire has 0
+    see board.brief:2
     bmc/page_1 leaves at slot 0: it sends 1 there, the wire has 0
+    see board.brief:3
     bmc/page_2 leaves at slot 0: it sends 1 there, the wire has 0
+    see board.brief:3
 1 transactions, 1 unexplained" ""
 run "a capture by a brief" capture --explain board.brief "$examples/stop_meets_data.vcd"
+run "a live capture by a brief" capture --explain --live board.brief "$examples/stop_meets_data.vcd"
+"$tests/../tools/dump" 100100000 >d.vcd
+want 1 "5-160 unexplained
+    S 48 Wr A P
+    bmc/set leaves at slot 9: it sends 0 there, the wire has a STOP
+    see board.brief:2
+    !al leaves at slot 7: it sends 1 there, the wire has 0
+    see board.brief:5
+    bmc/page_1 leaves at slot 2: it sends 1 there, the wire has 0
+    see board.brief:3
+1 transactions, 1 unexplained" ""
+run "an interrupt of a brief that goes along with a transaction" capture --explain board.brief d.vcd
 
 # ---- Long names and long messages.
 

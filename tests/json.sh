@@ -295,6 +295,10 @@ run "participants of two briefs, counted" 1 '{"kind":"participant","participant"
 {"kind":"count","what":"cut","transactions":0}
 {"kind":"count","what":"unfinished","transactions":0}
 {"kind":"transactions","transactions":1,"unexplained":1}' "" capture --format json --summary "${board[@]}" "$dump"
+"$tests/../tools/dump" 100100000 >w.vcd
+run "who goes along furthest, of two briefs" 1 '{"kind":"transaction","from":5,"to":160,"end":"stop","participants":[],"explain":{"bytes":"S 48 Wr A P","idle":0,"cuts":[],"nearest":[{"participant":"bmc/set","places":['$set,$bmc'],"slot":9,"does":"0","wire":"stop"},{"participant":"pch/get","places":['$get,$pch'],"slot":9,"does":"0","wire":"stop"},{"participant":"!al","places":['$al'],"slot":7,"does":"1","wire":"0"}]}}
+{"kind":"transactions","transactions":1,"unexplained":1,"explain":{"idle":0,"short":0}}' "" \
+    capture --format json --explain "${board[@]}" w.vcd
 echo 'never bmc pch ;' >>'p"h.brief'
 run "a rehearsal of two briefs, explained" 0 '{"kind":"wire","wire":"10010000hs","explain":{"bytes":"S 48 Wr NA P","starters":[{"participant":"bmc/set","places":['$set,$bmc'],"puts":"10010000.s"},{"participant":"!al","places":['$al'],"puts":"10010001","lost":7}]}}
 {"kind":"won","participants":["bmc/set"]}' "" bench --format json --explain --certify "${board[@]}" 'bmc/set,!al'

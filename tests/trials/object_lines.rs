@@ -483,7 +483,7 @@ const SHOWN: [&str; 5] = ["0", "1", "restart", "stop", "nothing"];
 
 fn near(value: Value) -> Result<(), String> {
     let mut fields = Fields::of(value)?;
-    fields.text("participant")?;
+    participant(&mut fields)?;
     fields.number("slot")?;
     let does = fields.text("does")?;
     let wire = fields.text("wire")?;

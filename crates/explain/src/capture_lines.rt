@@ -31,8 +31,9 @@ pub struct Layout {
 
 /// Writes the lines of a capture.
 #[derive(Drop)]
-pub struct CaptureLines<'a, O> {
+pub struct CaptureLines<'a, 'w, O> {
     written: Written<'a, O>,
+    words: PlanWords<'w>,
     layout: Layout,
     selection: Selection,
     labels: Labels,
@@ -45,7 +46,7 @@ pub struct CaptureLines<'a, O> {
     has_stopped: bool,
 }
 
-impl<'a, O: Output> CaptureLines<'a, O> {
+impl<'a, 'w, O: Output> CaptureLines<'a, 'w, O> {
     /// Nothing has been written of a capture that is explained by the plan of these words.
     ///
     /// # Errors
@@ -53,16 +54,17 @@ impl<'a, O: Output> CaptureLines<'a, O> {
     /// Where an allocation fails.
     pub fn new(
         alloc: Global,
-        words: PlanWords<'_>,
+        words: PlanWords<'w>,
         selection: Selection,
         layout: Layout,
         out: &'a mut O,
-    ) -> Result<CaptureLines<'a, O>, AllocError> {
+    ) -> Result<CaptureLines<'a, 'w, O>, AllocError> {
         let labels = labels_of(alloc, words.plan())?;
         let called = called_by(alloc, words)?;
         let tallies = Tallies::wanted(alloc, words.plan(), &selection)?;
         Ok(CaptureLines {
             written: Written::new(alloc, layout.live, out),
+            words,
             layout,
             selection,
             labels,
@@ -73,7 +75,7 @@ impl<'a, O: Output> CaptureLines<'a, O> {
         })
     }
 
-    fn transaction(&mut self, plan: &Plan, transaction: &Transaction, participants: &[u32]) {
+    fn transaction(&mut self, transaction: &Transaction, participants: &[u32]) {
         self.follow(transaction.idle);
         self.was_told = self.selection.takes(transaction, !participants.is_empty());
         if !self.was_told {
@@ -86,7 +88,7 @@ impl<'a, O: Output> CaptureLines<'a, O> {
         if self.layout.explain {
             let below = below_transaction(
                 self.written.alloc,
-                plan,
+                self.words,
                 &self.called,
                 transaction,
                 !participants.is_empty(),
@@ -175,7 +177,7 @@ impl<'a, O: Output> CaptureLines<'a, O> {
     }
 }
 
-impl<O: Output> ExplainedSink for CaptureLines<'_, O> {
+impl<O: Output> ExplainedSink for CaptureLines<'_, '_, O> {
     ghost use Rattle.decoding.specs.Sinks.{any_sink};
 
     ghost sink = { λ plan. any_sink };
@@ -183,12 +185,12 @@ impl<O: Output> ExplainedSink for CaptureLines<'_, O> {
     fn take(
         &mut self,
         _alloc: Global,
-        plan: &Plan,
+        _plan: &Plan,
         transactions: &[Transaction],
         explainers: &[Vec<u32>],
     ) -> Result<(), RunError> {
         for (transaction, participants) in transactions.iter().zip(explainers) {
-            self.transaction(plan, transaction, participants.as_slice());
+            self.transaction(transaction, participants.as_slice());
             if self.layout.stops && self.selection.seen.unexplained != 0 {
                 self.has_stopped = true;
                 // nothing more is to be read

@@ -1,20 +1,21 @@
 // Lines for people below those of transactions.
 
 use crate::below::begin;
+use crate::faults::tell_item;
 use crate::glitches::{Cut, Cuts};
 use crate::labels::Labels;
 use crate::leaving::{Leaves, mark_words, nearest, offer_words};
 use crate::words::bytes_of;
 use capture_check::{Mark, Transaction, Until};
 use growing_text::Lines;
-use plan_core::Plan;
+use plan_words::PlanWords;
 use std::alloc::{AllocError, Global};
 
 /// What is said below the line of a transaction: its bytes, and where a STOP ended it whether a byte was cut short, and, where
-/// nobody explains it, which participants go along with it furthest and where each leaves it.
+/// nobody explains it, which participants go along with it furthest, where each leaves it, and where it stands in a brief.
 pub(crate) fn below_transaction(
     alloc: Global,
-    plan: &Plan,
+    words: PlanWords<'_>,
     labels: &Labels,
     transaction: &Transaction,
     is_explained: bool,
@@ -27,7 +28,7 @@ pub(crate) fn below_transaction(
     if let Until::Stopped(_) = transaction.until {
         tell_cuts(&mut lines, marks);
         if !is_explained {
-            tell_nearest(&mut lines, plan, labels, marks);
+            tell_nearest(alloc, &mut lines, words, labels, marks);
         }
     }
     lines.finish()
@@ -65,10 +66,17 @@ fn tell_cut(lines: &mut Lines, cut: Cut) {
     lines.end();
 }
 
-fn tell_nearest(lines: &mut Lines, plan: &Plan, labels: &Labels, marks: &[Mark]) {
-    for near in nearest(plan, marks).iter() {
+fn tell_nearest(
+    alloc: Global,
+    lines: &mut Lines,
+    words: PlanWords<'_>,
+    labels: &Labels,
+    marks: &[Mark],
+) {
+    for near in nearest(words.plan(), marks).iter() {
         if let Some(near) = near {
             tell_leaves(lines, labels, marks.get(near.slot), *near);
+            tell_item(alloc, lines, words, near.participant);
         }
     }
 }

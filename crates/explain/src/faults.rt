@@ -102,6 +102,15 @@ fn tell_open(alloc: Global, lines: &mut Lines, label: &str, side: &Side) {
     say_all(lines, words);
 }
 
+/// Where the message of a participant stands in a brief, or the interrupt that it is, if it does.
+pub(crate) fn tell_item(alloc: Global, lines: &mut Lines, words: PlanWords<'_>, p: u32) {
+    if let Some(place) = words.item_at(p) {
+        if tell_one(alloc, lines, place).is_err() {
+            lines.cut();
+        }
+    }
+}
+
 /// Where the messages of two participants stand in briefs, or the interrupts that they are, if they do.
 pub(crate) fn tell_places(
     alloc: Global,

@@ -112,7 +112,7 @@ impl<'a, 'w, O: Output> CaptureObjects<'a, 'w, O> {
         })
     }
 
-    fn transaction(&mut self, plan: &Plan, transaction: &Transaction, participants: &[u32]) {
+    fn transaction(&mut self, transaction: &Transaction, participants: &[u32]) {
         if !self.selection.takes(transaction, !participants.is_empty()) {
             return;
         }
@@ -121,7 +121,7 @@ impl<'a, 'w, O: Output> CaptureObjects<'a, 'w, O> {
         }
         let object = explained_of(
             self.written.alloc,
-            plan,
+            self.words,
             &self.labels,
             transaction,
             participants,
@@ -195,12 +195,12 @@ impl<O: Output> ExplainedSink for CaptureObjects<'_, '_, O> {
     fn take(
         &mut self,
         _alloc: Global,
-        plan: &Plan,
+        _plan: &Plan,
         transactions: &[Transaction],
         explainers: &[Vec<u32>],
     ) -> Result<(), RunError> {
         for (transaction, participants) in transactions.iter().zip(explainers) {
-            self.transaction(plan, transaction, participants.as_slice());
+            self.transaction(transaction, participants.as_slice());
             if self.layout.stops && self.selection.seen.unexplained != 0 {
                 self.has_stopped = true;
                 // nothing more is to be read
@@ -236,7 +236,7 @@ fn add_tallies<O: Output>(
 // A transaction, which is explained where that is wanted.
 fn explained_of<'a>(
     alloc: Global,
-    plan: &Plan,
+    words: PlanWords<'_>,
     labels: &'a Labels,
     transaction: &Transaction,
     participants: &[u32],
@@ -257,7 +257,7 @@ fn explained_of<'a>(
         explain: None,
     };
     if is_wanted {
-        object.explain = Some(seen_of(alloc, plan, labels, transaction, participants)?);
+        object.explain = Some(seen_of(alloc, words, labels, transaction, participants)?);
     }
     Ok(object)
 }

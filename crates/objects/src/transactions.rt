@@ -1,11 +1,12 @@
 // What objects say of a transaction.
 
+use crate::file_lines::{OneAt, one_at};
 use capture_check::{Mark, Transaction, Until};
 use dump_tokens::Scale;
 use explain::{Cuts, Labels, Leaves, Selection, bytes_of, nearest};
 use message_tree::Bit;
 use places::Offered;
-use plan_core::Plan;
+use plan_words::PlanWords;
 use serde::Serialize;
 use std::alloc::{AllocError, Global};
 
@@ -36,6 +37,8 @@ pub(crate) struct CutByte {
 #[derive(Drop, Serialize)]
 pub(crate) struct Near<'a> {
     participant: &'a str,
+    #[serde(skip_serializing_if = "Option::is_none")]
+    places: Option<OneAt>,
     slot: usize,
     does: &'static str,
     wire: &'static str,
@@ -89,7 +92,7 @@ fn moment_of(alloc: Global, time: u64, scale: Option<Scale>) -> Result<Moment, A
 /// What it is, and, where a STOP ended it and nobody explains it, which participants go along with it furthest.
 pub(crate) fn seen_of<'a>(
     alloc: Global,
-    plan: &Plan,
+    words: PlanWords<'_>,
     labels: &'a Labels,
     transaction: &Transaction,
     participants: &[u32],
@@ -100,7 +103,9 @@ pub(crate) fn seen_of<'a>(
         idle: transaction.idle,
         cuts: cuts_of(alloc, transaction)?,
         nearest: match transaction.until {
-            Until::Stopped(_) if participants.is_empty() => nearest_of(alloc, plan, labels, marks)?,
+            Until::Stopped(_) if participants.is_empty() => {
+                nearest_of(alloc, words, labels, marks)?
+            }
             _ => Vec::new(alloc),
         },
     })
@@ -122,22 +127,29 @@ fn cuts_of(alloc: Global, transaction: &Transaction) -> Result<Vec<CutByte>, All
 
 fn nearest_of<'a>(
     alloc: Global,
-    plan: &Plan,
+    words: PlanWords<'_>,
     labels: &'a Labels,
     marks: &[Mark],
 ) -> Result<Vec<Near<'a>>, AllocError> {
     let mut found = Vec::new(alloc);
-    for near in nearest(plan, marks).iter() {
+    for near in nearest(words.plan(), marks).iter() {
         if let Some(near) = near {
-            found.push(near_of(labels, *near, marks.get(near.slot)))?;
+            let places = one_at(alloc, words, near.participant)?;
+            found.push(near_of(labels, places, *near, marks.get(near.slot)))?;
         }
     }
     Ok(found)
 }
 
-fn near_of<'a>(labels: &'a Labels, near: Leaves, mark: Option<&Mark>) -> Near<'a> {
+fn near_of<'a>(
+    labels: &'a Labels,
+    places: Option<OneAt>,
+    near: Leaves,
+    mark: Option<&Mark>,
+) -> Near<'a> {
     Near {
         participant: labels.of(near.participant),
+        places,
         slot: near.slot,
         does: does(near.offered),
         wire: shown(mark),

@@ -121,12 +121,12 @@ const LAYOUT: Layout = Layout {
 
 // The explained report, and what the page draws.
 #[derive(Drop)]
-struct Both<'a, O> {
-    lines: CaptureLines<'a, O>,
+struct Both<'a, 'w, O> {
+    lines: CaptureLines<'a, 'w, O>,
     recording: Recording,
 }
 
-impl<O: Output> ExplainedSink for Both<'_, O> {
+impl<O: Output> ExplainedSink for Both<'_, '_, O> {
     ghost use Rattle.decoding.specs.Sinks.{any_sink};
 
     ghost sink = { λ plan. any_sink };
