@@ -103,10 +103,12 @@ fn first_of(words: PlanWords<'_>, before: &[Option<usize>], p: u32, family: Opti
     if family.is_none() {
         return p;
     }
-    for (first, other) in before.iter().enumerate() {
-        if *other == family && are_of_one(words, first as u32, p) {
-            return first as u32;
+    let mut first = 0u32;
+    for other in before {
+        if *other == family && are_of_one(words, first, p) {
+            return first;
         }
+        first = first.saturating_add(1);
     }
     p
 }
