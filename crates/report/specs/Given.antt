@@ -45,8 +45,8 @@ RefusesGiven text _ = ⊥
 -- ---- a further brief
 
 -- after what stood before, the text is a brief that adds its items
-abbrev pub Adds : Draft → List ℕ → Draft → Type 0
-Adds before text after = text_read before text ≡ Ok after
+abbrev pub AddsBrief : Draft → List ℕ → Draft → Type 0
+AddsBrief before text after = text_read before text ≡ Ok after
 
 -- its first refusal there is the answer, but for out of memory
 abbrev pub RefusesFurther : Draft → List ℕ → RunError → Type 0

@@ -7,7 +7,7 @@ ghost use Rattle.brief_text.specs.Briefs.{Means};
 ghost use Rattle.brief_text.specs.Splitting.{plan_meant};
 ghost use Rattle.brief_text.specs.Together.{together};
 ghost use Rattle.report.specs.Found.{Finds};
-ghost use Rattle.report.specs.Given.{GivesPlan, IsNeither, RefusesGiven, Adds, RefusesFurther, is_version};
+ghost use Rattle.report.specs.Given.{GivesPlan, IsNeither, RefusesGiven, AddsBrief, RefusesFurther, is_version};
 ghost use Rattle.run_parts.specs.RunErrors.{run_error};
 ghost use Rattle.run_parts.specs.Runs.{ReadsText, HaltsAtText};
 ghost use Rattle.run_parts.specs.declared.errors.RunError.TheVariants.{NoMemory};
@@ -137,7 +137,7 @@ pub fn find_further<I: Input>(
     text: &mut I,
 ) -> Result<Further, NoPlan>
     ensures found { IfOk result (λ it.
-        Finds (ReadsText I.reader) (Adds (together briefs)) text.old (together it.briefs) text.new) }
+        Finds (ReadsText I.reader) (AddsBrief (together briefs)) text.old (together it.briefs) text.new) }
     ensures stops { IfErr result (λ e.
         HaltsAtText I.reader (RefusesFurther (together briefs)) text.old e.error text.new) }
 {
