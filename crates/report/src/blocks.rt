@@ -54,7 +54,7 @@ fn put<O: Output>(out: &mut O, block: &mut Vec<u8>, piece: &[u8]) -> Result<(), 
     write_report(out, piece)
 }
 
-// AddsBrief the piece to what the block holds, where it has room for it: whether it had.
+// Adds the piece to what the block holds, where it has room for it: whether it had.
 fn has_taken(block: &mut Vec<u8>, piece: &[u8]) -> bool
     ensures { block.new.items ≡ (if result then block.old.items ++ piece.now else block.old.items) }
 {

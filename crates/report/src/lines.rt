@@ -28,7 +28,7 @@ pub fn check_report(alloc: Global, checked: &Checked) -> Result<String, AllocErr
     Ok(report)
 }
 
-/// AddsBrief the line of pair i, which has this fault: `pair I X Y: KIND against KIND after WIRE`.
+/// Adds the line of pair i, which has this fault: `pair I X Y: KIND against KIND after WIRE`.
 pub fn push_fault(
     alloc: Global,
     report: &mut String,
@@ -69,7 +69,7 @@ fn push_fault_text(
     Ok(())
 }
 
-/// AddsBrief the line that counts the pairs, and those with a fault: `safe: N pairs` or `unsafe: F of N pairs`.
+/// Adds the line that counts the pairs, and those with a fault: `safe: N pairs` or `unsafe: F of N pairs`.
 #[tactic(auto, unfolding(crate::specs::Lines::last_line))]
 pub fn push_count(report: &mut String, pairs: u32, faults: usize) -> Result<(), AllocError>
     ensures { OnOk result (string_bytes report.new ≡ string_bytes report.old ++ last_line pairs faults) }
