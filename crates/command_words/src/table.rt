@@ -329,7 +329,7 @@ const EXPLAIN: Argument = Argument::Flag {
 // Where pairs that are unsafe for one cause are a group.
 const GROUPS: Argument = Argument::Flag {
     id: "summary",
-    help: "Groups of unsafe pairs, explained, list no pairs",
+    help: "Explain groups of unsafe pairs, list no pairs",
 };
 
 const MOST: Argument = Argument::Number {
