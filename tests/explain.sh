@@ -650,26 +650,32 @@ advice "eight clashes" "16 of 45" "never bmc/a1 host/get ; never bmc/a2 host/get
 brief 'brief 1' 'device sensor 0x48 ;' 'message get read sensor 1 ;' 'controller a get ;' '' \
     'interrupt al sensor ; interrupt second sensor ;'
 want 1 "pair 0 a/get !al: answer against claim after 10010001
+pair 1 a/get !second: answer against claim after 10010001
+pair 2 !al !second: claim against claim after 10010001
+    group 0, as pair 0:
     bus    S 48 Rd
     a/get  S 48 Rd          next: a target's bit
     !al    S 48 Rd (waits)  next: a wait for the answer
     slot 8, the profile of interrupts: a target's bit meets a wait for the
     answer. Both send alike until here.
     see board.brief:3 and board.brief:6
-pair 1 a/get !second: answer against claim after 10010001
+    a/get × !al: 1 pair, an interrupt has the same header
+    group 1, as pair 1:
     bus      S 48 Rd
     a/get    S 48 Rd          next: a target's bit
     !second  S 48 Rd (waits)  next: a wait for the answer
     slot 8, the profile of interrupts: a target's bit meets a wait for the
     answer. Both send alike until here.
     see board.brief:3 and board.brief:6
-pair 2 !al !second: claim against claim after 10010001
+    a/get × !second: 1 pair, an interrupt has the same header
+    group 2, as pair 2:
     bus      S 48 Rd
     !al      S 48 Rd (waits)  next: a wait for the answer
     !second  S 48 Rd (waits)  next: a wait for the answer
     slot 8, the profile of interrupts: a wait for the answer meets a wait for
     the answer. Both send alike until here.
     see board.brief:6
+    !al × !second: 1 pair, an interrupt has the same header
 unsafe: 3 of 3 pairs
     to mend each: a bit before its slot, known in both and different
     no shape and no 'never' mends a pair with an interrupt: pair 0 pair 1 pair 2" ""
