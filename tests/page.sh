@@ -216,7 +216,8 @@ for plan in examples/{stop_meets_data,interrupts,never_repairs}.plan; do
     want "${plan##*/} without its texts" "$(<drawn.html)" "$(drawn)"
 done
 
-# A narrow window: the slot of the fault, after 45 others, is seen beside the names, and open bits and bytes stand there.
+# A narrow window: the slot of the fault, after 45 others, is seen beside the names, and open bits and bytes stand there. (It is
+# looked at more than once: beside other work the page may take longer than a second.)
 cat >long.plan <<'PLAN'
 plan 1
 message two write 1010000 00000000 00000000 xxxxxxxx xxxxxxxx stop else stop else stop else stop else stop else stop ;
@@ -228,12 +229,12 @@ PLAN
 "$twire" page long.plan -o page.html
 cat >seen.js <<'SCRIPT'
 <script>
-setTimeout(() => {
+setInterval(() => {
   const slot = document.querySelector('.meeting').getBoundingClientRect();
   const names = document.querySelector('.names').getBoundingClientRect();
   const room = document.querySelector('.drawn').getBoundingClientRect();
   document.body.dataset.seen = names.left >= room.left && slot.left >= names.right && slot.right <= room.right;
-}, 1000);
+}, 500);
 </script>
 SCRIPT
 sed '/^<\/body>/e cat seen.js' page.html >followed.html
