@@ -3,7 +3,6 @@
 use crate::below::{begin, say, say_all};
 use crate::meetings::{Meeting, Rule, Side};
 use crate::mends::Mends;
-use crate::plans::tell_apart;
 use crate::rows::{Row, tell_rows};
 use crate::sending::deed;
 use growing_text::{Lines, Text};
@@ -192,17 +191,21 @@ fn push_range(words: &mut Text, range: (usize, usize)) {
     }
 }
 
-/// What is said below `unsafe: F of N pairs`: what mends one of these pairs, and the `never` items that keep them
-/// apart, with how many pairs they leave unchecked; and that a pair with an interrupt is mended by a bit of the header alone.
-pub(crate) fn below_unsafe(alloc: Global, mends: &Mends) -> Result<String, AllocError> {
+/// What is said below `unsafe: F of N pairs`, where the plan has so many: what mends one of these pairs, and the `never` items that
+/// keep them apart, with how many pairs they leave unchecked; and that a pair with an interrupt is mended by a bit of the header
+/// alone.
+pub(crate) fn below_unsafe(
+    alloc: Global,
+    pairs: u32,
+    mends: &Mends,
+) -> Result<String, AllocError> {
     let mut lines = Lines::new(alloc);
-    tell_mends(alloc, &mut lines, mends);
+    tell_mends(alloc, &mut lines, pairs, mends);
     tell_interrupted(&mut lines, mends.interrupted.as_slice());
-    tell_apart(&mut lines, mends.kept_apart);
     lines.finish()
 }
 
-fn tell_mends(alloc: Global, lines: &mut Lines, mends: &Mends) {
+fn tell_mends(alloc: Global, lines: &mut Lines, pairs: u32, mends: &Mends) {
     let mut words = Text::new(alloc);
     words.push(if mends.pairs == 1 {
         "to mend it: a bit before that slot,"
@@ -213,12 +216,12 @@ fn tell_mends(alloc: Global, lines: &mut Lines, mends: &Mends) {
     if mends.interrupted.len() < mends.pairs {
         words.push("; or the same shape from there on");
     }
-    push_nevers(&mut words, mends);
+    push_nevers(&mut words, pairs, mends);
     say_all(lines, words);
 }
 
-// The items, and how many pairs they leave unchecked.
-fn push_nevers(words: &mut Text, mends: &Mends) {
+// The items, and how many of so many pairs they leave unchecked.
+fn push_nevers(words: &mut Text, pairs: u32, mends: &Mends) {
     if mends.nevers.is_empty() {
         return;
     }
@@ -232,7 +235,13 @@ fn push_nevers(words: &mut Text, mends: &Mends) {
     }
     words.push(" (leaves ");
     words.push_number(mends.unchecked);
-    words.push(" pairs unchecked)");
+    words.push(" of ");
+    words.push_number(u64::from(pairs));
+    words.push(if pairs == 1 {
+        " pair unchecked)"
+    } else {
+        " pairs unchecked)"
+    });
 }
 
 // The first unsafe pairs that have an interrupt, and how many more there are.

@@ -21,17 +21,18 @@ pub fn on_safe(alloc: Global, words: PlanWords<'_>, kept_apart: u64) -> Result<H
 }
 
 /// What to say of a plan that was checked, in these words of it: what is likely a mistake in its briefs, and where it is safe
-/// also what `on_safe` says.
+/// also what `on_safe` says. Where the report is explained it has told what was not looked at, and that is not said again.
 pub fn on_checked(
     alloc: Global,
     words: PlanWords<'_>,
     odd: &[Oddity<'_>],
     is_safe: bool,
+    is_explained: bool,
     kept_apart: u64,
 ) -> Result<Hints, AllocError> {
     let mut lines = Lines::new(alloc);
-    push_oddities(alloc, &mut lines, words, odd)?;
-    if is_safe {
+    push_oddities(alloc, &mut lines, words, odd, is_explained)?;
+    if is_safe && !is_explained {
         // (of briefs it is among the likely mistakes)
         if !words.has_briefs() {
             push_unsent(&mut lines, words.plan());

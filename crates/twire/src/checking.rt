@@ -14,15 +14,15 @@ use brief_text::Origins;
 use cert_check::{Answer, Judged, check_certificate_at};
 use certificate::Refusal;
 use explain::{
-    Detail, Mistake, Paint, Reasons, explain_answer, explain_check, kept_apart, mistake_of,
-    reasons_of,
+    Detail, Mistake, Paint, Reasons, called_by, explain_answer, explain_check, is_all_checked,
+    kept_apart, mistake_of, reasons_of,
 };
 use hints::{on_certificate, on_checked, on_safe};
 use lint::{Oddity, oddities};
-use objects::{write_answer, write_check, write_order};
-use order::{Order, order_of, order_report};
+use objects::{write_answer, write_check, write_order, write_scores};
+use order::{Called, Order, order_of, order_report, order_summary, scores_of};
 use plan_core::Plan;
-use plan_words::PlanWords;
+use plan_words::{PlanWords, sides_of};
 use report::{
     Answered, Checked, GivenPlan, Input, NoGate, Output, RunError, Status, answer_line,
     check_found, check_report, read_within, status_of_answer, verify_found,
@@ -35,12 +35,13 @@ use std::thread::Threads;
 use std::time::Clock;
 use verdicts::MOST_WORKERS;
 
-/// How a plan is looked at: by so many workers, explained in this detail, and with the waves of an unsafe pair in a
-/// file: of the first one, or of the one with this number.
+/// How a plan is looked at: by so many workers, explained in this detail, strictly, so that a safe plan of which not all was
+/// looked at is not good, and with the waves of an unsafe pair in a file: of the first one, or of the one with this number.
 #[derive(Clone, Copy)]
 pub struct Look<'a> {
     pub workers: u32,
     pub explain: Option<Detail>,
+    pub strict: bool,
     pub wave: Option<&'a str>,
     pub pair: Option<u32>,
 }
@@ -76,10 +77,26 @@ pub fn check<R: Files + Print + Eprint + Clock + AllocGlobal + Threads + Sync, I
     if let Some(canvas) = canvas {
         draw_fault(rt, &checked, look.pair, status, canvas)?;
     }
+    let is_explained = look.explain.is_some();
     Ok(Ended {
-        status,
-        remark: remark_on(rt.alloc(), &checked, words, odd.as_slice(), extras),
+        status: judged(status, &checked.plan, look.strict),
+        remark: remark_on(
+            rt.alloc(),
+            &checked,
+            words,
+            odd.as_slice(),
+            is_explained,
+            extras,
+        ),
     })
+}
+
+// The status of a run with this status over a plan. One that is strict is good where all of the plan was looked at.
+fn judged(status: Status, plan: &Plan, strict: bool) -> Status {
+    match status {
+        Status::Good if strict && !is_all_checked(plan) => Status::Bad,
+        _ => status,
+    }
 }
 
 // What is likely a mistake in the briefs that mean this plan, where briefs do.
@@ -100,6 +117,7 @@ fn remark_on(
     checked: &Checked,
     words: PlanWords<'_>,
     odd: &[Oddity<'_>],
+    is_explained: bool,
     extras: Extras,
 ) -> Remark {
     if extras.hints {
@@ -108,6 +126,7 @@ fn remark_on(
             words,
             odd,
             checked.faults.is_safe(),
+            is_explained,
             kept_apart(words),
         ))
     } else {
@@ -272,11 +291,12 @@ pub fn remark_on_answer(
 
 // ---- order
 
-/// Says who wins arbitration in each pair of the plan that the reader gives.
+/// Says who wins arbitration in each pair of the plan that the reader gives, after a summary where that is to be explained.
 pub fn order<R: AllocGlobal + Threads + Sync, I: Input, O: Output>(
     rt: &R,
     plans: &mut Sources<'_, I>,
     out: &mut O,
+    explain: bool,
     style: Style,
 ) -> Result<Ended, Halt> {
     let alloc = rt.alloc();
@@ -284,8 +304,35 @@ pub fn order<R: AllocGlobal + Threads + Sync, I: Input, O: Output>(
     let checked = check_found(rt, alloc, plan, 1, &NoGate)?;
     let order = order_of(alloc, &checked.plan, &checked.faults)?;
     let words = plans.words(&checked.plan, &origins);
+    if explain {
+        write_summary(alloc, words, &order, out, style)?;
+    }
     write_ordered(alloc, words, &order, out, style)?;
     Ok(Ended::quietly(status_of(&checked)))
+}
+
+// How the pairs of each two controllers end, in the words of people.
+fn write_summary<O: Output>(
+    alloc: Global,
+    words: PlanWords<'_>,
+    order: &Order,
+    out: &mut O,
+    style: Style,
+) -> Result<(), RunError> {
+    let sides = sides_of(alloc, words)?;
+    let names = sides.names.as_slice();
+    let scores = scores_of(alloc, order, sides.numbers.as_slice(), names.len())?;
+    if let Style::Objects = style {
+        return write_scores(alloc, &scores, names, out);
+    }
+    let labels = called_by(alloc, words)?;
+    let called = Called {
+        sides: names,
+        participants: labels.all(),
+    };
+    let summary = order_summary(alloc, &scores, called)?;
+    write_lines(out, summary.as_bytes(), Status::Good)?;
+    Ok(())
 }
 
 fn write_ordered<O: Output>(
