@@ -440,12 +440,36 @@ hint: second.brief:7: controller 'y' lists no message
 hint: the plan has no two participants that may start together: no pair was
 hint: looked at"
 run "likely mistakes of two files" check first.brief --with second.brief --hints always
+# What was not looked at stands in an explained report, and then not in hints.
+want 0 "safe: 0 pairs
+    where targets acknowledge, decided in the header: 0, later: 0, at a read's
+    end: 0; alike to the end: 0
+    no two participants may start together, so nothing was checked
+    not checked: 3 messages that no controller lists: family_1 (second.brief:4),
+    family_3 (second.brief:4), other (second.brief:5)" "hint: second.brief:2: device 'c' has the address of 'a', which stands at
+hint: first.brief:2
+hint: second.brief:3: the address of device 'd' is reserved (UM10204, 3.1.12)
+hint: second.brief:3: no message and no interrupt names device 'd'
+hint: first.brief:4: no message names byte 'idle'
+hint: second.brief:7: controller 'y' lists no message"
+run "likely mistakes of two files, explained" check --explain first.brief --with second.brief --hints always
+want 1 "$(cat want_out)" "$(cat want_err)"
+run "the same strictly" check --strict --explain first.brief --with second.brief --hints always
+want 1 "safe: 0 pairs" ""
+run "two files, strictly" check --strict first.brief --with second.brief
 lines unsent.brief "brief 1" "message page write 0x50 any*1..32 ;"
 want 0 "safe: 0 pairs" "hint: unsent.brief:2: no controller lists messages 'page_1' to 'page_32', which
 hint: were not looked at
 hint: the plan has no two participants that may start together: no pair was
 hint: looked at"
 run "a family that nobody sends" check unsent.brief --hints always
+want 0 "safe: 0 pairs
+    where targets acknowledge, decided in the header: 0, later: 0, at a read's
+    end: 0; alike to the end: 0
+    no two participants may start together, so nothing was checked
+    not checked: 32 messages that no controller lists: page_1 to page_32
+    (unsent.brief:2)" ""
+run "a family that nobody sends, explained" check --explain unsent.brief --hints always
 lines one.brief "brief 1" "message m write 0x10 ;" "controller a m ;"
 printf 'brief 1\r# a board\rdevice eeprom 0x50 ;\r' >returns.brief
 want 0 "safe: 0 pairs" "hint: returns.brief:1: this brief has no items
