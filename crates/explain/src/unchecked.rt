@@ -129,7 +129,7 @@ fn runs_of(
     words: PlanWords<'_>,
     messages: &[u32],
 ) -> Result<Vec<Run>, AllocError> {
-    let mut runs = Vec::new(alloc);
+    let mut runs: Vec<Run> = Vec::new(alloc);
     let mut open: Option<Run> = None;
     for message in messages {
         open = match open {

@@ -112,11 +112,11 @@ impl Scores {
         for side in sides {
             own.push(*side)?;
         }
-        let places = sides.len().saturating_mul(count);
+        let scores = vec![in alloc; NONE; sides.len().saturating_mul(count)]?;
         Ok(Scores {
             sides: own,
             count,
-            scores: vec![in alloc; NONE; places]?,
+            scores,
         })
     }
 
