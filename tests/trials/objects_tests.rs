@@ -42,7 +42,9 @@ fn check(plan: &str) -> Vec<String> {
 }
 
 fn explain_of(object: &str) -> &str {
-    object.split_once("\"explain\":").map_or("", |(_, explain)| explain.strip_suffix('}').unwrap_or(explain))
+    // (of a group its example has it)
+    let ends = if object.starts_with("{\"kind\":\"group\"") { "}}" } else { "}" };
+    object.split_once("\"explain\":").map_or("", |(_, explain)| explain.strip_suffix(ends).unwrap_or(explain))
 }
 
 #[test]
@@ -54,18 +56,22 @@ fn unsafe_pairs_are_explained() {
         check(plan),
         [
             "{\"kind\":\"pair\",\"pair\":0,\"participants\":[\"a/w\",\"b/r\"],\"meet\":[\"data\",\"restart\"],\
+             \"after\":\"10010000l00000001l\",\"group\":0}",
+            "{\"kind\":\"group\",\"group\":0,\"pairs\":1,\"between\":[[\"a/w\",\"b/r\"]],\"frame\":0,\
+             \"part\":\"data\",\"byte\":2,\"example\":{\"pair\":0,\"participants\":[\"a/w\",\"b/r\"],\
+             \"meet\":[\"data\",\"restart\"],\
              \"after\":\"10010000l00000001l\",\"explain\":{\"slot\":18,\"rule\":\"UM10204 3.1.8\",\
              \"bus\":\"S 48 Wr A 01 A\",\"bytes\":[\"S 48 Wr A 01 A 02\",\"S 48 Wr A 0000000x A Sr\"],\
-             \"open\":[[],[[16,16]]]}}",
+             \"open\":[[],[[16,16]]]}}}",
             "{\"kind\":\"plan\",\"safe\":false,\"pairs\":1,\"unsafe_pairs\":1,\"explain\":{\"explained\":1,\
-             \"never\":[[\"a\",\"b\"]],\"unchecked\":1,\"interrupts\":[],\"kept_apart\":0}}"
+             \"groups\":1,\"never\":[[\"a\",\"b\"]],\"unchecked\":1,\"interrupts\":[],\"kept_apart\":0}}"
         ]
     );
     // The last acknowledge of one of two reads is open.
     let plan = "plan 2 message one read 100100x 1 again write 1001000 stop else stop else stop ;
         message few read 1x01000 1..3 stop else stop ; controller a one ; controller b few ;";
     assert_eq!(
-        explain_of(&check(plan)[0]),
+        explain_of(&check(plan)[1]),
         "{\"slot\":18,\"rule\":\"UM10204 3.1.8\",\"bus\":\"S 48 Rd A 00 NA\",\
          \"bytes\":[\"S 100100x Rd A 00 NA Sr\",\"S 1x01000 Rd A 00 A/NA P\"],\"open\":[[[6,6]],[[1,1],[17,17]]]}"
     );
@@ -78,10 +84,10 @@ fn interrupts_are_mended_by_no_item() {
     let found = check(plan);
     let rule = "{\"slot\":8,\"rule\":\"interrupts\",\"bus\":\"S 48 Rd\",";
     let bytes = ["\"S 48 Rd\",\"S 48 Rd (waits)\"", "\"S 48 Rd (waits)\",\"S 48 Rd (waits)\""];
-    assert_eq!(explain_of(&found[0]), format!("{rule}\"bytes\":[{}],\"open\":[[],[]]}}", bytes[0]));
-    assert_eq!(explain_of(&found[2]), format!("{rule}\"bytes\":[{}],\"open\":[[],[]]}}", bytes[1]));
-    let mends = "{\"explained\":3,\"never\":[],\"unchecked\":0,\"interrupts\":[0,1,2],\"kept_apart\":0}";
-    assert_eq!(explain_of(&found[3]), mends);
+    assert_eq!(explain_of(&found[3]), format!("{rule}\"bytes\":[{}],\"open\":[[],[]]}}", bytes[0]));
+    assert_eq!(explain_of(&found[5]), format!("{rule}\"bytes\":[{}],\"open\":[[],[]]}}", bytes[1]));
+    let mends = "{\"explained\":3,\"groups\":3,\"never\":[],\"unchecked\":0,\"interrupts\":[0,1,2],\"kept_apart\":0}";
+    assert_eq!(explain_of(&found[6]), mends);
 }
 
 const SEVERAL: &str = "plan 2 message w write 1001000 00000001 stop else stop else stop ;
@@ -91,26 +97,53 @@ const SEVERAL: &str = "plan 2 message w write 1001000 00000001 stop else stop el
 
 #[test]
 fn several_pairs_of_two_controllers_want_one_item() {
-    let mends = "{\"explained\":6,\"never\":[[\"a\",\"b\"],[\"a\",\"c\"],[\"b\",\"c\"]],\"unchecked\":12,\
+    let mends = "{\"explained\":3,\"groups\":3,\"never\":[[\"a\",\"b\"],[\"a\",\"c\"],[\"b\",\"c\"]],\"unchecked\":12,\
                  \"interrupts\":[15],\"kept_apart\":0}";
     assert_eq!(explain_of(check(SEVERAL).last().unwrap()), mends);
-    let mends = "{\"explained\":4,\"never\":[[\"a\",\"c\"],[\"b\",\"c\"]],\"unchecked\":8,\"interrupts\":[11],\
+    let mends = "{\"explained\":3,\"groups\":3,\"never\":[[\"a\",\"c\"],[\"b\",\"c\"]],\"unchecked\":8,\"interrupts\":[11],\
                  \"kept_apart\":4}";
     assert_eq!(explain_of(check(&format!("{SEVERAL} never b a ;")).last().unwrap()), mends);
 }
 
 // The first ten are explained where nothing else is said.
 #[test]
-fn further_pairs_are_not_explained() {
-    let listed: String = (0..12).map(|k| format!(" controller c{k} {} ;", if k == 0 { "w" } else { "p" })).collect();
+fn further_groups_are_not_explained() {
+    let messages: String = (1..12).map(|k| format!(" message p{k}x write 1001000 stop else stop ;")).collect();
+    let listed: String = (1..12).map(|k| format!(" controller c{k} p{k}x ;")).collect();
     let plan = format!(
-        "plan 1 message w write 1001000 xxxxxxxx stop else stop else stop ; message p write 1001000 stop else stop ;{listed}"
+        "plan 1 message w write 1001000 xxxxxxxx stop else stop else stop ;{messages} controller c0 w ;{listed}"
     );
     let found = check(&plan);
-    assert_eq!(found.len(), 12);
+    assert_eq!(found.len(), 23);
     let explained: Vec<bool> = found.iter().map(|object| object.contains("\"explain\":")).collect();
-    assert_eq!(explained, [&[true; 10][..], &[false, true]].concat());
-    assert!(found[11].contains("\"unsafe_pairs\":11,\"explain\":{\"explained\":10,"), "{}", found[11]);
+    assert_eq!(explained, [&[false; 11][..], &[true; 10], &[false, true]].concat());
+    let last = "\"unsafe_pairs\":11,\"explain\":{\"explained\":10,\"groups\":11,";
+    assert!(found[22].contains(last), "{}", found[22]);
+}
+
+// Names that differ in a number are a family, in which bytes do not count; other names are none.
+#[test]
+fn pairs_of_families_are_one_group() {
+    let plan = "plan 1 message w1 write 1010000 xxxxxxxx stop else stop else stop ;
+        message w_2 write 1010000 xxxxxxxx xxxxxxxx stop else stop else stop else stop ;
+        message w12 write 1010000 xxxxxxxx xxxxxxxx xxxxxxxx stop else stop else stop else stop else stop ;
+        message w_3 write 1010000 stop else stop ; controller a w1 w_2 w12 w_3 ; controller b w1 w_2 w12 w_3 ;";
+    let found = check(plan);
+    let between: Vec<&str> = found
+        .iter()
+        .filter_map(|object| object.split_once("\"between\":")?.1.split_once(",\"example\""))
+        .map(|(between, _)| between)
+        .collect();
+    // (which of the two families ends first makes another group)
+    assert_eq!(
+        between,
+        [
+            "[[\"a/w*\",\"b/w_*\"],[\"a/w_*\",\"b/w*\"]],\"frame\":0,\"part\":\"data\"",
+            "[[\"a/w_*\",\"b/w_*\"]],\"frame\":0,\"part\":\"data\"",
+            "[[\"a/w*\",\"b/w_*\"],[\"a/w_*\",\"b/w*\"]],\"frame\":0,\"part\":\"data\"",
+            "[[\"a/w*\",\"b/w*\"]],\"frame\":0,\"part\":\"data\"",
+        ]
+    );
 }
 
 #[test]
