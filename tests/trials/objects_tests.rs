@@ -64,7 +64,7 @@ fn unsafe_pairs_are_explained() {
              \"bus\":\"S 48 Wr A 01 A\",\"bytes\":[\"S 48 Wr A 01 A 02\",\"S 48 Wr A 0000000x A Sr\"],\
              \"open\":[[],[[16,16]]]}}}",
             "{\"kind\":\"plan\",\"safe\":false,\"pairs\":1,\"unsafe_pairs\":1,\"explain\":{\"explained\":1,\
-             \"groups\":1,\"never\":[[\"a\",\"b\"]],\"unchecked\":1,\"interrupts\":[],\"kept_apart\":0}}"
+             \"groups\":1,\"never\":[[\"a\",\"b\"]],\"unchecked\":1,\"interrupts\":[],\"unsent\":[],\"kept_apart\":0}}"
         ]
     );
     // The last acknowledge of one of two reads is open.
@@ -86,7 +86,8 @@ fn interrupts_are_mended_by_no_item() {
     let bytes = ["\"S 48 Rd\",\"S 48 Rd (waits)\"", "\"S 48 Rd (waits)\",\"S 48 Rd (waits)\""];
     assert_eq!(explain_of(&found[3]), format!("{rule}\"bytes\":[{}],\"open\":[[],[]]}}", bytes[0]));
     assert_eq!(explain_of(&found[5]), format!("{rule}\"bytes\":[{}],\"open\":[[],[]]}}", bytes[1]));
-    let mends = "{\"explained\":3,\"groups\":3,\"never\":[],\"unchecked\":0,\"interrupts\":[0,1,2],\"kept_apart\":0}";
+    let mends = "{\"explained\":3,\"groups\":3,\"never\":[],\"unchecked\":0,\"interrupts\":[0,1,2],\"unsent\":[],\
+                 \"kept_apart\":0}";
     assert_eq!(explain_of(&found[6]), mends);
 }
 
@@ -98,10 +99,10 @@ const SEVERAL: &str = "plan 2 message w write 1001000 00000001 stop else stop el
 #[test]
 fn several_pairs_of_two_controllers_want_one_item() {
     let mends = "{\"explained\":3,\"groups\":3,\"never\":[[\"a\",\"b\"],[\"a\",\"c\"],[\"b\",\"c\"]],\"unchecked\":12,\
-                 \"interrupts\":[15],\"kept_apart\":0}";
+                 \"interrupts\":[15],\"unsent\":[\"spare\"],\"kept_apart\":0}";
     assert_eq!(explain_of(check(SEVERAL).last().unwrap()), mends);
     let mends = "{\"explained\":3,\"groups\":3,\"never\":[[\"a\",\"c\"],[\"b\",\"c\"]],\"unchecked\":8,\"interrupts\":[11],\
-                 \"kept_apart\":4}";
+                 \"unsent\":[\"spare\"],\"kept_apart\":4}";
     assert_eq!(explain_of(check(&format!("{SEVERAL} never b a ;")).last().unwrap()), mends);
 }
 
