@@ -165,6 +165,25 @@ fn safe_plans_are_explained() {
     );
 }
 
+#[test]
+fn who_wins_is_counted_by_controllers() {
+    let plan = "plan 1 message m write 1001000 stop else stop ; message n read 1001000 1 stop else stop ;
+        controller a m n ; controller b m ; interrupt t 1001001 ;";
+    let found = due(&asked(Command::Order, plan, ""), true).unwrap();
+    assert_eq!(
+        found[..3],
+        [
+            "{\"kind\":\"arbitration\",\"between\":[\"a\",\"b\"],\"pairs\":2,\"wins\":[0,1],\"may_win\":0,\"alike\":1,\
+             \"unsafe_pairs\":0}",
+            "{\"kind\":\"arbitration\",\"between\":[\"a\",\"!t\"],\"pairs\":2,\"wins\":[2,0],\"may_win\":0,\"alike\":0,\
+             \"unsafe_pairs\":0}",
+            "{\"kind\":\"arbitration\",\"between\":[\"b\",\"!t\"],\"pairs\":1,\"wins\":[1,0],\"may_win\":0,\"alike\":0,\
+             \"unsafe_pairs\":0}",
+        ]
+    );
+    assert_eq!(found[3..], due(&asked(Command::Order, plan, ""), false).unwrap());
+}
+
 fn verify(plan: &str, cert: &str) -> String {
     due(&asked(Command::Verify, plan, cert), true).unwrap().concat()
 }
