@@ -196,11 +196,9 @@ fn with_objects(case: &Case) -> Vec<Run> {
 
 fn explained(command: &Command) -> Vec<Run> {
     match command {
-        Command::Check { .. }
-        | Command::Verify
-        | Command::Order
-        | Command::Bench { .. }
-        | Command::Capture { .. } => vec![objects(false, true)],
+        Command::Check { .. } | Command::Verify | Command::Order | Command::Bench { .. } | Command::Capture { .. } => {
+            vec![objects(false, true)]
+        }
         _ => Vec::new(),
     }
 }
