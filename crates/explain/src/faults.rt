@@ -2,7 +2,7 @@
 
 use crate::below::{begin, say, say_all};
 use crate::meetings::{Meeting, Rule, Side};
-use crate::mends::Mends;
+use crate::mends::{Mends, Never};
 use crate::rows::{Row, tell_rows};
 use crate::sending::deed;
 use growing_text::{Lines, Text};
@@ -216,24 +216,26 @@ fn tell_mends(alloc: Global, lines: &mut Lines, pairs: u32, mends: &Mends) {
     if mends.interrupted.len() < mends.pairs {
         words.push("; or the same shape from there on");
     }
-    push_nevers(&mut words, pairs, mends);
+    words.push(match mends.nevers.len() {
+        0 => "",
+        1 => "; or:",
+        _ => "; or all of:",
+    });
     say_all(lines, words);
+    if !mends.nevers.is_empty() {
+        tell_nevers(alloc, lines, pairs, mends);
+    }
 }
 
-// The items, and how many of so many pairs they leave unchecked.
-fn push_nevers(words: &mut Text, pairs: u32, mends: &Mends) {
-    if mends.nevers.is_empty() {
-        return;
-    }
-    words.push("; or");
+// The items, each on a line of its own, and how many of so many pairs they leave unchecked.
+fn tell_nevers(alloc: Global, lines: &mut Lines, pairs: u32, mends: &Mends) {
     for never in &mends.nevers {
-        words.push(" never ");
-        words.push(never.first.as_str());
-        words.push(" ");
-        words.push(never.second.as_str());
-        words.push(" ;");
+        begin(lines);
+        lines.word_made(item_of(alloc, never));
+        lines.end();
     }
-    words.push(" (leaves ");
+    let mut words = Text::new(alloc);
+    words.push("(leaves ");
     words.push_number(mends.unchecked);
     words.push(" of ");
     words.push_number(u64::from(pairs));
@@ -242,6 +244,18 @@ fn push_nevers(words: &mut Text, pairs: u32, mends: &Mends) {
     } else {
         " pairs unchecked)"
     });
+    say_all(lines, words);
+}
+
+// An item as a brief or a plan has it.
+fn item_of(alloc: Global, never: &Never) -> Result<String, AllocError> {
+    let mut text = Text::new(alloc);
+    text.push("never ");
+    text.push(never.first.as_str());
+    text.push(" ");
+    text.push(never.second.as_str());
+    text.push(" ;");
+    text.finish()
 }
 
 // The first unsafe pairs that have an interrupt, and how many more there are.

@@ -1,7 +1,7 @@
 // The report of a check, explained.
 
 use crate::faults::below_unsafe;
-use crate::group_lines::{of_group, of_rest};
+use crate::group_lines::{above_rest, of_group, of_rest};
 use crate::groups::Grouped;
 use crate::meetings::meeting_of;
 use crate::mends::both_of;
@@ -68,7 +68,7 @@ fn write_pairs<O: Output>(
     Ok(())
 }
 
-// So many groups, and how many more there are.
+// So many groups, and a line of each further one.
 fn write_groups<O: Output>(
     alloc: Global,
     words: PlanWords<'_>,
@@ -84,7 +84,11 @@ fn write_groups<O: Output>(
         write_full(alloc, text, out)?;
     }
     if explained < groups.len() {
-        text.push_made(of_rest(alloc, groups, explained));
+        text.push_made(above_rest(alloc, groups.len()));
+    }
+    for g in explained..groups.len() {
+        text.push_made(of_rest(alloc, groups, g));
+        write_full(alloc, text, out)?;
     }
     Ok(())
 }
