@@ -65,7 +65,7 @@ pub use meetings::{Meeting, Rule, Side, meeting_of};
 pub use mends::{Mends, Never, kept_apart};
 pub use mistakes::{Mistake, mistake_of};
 pub use paints::Paint;
-pub use reasons::{Reasons, reasons_of};
+pub use reasons::{Reasons, count_groups, reasons_of};
 pub use reports::{Detail, explain_answer, explain_check, explain_rehearsal};
 pub use safety::{Decided, Safety};
 pub use selecting::{Seen, Selection};

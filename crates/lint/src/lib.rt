@@ -15,7 +15,7 @@ pub enum Oddity<'a> {
     CarriageReturn(Spot),
     /// The second device has the address of the first, in all bits.
     SameAddress(&'a Device, &'a Device),
-    /// UM10204, 3.1.12 reserves the address: its first four bits are 0000 or 1111.
+    /// UM10204, 3.1.12 reserves the address: its first four bits are 0000 or 1111. Addresses of ten bits begin with 11110.
     ReservedAddress(&'a Device),
     /// No message and no interrupt names the device.
     UnusedDevice(&'a Device),
@@ -137,9 +137,11 @@ fn with_address(devices: &[Device], address: Address) -> Option<&Device> {
     None
 }
 
-// Whether the first four bits, which are sent first, are 0000 or 1111.
+// Whether the first four bits, which are sent first, are 0000 or 1111. What begins with 11110 is the first byte of an address of
+// ten bits.
 fn is_reserved(address: Address) -> bool {
-    begins_with(address, Bit::Zero) || begins_with(address, Bit::One)
+    begins_with(address, Bit::Zero)
+        || begins_with(address, Bit::One) && address.bit(4) != Bit::Zero
 }
 
 fn begins_with(address: Address, bit: Bit) -> bool {

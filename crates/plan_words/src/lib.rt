@@ -79,6 +79,11 @@ impl<'a> PlanWords<'a> {
         self.plan
     }
 
+    /// The files that gave the plan.
+    pub fn files(self) -> BriefFiles<'a> {
+        self.files
+    }
+
     /// Whether briefs mean the plan.
     pub fn has_briefs(self) -> bool {
         self.origins.is_some()

@@ -14,10 +14,10 @@ use brief_text::Origins;
 use cert_check::{Answer, Judged, check_certificate_at};
 use certificate::Refusal;
 use explain::{
-    Detail, Mistake, Paint, Reasons, called_by, explain_answer, explain_check, is_all_checked,
-    kept_apart, mistake_of, reasons_of,
+    Detail, Mistake, Paint, Reasons, called_by, count_groups, explain_answer, explain_check,
+    is_all_checked, kept_apart, mistake_of, reasons_of,
 };
-use hints::{on_certificate, on_checked, on_safe};
+use hints::{Found, Hints, on_certificate, on_checked, on_safe};
 use lint::{Oddity, oddities};
 use objects::{write_answer, write_check, write_order, write_scores};
 use order::{Called, Order, order_of, order_report, order_summary, scores_of};
@@ -34,6 +34,9 @@ use std::rt::Files;
 use std::thread::Threads;
 use std::time::Clock;
 use verdicts::MOST_WORKERS;
+
+// So many unsafe pairs are seen without groups.
+const FEW: usize = 20;
 
 /// How a plan is looked at: by so many workers, explained in this detail, strictly, so that a safe plan of which not all was
 /// looked at is not good, and with the waves of an unsafe pair in a file: of the first one, or of the one with this number.
@@ -119,19 +122,48 @@ fn remark_on(
     odd: &[Oddity<'_>],
     is_explained: bool,
     extras: Extras,
-) -> Remark {
+) -> Remark
+    requires { AreFaults (plan_contents checked.now.plan) (fault_list checked.now.faults) }
+{
     if extras.hints {
-        Remark::hints(on_checked(
-            alloc,
-            words,
-            odd,
-            checked.faults.is_safe(),
-            is_explained,
-            kept_apart(words),
-        ))
+        Remark::hints(hints_on(alloc, checked, words, odd, is_explained))
     } else {
         Remark::Nothing
     }
+}
+
+fn hints_on(
+    alloc: Global,
+    checked: &Checked,
+    words: PlanWords<'_>,
+    odd: &[Oddity<'_>],
+    is_explained: bool,
+) -> Result<Hints, AllocError>
+    requires { AreFaults (plan_contents checked.now.plan) (fault_list checked.now.faults) }
+{
+    let found = Found {
+        unsafe_pairs: checked.faults.len(),
+        groups: groups_to_tell(alloc, checked, words, is_explained)?,
+        is_explained,
+        kept_apart: kept_apart(words),
+    };
+    on_checked(alloc, words, odd, found)
+}
+
+// In how many groups the unsafe pairs are, where they are many and the report has not shown the groups.
+fn groups_to_tell(
+    alloc: Global,
+    checked: &Checked,
+    words: PlanWords<'_>,
+    is_explained: bool,
+) -> Result<Option<usize>, AllocError>
+    requires { AreFaults (plan_contents checked.now.plan) (fault_list checked.now.faults) }
+{
+    if is_explained || checked.faults.len() <= FEW {
+        return Ok(None);
+    }
+    let groups = count_groups(alloc, checked, words)?;
+    Ok(Some(groups))
 }
 
 // Writes what was found, with the reasons and the groups of unsafe pairs where that is wanted.
