@@ -440,14 +440,44 @@ want 0 "safe: 0 pairs" ""
 run "no word on hints on a safe plan" check spare.plan
 # An explained report says it itself, and hints do not say it again.
 not_checked="safe: 0 pairs
-    where targets acknowledge, decided in the header: 0, later: 0, at a read's
-    end: 0; alike to the end: 0
+    where targets acknowledge, decided in the header: 0, later: 0,
+    at a read's end: 0; alike to the end: 0
     no two participants may start together, so nothing was checked
     not checked: 1 message that no controller lists: n
     not checked: 1 of 1 pair, which 'never' keeps apart"
 want 0 "$not_checked" ""
 run "a safe plan of which nothing was looked at, explained" check --explain spare.plan --hints always
 run "the same without pairs" check --summary spare.plan --hints always
+
+# Of more than twenty unsafe pairs hints say how many groups they are, and how these are shown.
+# crowd COUNT: so many writes, and three controllers of which each clashes with all of them.
+crowd() {
+    local k messages=() listed=
+    for ((k = 1; k <= $1; k++)); do
+        messages+=("message w$k write 1001000 0000000x stop else stop else stop ;")
+        listed+=" w$k"
+    done
+    write_plan "many plans.plan" "plan 1" "message p write 1001000 stop else stop ;" "${messages[@]}" "controller a$listed ;" \
+        "controller b p ;" "controller c p ;" "controller d p ;"
+}
+crowd 7
+"$twire" check "many plans.plan" --hints always >report 2>err
+echo "$?" >status
+tail -n 1 report >out
+want 1 "unsafe: 21 of 24 pairs" 'hint: 21 unsafe pairs in 1 group; try
+hint:   twire check --summary "many plans.plan"'
+compare "hints on many unsafe pairs"
+"$twire" check --explain "many plans.plan" --hints always >report 2>err
+echo "$?" >status
+: >out
+want 1 "" ""
+compare "no hints on groups that are explained"
+sed -i 's/ w7 ;/ ;/; s/^message p .*/& message q read 1001001 1 stop else stop ;/; s/^controller a/& q/' "many plans.plan"
+"$twire" check "many plans.plan" --hints always >report 2>err
+echo "$?" >status
+tail -n 1 report >out
+want 1 "unsafe: 18 of 24 pairs" ""
+compare "no hints on eighteen unsafe pairs"
 
 # With --strict a safe plan is good where each message is in a controller, and where there is a pair.
 want 0 "safe: 1 pairs" ""
@@ -467,8 +497,8 @@ run "the same from standard input" check --strict - <unlisted.plan
 want 1 "safe: 1 pairs" "hint: messages that no controller lists, which were not looked at: 1: n"
 run "the same with hints" check --strict unlisted.plan --hints always
 want 1 "safe: 1 pairs
-    where targets acknowledge, decided in the header: 0, later: 0, at a read's
-    end: 0; alike to the end: 1
+    where targets acknowledge, decided in the header: 0, later: 0,
+    at a read's end: 0; alike to the end: 1
     not checked: 1 message that no controller lists: n" ""
 run "the same, explained" check --strict --explain unlisted.plan --hints always
 want 1 "$not_checked" ""

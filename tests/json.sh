@@ -121,7 +121,7 @@ dump=$examples/stop_meets_data.vcd
 run "an unsafe plan" 1 '{"kind":"pair","pair":0,"participants":["main/write_output","service/probe_10"],"meet":["data","stop"],"after":"00100000l"}
 {"kind":"plan","safe":false,"pairs":2,"unsafe_pairs":1}' "" check --format json "$stop"
 run "an unsafe plan, explained" 1 '{"kind":"pair","pair":0,"participants":["main/write_output","service/probe_10"],"meet":["data","stop"],"after":"00100000l","group":0}
-{"kind":"group","group":0,"pairs":1,"between":[["main/write_output","service/probe_*"]],"frame":0,"part":"data","example":{"pair":0,"participants":["main/write_output","service/probe_10"],"meet":["data","stop"],"after":"00100000l","explain":{"slot":9,"rule":"UM10204 3.1.8","bus":"S 10 Wr A","bytes":["S 10 Wr A xxxxxxxx","S 10 Wr A P"],"open":[[],[]]}}}
+{"kind":"group","group":0,"pairs":1,"between":[["main/write_output","service/probe_10"]],"frame":0,"part":"data","example":{"pair":0,"participants":["main/write_output","service/probe_10"],"meet":["data","stop"],"after":"00100000l","explain":{"slot":9,"rule":"UM10204 3.1.8","bus":"S 10 Wr A","bytes":["S 10 Wr A xxxxxxxx","S 10 Wr A P"],"open":[[],[]]}}}
 {"kind":"plan","safe":false,"pairs":2,"unsafe_pairs":1,"explain":{"explained":1,"groups":1,"never":[["main","service"]],"unchecked":2,"interrupts":[],"unsent":[],"kept_apart":0}}' \
     "" --format json check --explain "$stop"
 run "open bits before a fault" 1 '{"kind":"pair","pair":0,"participants":["main/read_register","guard/set_register"],"meet":["restart","stop"],"after":"10010000l00000010l","group":0}
