@@ -341,7 +341,7 @@ plan 'plan 1' "message get1 write 1010000 00000001 again read 1010000 1$(tails 3
     'controller b put page_1 page_2 page_3 ;'
 want 1 "    group 0, as pair 0:
     bus     S 50 Wr A 01 A
-    a/get1  S 50 Wr A 01 A Sr        next: a repeated START
+    a/get1  S 50 Wr A 01 A Sr              next: a repeated START
     b/put   S 50 Wr A xxxxxxxx A xxxxxxxx  next: a data bit
     slot 18, UM10204 3.1.8: a repeated START meets a data bit. Both send alike
     until here.
