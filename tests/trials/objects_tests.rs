@@ -122,6 +122,12 @@ fn further_groups_are_not_explained() {
     assert!(found[22].contains(last), "{}", found[22]);
 }
 
+// What the groups say of whom they are between and where, up to their examples.
+fn between_in(found: &[String]) -> Vec<&str> {
+    let after = found.iter().filter_map(|object| object.split_once("\"between\":")?.1.split_once(",\"example\""));
+    after.map(|(between, _)| between).collect()
+}
+
 // Names that differ in a number are a family, in which bytes do not count; other names are none.
 #[test]
 fn pairs_of_families_are_one_group() {
@@ -129,20 +135,30 @@ fn pairs_of_families_are_one_group() {
         message w_2 write 1010000 xxxxxxxx xxxxxxxx stop else stop else stop else stop ;
         message w12 write 1010000 xxxxxxxx xxxxxxxx xxxxxxxx stop else stop else stop else stop else stop ;
         message w_3 write 1010000 stop else stop ; controller a w1 w_2 w12 w_3 ; controller b w1 w_2 w12 w_3 ;";
-    let found = check(plan);
-    let between: Vec<&str> = found
-        .iter()
-        .filter_map(|object| object.split_once("\"between\":")?.1.split_once(",\"example\""))
-        .map(|(between, _)| between)
-        .collect();
     // (which of the two families ends first makes another group)
     assert_eq!(
-        between,
+        between_in(&check(plan)),
         [
             "[[\"a/w*\",\"b/w_*\"],[\"a/w_*\",\"b/w*\"]],\"frame\":0,\"part\":\"data\"",
             "[[\"a/w_*\",\"b/w_*\"]],\"frame\":0,\"part\":\"data\"",
-            "[[\"a/w*\",\"b/w_*\"],[\"a/w_*\",\"b/w*\"]],\"frame\":0,\"part\":\"data\"",
+            "[[\"a/w1\",\"b/w_2\"],[\"a/w_2\",\"b/w1\"]],\"frame\":0,\"part\":\"data\"",
             "[[\"a/w*\",\"b/w*\"]],\"frame\":0,\"part\":\"data\"",
+        ]
+    );
+}
+
+// One group of each address. What meets there of a family is one message.
+#[test]
+fn pairs_of_another_address_are_another_group() {
+    let plan = "plan 1 message set1 write 1011000 00000001 xxxxxxxx stop else stop else stop else stop ;
+        message set2 write 1011001 00100001 xxxxxxxx stop else stop else stop else stop ;
+        message probe1 write 1011000 stop else stop ; message probe2 write 1011001 stop else stop ;
+        controller a set1 set2 ; controller b probe1 probe2 ;";
+    assert_eq!(
+        between_in(&check(plan)),
+        [
+            "[[\"a/set1\",\"b/probe1\"]],\"frame\":0,\"part\":\"data\"",
+            "[[\"a/set2\",\"b/probe2\"]],\"frame\":0,\"part\":\"data\"",
         ]
     );
 }

@@ -142,10 +142,10 @@ fn is_reserved(address: Address) -> bool {
     begins_with(address, Bit::Zero, 4) || begins_with(address, Bit::One, 5)
 }
 
-// Whether the first so many bits, at most seven, are these.
+// Whether so many bits at its beginning are these.
 fn begins_with(address: Address, bit: Bit, count: u8) -> bool {
-    for place in 0..count.min(7) {
-        if address.bit(place) != bit {
+    for place in 0..7u8 {
+        if place < count && address.bit(place) != bit {
             return false;
         }
     }
