@@ -711,6 +711,36 @@ advice "eight items" "8 of 18" "never bmc/a1 host/get ;" "never bmc/a2 host/get 
     "never bmc/a8 host/get ;" "(leaves 8 of 18 pairs unchecked)"
 writes 9
 advice "nine items" "9 of 20" "never bmc host ;" "(leaves 20 of 20 pairs unchecked)"
+# Messages that could be one family are told, with the items for it.
+pages() {
+    brief 'brief 1' "message page1 write 0x50 $1 any ;" "message page2 write 0x50 $1 any*2 ;" \
+        "message page3 write 0x50 $1 any*3 ;" "message page4 write 0x50 $2 any*4 ;" "${@:3}" \
+        'controller bmc page1 page2 page3 page4 ;' 'controller pch page1 page2 page3 page4 ;'
+}
+pages any any
+advice "messages that could be a family" "12 of 16" "never bmc pch ;" "(leaves 16 of 16 pairs unchecked)" \
+    "page1 to page4 could be written as one family (any*1..4). Then their pairs" "are kept apart by:" \
+    "never bmc/page pch/page ;"
+# As it is said, that item mends them.
+brief 'brief 1' 'message page write 0x50 any any*1..4 ;' 'controller bmc page ;' 'controller pch page ;' \
+    'never bmc/page pch/page ;'
+want 0 "safe: 0 pairs" ""
+run "messages that are written as a family" check board.brief
+# Of three controllers each two have an item.
+pages any any 'controller seq page4 ;'
+advice "messages of three controllers that could be a family" "18 of 24" "never bmc seq ;" "never pch seq ;" \
+    "never bmc pch ;" "(leaves 24 of 24 pairs unchecked)"  \
+    "page1 to page4 could be written as one family (any*1..4). Then their pairs" "are kept apart by all of:" \
+    "never seq/page bmc/page ;" "never seq/page pch/page ;" "never bmc/page pch/page ;"
+# Known bytes before those that each has one more of; another one in the last message; and a name that is taken.
+pages "0x01 0x02" "0x01 0x02"
+advice "known bytes before those of a family" "12 of 16" "never bmc pch ;" "(leaves 16 of 16 pairs unchecked)" \
+    "page1 to page4 could be written as one family (any*1..4). Then their pairs" "are kept apart by:" \
+    "never bmc/page pch/page ;"
+pages 0x01 0b0000000x
+advice "a message that is no part of a family" "12 of 16" "never bmc pch ;" "(leaves 16 of 16 pairs unchecked)"
+pages any any 'message page write 0x51 ;' 'controller seq page ;'
+advice "a family whose name is taken" "12 of 24" "never bmc pch ;" "(leaves 16 of 24 pairs unchecked)"
 # Single messages of a family have items of their own as far as there is room for them.
 # families COUNT: so many single messages and a family of which all clash with one message, and two with another.
 families() {

@@ -3,11 +3,13 @@
 use crate::below::{begin, say, say_all};
 use crate::meetings::{Meeting, Rule, Side};
 use crate::mends::{Mends, Never};
+use crate::rewritten::tell_families;
 use crate::rows::{Row, tell_rows};
 use crate::sending::deed;
 use growing_text::{Lines, Text};
 use plan_words::{FileLine, PlanWords};
 use std::alloc::{AllocError, Global};
+use verdicts::Faults;
 
 // How many columns the labels of rows have at most; a longer one has a line of its own.
 const LABELS: usize = 24;
@@ -191,16 +193,22 @@ fn push_range(words: &mut Text, range: (usize, usize)) {
     }
 }
 
-/// What is said below `unsafe: F of N pairs`, where the plan has so many: what mends one of these pairs, and the `never` items that
-/// keep them apart, with how many pairs they leave unchecked; and that a pair with an interrupt is mended by a bit of the header
-/// alone.
+/// What is said below `unsafe: F of N pairs` of a plan with these faults: what mends one of these pairs, and the `never` items that
+/// keep them apart, with how many pairs they leave unchecked; which messages could be families; and that a pair with an interrupt
+/// is mended by a bit of the header alone.
+///
+/// # Errors
+///
+/// Where an allocation fails.
 pub(crate) fn below_unsafe(
     alloc: Global,
-    pairs: u32,
+    words: PlanWords<'_>,
+    faults: &Faults,
     mends: &Mends,
 ) -> Result<String, AllocError> {
     let mut lines = Lines::new(alloc);
-    tell_mends(alloc, &mut lines, pairs, mends);
+    tell_mends(alloc, &mut lines, words.plan().pair_count(), mends);
+    tell_families(alloc, &mut lines, words, faults)?;
     tell_interrupted(&mut lines, mends.interrupted.as_slice());
     lines.finish()
 }

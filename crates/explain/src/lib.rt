@@ -2,7 +2,7 @@
 //!
 //! Each thing that is explained is a value first: `meetings` has where an unsafe pair meets, `groups` which unsafe pairs
 //! have one cause (`families` which messages count as one there), `mends` what mends a plan (`keeping` by labels of a
-//! brief), `safety` how the pairs of a safe one are kept apart, `reasons` which of the two a plan has, `unchecked` what a
+//! brief, and `rewritten` by those of families that a brief could have), `safety` how the pairs of a safe one are kept apart, `reasons` which of the two a plan has, `unchecked` what a
 //! check did not look at, `mistakes` and `breaks` what is wrong with a certificate, `tracks` what starters put along a
 //! wire. `reports` writes a report with lines for people between its own, made of these values by `faults`, `group_lines`,
 //! `plans`, `certificates` and `benches`; each of these lines begins with four spaces and has at most 80 columns, however
@@ -43,6 +43,7 @@ mod plans;
 mod pulse_lines;
 mod reasons;
 mod reports;
+mod rewritten;
 mod rows;
 mod safety;
 mod selecting;

@@ -117,7 +117,7 @@ fn push_end(
     match reasons {
         Some(Reasons::Safe(safety)) => text.push_made(below_safe(alloc, safety)),
         Some(Reasons::Unsafe(mends, _)) => {
-            text.push_made(below_unsafe(alloc, plan.pair_count(), mends))
+            text.push_made(below_unsafe(alloc, words, faults, mends))
         }
         None => return,
     }
