@@ -728,8 +728,8 @@ want 0 "safe: 0 pairs" ""
 run "messages that are written as a family" check board.brief
 # Of three controllers each two have an item.
 pages any any 'controller seq page4 ;'
-advice "messages of three controllers that could be a family" "18 of 24" "never bmc seq ;" "never pch seq ;" \
-    "never bmc pch ;" "(leaves 24 of 24 pairs unchecked)"  \
+advice "messages of three controllers that could be a family" "18 of 24" "never seq bmc ;" "never seq pch ;" \
+    "never bmc pch ;" "(leaves 24 of 24 pairs unchecked)" \
     "page1 to page4 could be written as one family (any*1..4). Then their pairs" "are kept apart by all of:" \
     "never seq/page bmc/page ;" "never seq/page pch/page ;" "never bmc/page pch/page ;"
 # Known bytes before those that each has one more of; another one in the last message; and a name that is taken.
