@@ -4,7 +4,7 @@ ghost use Rattle.std.specs.Prelude.{◌≡◌, ◌<◌, length, slice_index_or};
 ghost use Rattle.plan_core.specs.Pairs.{pairs_of};
 ghost use Rattle.plan_core.specs.Participants.{participant_count};
 ghost use Rattle.plan_core.specs.PlanContents.{plan_contents};
-ghost use Rattle.causes.specs.Causes.{cause_of, header_before, meet, place_of, side_at, sides_of, slot_after};
+ghost use Rattle.causes.specs.Causes.{cause_of, meet, place_of, side_at, sides_of, slot_after};
 
 use crate::families::{Family, family_at};
 use crate::headers::header_before;
