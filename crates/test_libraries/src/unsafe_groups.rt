@@ -108,9 +108,14 @@ fn plan(alloc: Global) -> Result<Plan, PlanError> {
     read_plan(alloc, PLAN.as_bytes())
 }
 
-fn found(alloc: Global, plan: &Plan) -> Result<Groups, AllocError> {
+// The groups, where the plan has the twelve messages that have families here.
+fn found(alloc: Global, plan: &Plan) -> Result<Option<Groups>, AllocError> {
+    if plan.messages() != 12 {
+        return Ok(None);
+    }
     let faults = faults(alloc, plan)?;
-    groups_of(alloc, plan, &FAMILIES, &faults)
+    let groups = groups_of(alloc, plan, &FAMILIES, &faults)?;
+    Ok(Some(groups))
 }
 
 fn are_expected(groups: &Groups) -> bool {
@@ -136,7 +141,10 @@ fn is_same(group: Group, other: Group) -> bool {
 
 fn are_grouped(alloc: Global) -> Result<bool, PlanError> {
     let plan = plan(alloc)?;
-    Ok(are_expected(&found(alloc, &plan)?))
+    match found(alloc, &plan)? {
+        Some(groups) => Ok(are_expected(&groups)),
+        None => Ok(false),
+    }
 }
 
 #[test]
