@@ -5,7 +5,6 @@ pub mod CertificateLemmas
 pub mod AnswerReading
 pub mod LineLemmas
 pub mod CheckLemmas
-pub mod GivenLemmas
 pub mod CaptureLemmas
 pub mod TellingLemmas
 pub mod LiveLemmas

@@ -1,19 +1,11 @@
--- What a run finds before it is written down.
+-- What the runs find before it is written down.
 use Rattle.std.specs.Prelude.{ℕ, List}
 use Rattle.plan_core.specs.PlanContents.{plan_contents}
 use Rattle.plan_text.specs.Grammar.{Spells}
 use Rattle.report.specs.declared.found.Checked as value
 use Rattle.cert_check.specs.Accepts.{AnswersBytes}
 use Rattle.cert_check.specs.declared.answers.Answered.{Answered}
-use Rattle.run_parts.specs.Runs.{Readings}
 use Rattle.verdicts.specs.Faults.{AreFaults, fault_list}
-
-module _ {In Texts Value : Type 0} (Reads : Readings In Texts) (Due : Texts → Value → Type 0) where
-  -- the run has read its inputs, and this value is due for them
-  pub record Finds (input : In) (value : Value) (input_now : In) : Type 0 where
-    pub texts : Texts
-    pub read : Reads input texts input_now
-    pub due : Due texts value
 
 -- the text spells the plan, and these are its faults
 pub record CheckOf (text : List ℕ) (checked : value.Checked) : Type 0 where

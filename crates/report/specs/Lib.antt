@@ -1,6 +1,5 @@
 pub mod Blocks
 pub mod Found
-pub mod Given
 pub mod Lines
 pub mod FaultLines
 pub mod Checks

@@ -2,7 +2,8 @@
 
 ghost use Rattle.std.specs.Prelude.{◌≡◌, ◌<◌, ◌≤◌, ◌⊎◌, ◌↔◌, IfOk, IfErr};
 ghost use Rattle.plan_core.specs.PlanContents.{plan_contents};
-ghost use Rattle.report.specs.Found.{Finds, CheckOf};
+ghost use Rattle.report.specs.Found.{CheckOf};
+ghost use Rattle.run_parts.specs.Finding.{Finds};
 ghost use Rattle.run_parts.specs.PlanTexts.{RefusesPlan};
 ghost use Rattle.run_parts.specs.Runs.{ReadsText, HaltsAtText};
 ghost use Rattle.verdicts.specs.Faults.{AreFaults, fault_list};

@@ -11,7 +11,6 @@ pub mod checks;
 pub mod faulty;
 pub mod finding;
 pub mod found;
-pub mod given;
 pub mod laws;
 pub mod lines;
 pub mod live;
@@ -26,9 +25,6 @@ pub use checks::{run_check, run_check_with};
 pub use faulty::{FaultyReader, FaultyWriter};
 pub use finding::find_plan;
 pub use found::Checked;
-pub use given::{
-    Further, GivenPlan, GivenText, NoPlan, RefusedText, find_further, find_given, given_by,
-};
 pub use lines::{check_report, push_count, push_fault};
 pub use live::live_capture;
 pub use run_parts::{Input, Opened, Output, RunError, Status, Watched, read_within, write_report};

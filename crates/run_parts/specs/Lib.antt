@@ -7,3 +7,4 @@ pub mod RunErrors
 pub mod Runs
 pub mod Lines
 pub mod PlanTexts
+pub mod Finding

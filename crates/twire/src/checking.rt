@@ -6,8 +6,8 @@ ghost use Rattle.verdicts.specs.Faults.{AreFaults, fault_list};
 
 use crate::drawings::{Canvas, draw_fault};
 use crate::endings::{Ended, Halt, Remark};
-use crate::outputs::Style;
-use crate::progress::Comparing;
+use crate::styles::Style;
+use files::Comparing;
 use crate::runs::Extras;
 use crate::sources::Sources;
 use brief_text::Origins;
@@ -23,10 +23,8 @@ use objects::{write_answer, write_check, write_order};
 use order::{Order, order_of, order_report};
 use plan_core::Plan;
 use plan_words::PlanWords;
-use report::{
-    Answered, Checked, GivenPlan, Input, NoGate, Output, RunError, Status, answer_line,
-    check_found, check_report, read_within, status_of_answer, verify_found,
-};
+use given_plans::{GivenPlan};
+use report::{Answered, Checked, Input, NoGate, Output, RunError, Status, answer_line, check_found, check_report, read_within, status_of_answer, verify_found};
 use run_parts::devices::reading::READS;
 use run_parts::write_lines;
 use std::alloc::{AllocError, Global};

@@ -1,8 +1,7 @@
 // Waves that are drawn into a file.
 
 use crate::endings::Halt;
-use crate::inputs::FilesRead;
-use crate::outputs::{Form, Sheet};
+use files::{FilesRead, Form, Sheet};
 use crate::runs::Extras;
 use crate::voices::say;
 use bench_run::Outcome;

@@ -1,24 +1,17 @@
 // What is read: files that the command line names, or standard input.
 
 use crate::advice::{advise_on_closed_input, advise_on_opening};
-use crate::progress::{Count, Told, Watcher};
 use crate::runs::Extras;
 use crate::sources::Sources;
 use crate::voices::refused;
+use files::{FileId, Source, is_standard_input, missing, open_file};
 use hints::Named;
 use objects::Detail;
 use plan_words::BriefFiles;
-use report::{Input as _, Opened, RunError, Watched};
-use std::fs::{self, Metadata, OpenFile};
+use report::{Input as _, Opened, RunError};
 use std::io;
-use std::os::unix::fs::{FileTypeExt, MetadataExt};
 use std::rt::Files;
 use std::time::Clock;
-
-const STANDARD_INPUT: &str = "/dev/stdin";
-
-/// What a path of the command line names: a file, or standard input.
-pub type Source<'a, R, F, S> = Opened<Watched<Told<'a, R, F>>, Watched<Told<'a, R, S>>>;
 
 /// The files that a run is over, as the command line names them: one, or those that give a plan.
 #[derive(Clone, Copy)]
@@ -148,7 +141,7 @@ fn open<'a, R: Files + Input + Eprint + Clock + AllocGlobal>(
     ids: &mut Vec<FileId>,
     extras: Extras,
 ) -> Option<Source<'a, R, R::File, R::Reader>> {
-    match opened(rt, file, ids, extras.watcher) {
+    match open_file(rt, file.path, file.what, ids, extras.watcher) {
         Ok(source) => Some(source),
         Err(error) => {
             unopened(rt, file, &error, extras);
@@ -173,94 +166,6 @@ fn unopened<R: Eprint + AllocGlobal>(rt: &R, file: Named<'_>, error: &io::Error,
     } else {
         advise_on_opening(rt, file, error, voice);
     }
-}
-
-// Standard input itself needs no leave to open the file that its path names.
-fn opened<'a, R: Files + Input>(
-    rt: &'a R,
-    named: Named<'_>,
-    ids: &mut Vec<FileId>,
-    watcher: Watcher,
-) -> io::Result<Source<'a, R, R::File, R::Reader>> {
-    if !is_standard_input(named.path) {
-        let file = fs::open(rt, named.path)?;
-        push_id(ids, file.metadata())?;
-        let count = Count::new(watcher, named.what, size_of(&file, watcher));
-        return Ok(Opened::File(Watched::new(Told::new(rt, file, count))));
-    }
-    match missing(rt, named.path) {
-        Some(error) => Err(error),
-        None => {
-            push_id(ids, fs::metadata(rt, STANDARD_INPUT))?;
-            let count = Count::new(watcher, named.what, None);
-            let input = Told::new(rt, rt.reader(), count);
-            Ok(Opened::Standard(Watched::new(input)))
-        }
-    }
-}
-
-fn push_id(ids: &mut Vec<FileId>, found: io::Result<Metadata>) -> io::Result<()> {
-    if let Some(id) = identity_of(found) {
-        ids.push(id)?;
-    }
-    Ok(())
-}
-
-// How many bytes a file has, where somebody is told how much of it was read.
-fn size_of<F: OpenFile>(file: &F, watcher: Watcher) -> Option<u64> {
-    if !watcher.is_there() {
-        return None;
-    }
-    let metadata = file.metadata().ok()?;
-    metadata.is_file().then_some(metadata.len())
-}
-
-/// Whether standard input is meant.
-pub fn is_standard_input(path: &str) -> bool {
-    path == "-" || path == STANDARD_INPUT
-}
-
-// The error of the system where nothing is there. Where standard input is closed its path names nothing.
-fn missing(rt: &impl Files, path: &str) -> Option<io::Error> {
-    let path = if is_standard_input(path) {
-        STANDARD_INPUT
-    } else {
-        path
-    };
-    match fs::metadata(rt, path) {
-        Err(error) if error.kind() == io::ErrorKind::NotFound => Some(error),
-        _ => None,
-    }
-}
-
-/// A file, as the system numbers it: its device, and its number there.
-pub type FileId = (u64, u64);
-
-/// Which files a run reads, as far as the system says.
-#[derive(Clone, Copy)]
-pub struct FilesRead<'a> {
-    pub ids: &'a [FileId],
-}
-
-impl FilesRead<'_> {
-    /// Whether this is one of them.
-    pub fn has(self, file: Option<FileId>) -> bool {
-        self.ids.iter().any(|id| is_same(*id, file))
-    }
-}
-
-fn is_same(one: FileId, other: Option<FileId>) -> bool {
-    match other {
-        Some(other) => one.0 == other.0 && one.1 == other.1,
-        None => false,
-    }
-}
-
-/// Which file this is, where that is known, and where it keeps what is written: a terminal, a pipe and the null device do not.
-pub fn identity_of(found: io::Result<Metadata>) -> Option<FileId> {
-    let metadata = found.ok()?;
-    let keeps = metadata.is_file() || metadata.file_type().is_block_device();
-    keeps.then_some((metadata.dev(), metadata.ino()))
 }
 
 /// What a run has read: the file that it read last, and the words of the system where that failed. A file can be read once

@@ -13,9 +13,8 @@ use page::{Page, Recording, Texts, page_of};
 use plan_core::Plan;
 use plan_text::print_plan;
 use plan_words::PlanWords;
-use report::{
-    Checked, GivenPlan, Input, NoGate, Output, RunError, Status, Watched, check_found, check_report,
-};
+use given_plans::{GivenPlan};
+use report::{Checked, Input, NoGate, Output, RunError, Status, Watched, check_found, check_report};
 use run_parts::write_lines;
 use signals::Dump;
 use std::alloc::Global;

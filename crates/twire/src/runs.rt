@@ -2,17 +2,14 @@
 
 use crate::advice::{About, Closing, advise, no_timescale};
 use crate::endings::{Ended, Halt, Remark};
-use crate::inputs::{
-    FilesRead, Inputs, NamedSources, both_read, is_standard_input, one_read, open_both,
-    open_sources,
-};
-use crate::outputs::{Form, Sheet, Style};
-use crate::progress::Watcher;
+use crate::inputs::{Inputs, NamedSources, both_read, one_read, open_both, open_sources};
+use crate::styles::Style;
 use crate::tasks::{Over, OverBoth, Task, task_of};
 use crate::versions::version_of;
 use crate::voices::{Voice, refused};
 use command_words::{Asked, Manner, Request, When, read_words};
 use explain::Paint;
+use files::{FilesRead, Form, Sheet, Watcher, is_standard_input};
 use hints::{Named, visible};
 use objects::Detail;
 use report::{RunError, Status, Watched};

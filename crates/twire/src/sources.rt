@@ -4,7 +4,8 @@ use crate::endings::{Halt, Takes};
 use brief_text::{Briefs, Origins};
 use plan_core::Plan;
 use plan_words::{BriefFiles, PlanWords};
-use report::{Further, GivenPlan, GivenText, Input, RunError, find_further, find_given, given_by};
+use given_plans::{Further, GivenPlan, GivenText, find_further, find_given, given_by};
+use report::{Input, RunError};
 use std::alloc::Global;
 
 /// The text that a run is over, or the briefs that give its plan, one after another.

@@ -1,10 +1,10 @@
 use Rattle.std.proofs.Common.{subst, sym, ℕ, List}
-use Rattle.report.specs.Given.{RefusesGiven}
-use Rattle.report.proofs.GivenLemmas.{refuses_given, on_no_plan}
+use Rattle.given_plans.specs.Given.{RefusesGiven}
+use Rattle.given_plans.proofs.GivenLemmas.{refuses_given, on_no_plan}
 use Rattle.run_parts.specs.Runs.{HaltsAtText, unread, refused}
 use Rattle.run_parts.specs.RunErrors.{run_error}
 use Rattle.run_parts.specs.declared.errors.RunError.{RunError}
-use Rattle.report.proofs.given.find_given.Goals as goal
+use Rattle.given_plans.proofs.plans.find_given.Goals as goal
 
 pub returns-in_err-text-clause-stops : goal.returns-in_err-text-clause-stops
 returns-in_err-text-clause-stops g c =

@@ -4,9 +4,8 @@ ghost use Rattle.std.specs.Io.{WritesAtMost};
 
 use crate::inputs::{FileId, FilesRead, identity_of};
 use crate::progress::{Count, Watcher};
-use explain::Paint;
 use growing_text::Text;
-use report::{RunError, Status};
+use run_parts::{RunError, Status};
 use std::alloc::{AllocError, Global};
 use std::fs::{self, OpenFile, OpenOptions, Permissions};
 use std::io::{self, ErrorKind, Write};
@@ -22,13 +21,6 @@ const NAMES: u32 = 1_000;
 const LINKS: u32 = 40;
 
 const STANDARD_OUTPUT: &str = "/dev/stdout";
-
-/// How what a run finds is written: as lines, perhaps with words of them in colours, or as objects, for programs.
-#[derive(Clone, Copy)]
-pub enum Style {
-    Lines(Paint),
-    Objects,
-}
 
 /// Where a report goes: to standard output, or into a path's file.
 #[derive(Clone, Copy)]

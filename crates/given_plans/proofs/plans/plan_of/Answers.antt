@@ -1,6 +1,6 @@
 use Rattle.std.proofs.Common.{sym, ◌∙◌}
-use Rattle.report.proofs.GivenLemmas.{plan_refused}
-use Rattle.report.proofs.given.plan_of.Goals as goal
+use Rattle.given_plans.proofs.GivenLemmas.{plan_refused}
+use Rattle.given_plans.proofs.plans.plan_of.Goals as goal
 
 pub returns-in-Err-2-clause-refused : goal.returns-in-Err-2-clause-refused
 returns-in-Err-2-clause-refused c =

@@ -9,8 +9,8 @@ use Rattle.plan_text.specs.declared.errors.PlanError.TheVariants as plan
 use Rattle.brief_text.specs.Briefs.{Means, IsRefused, text_read, brief_read}
 use Rattle.brief_text.specs.Drafts.{Draft, no_items}
 use Rattle.brief_text.specs.Splitting.{plan_meant}
-use Rattle.report.specs.Given.{IsNeither, no_plan, no_brief, no_head, RefusesGiven, RefusesFurther, is_version}
-use Rattle.report.specs.declared.given.NoPlan.{NoPlan}
+use Rattle.given_plans.specs.Given.{IsNeither, no_plan, no_brief, no_head, RefusesGiven, RefusesFurther, is_version}
+use Rattle.given_plans.specs.declared.plans.NoPlan.{NoPlan}
 use Rattle.run_parts.specs.declared.errors.RunError.{RunError}
 use Rattle.run_parts.specs.RunErrors.{run_error}
 

@@ -2,8 +2,8 @@ use Rattle.std.proofs.Common.{sym, ◌∙◌}
 use Rattle.brief_text.specs.Together.{together}
 use Rattle.brief_text.proofs.TextLemmas as text
 use Rattle.plan_core.specs.PlanContents.{plan_contents}
-use Rattle.report.proofs.GivenLemmas.{means_read, brief_refused, head_refused}
-use Rattle.report.proofs.given.meant_by.Goals as goal
+use Rattle.given_plans.proofs.GivenLemmas.{means_read, brief_refused, head_refused}
+use Rattle.given_plans.proofs.plans.meant_by.Goals as goal
 
 pub returns-in-Ok-given_by-clause-meant : goal.returns-in-Ok-given_by-clause-meant
 returns-in-Ok-given_by-clause-meant c =

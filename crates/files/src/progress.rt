@@ -2,7 +2,7 @@
 
 ghost use Rattle.std.specs.Prelude.{◌<◌};
 
-use report::Gate;
+use verdicts::Gate;
 use std::io::{self, Read};
 use std::time::{Clock, Instant};
 

@@ -1,0 +1,107 @@
+// What is read: a file that a path names, or standard input.
+
+use crate::progress::{Count, Told, Watcher};
+use run_parts::{Opened, Watched};
+use std::fs::{self, Metadata, OpenFile};
+use std::io;
+use std::os::unix::fs::{FileTypeExt, MetadataExt};
+use std::rt::Files;
+
+const STANDARD_INPUT: &str = "/dev/stdin";
+
+/// What a path of the command line names: a file, or standard input.
+pub type Source<'a, R, F, S> = Opened<Watched<Told<'a, R, F>>, Watched<Told<'a, R, S>>>;
+
+/// Opens what a path names for reading, and adds which file it is, where the system says that. `what` it is is told while it is
+/// read. Standard input itself needs no leave to open the file that its path names.
+///
+/// # Errors
+///
+/// Those of the system, and where an allocation fails.
+pub fn open_file<'a, R: Files + Input>(
+    rt: &'a R,
+    path: &str,
+    what: &'static str,
+    ids: &mut Vec<FileId>,
+    watcher: Watcher,
+) -> io::Result<Source<'a, R, R::File, R::Reader>> {
+    if !is_standard_input(path) {
+        let file = fs::open(rt, path)?;
+        push_id(ids, file.metadata())?;
+        let count = Count::new(watcher, what, size_of(&file, watcher));
+        return Ok(Opened::File(Watched::new(Told::new(rt, file, count))));
+    }
+    match missing(rt, path) {
+        Some(error) => Err(error),
+        None => {
+            push_id(ids, fs::metadata(rt, STANDARD_INPUT))?;
+            let count = Count::new(watcher, what, None);
+            let input = Told::new(rt, rt.reader(), count);
+            Ok(Opened::Standard(Watched::new(input)))
+        }
+    }
+}
+
+fn push_id(ids: &mut Vec<FileId>, found: io::Result<Metadata>) -> io::Result<()> {
+    if let Some(id) = identity_of(found) {
+        ids.push(id)?;
+    }
+    Ok(())
+}
+
+// How many bytes a file has, where somebody is told how much of it was read.
+fn size_of<F: OpenFile>(file: &F, watcher: Watcher) -> Option<u64> {
+    if !watcher.is_there() {
+        return None;
+    }
+    let metadata = file.metadata().ok()?;
+    metadata.is_file().then_some(metadata.len())
+}
+
+/// Whether standard input is meant.
+pub fn is_standard_input(path: &str) -> bool {
+    path == "-" || path == STANDARD_INPUT
+}
+
+/// The error of the system where nothing is there. Where standard input is closed its path names nothing.
+pub fn missing(rt: &impl Files, path: &str) -> Option<io::Error> {
+    let path = if is_standard_input(path) {
+        STANDARD_INPUT
+    } else {
+        path
+    };
+    match fs::metadata(rt, path) {
+        Err(error) if error.kind() == io::ErrorKind::NotFound => Some(error),
+        _ => None,
+    }
+}
+
+/// A file, as the system numbers it: its device, and its number there.
+pub type FileId = (u64, u64);
+
+/// Which files a run reads, as far as the system says.
+#[derive(Clone, Copy)]
+pub struct FilesRead<'a> {
+    pub ids: &'a [FileId],
+}
+
+impl FilesRead<'_> {
+    /// Whether this is one of them.
+    pub fn has(self, file: Option<FileId>) -> bool {
+        self.ids.iter().any(|id| is_same(*id, file))
+    }
+}
+
+fn is_same(one: FileId, other: Option<FileId>) -> bool {
+    match other {
+        Some(other) => one.0 == other.0 && one.1 == other.1,
+        None => false,
+    }
+}
+
+/// Which file this is, where that is known, and where it keeps what is written: a terminal, a pipe and the null device do not.
+pub fn identity_of(found: io::Result<Metadata>) -> Option<FileId> {
+    let metadata = found.ok()?;
+    let keeps = metadata.is_file() || metadata.file_type().is_block_device();
+    keeps.then_some((metadata.dev(), metadata.ino()))
+}
