@@ -245,6 +245,18 @@ hint:   set
 hint:   get'
 run "a label of a controller in an earlier file" check devices.brief --with - --with h3.brief --hints always \
     < <(cat bmc.brief)
+# A label as reports write all messages of a family.
+lines first.brief "brief 1" "message page write 0x50 any*1..2 ;" "message get read 0x50 1 ;" "controller bmc page get ;" \
+    "controller host get ;" "never bmc/page_* host/get ;"
+want 2 "" "refused P8 line 6
+hint: line 6 of the brief:
+hint:   never bmc/page_* host/get ;
+hint:         ^^^^^^^^^
+hint: '*' is no part of a label: the family has the label 'bmc/page'
+hint: the controller of this label lists no such message; it lists:
+hint:   page
+hint:   get"
+run "a label with a star after it" check first.brief --hints always
 lines second.brief "brief 1" "byte spare 0x09 ;  device eeprom 0x50 ;"
 want 2 "" 'refused P7 line 2 of second.brief
 hint: line 2 of the brief "second.brief":
@@ -440,12 +452,51 @@ hint: second.brief:7: controller 'y' lists no message
 hint: the plan has no two participants that may start together: no pair was
 hint: looked at"
 run "likely mistakes of two files" check first.brief --with second.brief --hints always
+# Addresses of ten bits begin with 11110, which is no mistake.
+lines ten.brief "brief 1" "device low 0x78 ;  device high 0x7B ;  device open 0b11110xx ;  device next 0x7C ;" \
+    "message m write low 0x01 ;  message n write high 0x02 ;  message o write open 0x03 ;  message p write next 0x04 ;" \
+    "controller x m n ;  controller y o p ;"
+want 0 "safe: 4 pairs" "hint: ten.brief:2: the address of device 'next' is reserved (UM10204, 3.1.12)"
+run "addresses of ten bits" check ten.brief --hints always
+# Of many unsafe pairs of two files hints name both.
+lines writes.brief "brief 1" "message page write 0x50 any*1..6 ;" "controller bmc page ;"
+lines "more writes.brief" "brief 1" "controller host page ;"
+"$twire" check writes.brief --with "more writes.brief" --hints always >report 2>err
+echo "$?" >status
+tail -n 1 report >out
+want 1 "unsafe: 30 of 36 pairs" 'hint: 30 unsafe pairs in 1 group; try
+hint:   twire check --summary writes.brief --with "more writes.brief"'
+compare "many unsafe pairs of two files"
+# What was not looked at stands in an explained report, and then not in hints.
+want 0 "safe: 0 pairs
+    where targets acknowledge, decided in the header: 0, later: 0,
+    at a read's end: 0; alike to the end: 0
+    no two participants may start together, so nothing was checked
+    not checked: 3 messages that no controller lists: family_1 (second.brief:4),
+    family_3 (second.brief:4), other (second.brief:5)" "hint: second.brief:2: device 'c' has the address of 'a', which stands at
+hint: first.brief:2
+hint: second.brief:3: the address of device 'd' is reserved (UM10204, 3.1.12)
+hint: second.brief:3: no message and no interrupt names device 'd'
+hint: first.brief:4: no message names byte 'idle'
+hint: second.brief:7: controller 'y' lists no message"
+run "likely mistakes of two files, explained" check --explain first.brief --with second.brief --hints always
+want 1 "$(cat want_out)" "$(cat want_err)"
+run "the same strictly" check --strict --explain first.brief --with second.brief --hints always
+want 1 "safe: 0 pairs" ""
+run "two files, strictly" check --strict first.brief --with second.brief
 lines unsent.brief "brief 1" "message page write 0x50 any*1..32 ;"
 want 0 "safe: 0 pairs" "hint: unsent.brief:2: no controller lists messages 'page_1' to 'page_32', which
 hint: were not looked at
 hint: the plan has no two participants that may start together: no pair was
 hint: looked at"
 run "a family that nobody sends" check unsent.brief --hints always
+want 0 "safe: 0 pairs
+    where targets acknowledge, decided in the header: 0, later: 0,
+    at a read's end: 0; alike to the end: 0
+    no two participants may start together, so nothing was checked
+    not checked: 32 messages that no controller lists: page_1 to page_32
+    (unsent.brief:2)" ""
+run "a family that nobody sends, explained" check --explain unsent.brief --hints always
 lines one.brief "brief 1" "message m write 0x10 ;" "controller a m ;"
 printf 'brief 1\r# a board\rdevice eeprom 0x50 ;\r' >returns.brief
 want 0 "safe: 0 pairs" "hint: returns.brief:1: this brief has no items

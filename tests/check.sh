@@ -438,6 +438,82 @@ want 0 "safe: 0 pairs" "$left_out"
 run "hints on a safe plan from standard input" check - --hints always <spare.plan
 want 0 "safe: 0 pairs" ""
 run "no word on hints on a safe plan" check spare.plan
+# An explained report says it itself, and hints do not say it again.
+not_checked="safe: 0 pairs
+    where targets acknowledge, decided in the header: 0, later: 0,
+    at a read's end: 0; alike to the end: 0
+    no two participants may start together, so nothing was checked
+    not checked: 1 message that no controller lists: n
+    not checked: 1 of 1 pair, which 'never' keeps apart"
+want 0 "$not_checked" ""
+run "a safe plan of which nothing was looked at, explained" check --explain spare.plan --hints always
+run "the same without pairs" check --summary spare.plan --hints always
+
+# Of more than twenty unsafe pairs hints say how many groups they are, and how these are shown.
+# crowd COUNT: so many writes, and three controllers of which each clashes with all of them.
+crowd() {
+    local k messages=() listed=
+    for ((k = 1; k <= $1; k++)); do
+        messages+=("message w$k write 1001000 0000000x stop else stop else stop ;")
+        listed+=" w$k"
+    done
+    write_plan "many plans.plan" "plan 1" "message p write 1001000 stop else stop ;" "${messages[@]}" "controller a$listed ;" \
+        "controller b p ;" "controller c p ;" "controller d p ;"
+}
+crowd 7
+"$twire" check "many plans.plan" --hints always >report 2>err
+echo "$?" >status
+tail -n 1 report >out
+want 1 "unsafe: 21 of 24 pairs" 'hint: 21 unsafe pairs in 1 group; try
+hint:   twire check --summary "many plans.plan"'
+compare "hints on many unsafe pairs"
+"$twire" check --explain "many plans.plan" --hints always >report 2>err
+echo "$?" >status
+: >out
+want 1 "" ""
+compare "no hints on groups that are explained"
+sed -i 's/ w7 ;/ ;/; s/^message p .*/& message q read 1001001 1 stop else stop ;/; s/^controller a/& q/' "many plans.plan"
+"$twire" check "many plans.plan" --hints always >report 2>err
+echo "$?" >status
+tail -n 1 report >out
+want 1 "unsafe: 18 of 24 pairs" ""
+compare "no hints on eighteen unsafe pairs"
+
+# With --strict a safe plan is good where each message is in a controller, and where there is a pair.
+want 0 "safe: 1 pairs" ""
+run "a safe plan, strictly" check safe.plan --strict
+run "a safe plan by two workers, strictly" check --strict safe.plan --workers 2
+want 1 "$unsafe_report" ""
+run "an unsafe plan, strictly" check --strict unsafe.plan
+write_plan kept.plan "plan 2" "message m $header ;" "controller a m ;" "controller b m ;" "controller c m ;" "never a b ;"
+want 0 "safe: 2 pairs" ""
+run "pairs that never leaves out, strictly" check --strict kept.plan
+write_plan unlisted.plan "plan 1" "message n $header ;" "message m $header ;" "controller a m ;" "controller b m ;"
+want 0 "safe: 1 pairs" ""
+run "a message in no controller" check unlisted.plan
+want 1 "safe: 1 pairs" ""
+run "a message in no controller, strictly" check --strict unlisted.plan
+run "the same from standard input" check --strict - <unlisted.plan
+want 1 "safe: 1 pairs" "hint: messages that no controller lists, which were not looked at: 1: n"
+run "the same with hints" check --strict unlisted.plan --hints always
+want 1 "safe: 1 pairs
+    where targets acknowledge, decided in the header: 0, later: 0,
+    at a read's end: 0; alike to the end: 1
+    not checked: 1 message that no controller lists: n" ""
+run "the same, explained" check --strict --explain unlisted.plan --hints always
+want 1 "$not_checked" ""
+run "no pair, and a message in no controller, strictly and explained" check --strict --summary spare.plan
+want 1 "safe: 0 pairs" ""
+run "no pair, and a message in no controller, strictly" check --strict spare.plan
+write_plan alone.plan "plan 1" "message m $header ;" "controller a m ;"
+run "one controller, strictly" check --strict alone.plan
+write_plan nothing.plan "plan 1"
+run "no items, strictly" check --strict nothing.plan
+write_plan asks.plan "plan 1" "message m $header ;" "controller a m ;" "interrupt t 1001001 ;"
+want 0 "safe: 1 pairs" ""
+run "one controller and an interrupt, strictly" check --strict asks.plan
+want 2 "" "refused P2 line 1"
+run "a refused plan, strictly" check --strict empty.plan
 
 none="No such file or directory (os error 2)"
 want 2 "" "refused read

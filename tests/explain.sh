@@ -81,10 +81,12 @@ want 1 "pair 0 main/write_output service/probe_10: data against stop after 00100
     main/write_output  S 10 Wr A xxxxxxxx  next: a data bit
     service/probe_10   S 10 Wr A P         next: a STOP
     slot 9, UM10204 3.1.8: a data bit meets a STOP. Both send alike until here.
-    main/write_output × service/probe_*: 1 pair, lengths differ
+    main/write_output × service/probe_10: 1 pair, lengths differ
 unsafe: 1 of 2 pairs
     to mend it: a bit before that slot, known in both and different; or the same
-    shape from there on; or never main service ; (leaves 2 pairs unchecked)" ""
+    shape from there on; or:
+    never main service ;
+    (leaves 2 of 2 pairs unchecked)" ""
 run "a STOP meets a data bit" check --explain "$examples/stop_meets_data.plan"
 
 plan 'plan 1' \
@@ -102,7 +104,9 @@ want 1 "pair 0 a/w b/r: data against restart after 10010000l00000001l
     a/w × b/r: 1 pair, one goes on, one repeats START
 unsafe: 1 of 1 pairs
     to mend it: a bit before that slot, known in both and different; or the same
-    shape from there on; or never a b ; (leaves 1 pairs unchecked)" ""
+    shape from there on; or:
+    never a b ;
+    (leaves 1 of 1 pair unchecked)" ""
 run "a repeated START meets a data bit, after an open bit" check --explain p.plan
 
 plan 'plan 1' 'message get read 1001000 1 stop else stop ;' 'controller a get ;' 'interrupt al 1001000 ;' \
@@ -149,7 +153,9 @@ want 1 "pair 0 a/one b/few: restart against stop after 10010001lllllllll1
     a/one × b/few: 1 pair, one ends, one repeats START
 unsafe: 1 of 1 pairs
     to mend it: a bit before that slot, known in both and different; or the same
-    shape from there on; or never a b ; (leaves 1 pairs unchecked)" ""
+    shape from there on; or:
+    never a b ;
+    (leaves 1 of 1 pair unchecked)" ""
 run "reads that may end alike: the last acknowledge of one is open" check --explain p.plan
 
 # ---- Groups, and how many of them are explained.
@@ -164,8 +170,10 @@ one="    group 0, as pair 0:
     a/w × b/p, a/w × c/p: 2 pairs, lengths differ
 unsafe: 2 of 3 pairs
     to mend each: a bit before its slot, known in both and different; or the
-    same shape from there on; or never a b ; never a c ; (leaves 2 pairs
-    unchecked)"
+    same shape from there on; or all of:
+    never a b ;
+    never a c ;
+    (leaves 2 of 3 pairs unchecked)"
 want 1 "pair 0 a/w b/p: data against stop after 10010000l
 pair 1 a/w c/p: data against stop after 10010000l
 $one" ""
@@ -175,17 +183,20 @@ run "a group without its pairs" check --summary p.plan
 run "the same where --explain is given too" check --explain --summary p.plan
 want 1 "pair 0 a/w b/p: data against stop after 10010000l
 pair 1 a/w c/p: data against stop after 10010000l
-    (not explained: 1 group of 2 pairs; --most N explains N groups)
+    not explained (--most 1 explains all groups):
+    a/w × b/p, a/w × c/p: 2 pairs, lengths differ
 unsafe: 2 of 3 pairs
     to mend each: a bit before its slot, known in both and different; or the
-    same shape from there on; or never a b ; never a c ; (leaves 2 pairs
-    unchecked)" ""
+    same shape from there on; or all of:
+    never a b ;
+    never a c ;
+    (leaves 2 of 3 pairs unchecked)" ""
 run "none is explained where --most is 0" check --explain --most 0 p.plan
 printf 'never a b ; never a c ;\n' >>p.plan
 want 0 "safe: 1 pairs
-    where targets acknowledge, decided in the header: 0, later: 0, at a read's
-    end: 0; alike to the end: 1
-    2 pairs were not checked: 'never' keeps their controllers apart" ""
+    where targets acknowledge, decided in the header: 0, later: 0,
+    at a read's end: 0; alike to the end: 1
+    not checked: 2 of 3 pairs, which 'never' keeps apart" ""
 run "the never items that are named make the plan safe" check --explain p.plan
 run "a safe plan, without pairs" check --summary p.plan
 
@@ -200,11 +211,17 @@ pair 7 a/v c/p: data against stop after 10010000l
 pair 11 b/p c/w: stop against data after 10010000l
 pair 15 b/q !al: answer against claim after 00100001"
 want 1 "$six
-    (not explained: 3 groups of 6 pairs; --most N explains N groups)
+    not explained (--most 3 explains all groups):
+    b/q × !al: 1 pair, an interrupt has the same header
+    a/w × b/p, a/w × c/p, b/p × c/w: 3 pairs, lengths differ
+    a/v × b/p, a/v × c/p: 2 pairs, lengths differ
 unsafe: 6 of 18 pairs
     to mend each: a bit before its slot, known in both and different; or the
-    same shape from there on; or never a b ; never a c ; never b c ; (leaves 12
-    pairs unchecked)
+    same shape from there on; or all of:
+    never a b ;
+    never a c ;
+    never b c ;
+    (leaves 12 of 18 pairs unchecked)
     no shape and no 'never' mends a pair with an interrupt: pair 15" ""
 run "several pairs of two controllers, beside one with an interrupt" check --explain --most 0 p.plan
 want 1 "$six
@@ -221,11 +238,15 @@ want 1 "$six
     b/p  S 48 Wr A P   next: a STOP
     slot 9, UM10204 3.1.8: a data bit meets a STOP. Both send alike until here.
     a/w × b/p, a/w × c/p, b/p × c/w: 3 pairs, lengths differ
-    (not explained: 1 group of 2 pairs; --most N explains N groups)
+    not explained (--most 3 explains all groups):
+    a/v × b/p, a/v × c/p: 2 pairs, lengths differ
 unsafe: 6 of 18 pairs
     to mend each: a bit before its slot, known in both and different; or the
-    same shape from there on; or never a b ; never a c ; never b c ; (leaves 12
-    pairs unchecked)
+    same shape from there on; or all of:
+    never a b ;
+    never a c ;
+    never b c ;
+    (leaves 12 of 18 pairs unchecked)
     no shape and no 'never' mends a pair with an interrupt: pair 15" ""
 run "the shortest wire first" check --explain --most 2 p.plan
 printf 'never b a ;\n' >>p.plan
@@ -233,21 +254,27 @@ want 1 "pair 0 a/w c/p: data against stop after 10010000l
 pair 3 a/v c/p: data against stop after 10010000l
 pair 7 b/p c/w: stop against data after 10010000l
 pair 11 b/q !al: answer against claim after 00100001
-    (not explained: 3 groups of 4 pairs; --most N explains N groups)
+    not explained (--most 3 explains all groups):
+    b/q × !al: 1 pair, an interrupt has the same header
+    a/w × c/p, b/p × c/w: 2 pairs, lengths differ
+    a/v × c/p: 1 pair, lengths differ
 unsafe: 4 of 14 pairs
     to mend each: a bit before its slot, known in both and different; or the
-    same shape from there on; or never a c ; never b c ; (leaves 8 pairs
-    unchecked)
+    same shape from there on; or all of:
+    never a c ;
+    never b c ;
+    (leaves 8 of 14 pairs unchecked)
     no shape and no 'never' mends a pair with an interrupt: pair 11
-    4 pairs were not checked: 'never' keeps their controllers apart" ""
+    not checked: 4 of 18 pairs, which 'never' keeps apart" ""
 run "a never that the plan has is not named" check --explain --most 0 p.plan
 printf 'never a c ; never b c ;\n' >>p.plan
 want 1 "pair 3 b/q !al: answer against claim after 00100001
-    (not explained: 1 group of 1 pair; --most N explains N groups)
+    not explained (--most 1 explains all groups):
+    b/q × !al: 1 pair, an interrupt has the same header
 unsafe: 1 of 6 pairs
     to mend it: a bit before that slot, known in both and different
     no shape and no 'never' mends a pair with an interrupt: pair 3
-    12 pairs were not checked: 'never' keeps their controllers apart" ""
+    not checked: 12 of 18 pairs, which 'never' keeps apart" ""
 run "with these items the pair with the interrupt is left" check --explain --most 0 p.plan
 
 # between NAME LINE..: the last line of each group, where a summary of p.plan explains all of them.
@@ -289,6 +316,45 @@ plan 'plan 1' 'message m write 1010011 again write 1010011 xxxxxxxx stop else st
     'message n write 1010011 again write 1010011 stop else stop else stop ;' \
     'message o write 1010011 stop else again write 1010011 stop else stop ;' 'controller a m ;' 'controller b n o ;'
 between "one frame and another" "a/m × b/o: 1 pair, one ends, one repeats START" "a/m × b/n: 1 pair, lengths differ"
+# Messages whose names are alike at different addresses: a group of each address. A message that is the only one of its family
+# there has its own name.
+plan 'plan 1' "message set_psu1 write 1011000 00000001$(any 1)$(tails 3)" \
+    "message set_psu2 write 1011001 00100001$(any 1)$(tails 3)" "message probe1 write 1011000$(tails 1)" \
+    "message probe2 write 1011001$(tails 1)" 'controller bmc set_psu1 set_psu2 ;' 'controller pch probe1 probe2 ;'
+between "one address and another" "bmc/set_psu1 × pch/probe1: 1 pair, lengths differ" \
+    "bmc/set_psu2 × pch/probe2: 1 pair, lengths differ"
+# One address in the first frame, and two in the second.
+plan 'plan 1' "message put1 write 1011000 again write 1011000$(any 1)$(tails 3)" \
+    "message put2 write 1011000 again write 1011001$(any 1)$(tails 3)" \
+    "message ask1 write 1011000 again write 1011000$(tails 2)" "message ask2 write 1011000 again write 1011001$(tails 2)" \
+    'controller a put1 put2 ;' 'controller b ask1 ask2 ;'
+between "addresses of the second frame" "a/put1 × b/ask1: 1 pair, lengths differ" "a/put2 × b/ask2: 1 pair, lengths differ"
+# Of a family one message meets another one.
+plan 'plan 1' "message get1 write 1010000 00000001 again read 1010000 1$(tails 3)" \
+    "message get10 write 1010000 00001010 again read 1010000 1$(tails 3)" "message put write 1010000 00001010$(any 1)$(tails 3)" \
+    'controller a get1 get10 ;' 'controller b put ;'
+between "the only one of its family" "a/get10 × b/put: 1 pair, one goes on, one repeats START"
+# Each group that is not explained has its line, in the order of the groups.
+plan 'plan 1' "message get1 write 1010000 00000001 again read 1010000 1$(tails 3)" "message put write 1010000$(any 2)$(tails 3)" \
+    "message page_1 write 1010001$(any 1)$(tails 2)" "message page_2 write 1010001$(any 2)$(tails 3)" \
+    "message page_3 write 1010001$(any 3)$(tails 4)" 'controller a get1 page_1 page_2 page_3 ;' \
+    'controller b put page_1 page_2 page_3 ;'
+want 1 "    group 0, as pair 0:
+    bus     S 50 Wr A 01 A
+    a/get1  S 50 Wr A 01 A Sr              next: a repeated START
+    b/put   S 50 Wr A xxxxxxxx A xxxxxxxx  next: a data bit
+    slot 18, UM10204 3.1.8: a repeated START meets a data bit. Both send alike
+    until here.
+    b/put may send either bit before it in slot 9..16
+    a/get1 × b/put: 1 pair, one goes on, one repeats START
+    not explained (--most 2 explains all groups):
+    a/page_* × b/page_*: 6 pairs, lengths differ
+unsafe: 7 of 16 pairs
+    to mend each: a bit before its slot, known in both and different; or the
+    same shape from there on; or:
+    never a b ;
+    (leaves 16 of 16 pairs unchecked)" ""
+run "a line of each group that is not explained" check --summary --most 1 p.plan
 # Whoever sends them, on either side.
 plan 'plan 1' 'message w write 1001000 00000001 stop else stop else stop ;' 'message p write 1001000 stop else stop ;' \
     'controller a w p ;' 'controller b w p ;' 'controller c w p ;' 'controller d w p ;' 'controller e w p ;'
@@ -302,21 +368,21 @@ compare "two messages of five controllers"
 # ---- Safe plans.
 
 want 0 "safe: 2 pairs
-    where targets acknowledge, decided in the header: 0, later: 1, at a read's
-    end: 0; alike to the end: 1" ""
+    where targets acknowledge, decided in the header: 0, later: 1,
+    at a read's end: 0; alike to the end: 1" ""
 run "two writers: one pair ends alike, one parts in a data byte" check --explain "$examples/two_writers.plan"
 plan 'plan 1' 'message short read 1001000 1 stop else stop ;' 'message long read 1001000 2 stop else stop ;' \
     'message other read 1001001 2 stop else stop ;' 'message spare write 1001000 stop else stop ;' \
     'controller a short ;' 'controller b long ;' 'controller c other ;'
 want 0 "safe: 3 pairs
-    where targets acknowledge, decided in the header: 2, later: 0, at a read's
-    end: 1; alike to the end: 0
-    nobody sends spare" ""
+    where targets acknowledge, decided in the header: 2, later: 0,
+    at a read's end: 1; alike to the end: 0
+    not checked: 1 message that no controller lists: spare" ""
 run "a read's end, headers, and a message that nobody sends" check --explain p.plan
 plan 'plan 1'
 want 0 "safe: 0 pairs
-    where targets acknowledge, decided in the header: 0, later: 0, at a read's
-    end: 0; alike to the end: 0
+    where targets acknowledge, decided in the header: 0, later: 0,
+    at a read's end: 0; alike to the end: 0
     no two participants may start together, so nothing was checked" ""
 run "a plan without pairs" check --explain p.plan
 
@@ -484,6 +550,7 @@ run "a glitch" capture --explain p.plan d.vcd
 for it in "$examples"/*.plan; do
     name=${it##*/}
     alike "check $name" check "$it"
+    alike "order $name" order "$it"
     "$twire" certify "$it" >c.cert
     alike "verify $name" verify "$it" c.cert
     sed '3s/.*/./' c.cert >wrong.cert
@@ -527,23 +594,26 @@ pair 6 bmc_set/set pch/get: data against restart after 10010000l00000001l
     bmc/set × pch/get: 1 pair, one goes on, one repeats START
 unsafe: 3 of 7 pairs
     to mend each: a bit before its slot, known in both and different; or the
-    same shape from there on; or never bmc/page_1 pch/page_2 ; never bmc/page_2
-    pch/page_1 ; never bmc/set pch/get ; (leaves 3 pairs unchecked)
-    2 pairs were not checked: 'never' keeps their controllers apart" ""
+    same shape from there on; or all of:
+    never bmc/page_1 pch/page_2 ;
+    never bmc/page_2 pch/page_1 ;
+    never bmc/set pch/get ;
+    (leaves 3 of 7 pairs unchecked)
+    not checked: 2 of 9 pairs, which 'never' keeps apart" ""
 run "a brief with a controller that is split, and with a family" check --explain board.brief
 alike "a brief" check board.brief
 printf 'never bmc/page_1 pch/page_2 ; never bmc/page_2 pch/page_1 ; never bmc/set pch/get ;\n' >>board.brief
 want 0 "safe: 4 pairs
-    where targets acknowledge, decided in the header: 2, later: 0, at a read's
-    end: 0; alike to the end: 2
-    5 pairs were not checked: 'never' keeps their controllers apart" ""
+    where targets acknowledge, decided in the header: 2, later: 0,
+    at a read's end: 0; alike to the end: 2
+    not checked: 5 of 9 pairs, which 'never' keeps apart" ""
 run "the items that are named mend the brief" check --explain board.brief
 
 # The family of a brief, and messages whose names are alike beside it.
 brief 'brief 1' 'message page write 0x50 any*1..3 ;' 'message page_4 write 0x50 any*4 ; message page_5 write 0x50 any*5 ;' \
     'controller bmc page ;' 'controller pch page_4 page_5 ; controller seq page_2 ;'
-want 1 "    bmc/page_* × pch/page_*, pch/page_* × seq/page_*: 8 pairs, lengths differ
-    bmc/page_* × seq/page_*: 2 pairs, lengths differ" ""
+want 1 "    bmc/page_* × pch/page_*, pch/page_* × seq/page_2: 8 pairs, lengths differ
+    bmc/page_* × seq/page_2: 2 pairs, lengths differ" ""
 "$twire" check --summary --most 100 board.brief >explained 2>err
 echo "$?" >status
 grep ' × ' explained >out
@@ -554,25 +624,31 @@ brief 'brief 1' 'message page write 0x50 any*1..3 ;' 'message get write 0x50 any
     'controller bmc page get ;' 'controller pch page ;' 'controller seq get ;' 'never bmc/page_3 pch/page_1 ;'
 "$twire" check --explain --most 0 board.brief >out 2>err
 echo "$?" >status
-sed -i '/^pair/d; /not explained/d' out
+sed -i '/^pair/d; /^    not explained/,/^unsafe/{/^unsafe/!d}' out
 want 1 "unsafe: 14 of 18 pairs
     to mend each: a bit before its slot, known in both and different; or the
-    same shape from there on; or never bmc/page pch/page ; never bmc/page seq ;
-    never bmc/get pch/page ; never pch/page seq ; (leaves 17 pairs unchecked)
-    1 pairs were not checked: 'never' keeps their controllers apart" ""
+    same shape from there on; or all of:
+    never bmc/page pch/page ;
+    never bmc/page seq ;
+    never bmc/get pch/page ;
+    never pch/page seq ;
+    (leaves 17 of 18 pairs unchecked)
+    not checked: 1 of 19 pairs, which 'never' keeps apart" ""
 compare "many pairs of a brief"
 
 # advice NAME UNSAFE LINE..: what is said below the report on the brief, without its pairs, from the first item on.
 advice() {
-    local name=$1 said="unsafe: $2 pairs
+    local name=$1 all="or all of:" said line
+    [[ $4 == never* ]] || all="or:"
+    said="unsafe: $2 pairs
     to mend each: a bit before its slot, known in both and different; or the
-    same shape from there on; or $3" line
-    for line in "${@:4}"; do
+    same shape from there on; $all"
+    for line in "${@:3}"; do
         said+=$'\n'"    $line"
     done
     "$twire" check --explain --most 0 board.brief >out 2>err
     echo "$?" >status
-    sed -i '/^pair/d; /not explained/d' out
+    sed -i '/^pair/d; /^    not explained/,/^unsafe/{/^unsafe/!d}' out
     want 1 "$said" ""
     compare "$name"
 }
@@ -581,38 +657,43 @@ advice() {
 for n in 2 4 5 32; do
     brief 'brief 1' "message page write 0x50 any*1..$n ;" 'message get write 0x50 any read 0x50 1 ;' \
         'message other read 0x48 1 ;' 'controller bmc page other ;' 'controller host other get ;'
-    advice "a family of $n" "$n of $((2 * (n + 1)))" "never bmc/page host/get ; (leaves $n pairs" "unchecked)"
+    m=$((2 * (n + 1)))
+    advice "a family of $n" "$n of $m" "never bmc/page host/get ;" "(leaves $n of $m pairs unchecked)"
 done
 # A controller that sends nothing but the family is named itself.
 brief 'brief 1' 'message page write 0x50 any*1..5 ;' 'message get write 0x50 any read 0x50 1 ;' \
     'message other read 0x48 1 ;' 'controller bmc page ;' 'controller host other get ;'
-advice "a controller of one family" "5 of 10" "never bmc host/get ; (leaves 5 pairs unchecked)"
+advice "a controller of one family" "5 of 10" "never bmc host/get ;" "(leaves 5 of 10 pairs unchecked)"
 # Two families: pairs of equal lengths are left out with the others where their labels are named.
 brief 'brief 1' 'message page write 0x50 any*1..3 ;' 'message other read 0x48 1 ;' 'controller bmc page other ;' \
     'controller host other page ;'
-advice "two families" "6 of 16" "never bmc/page host/page ; (leaves 9 pairs" "unchecked)"
+advice "two families" "6 of 16" "never bmc/page host/page ;" "(leaves 9 of 16 pairs unchecked)"
 # Of a family of which few clash these are named.
 brief 'brief 1' 'message page write 0x50 0x01 0x00*1..8 ;' 'message put write 0x50 0x01 0x00 0x00 0x01 ;' \
     'message other read 0x48 1 ;' 'controller bmc page other ;' 'controller host other put ;'
-advice "few messages of a family" "2 of 18" "never bmc/page_1 host/put ; never bmc/page_2" \
-    "host/put ; (leaves 2 pairs unchecked)"
+advice "few messages of a family" "2 of 18" "never bmc/page_1 host/put ;" "never bmc/page_2 host/put ;" \
+    "(leaves 2 of 18 pairs unchecked)"
 sed -i 's/^controller bmc .*/controller bmc page_1 page_2 page_7 other ;/' board.brief
-advice "two of three messages of a family" "2 of 8" "never bmc/page_1 host/put ; never bmc/page_2" \
-    "host/put ; (leaves 2 pairs unchecked)"
+advice "two of three messages of a family" "2 of 8" "never bmc/page_1 host/put ;" "never bmc/page_2 host/put ;" \
+    "(leaves 2 of 8 pairs unchecked)" "not checked: 5 messages that no controller lists: page_3 to page_6" \
+    "(board.brief:2), page_8 (board.brief:2)"
 # A label stands for those of a family that the controller lists.
 brief 'brief 1' 'message page write 0x50 any*1..32 ;' 'message get write 0x50 any read 0x50 1 ;' \
     'message other read 0x48 1 ;' 'controller bmc page_1 page_2 page_3 page_4 page_5 page_9 other ;' \
     'controller host other get ;'
-advice "six messages of a family" "6 of 14" "never bmc/page host/get ; (leaves 6 pairs" "unchecked)"
+advice "six messages of a family" "6 of 14" "never bmc/page host/get ;" "(leaves 6 of 14 pairs unchecked)" \
+    "not checked: 26 messages that no controller lists: page_6 to page_8" \
+    "(board.brief:2), page_10 to page_32 (board.brief:2)"
 # Messages of one line that have the names of a family are none.
 brief 'brief 1' 'message page_1 write 0x50 any ; message page_2 write 0x50 any any ;' \
     'message get write 0x50 any read 0x50 1 ; message other read 0x48 1 ;' 'controller bmc page_1 page_2 other ;' \
     'controller host other get ;'
-advice "no family" "2 of 6" "never bmc/page_1 host/get ; never bmc/page_2" "host/get ; (leaves 2 pairs unchecked)"
+advice "no family" "2 of 6" "never bmc/page_1 host/get ;" "never bmc/page_2 host/get ;" \
+    "(leaves 2 of 6 pairs unchecked)"
 # What a brief could not have is not named: a label whose part has the name of a controller.
 brief 'brief 1' 'message page write 0x50 any*1..5 ;' 'message get write 0x50 any read 0x50 1 ;' \
     'message other read 0x48 1 ;' 'controller bmc page other ;' 'controller bmc_page other ;' 'controller host other get ;'
-advice "a label whose name is taken" "5 of 20" "never bmc host ; (leaves 12 pairs unchecked)"
+advice "a label whose name is taken" "5 of 20" "never bmc host ;" "(leaves 12 of 20 pairs unchecked)"
 # Eight items are named, and with more of them controllers.
 # writes COUNT: a board of so many single messages that clash with one.
 writes() {
@@ -625,11 +706,41 @@ writes() {
         "controller bmc other$listed ;" 'controller host get other ;'
 }
 writes 8
-advice "eight items" "8 of 18" "never bmc/a1 host/get ; never bmc/a2 host/get ;" \
-    "never bmc/a3 host/get ; never bmc/a4 host/get ; never bmc/a5 host/get ;" \
-    "never bmc/a6 host/get ; never bmc/a7 host/get ; never bmc/a8 host/get ;" "(leaves 8 pairs unchecked)"
+advice "eight items" "8 of 18" "never bmc/a1 host/get ;" "never bmc/a2 host/get ;" "never bmc/a3 host/get ;" \
+    "never bmc/a4 host/get ;" "never bmc/a5 host/get ;" "never bmc/a6 host/get ;" "never bmc/a7 host/get ;" \
+    "never bmc/a8 host/get ;" "(leaves 8 of 18 pairs unchecked)"
 writes 9
-advice "nine items" "9 of 20" "never bmc host ; (leaves 20 pairs unchecked)"
+advice "nine items" "9 of 20" "never bmc host ;" "(leaves 20 of 20 pairs unchecked)"
+# Messages that could be one family are told, with the items for it.
+pages() {
+    brief 'brief 1' "message page1 write 0x50 $1 any ;" "message page2 write 0x50 $1 any*2 ;" \
+        "message page3 write 0x50 $1 any*3 ;" "message page4 write 0x50 $2 any*4 ;" "${@:3}" \
+        'controller bmc page1 page2 page3 page4 ;' 'controller pch page1 page2 page3 page4 ;'
+}
+pages any any
+advice "messages that could be a family" "12 of 16" "never bmc pch ;" "(leaves 16 of 16 pairs unchecked)" \
+    "page1 to page4 could be written as one family (any*1..4). Then their pairs" "are kept apart by:" \
+    "never bmc/page pch/page ;"
+# As it is said, that item mends them.
+brief 'brief 1' 'message page write 0x50 any any*1..4 ;' 'controller bmc page ;' 'controller pch page ;' \
+    'never bmc/page pch/page ;'
+want 0 "safe: 0 pairs" ""
+run "messages that are written as a family" check board.brief
+# Of three controllers each two have an item.
+pages any any 'controller seq page4 ;'
+advice "messages of three controllers that could be a family" "18 of 24" "never seq bmc ;" "never seq pch ;" \
+    "never bmc pch ;" "(leaves 24 of 24 pairs unchecked)" \
+    "page1 to page4 could be written as one family (any*1..4). Then their pairs" "are kept apart by all of:" \
+    "never seq/page bmc/page ;" "never seq/page pch/page ;" "never bmc/page pch/page ;"
+# Known bytes before those that each has one more of; another one in the last message; and a name that is taken.
+pages "0x01 0x02" "0x01 0x02"
+advice "known bytes before those of a family" "12 of 16" "never bmc pch ;" "(leaves 16 of 16 pairs unchecked)" \
+    "page1 to page4 could be written as one family (any*1..4). Then their pairs" "are kept apart by:" \
+    "never bmc/page pch/page ;"
+pages 0x01 0b0000000x
+advice "a message that is no part of a family" "12 of 16" "never bmc pch ;" "(leaves 16 of 16 pairs unchecked)"
+pages any any 'message page write 0x51 ;' 'controller seq page ;'
+advice "a family whose name is taken" "12 of 24" "never bmc pch ;" "(leaves 16 of 24 pairs unchecked)"
 # Single messages of a family have items of their own as far as there is room for them.
 # families COUNT: so many single messages and a family of which all clash with one message, and two with another.
 families() {
@@ -638,13 +749,13 @@ families() {
         -e 's/^\(controller bmc .*\) ;/\1 page ;/; s/^controller host get/& put/' board.brief
 }
 families 5
-advice "seven clashes" "15 of 42" "never bmc/a1 host/get ; never bmc/a2 host/get ;" \
-    "never bmc/a3 host/get ; never bmc/a4 host/get ; never bmc/a5 host/get ;" \
-    "never bmc/page host/get ; never bmc/page_1 host/put ; never bmc/page_2" "host/put ; (leaves 15 pairs unchecked)"
+advice "seven clashes" "15 of 42" "never bmc/a1 host/get ;" "never bmc/a2 host/get ;" "never bmc/a3 host/get ;" \
+    "never bmc/a4 host/get ;" "never bmc/a5 host/get ;" "never bmc/page host/get ;" "never bmc/page_1 host/put ;" \
+    "never bmc/page_2 host/put ;" "(leaves 15 of 42 pairs unchecked)"
 families 6
-advice "eight clashes" "16 of 45" "never bmc/a1 host/get ; never bmc/a2 host/get ;" \
-    "never bmc/a3 host/get ; never bmc/a4 host/get ; never bmc/a5 host/get ;" \
-    "never bmc/a6 host/get ; never bmc/page host/get ; never bmc/page host/put ;" "(leaves 22 pairs unchecked)"
+advice "eight clashes" "16 of 45" "never bmc/a1 host/get ;" "never bmc/a2 host/get ;" "never bmc/a3 host/get ;" \
+    "never bmc/a4 host/get ;" "never bmc/a5 host/get ;" "never bmc/a6 host/get ;" "never bmc/page host/get ;" \
+    "never bmc/page host/put ;" "(leaves 22 of 45 pairs unchecked)"
 
 # Interrupts, two of them on one line.
 brief 'brief 1' 'device sensor 0x48 ;' 'message get read sensor 1 ;' 'controller a get ;' '' \
@@ -696,7 +807,9 @@ want 1 "pair 0 bmc/set pch/get: data against restart after 10010000l00000001l
     bmc/set × pch/get: 1 pair, one goes on, one repeats START
 unsafe: 1 of 1 pairs
     to mend it: a bit before that slot, known in both and different; or the same
-    shape from there on; or never bmc pch ; (leaves 1 pairs unchecked)" ""
+    shape from there on; or:
+    never bmc pch ;
+    (leaves 1 of 1 pair unchecked)" ""
 run "the first file is standard input" check --explain - --with second.brief <first.brief
 sed -i '/^message get/d' first.brief
 sed -i '2s/.*/message get write 0x48 0x01 read 0x48 1 ;/' second.brief
@@ -791,6 +904,83 @@ want 1 "5-160 unexplained
 1 transactions, 1 unexplained" ""
 run "an interrupt of a brief that goes along with a transaction" capture --explain board.brief d.vcd
 
+# ---- Who wins, by controllers and messages, above the lines of the pairs.
+
+frequency="    'wins' counts pairs, and is no frequency: how often two start together is
+    not known"
+want 0 "    main × guard: 2 pairs; guard wins 1, either may win 1
+    main/write_limit never wins against guard
+    main/write_limit waits in each pair that somebody wins
+$frequency
+pair 0 main/write_settings guard/write_alarm: both 9..27, main/write_settings 21..25, guard/write_alarm 19..25
+pair 1 main/write_limit guard/write_alarm: both 9, guard/write_alarm 15
+total main/write_settings: wins 0, may win 1, loses 0
+total main/write_limit: wins 0, may win 0, loses 1
+total guard/write_alarm: wins 1, may win 1, loses 0" ""
+run "who never wins against a controller" order --explain "$examples/two_writers.plan"
+want 0 "    main × guard: 1 pair; guard wins 1
+    main never wins against guard
+    main × !sensor: 1 pair; main wins 1
+    !sensor never wins against main
+    main × !keypad: 1 pair; !keypad wins 1
+    main never wins against !keypad
+    guard × !sensor: 1 pair; guard wins 1
+    !sensor never wins against guard
+    guard × !keypad: 1 pair; !keypad wins 1
+    guard never wins against !keypad
+    !sensor × !keypad: 1 pair; !keypad wins 1
+    !sensor never wins against !keypad
+    !sensor waits in each pair that somebody wins
+$frequency
+pair 0 main/read_sensor guard/write_display: guard/write_display 0
+pair 1 main/read_sensor !sensor: main/read_sensor 7
+pair 2 main/read_sensor !keypad: !keypad 0
+pair 3 guard/write_display !sensor: guard/write_display 0
+pair 4 guard/write_display !keypad: !keypad 2
+pair 5 !sensor !keypad: !keypad 0
+total main/read_sensor: wins 1, may win 0, loses 2
+total guard/write_display: wins 2, may win 0, loses 1
+total !sensor: wins 0, may win 0, loses 3
+total !keypad: wins 3, may win 0, loses 0" ""
+run "interrupts, each by itself" order --explain "$examples/interrupts.plan"
+plan 'plan 1' 'message m write 1001000 00000001 stop else stop else stop ;' 'controller a m ;' 'controller b m ;'
+want 0 "    a × b: 1 pair; both end alike 1
+$frequency
+pair 0 a/m b/m: both 9..18" ""
+run "nobody wins" order --explain p.plan
+plan 'plan 1' 'message m write 1001000 stop else stop ;' 'controller a m ;'
+want 0 "    no two participants may start together" ""
+run "nobody could win" order --explain p.plan
+
+# summed NAME STATUS LINE..: the lines for people of who wins by board.brief.
+summed() {
+    local name=$1
+    want "$2" "$(printf '    %s\n' "${@:3}")"$'\n'"$frequency" ""
+    "$twire" order --explain board.brief >explained 2>err
+    echo "$?" >status
+    grep '^    ' explained >out
+    compare "$name"
+}
+# A controller that is split is one. Nobody wins unsafe pairs.
+brief 'brief 1' 'device sensor 0x48 ;' 'message set write sensor 0x01 any ;' \
+    'message get write sensor 0x01 read sensor 1 ;' 'message page write 0x50 any*1..2 ;' \
+    'controller bmc set page ;' 'controller pch get page ;' 'never bmc/set pch/page ;'
+summed "who wins by a brief" 1 "bmc × pch: 7 pairs; pch wins 2, either may win 2, unsafe 3"
+alike "who wins by a brief" order board.brief
+# Ten messages lose each of their pairs, and one wins: its controller wins some.
+brief 'brief 1' 'message page write 0x50 any*1..10 ;' 'message far read 0x40 1 ;' 'message get read 0x48 1 ;' \
+    'controller bmc page far ;' 'controller pch get ;'
+summed "ten messages that never win" 0 "bmc × pch: 11 pairs; bmc wins 1, pch wins 10" \
+    "bmc/page_1, bmc/page_2, bmc/page_3, bmc/page_4, bmc/page_5, bmc/page_6," "bmc/page_7, bmc/page_8 and 2 more never win against pch" \
+    "bmc/page_1, bmc/page_2, bmc/page_3, bmc/page_4, bmc/page_5, bmc/page_6," "bmc/page_7, bmc/page_8 and 2 more wait in each pair that somebody wins"
+# Three controllers: who loses against one of them may win against another.
+brief 'brief 1' 'message low read 0x40 1 ;' 'message mid read 0x48 1 ;' 'message high read 0x50 1 ;' 'controller a low high ;' \
+    'controller b mid ;' 'controller c high ;'
+summed "three controllers" 0 "a × b: 2 pairs; a wins 1, b wins 1" "a/high never wins against b" \
+    "a × c: 2 pairs; a wins 1, both end alike 1" "c never wins against a" "b × c: 1 pair; b wins 1" \
+    "c never wins against b" "a/high, c/high wait in each pair that somebody wins"
+alike "who wins among three controllers" order board.brief
+
 # ---- Long names and long messages.
 
 long=$(printf 'n%.0s' {1..32})
@@ -799,6 +989,7 @@ stops=$(printf ' else stop%.0s' {1..251})
 plan 'plan 1' "message $long write 1001000$bytes stop$stops ;" "message other write 1001000$bytes 00000000 stop$stops else stop ;" \
     "controller $long $long ;" 'controller b other ;' 'interrupt '"$long"' 1001001 ;'
 alike "names of 32 characters, and a clash after 250 bytes" check p.plan
+alike "who wins among names of 32 characters" order p.plan
 "$twire" check --explain p.plan >out
 grep -q '^    bus *S 48 Wr A \.\. .* A$' out
 echo $? >status
@@ -825,7 +1016,9 @@ want 1 "pair 0 bmc/short host/long: stop against data after 10100000l00000000l00
     bmc/short × host/long: 1 pair, lengths differ
 unsafe: 1 of 1 pairs
     to mend it: a bit before that slot, known in both and different; or the same
-    shape from there on; or never bmc host ; (leaves 1 pairs unchecked)" ""
+    shape from there on; or:
+    never bmc host ;
+    (leaves 1 of 1 pair unchecked)" ""
 run "a row that is too long" check --explain board.brief
 # Bytes that are known in one of them: the same words are left out of it, though it would have room for more.
 brief 'brief 1' 'message short write 0x50 0x01*6 read 0x50 1 ;' 'message long write 0x50 any*9 ;' 'controller bmc short ;' \

@@ -78,6 +78,7 @@ compare() {
 
 for plan in "$examples"/*.plan; do
     alike order "$plan"
+    alike order "$plan" --explain
     for dump in "$examples"/*.vcd; do
         alike capture "$plan" "$dump" --times si --explain --hints always
         alike capture "$plan" "$dump" --summary --at-least 2
@@ -90,7 +91,7 @@ done
 
 # Each kind of object has been met, and with --explain each that holds more then.
 sort -u kinds >met
-printf '%s\n' address bus certificate "certificate explained" count group "group explained" hint lint order pair participant plan "plan explained" \
+printf '%s\n' address arbitration bus certificate "certificate explained" count group "group explained" hint lint order pair participant plan "plan explained" \
     refusal signal signals too_few total transaction "transaction explained" transactions "transactions explained" wire "wire explained" won >wanted
 if diff -u --label wanted --label met wanted met; then
     passed=$((passed + 1))
@@ -120,12 +121,12 @@ dump=$examples/stop_meets_data.vcd
 run "an unsafe plan" 1 '{"kind":"pair","pair":0,"participants":["main/write_output","service/probe_10"],"meet":["data","stop"],"after":"00100000l"}
 {"kind":"plan","safe":false,"pairs":2,"unsafe_pairs":1}' "" check --format json "$stop"
 run "an unsafe plan, explained" 1 '{"kind":"pair","pair":0,"participants":["main/write_output","service/probe_10"],"meet":["data","stop"],"after":"00100000l","group":0}
-{"kind":"group","group":0,"pairs":1,"between":[["main/write_output","service/probe_*"]],"frame":0,"part":"data","example":{"pair":0,"participants":["main/write_output","service/probe_10"],"meet":["data","stop"],"after":"00100000l","explain":{"slot":9,"rule":"UM10204 3.1.8","bus":"S 10 Wr A","bytes":["S 10 Wr A xxxxxxxx","S 10 Wr A P"],"open":[[],[]]}}}
-{"kind":"plan","safe":false,"pairs":2,"unsafe_pairs":1,"explain":{"explained":1,"groups":1,"never":[["main","service"]],"unchecked":2,"interrupts":[],"kept_apart":0}}' \
+{"kind":"group","group":0,"pairs":1,"between":[["main/write_output","service/probe_10"]],"frame":0,"part":"data","example":{"pair":0,"participants":["main/write_output","service/probe_10"],"meet":["data","stop"],"after":"00100000l","explain":{"slot":9,"rule":"UM10204 3.1.8","bus":"S 10 Wr A","bytes":["S 10 Wr A xxxxxxxx","S 10 Wr A P"],"open":[[],[]]}}}
+{"kind":"plan","safe":false,"pairs":2,"unsafe_pairs":1,"explain":{"explained":1,"groups":1,"never":[["main","service"]],"unchecked":2,"interrupts":[],"unsent":[],"kept_apart":0}}' \
     "" --format json check --explain "$stop"
 run "open bits before a fault" 1 '{"kind":"pair","pair":0,"participants":["main/read_register","guard/set_register"],"meet":["restart","stop"],"after":"10010000l00000010l","group":0}
 {"kind":"group","group":0,"pairs":1,"between":[["main/read_register","guard/set_register"]],"frame":0,"part":"data","byte":2,"example":{"pair":0,"participants":["main/read_register","guard/set_register"],"meet":["restart","stop"],"after":"10010000l00000010l","explain":{"slot":18,"rule":"UM10204 3.1.8","bus":"S 48 Wr A 02 A","bytes":["S 48 Wr A 000000xx A Sr","S 48 Wr A 0000001x A P"],"open":[[[15,16]],[[16,16]]]}}}
-{"kind":"plan","safe":false,"pairs":2,"unsafe_pairs":1,"explain":{"explained":1,"groups":1,"never":[["main","guard"]],"unchecked":2,"interrupts":[],"kept_apart":0}}' \
+{"kind":"plan","safe":false,"pairs":2,"unsafe_pairs":1,"explain":{"explained":1,"groups":1,"never":[["main","guard"]],"unchecked":2,"interrupts":[],"unsent":[],"kept_apart":0}}' \
     "" check --format json --explain "$examples/restart_meets_stop.plan"
 cat >p.plan <<'PLAN'
 plan 2
@@ -144,13 +145,33 @@ pairs='{"kind":"pair","pair":0,"participants":["a/w","b/p"],"meet":["data","stop
 answer='{"kind":"group","group":0,"pairs":1,"between":[["b/q","!al"]],"frame":0,"part":"header","example":{"pair":5,"participants":["b/q","!al"],"meet":["answer","claim"],"after":"00100001","explain":{"slot":8,"rule":"interrupts","bus":"S 10 Rd","bytes":["S 10 Rd","S 10 Rd (waits)"],"open":[[],[]]}}}'
 data='{"kind":"group","group":1,"pairs":2,"between":[["a/w","b/p"],["a/w","c/p"]],"frame":0,"part":"data","byte":1,"example":{"pair":0,"participants":["a/w","b/p"],"meet":["data","stop"],"after":"10010000l"'
 groups=$answer$'\n'$data',"explain":{"slot":9,"rule":"UM10204 3.1.8","bus":"S 48 Wr A","bytes":["S 48 Wr A 01","S 48 Wr A P"],"open":[[],[]]}}}
-{"kind":"plan","safe":false,"pairs":7,"unsafe_pairs":3,"explain":{"explained":2,"groups":2,"never":[["a","b"],["a","c"]],"unchecked":3,"interrupts":[5],"kept_apart":2}}'
+{"kind":"plan","safe":false,"pairs":7,"unsafe_pairs":3,"explain":{"explained":2,"groups":2,"never":[["a","b"],["a","c"]],"unchecked":3,"interrupts":[5],"unsent":[],"kept_apart":2}}'
 run "a pair with an interrupt, and pairs that are kept apart" 1 "$pairs"$'\n'"$groups" "" check --format json --explain p.plan
 run "groups alone" 1 "$groups" "" check --format json --summary p.plan
 run "one of two groups is explained" 1 "$pairs"$'\n'"$answer"$'\n'"$data"'}}
-{"kind":"plan","safe":false,"pairs":7,"unsafe_pairs":3,"explain":{"explained":1,"groups":2,"never":[["a","b"],["a","c"]],"unchecked":3,"interrupts":[5],"kept_apart":2}}' \
+{"kind":"plan","safe":false,"pairs":7,"unsafe_pairs":3,"explain":{"explained":1,"groups":2,"never":[["a","b"],["a","c"]],"unchecked":3,"interrupts":[5],"unsent":[],"kept_apart":2}}' \
     "" check --format json --explain --most 1 p.plan
 run "a safe plan" 0 '{"kind":"plan","safe":true,"pairs":2,"unsafe_pairs":0}' "" check --format=json "$two"
+# Of a check that is strict the objects are the same. What they are about stands there, or in hints.
+run "a safe plan, strictly" 0 '{"kind":"plan","safe":true,"pairs":2,"unsafe_pairs":0}' "" check --format=json --strict "$two"
+write='write 1001000 stop else stop ;'
+printf '%s\n' 'plan 1' "message m $write" "message spare $write" 'controller a m ;' 'controller b m ;' >p.plan
+run "a message in no controller, strictly" 1 '{"kind":"plan","safe":true,"pairs":1,"unsafe_pairs":0}' '{"kind":"hint","form":"sentence","text":"messages that no controller lists, which were not looked at: 1: spare"}' \
+    check --format json --strict p.plan --hints always
+run "a message in no controller, strictly and explained" 1 '{"kind":"plan","safe":true,"pairs":1,"unsafe_pairs":0,"explain":{"decided":{"header":0,"later":0,"read":0,"alike":1},"unsent":["spare"],"kept_apart":0}}' \
+    "" check --format json --strict --explain p.plan --hints always
+printf '%s\n' 'brief 1' 'message m write 0x48 ;' 'message spare write 0x48 ;' 'controller a m ; controller b m ;' >b.brief
+spare='{"kind":"lint","code":"unsent message","names":["spare"],"places":[{"file":"b.brief","line":3}]}'
+run "a message of a brief in no controller, strictly" 1 "$spare"'
+{"kind":"plan","safe":true,"pairs":1,"unsafe_pairs":0}' "" check --format json --strict b.brief
+printf '%s\n' 'brief 1' 'message m write 0x48 ;' 'message spare write 0x48 ;' 'message n write 0x48 0x01 ;' \
+    'controller a m ; controller b n ;' >b.brief
+"$twire" check --format json --summary --most 0 b.brief 2>err | tail -n 1 >out
+echo "${PIPESTATUS[0]}" >status
+echo 1 >want_status
+echo '{"kind":"plan","safe":false,"pairs":1,"unsafe_pairs":1,"explain":{"explained":0,"groups":1,"never":[["a","b"]],"unchecked":1,"interrupts":[],"unsent":["spare"],"kept_apart":0}}' >want_out
+: >want_err
+compare "an unsafe plan with a message in no controller, explained"
 run "a safe plan, explained" 0 '{"kind":"plan","safe":true,"pairs":2,"unsafe_pairs":0,"explain":{"decided":{"header":0,"later":1,"read":0,"alike":1},"unsent":[],"kept_apart":0}}' \
     "" check --format json --explain "$two"
 run "a safe plan with ranges, explained" 0 '{"kind":"plan","safe":true,"pairs":2,"unsafe_pairs":0,"explain":{"decided":{"header":0,"later":0,"read":1,"alike":1},"unsent":[],"kept_apart":0}}' \
@@ -183,11 +204,14 @@ run "a certificate of another form" 2 '{"kind":"certificate","accepted":false,"c
     verify --format json "$two" wrong.cert
 run "a certificate of another form, explained" 2 '{"kind":"certificate","accepted":false,"code":"C1","line":1,"column":1,"expected":"version"}' "" \
     verify --format json --explain "$two" wrong.cert
-run "who wins" 0 '{"kind":"order","pair":0,"participants":["main/write_settings","guard/write_alarm"],"both":[9,27],"first":[21,25],"second":[19,25]}
+pairs='{"kind":"order","pair":0,"participants":["main/write_settings","guard/write_alarm"],"both":[9,27],"first":[21,25],"second":[19,25]}
 {"kind":"order","pair":1,"participants":["main/write_limit","guard/write_alarm"],"both":[9,9],"second":[15,15]}
 {"kind":"total","participant":"main/write_settings","wins":0,"may_win":1,"loses":0}
 {"kind":"total","participant":"main/write_limit","wins":0,"may_win":0,"loses":1}
-{"kind":"total","participant":"guard/write_alarm","wins":1,"may_win":1,"loses":0}' "" order --format json "$two"
+{"kind":"total","participant":"guard/write_alarm","wins":1,"may_win":1,"loses":0}'
+run "who wins" 0 "$pairs" "" order --format json "$two"
+run "who wins, by controllers" 0 '{"kind":"arbitration","between":["main","guard"],"pairs":2,"wins":[0,1],"may_win":1,"alike":0,"unsafe_pairs":0}'$'\n'"$pairs" \
+    "" order --format json --explain "$two"
 run "a transaction" 0 '{"kind":"transaction","from":5,"to":160,"end":"stop","participants":["service/probe_10"],"explain":{"bytes":"S 10 Wr A P","idle":0,"cuts":[],"nearest":[]}}
 {"kind":"transactions","transactions":1,"unexplained":0,"explain":{"idle":0,"short":0}}' "" \
     capture --format json --explain "$stop" "$dump"
@@ -271,7 +295,7 @@ run "an unsafe pair of two briefs" 1 '{"kind":"pair","pair":0,'"$met"'}
 {"kind":"plan","safe":false,"pairs":5,"unsafe_pairs":1}' "" check --format json "${board[@]}"
 run "an unsafe pair of two briefs, explained" 1 '{"kind":"pair","pair":0,'"$met"',"group":0}
 {"kind":"group","group":0,"pairs":1,"between":[["bmc/set","pch/get"]],"frame":0,"part":"data","byte":2,"example":{"pair":0,'"$met"',"explain":{"slot":18,"rule":"UM10204 3.1.8","bus":"S 48 Wr A 01 A","bytes":["S 48 Wr A 01 A xxxxxxxx","S 48 Wr A 01 A Sr"],"open":[[],[]]}}}
-{"kind":"plan","safe":false,"pairs":5,"unsafe_pairs":1,"explain":{"explained":1,"groups":1,"never":[["bmc/set","pch"]],"unchecked":1,"interrupts":[],"kept_apart":2}}' \
+{"kind":"plan","safe":false,"pairs":5,"unsafe_pairs":1,"explain":{"explained":1,"groups":1,"never":[["bmc/set","pch"]],"unchecked":1,"interrupts":[],"unsent":[],"kept_apart":2}}' \
     "" check --format json --explain "${board[@]}"
 "$twire" order --format json "${board[@]}" | sed -n '1,2p; /total/p' >out 2>err
 cat >want_out <<END
@@ -286,6 +310,14 @@ END
 : >want_err
 echo 1 | tee want_status >status
 compare "who wins in two briefs"
+"$twire" order --format json --explain "${board[@]}" | sed -n '1,4s/"pair":.*/"pair":/p; 1,3p' >out 2>err
+cat >want_out <<END
+{"kind":"arbitration","between":["bmc","pch"],"pairs":1,"wins":[0,0],"may_win":0,"alike":0,"unsafe_pairs":1}
+{"kind":"arbitration","between":["bmc","!al"],"pairs":3,"wins":[1,2],"may_win":0,"alike":0,"unsafe_pairs":0}
+{"kind":"arbitration","between":["pch","!al"],"pairs":1,"wins":[1,0],"may_win":0,"alike":0,"unsafe_pairs":0}
+{"kind":"order","pair":
+END
+compare "who wins in two briefs, by controllers"
 run "participants of two briefs, counted" 1 '{"kind":"participant","participant":"bmc/set","places":['$set,$bmc'],"alone":0,"with_others":0}
 {"kind":"participant","participant":"bmc_page/page_1","places":['$page,$bmc'],"alone":0,"with_others":0}
 {"kind":"participant","participant":"bmc_page/page_2","places":['$page,$bmc'],"alone":0,"with_others":0}

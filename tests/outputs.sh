@@ -462,8 +462,8 @@ if type -P script >/dev/null; then
     slowly plan "'$twire' check slow --explain"
     told "plan: $bytes bytes"
     has seen "${green}safe${plain}: 1 pairs
-    where targets acknowledge, decided in the header: 1, later: 0, at a read's
-    end: 0; alike to the end: 0"
+    where targets acknowledge, decided in the header: 1, later: 0,
+    at a read's end: 0; alike to the end: 0"
     judge "how far an explained check is"
     slowly plan "'$twire' certify slow -o slow.cert"
     told "certificate written: $(wc -c <right.cert) bytes"

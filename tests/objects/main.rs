@@ -20,7 +20,7 @@ use std::process::{Command, ExitCode, Output, Stdio};
 const REPORTING: [&str; 7] = ["check", "verify", "order", "capture", "decode", "signals", "bench"];
 
 // Those of them that have lines for people.
-const EXPLAINED: [&str; 4] = ["check", "verify", "capture", "bench"];
+const EXPLAINED: [&str; 5] = ["check", "verify", "order", "capture", "bench"];
 
 fn main() -> ExitCode {
     match run() {

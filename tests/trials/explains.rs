@@ -47,6 +47,7 @@ fn of_unsafe(plan: &Participants, faults: &[Fault], groups: usize, most: usize) 
         ("never", Value::Array(nevers.collect())),
         ("unchecked", Value::of(mends.unchecked)),
         ("interrupts", Value::Array(mends.interrupts.iter().map(|pair| Value::of(*pair)).collect())),
+        ("unsent", Value::list(unsent(plan.items))),
         ("kept_apart", Value::of(kept_apart(plan.items))),
     ])
 }

@@ -45,7 +45,7 @@ fn line_of(line: &str) -> Result<String, String> {
     let mut fields = Fields::of(read(line)?)?;
     let told = told(&mut fields)?;
     fields.end()?;
-    // (a group has lines for people alone, and what is likely a mistake in a brief has a hint)
+    // (a group and a count of pairs have lines for people alone, and what is likely a mistake in a brief has a hint)
     Ok(if told.is_empty() { told } else { format!("{told}\n") })
 }
 
@@ -60,6 +60,7 @@ fn told(fields: &mut Fields) -> Result<String, String> {
         "transaction" => transaction(fields)?,
         "wire" => wire(fields)?,
         "order" => order(fields)?,
+        "arbitration" => arbitration(fields)?,
         "total" => format!(
             "total {}: wins {}, may win {}, loses {}",
             participant(fields)?,
@@ -285,6 +286,24 @@ fn order(fields: &mut Fields) -> Result<String, String> {
     Ok(format!("{head} {}", ways.join(", ")).trim_end().to_owned())
 }
 
+// How the pairs of two controllers end.
+fn arbitration(fields: &mut Fields) -> Result<String, String> {
+    fields.two("between")?;
+    let pairs = count(fields.number("pairs")?)?;
+    let mut ends = fields.take("wins")?.into_numbers()?;
+    only_if(ends.len() == 2, "'wins' is not of two")?;
+    for key in ["may_win", "alike", "unsafe_pairs"] {
+        ends.push(fields.number(key)?);
+    }
+    let ends: Result<Vec<u64>, String> = ends.into_iter().map(count).collect();
+    only_if(pairs != 0 && pairs == ends?.iter().sum::<u64>(), "the pairs are others")?;
+    Ok(String::new())
+}
+
+fn count(digits: String) -> Result<u64, String> {
+    digits.parse().map_err(|_| format!("no count: {digits}"))
+}
+
 fn pair(fields: &mut Fields) -> Result<String, String> {
     let (line, _) = unsafe_pair(fields)?;
     fields.maybe("group", Value::into_number)?;
@@ -374,6 +393,7 @@ fn explained_plan(explain: &mut Fields, is_safe: bool) -> Result<(), String> {
         }
         explain.number("unchecked")?;
         explain.take("interrupts")?.into_numbers()?;
+        explain.texts("unsent")?;
     }
     explain.number("kept_apart").map(|_| ())
 }

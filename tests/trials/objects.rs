@@ -20,7 +20,7 @@ pub fn due_of(asked: &Asked, explain: bool) -> Option<Vec<Value>> {
     let cert = String::from_utf8_lossy(&asked.second);
     let of_plan = |plan: &Participants| match &asked.command {
         Command::Check { .. } => of_check(plan, explain),
-        Command::Order => of_order(plan),
+        Command::Order => of_order(plan, explain),
         Command::Verify => vec![of_certificate(plan, &cert, explain)],
         Command::Bench { starters, fill, answers } => match verified(plan, &cert) {
             Ok(true) => of_bench(plan, starters, *fill, answers, explain),
@@ -125,10 +125,11 @@ fn fields_of(fault: &Fault) -> Vec<(&'static str, Value)> {
     ]
 }
 
-fn of_order(plan: &Participants) -> Vec<Value> {
+fn of_order(plan: &Participants, explain: bool) -> Vec<Value> {
     let order = ordered(plan);
+    let mut objects = if explain { of_arbitrations(plan, &order.pairs) } else { Vec::new() };
     let pairs = order.pairs.iter().enumerate();
-    let mut objects: Vec<Value> = pairs.map(|(pair, ordered)| of_ordered(pair, ordered)).collect();
+    objects.extend(pairs.map(|(pair, ordered)| of_ordered(pair, ordered)));
     for one in &plan.all {
         if let Some([wins, may_win, loses]) = order.totals.of(&one.label) {
             let counts = [("wins", wins), ("may_win", may_win), ("loses", loses)];
@@ -138,6 +139,44 @@ fn of_order(plan: &Participants) -> Vec<Value> {
         }
     }
     objects
+}
+
+// How the pairs of each two controllers end. An interrupt counts as one.
+fn of_arbitrations(plan: &Participants, pairs: &[Ordered]) -> Vec<Value> {
+    let mut names: Vec<&str> = plan.all.iter().map(|one| side(&one.label)).collect();
+    names.dedup();
+    let mut objects = Vec::new();
+    for (place, first) in names.iter().enumerate() {
+        for second in &names[place + 1..] {
+            let is_between = |it: &&Ordered| side(&it.x.label) == *first && side(&it.y.label) == *second;
+            let between: Vec<&Ordered> = pairs.iter().filter(is_between).collect();
+            if !between.is_empty() {
+                objects.push(of_arbitration([*first, *second], &between));
+            }
+        }
+    }
+    objects
+}
+
+fn side(label: &str) -> &str {
+    label.split_once('/').map_or(label, |(controller, _)| controller)
+}
+
+fn of_arbitration(between: [&str; 2], pairs: &[&Ordered]) -> Value {
+    let count = |first: bool, second: bool| {
+        let ends = |ways: &Ways| ways.first.is_empty() != first && ways.second.is_empty() != second;
+        Value::of(pairs.iter().filter(|it| it.ways.as_ref().is_some_and(ends)).count())
+    };
+    let faults = pairs.iter().filter(|it| it.ways.is_none()).count();
+    let fields = vec![
+        ("between", Value::list(between)),
+        ("pairs", Value::of(pairs.len())),
+        ("wins", Value::Array(vec![count(true, false), count(false, true)])),
+        ("may_win", count(true, true)),
+        ("alike", count(false, false)),
+        ("unsafe_pairs", Value::of(faults)),
+    ];
+    of_kind("arbitration", fields)
 }
 
 fn of_ordered(pair: usize, ordered: &Ordered) -> Value {

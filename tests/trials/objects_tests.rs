@@ -64,7 +64,7 @@ fn unsafe_pairs_are_explained() {
              \"bus\":\"S 48 Wr A 01 A\",\"bytes\":[\"S 48 Wr A 01 A 02\",\"S 48 Wr A 0000000x A Sr\"],\
              \"open\":[[],[[16,16]]]}}}",
             "{\"kind\":\"plan\",\"safe\":false,\"pairs\":1,\"unsafe_pairs\":1,\"explain\":{\"explained\":1,\
-             \"groups\":1,\"never\":[[\"a\",\"b\"]],\"unchecked\":1,\"interrupts\":[],\"kept_apart\":0}}"
+             \"groups\":1,\"never\":[[\"a\",\"b\"]],\"unchecked\":1,\"interrupts\":[],\"unsent\":[],\"kept_apart\":0}}"
         ]
     );
     // The last acknowledge of one of two reads is open.
@@ -86,7 +86,8 @@ fn interrupts_are_mended_by_no_item() {
     let bytes = ["\"S 48 Rd\",\"S 48 Rd (waits)\"", "\"S 48 Rd (waits)\",\"S 48 Rd (waits)\""];
     assert_eq!(explain_of(&found[3]), format!("{rule}\"bytes\":[{}],\"open\":[[],[]]}}", bytes[0]));
     assert_eq!(explain_of(&found[5]), format!("{rule}\"bytes\":[{}],\"open\":[[],[]]}}", bytes[1]));
-    let mends = "{\"explained\":3,\"groups\":3,\"never\":[],\"unchecked\":0,\"interrupts\":[0,1,2],\"kept_apart\":0}";
+    let mends = "{\"explained\":3,\"groups\":3,\"never\":[],\"unchecked\":0,\"interrupts\":[0,1,2],\"unsent\":[],\
+                 \"kept_apart\":0}";
     assert_eq!(explain_of(&found[6]), mends);
 }
 
@@ -98,10 +99,10 @@ const SEVERAL: &str = "plan 2 message w write 1001000 00000001 stop else stop el
 #[test]
 fn several_pairs_of_two_controllers_want_one_item() {
     let mends = "{\"explained\":3,\"groups\":3,\"never\":[[\"a\",\"b\"],[\"a\",\"c\"],[\"b\",\"c\"]],\"unchecked\":12,\
-                 \"interrupts\":[15],\"kept_apart\":0}";
+                 \"interrupts\":[15],\"unsent\":[\"spare\"],\"kept_apart\":0}";
     assert_eq!(explain_of(check(SEVERAL).last().unwrap()), mends);
     let mends = "{\"explained\":3,\"groups\":3,\"never\":[[\"a\",\"c\"],[\"b\",\"c\"]],\"unchecked\":8,\"interrupts\":[11],\
-                 \"kept_apart\":4}";
+                 \"unsent\":[\"spare\"],\"kept_apart\":4}";
     assert_eq!(explain_of(check(&format!("{SEVERAL} never b a ;")).last().unwrap()), mends);
 }
 
@@ -121,6 +122,12 @@ fn further_groups_are_not_explained() {
     assert!(found[22].contains(last), "{}", found[22]);
 }
 
+// What the groups say of whom they are between and where, up to their examples.
+fn between_in(found: &[String]) -> Vec<&str> {
+    let after = found.iter().filter_map(|object| object.split_once("\"between\":")?.1.split_once(",\"example\""));
+    after.map(|(between, _)| between).collect()
+}
+
 // Names that differ in a number are a family, in which bytes do not count; other names are none.
 #[test]
 fn pairs_of_families_are_one_group() {
@@ -128,20 +135,30 @@ fn pairs_of_families_are_one_group() {
         message w_2 write 1010000 xxxxxxxx xxxxxxxx stop else stop else stop else stop ;
         message w12 write 1010000 xxxxxxxx xxxxxxxx xxxxxxxx stop else stop else stop else stop else stop ;
         message w_3 write 1010000 stop else stop ; controller a w1 w_2 w12 w_3 ; controller b w1 w_2 w12 w_3 ;";
-    let found = check(plan);
-    let between: Vec<&str> = found
-        .iter()
-        .filter_map(|object| object.split_once("\"between\":")?.1.split_once(",\"example\""))
-        .map(|(between, _)| between)
-        .collect();
     // (which of the two families ends first makes another group)
     assert_eq!(
-        between,
+        between_in(&check(plan)),
         [
             "[[\"a/w*\",\"b/w_*\"],[\"a/w_*\",\"b/w*\"]],\"frame\":0,\"part\":\"data\"",
             "[[\"a/w_*\",\"b/w_*\"]],\"frame\":0,\"part\":\"data\"",
-            "[[\"a/w*\",\"b/w_*\"],[\"a/w_*\",\"b/w*\"]],\"frame\":0,\"part\":\"data\"",
+            "[[\"a/w1\",\"b/w_2\"],[\"a/w_2\",\"b/w1\"]],\"frame\":0,\"part\":\"data\"",
             "[[\"a/w*\",\"b/w*\"]],\"frame\":0,\"part\":\"data\"",
+        ]
+    );
+}
+
+// One group of each address. What meets there of a family is one message.
+#[test]
+fn pairs_of_another_address_are_another_group() {
+    let plan = "plan 1 message set1 write 1011000 00000001 xxxxxxxx stop else stop else stop else stop ;
+        message set2 write 1011001 00100001 xxxxxxxx stop else stop else stop else stop ;
+        message probe1 write 1011000 stop else stop ; message probe2 write 1011001 stop else stop ;
+        controller a set1 set2 ; controller b probe1 probe2 ;";
+    assert_eq!(
+        between_in(&check(plan)),
+        [
+            "[[\"a/set1\",\"b/probe1\"]],\"frame\":0,\"part\":\"data\"",
+            "[[\"a/set2\",\"b/probe2\"]],\"frame\":0,\"part\":\"data\"",
         ]
     );
 }
@@ -162,6 +179,25 @@ fn safe_plans_are_explained() {
         explain_of(&check(plan)[0]),
         "{\"decided\":{\"header\":0,\"later\":0,\"read\":0,\"alike\":1},\"unsent\":[],\"kept_apart\":2}"
     );
+}
+
+#[test]
+fn who_wins_is_counted_by_controllers() {
+    let plan = "plan 1 message m write 1001000 stop else stop ; message n read 1001000 1 stop else stop ;
+        controller a m n ; controller b m ; interrupt t 1001001 ;";
+    let found = due(&asked(Command::Order, plan, ""), true).unwrap();
+    assert_eq!(
+        found[..3],
+        [
+            "{\"kind\":\"arbitration\",\"between\":[\"a\",\"b\"],\"pairs\":2,\"wins\":[0,1],\"may_win\":0,\"alike\":1,\
+             \"unsafe_pairs\":0}",
+            "{\"kind\":\"arbitration\",\"between\":[\"a\",\"!t\"],\"pairs\":2,\"wins\":[2,0],\"may_win\":0,\"alike\":0,\
+             \"unsafe_pairs\":0}",
+            "{\"kind\":\"arbitration\",\"between\":[\"b\",\"!t\"],\"pairs\":1,\"wins\":[1,0],\"may_win\":0,\"alike\":0,\
+             \"unsafe_pairs\":0}",
+        ]
+    );
+    assert_eq!(found[3..], due(&asked(Command::Order, plan, ""), false).unwrap());
 }
 
 fn verify(plan: &str, cert: &str) -> String {

@@ -196,7 +196,7 @@ fn with_objects(case: &Case) -> Vec<Run> {
 
 fn explained(command: &Command) -> Vec<Run> {
     match command {
-        Command::Check { .. } | Command::Verify | Command::Bench { .. } | Command::Capture { .. } => {
+        Command::Check { .. } | Command::Verify | Command::Order | Command::Bench { .. } | Command::Capture { .. } => {
             vec![objects(false, true)]
         }
         _ => Vec::new(),

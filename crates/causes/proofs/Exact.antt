@@ -77,14 +77,16 @@ same_number m n h = grind (arith, nat_tests)
 
 pub exact : (x y : Cause) → cause_eq.eq-value.it x y ≡ true → x ≡ y
 exact x y h =
-    let p = both_of (side_eq.eq-value.it x.first y.first) (side_eq.eq-value.it x.second y.second && ((x.frame == y.frame) && place_eq.eq-value.it x.place y.place)) h in
-    let q = both_of (side_eq.eq-value.it x.second y.second) ((x.frame == y.frame) && place_eq.eq-value.it x.place y.place) p.1 in
-    let r = both_of (x.frame == y.frame) (place_eq.eq-value.it x.place y.place) q.1 in
+    let p = both_of (side_eq.eq-value.it x.first y.first) (side_eq.eq-value.it x.second y.second && ((x.frame == y.frame) && ((x.header == y.header) && place_eq.eq-value.it x.place y.place))) h in
+    let q = both_of (side_eq.eq-value.it x.second y.second) ((x.frame == y.frame) && ((x.header == y.header) && place_eq.eq-value.it x.place y.place)) p.1 in
+    let r = both_of (x.frame == y.frame) ((x.header == y.header) && place_eq.eq-value.it x.place y.place) q.1 in
+    let s = both_of (x.header == y.header) (place_eq.eq-value.it x.place y.place) r.1 in
     (λ i. record {
       first = side_exact x.first y.first p.0 i;
       second = side_exact x.second y.second q.0 i;
       frame = same_number x.frame y.frame r.0 i;
-      place = place_exact x.place y.place r.1 i;
+      header = same_number x.header y.header s.0 i;
+      place = place_exact x.place y.place s.1 i;
     })
 
 family_itself : (a : Family) → family_eq.eq-value.it a a ≡ true
@@ -111,6 +113,7 @@ side_itself a = both (family_eq.eq-value.it a.family a.family) (kind_eq.eq-value
 
 pub itself : (x : Cause) → cause_eq.eq-value.it x x ≡ true
 itself x =
-    let last = both (x.frame == x.frame) (place_eq.eq-value.it x.place x.place) (number_itself x.frame) (place_itself x.place) in
-    let rest = both (side_eq.eq-value.it x.second x.second) ((x.frame == x.frame) && place_eq.eq-value.it x.place x.place) (side_itself x.second) last in
-    both (side_eq.eq-value.it x.first x.first) (side_eq.eq-value.it x.second x.second && ((x.frame == x.frame) && place_eq.eq-value.it x.place x.place)) (side_itself x.first) rest
+    let last = both (x.header == x.header) (place_eq.eq-value.it x.place x.place) (number_itself x.header) (place_itself x.place) in
+    let most = both (x.frame == x.frame) ((x.header == x.header) && place_eq.eq-value.it x.place x.place) (number_itself x.frame) last in
+    let rest = both (side_eq.eq-value.it x.second x.second) ((x.frame == x.frame) && ((x.header == x.header) && place_eq.eq-value.it x.place x.place)) (side_itself x.second) most in
+    both (side_eq.eq-value.it x.first x.first) (side_eq.eq-value.it x.second x.second && ((x.frame == x.frame) && ((x.header == x.header) && place_eq.eq-value.it x.place x.place))) (side_itself x.first) rest

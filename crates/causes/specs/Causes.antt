@@ -1,7 +1,8 @@
--- The cause of an unsafe pair: which kinds of items meet between which families, in which frame, and in which part of it.
-use Rattle.std.specs.Prelude.{ℕ, ◌+◌, ◌/◌, Bool, true, false, ◌&&◌, ◌||◌, not, nat_lt, List, fold, length, map, slice_index_or, if◌then◌else◌}
+-- The cause of an unsafe pair: which kinds of items meet between which families, in which frame of which address, and in which
+-- part of it.
+use Rattle.std.specs.Prelude.{ℕ, ◌+◌, ◌*◌, ◌/◌, Bool, true, false, ◌&&◌, ◌||◌, not, nat_lt, List, fold, length, map, slice_index_or, if◌then◌else◌}
 use Rattle.message_tree.specs.declared.items.Item.{Item}
-use Rattle.message_tree.specs.declared.items.Item.TheVariants.{Again}
+use Rattle.message_tree.specs.declared.items.Item.TheVariants.{Sent, Heard, Again, Stop, Claim}
 use Rattle.message_tree.specs.declared.items.Kind.{Kind}
 use Rattle.message_tree.specs.declared.items.Kind.TheVariants as kind
 use Rattle.certificate.specs.declared.values.Fault.{Fault}
@@ -49,17 +50,33 @@ after_item at _ = (at.0, at.1 + 1)
 unfoldable pub slot_after : List Item → ℕ × ℕ
 slot_after wire = fold after_item (0, 0) wire
 
+-- the first eight bits of a frame, as digits after a 1
+abbrev pub with_bit : ℕ → Bool → ℕ
+with_bit header bit = if nat_lt header 256 then (if bit then header * 2 + 1 else header * 2) else header
+
+abbrev pub with_item : ℕ → Item → ℕ
+with_item header Again = 1
+with_item header (Sent bit) = with_bit header bit
+with_item header (Heard bit) = header
+with_item header Stop = header
+with_item header Claim = header
+
+-- those of the frame that the slot after a wire lies in: its address and its R/W bit, as far as they are on the wire
+unfoldable pub header_before : List Item → ℕ
+header_before wire = fold with_item 1 wire
+
 -- the header has nine slots, and each byte after it has nine
 abbrev pub place_of : ℕ → Bool → Place
 place_of slot several = if nat_lt slot 9 then Header else if several then Data else Byte (slot / 9)
 
 -- ---- the cause
 
-abbrev pub meet : Side × Side → ℕ × ℕ → Cause
-meet sides at = record {
+abbrev pub meet : Side × Side → ℕ × ℕ → ℕ → Cause
+meet sides at header = record {
   first = sides.0;
   second = sides.1;
   frame = at.0;
+  header = header;
   place = place_of at.1 (is_several sides.0.family || is_several sides.1.family);
 }
 
@@ -74,6 +91,7 @@ sides_of plan families pair fault =
 unfoldable pub cause_of : Contents → List Family → ℕ × Fault → Cause
 cause_of plan families found =
     meet (sides_of plan families (slice_index_or (pairs_of plan) found.0 (0, 0)) found.1) (slot_after found.1.wire.items)
+    (header_before found.1.wire.items)
 
 abbrev pub causes_of : Contents → List Family → List (ℕ × Fault) → List Cause
 causes_of plan families faults = map (cause_of plan families) faults

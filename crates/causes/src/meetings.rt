@@ -7,6 +7,7 @@ ghost use Rattle.plan_core.specs.PlanContents.{plan_contents};
 ghost use Rattle.causes.specs.Causes.{cause_of, meet, place_of, side_at, sides_of, slot_after};
 
 use crate::families::{Family, family_at};
+use crate::headers::header_before;
 use crate::sides::{Side, in_order};
 use certificate::Fault;
 use message_tree::{Item, Kind};
@@ -32,6 +33,9 @@ pub struct Cause {
     pub second: Side,
     /// The number of the frame in which they meet, counted from 0: a repeated START begins the next one.
     pub frame: usize,
+    /// The address and the R/W bit of that frame, as its first eight bits are on the wire: the number that has them as its digits
+    /// after a 1. It is below 256 where not all of them are there.
+    pub header: usize,
     pub place: Place,
 }
 
@@ -43,7 +47,7 @@ pub(crate) fn cause_of(plan: &Plan, families: &[Family], pair: u32, fault: &Faul
     ensures { result ≡ cause_of (plan_contents plan.now) families.now (pair, fault.now) }
 {
     let sides = sides_of(plan, families, pair, fault);
-    meet(sides, slot_after(&fault.wire))
+    meet(sides, slot_after(&fault.wire), header_before(&fault.wire))
 }
 
 // The two sides of the pair with this number.
@@ -70,9 +74,9 @@ fn side_at(plan: &Plan, families: &[Family], x: u32, kind: Kind) -> Side
     }
 }
 
-// What meets so, and there.
-fn meet(sides: (Side, Side), at: (usize, usize)) -> Cause
-    ensures { result ≡ meet sides at }
+// What meets so, and there, in a frame with this header.
+fn meet(sides: (Side, Side), at: (usize, usize), header: usize) -> Cause
+    ensures { result ≡ meet sides at header }
 {
     let (first, second) = sides;
     let several = first.family.is_several() || second.family.is_several();
@@ -80,6 +84,7 @@ fn meet(sides: (Side, Side), at: (usize, usize)) -> Cause
         first,
         second,
         frame: at.0,
+        header,
         place: place_of(at.1, several),
     }
 }

@@ -37,6 +37,8 @@ pub enum Request<'a> {
         explain: Option<u32>,
         /// Whether these stand there without the pairs.
         summary: bool,
+        /// Whether a safe plan is good only where all of it was looked at.
+        strict: bool,
         /// The file for the waves of an unsafe pair: of the first one, or of the one with this number.
         wave: Option<&'a str>,
         pair: Option<u32>,
@@ -62,6 +64,7 @@ pub enum Request<'a> {
     /// Who wins arbitration.
     Order {
         plan: &'a str,
+        explain: bool,
     },
     /// Who of a plan explains a recorded bus.
     Capture {
@@ -287,6 +290,7 @@ fn request_of<'a>(name: &str, matches: &ArgMatches<'a>) -> Result<Request<'a>, F
         "verify" => Ok(verify_of(matches)),
         "order" => Ok(Request::Order {
             plan: word(matches, "PLAN"),
+            explain: matches.get_flag("explain"),
         }),
         "capture" | "decode" | "signals" | "learn" | "page" => recorded_of(name, matches),
         "bench" => bench_of(matches),
@@ -320,6 +324,7 @@ fn check_of<'a>(matches: &ArgMatches<'a>) -> Result<Request<'a>, Fault> {
         workers: matches.get_one::<u32>("workers").unwrap_or(1),
         explain: most_of(matches),
         summary: matches.get_flag("summary"),
+        strict: matches.get_flag("strict"),
         wave: wave_of(matches)?,
         pair: matches.get_one::<u32>("pair"),
     })

@@ -51,6 +51,8 @@ put into one slot of the bus, and the wire before it, slot by slot:
 
 Pairs that are alike in what meets, where, and between which families are one
 group. '--explain' shows an example of each, and '--summary' the groups alone.
+Both also tell what was not looked at: the pairs that 'never' leaves out, and
+the messages that no controller lists.
 
 A refused plan is named on standard error with a code and a line, as
 'refused P3 line 2' (and on a terminal, or with '--hints always', its place is
@@ -64,7 +66,8 @@ shown):
 '--wave FILE' draws the fault of the first unsafe pair, or of that of '--pair':
 SCL, SDA and what each of the two pulls, for GTKWave or PulseView.
 
-Exit status: 0 safe, 1 not safe, 2 refused.";
+Exit status: 0 safe, 1 not safe, 2 refused. With '--strict' it is 1 also where
+some message is in no controller, and where there is no pair.";
 
 pub const AFTER_CERTIFY_HELP: &str = "\
 The certificate of a safe plan has a line for each pair of participants, in the
@@ -113,6 +116,10 @@ Then each participant that can win or lose has a line
 
 with the number of pairs in which it alone can win, in which either can, and in
 which only the other can. Who always loses may wait long on a busy bus.
+
+With '--explain' a summary stands above these lines: for each two controllers
+how many pairs each wins, either may win, and both end alike; who never wins
+against whom; and who waits in each pair that somebody wins.
 
 Exit status: 0 the plan is safe, 1 it is not, 2 refused.";
 

@@ -144,7 +144,9 @@ const CHECK: Entry = Entry {
     about: "Is a plan safe, whoever starts together and whatever targets answer?",
     usage: None,
     after_help: AFTER_CHECK_HELP,
-    arguments: &[PLAN, WITH, WORKERS, EXPLAIN, GROUPS, MOST, WAVE, PAIR],
+    arguments: &[
+        PLAN, WITH, WORKERS, STRICT, EXPLAIN, GROUPS, MOST, WAVE, PAIR,
+    ],
 };
 
 const CERTIFY: Entry = Entry {
@@ -168,7 +170,7 @@ const ORDER: Entry = Entry {
     about: "Say who wins arbitration, and in which slots, for each pair",
     usage: None,
     after_help: AFTER_ORDER_HELP,
-    arguments: &[PLAN, WITH],
+    arguments: &[PLAN, WITH, SCORES],
 };
 
 const CAPTURE: Entry = Entry {
@@ -321,6 +323,11 @@ const WORKERS: Argument = Argument::Number {
     help: "How many threads walk the pairs, 1 to 8",
 };
 
+const STRICT: Argument = Argument::Flag {
+    id: "strict",
+    help: "Status 1 also where not all was looked at",
+};
+
 const EXPLAIN: Argument = Argument::Flag {
     id: "explain",
     help: "Say below each line what it means, in bytes",
@@ -330,6 +337,12 @@ const EXPLAIN: Argument = Argument::Flag {
 const GROUPS: Argument = Argument::Flag {
     id: "summary",
     help: "Explain groups of unsafe pairs, list no pairs",
+};
+
+// Where pairs of controllers are counted.
+const SCORES: Argument = Argument::Flag {
+    id: "explain",
+    help: "Say first who wins, by controllers and messages",
 };
 
 const MOST: Argument = Argument::Number {

@@ -94,8 +94,8 @@ fn are_alike(one: &str, other: &str) -> bool {
     }
 }
 
-// What stands before the number at the end of a name.
-fn stem_of(name: &str) -> Option<&str> {
+/// What stands before the number at the end of a name.
+pub(crate) fn stem_of(name: &str) -> Option<&str> {
     let mut stem = 0usize;
     for (at, byte) in name.bytes().enumerate() {
         if !byte.is_ascii_digit() {
@@ -108,7 +108,8 @@ fn stem_of(name: &str) -> Option<&str> {
     name.get(..stem)
 }
 
-fn name_of(plan: &Plan, m: u32) -> &str {
+/// The name of a message, and nothing for a number that is none.
+pub(crate) fn name_of(plan: &Plan, m: u32) -> &str {
     if m < plan.messages() {
         plan.message_name(m).as_str()
     } else {

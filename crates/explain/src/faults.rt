@@ -2,13 +2,14 @@
 
 use crate::below::{begin, say, say_all};
 use crate::meetings::{Meeting, Rule, Side};
-use crate::mends::Mends;
-use crate::plans::tell_apart;
+use crate::mends::{Mends, Never};
+use crate::rewritten::tell_families;
 use crate::rows::{Row, tell_rows};
 use crate::sending::deed;
 use growing_text::{Lines, Text};
 use plan_words::{FileLine, PlanWords};
 use std::alloc::{AllocError, Global};
+use verdicts::Faults;
 
 // How many columns the labels of rows have at most; a longer one has a line of its own.
 const LABELS: usize = 24;
@@ -192,17 +193,27 @@ fn push_range(words: &mut Text, range: (usize, usize)) {
     }
 }
 
-/// What is said below `unsafe: F of N pairs`: what mends one of these pairs, and the `never` items that keep them
-/// apart, with how many pairs they leave unchecked; and that a pair with an interrupt is mended by a bit of the header alone.
-pub(crate) fn below_unsafe(alloc: Global, mends: &Mends) -> Result<String, AllocError> {
+/// What is said below `unsafe: F of N pairs` of a plan with these faults: what mends one of these pairs, and the `never` items that
+/// keep them apart, with how many pairs they leave unchecked; which messages could be families; and that a pair with an interrupt
+/// is mended by a bit of the header alone.
+///
+/// # Errors
+///
+/// Where an allocation fails.
+pub(crate) fn below_unsafe(
+    alloc: Global,
+    words: PlanWords<'_>,
+    faults: &Faults,
+    mends: &Mends,
+) -> Result<String, AllocError> {
     let mut lines = Lines::new(alloc);
-    tell_mends(alloc, &mut lines, mends);
+    tell_mends(alloc, &mut lines, words.plan().pair_count(), mends);
+    tell_families(alloc, &mut lines, words, faults)?;
     tell_interrupted(&mut lines, mends.interrupted.as_slice());
-    tell_apart(&mut lines, mends.kept_apart);
     lines.finish()
 }
 
-fn tell_mends(alloc: Global, lines: &mut Lines, mends: &Mends) {
+fn tell_mends(alloc: Global, lines: &mut Lines, pairs: u32, mends: &Mends) {
     let mut words = Text::new(alloc);
     words.push(if mends.pairs == 1 {
         "to mend it: a bit before that slot,"
@@ -213,26 +224,46 @@ fn tell_mends(alloc: Global, lines: &mut Lines, mends: &Mends) {
     if mends.interrupted.len() < mends.pairs {
         words.push("; or the same shape from there on");
     }
-    push_nevers(&mut words, mends);
+    words.push(match mends.nevers.len() {
+        0 => "",
+        1 => "; or:",
+        _ => "; or all of:",
+    });
+    say_all(lines, words);
+    if !mends.nevers.is_empty() {
+        tell_nevers(alloc, lines, pairs, mends);
+    }
+}
+
+// The items, each on a line of its own, and how many of so many pairs they leave unchecked.
+fn tell_nevers(alloc: Global, lines: &mut Lines, pairs: u32, mends: &Mends) {
+    for never in &mends.nevers {
+        begin(lines);
+        lines.word_made(item_of(alloc, never));
+        lines.end();
+    }
+    let mut words = Text::new(alloc);
+    words.push("(leaves ");
+    words.push_number(mends.unchecked);
+    words.push(" of ");
+    words.push_number(u64::from(pairs));
+    words.push(if pairs == 1 {
+        " pair unchecked)"
+    } else {
+        " pairs unchecked)"
+    });
     say_all(lines, words);
 }
 
-// The items, and how many pairs they leave unchecked.
-fn push_nevers(words: &mut Text, mends: &Mends) {
-    if mends.nevers.is_empty() {
-        return;
-    }
-    words.push("; or");
-    for never in &mends.nevers {
-        words.push(" never ");
-        words.push(never.first.as_str());
-        words.push(" ");
-        words.push(never.second.as_str());
-        words.push(" ;");
-    }
-    words.push(" (leaves ");
-    words.push_number(mends.unchecked);
-    words.push(" pairs unchecked)");
+// An item as a brief or a plan has it.
+fn item_of(alloc: Global, never: &Never) -> Result<String, AllocError> {
+    let mut text = Text::new(alloc);
+    text.push("never ");
+    text.push(never.first.as_str());
+    text.push(" ");
+    text.push(never.second.as_str());
+    text.push(" ;");
+    text.finish()
 }
 
 // The first unsafe pairs that have an interrupt, and how many more there are.

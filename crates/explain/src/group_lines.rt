@@ -43,7 +43,7 @@ fn tell_alike(alloc: Global, lines: &mut Lines, groups: &Grouped, g: usize, grou
     let mut words = Text::new(alloc);
     push_meets(&mut words, groups, g);
     words.push(": ");
-    push_count(&mut words, group.pairs, "pair");
+    push_pairs(&mut words, group.pairs);
     words.push(", ");
     words.push(why(group.cause));
     say_all(lines, words);
@@ -66,13 +66,9 @@ fn push_meets(words: &mut Text, groups: &Grouped, g: usize) {
 }
 
 // `1 pair`, `2 pairs`.
-fn push_count(words: &mut Text, count: usize, what: &str) {
+fn push_pairs(words: &mut Text, count: usize) {
     words.push_number(count as u64);
-    words.push(" ");
-    words.push(what);
-    if count != 1 {
-        words.push("s");
-    }
+    words.push(if count == 1 { " pair" } else { " pairs" });
 }
 
 // Why those are unsafe that meet so.
@@ -86,25 +82,22 @@ fn why(cause: Cause) -> &'static str {
     }
 }
 
-/// How many groups are left where so many were explained, and how many pairs these have.
-pub(crate) fn of_rest(
-    alloc: Global,
-    groups: &Grouped,
-    explained: usize,
-) -> Result<String, AllocError> {
-    let mut pairs = 0usize;
-    for g in explained..groups.len() {
-        if let Some(group) = groups.group(g) {
-            pairs = pairs.saturating_add(group.pairs);
-        }
-    }
+/// What stands above the groups that are not explained, where there are so many groups in all.
+pub(crate) fn above_rest(alloc: Global, groups: usize) -> Result<String, AllocError> {
     let mut words = Text::new(alloc);
-    words.push("(not explained: ");
-    push_count(&mut words, groups.len().saturating_sub(explained), "group");
-    words.push(" of ");
-    push_count(&mut words, pairs, "pair");
-    words.push("; --most N explains N groups)");
+    words.push("not explained (--most ");
+    words.push_number(groups as u64);
+    words.push(" explains all groups):");
     let mut lines = Lines::new(alloc);
     say_all(&mut lines, words);
+    lines.finish()
+}
+
+/// What is said of a group that is not explained.
+pub(crate) fn of_rest(alloc: Global, groups: &Grouped, g: usize) -> Result<String, AllocError> {
+    let mut lines = Lines::new(alloc);
+    if let Some(group) = groups.group(g) {
+        tell_alike(alloc, &mut lines, groups, g, group);
+    }
     lines.finish()
 }

@@ -4,6 +4,7 @@ ghost use Rattle.plan_core.specs.PlanContents.{plan_contents};
 ghost use Rattle.verdicts.specs.Faults.{AreFaults, fault_list};
 
 use crate::families::{families_of, party_of};
+use crate::labels::{Labels, called_by};
 use crate::mends::both_of;
 use causes::{Family, Group, Groups, groups_of};
 use plan_core::Plan;
@@ -11,13 +12,65 @@ use plan_words::PlanWords;
 use std::alloc::{AllocError, Global};
 use verdicts::Faults;
 
-// Participants of a group that meet: its number, and the first of each who is called so.
-type Meet = (usize, u32, u32);
+// What an unsafe pair counts for: the number of its group, and the first participants who are called as its two are with all of
+// their families.
+type Key = (usize, u32, u32);
+
+// The pairs of a group whose participants are called alike so.
+#[derive(Clone, Copy)]
+struct Meet {
+    group: usize,
+    first: Called,
+    second: Called,
+}
+
+// One side of these pairs: a participant, and whether there are others.
+#[derive(Clone, Copy)]
+struct Called {
+    participant: u32,
+    has_others: bool,
+}
+
+impl Meet {
+    fn new(group: usize, both: (u32, u32)) -> Meet {
+        Meet {
+            group,
+            first: Called::new(both.0),
+            second: Called::new(both.1),
+        }
+    }
+
+    // The same with these two.
+    fn with(self, both: (u32, u32)) -> Meet {
+        Meet {
+            group: self.group,
+            first: self.first.with(both.0),
+            second: self.second.with(both.1),
+        }
+    }
+}
+
+impl Called {
+    fn new(participant: u32) -> Called {
+        Called {
+            participant,
+            has_others: false,
+        }
+    }
+
+    fn with(self, participant: u32) -> Called {
+        Called {
+            participant: self.participant,
+            has_others: self.has_others || self.participant != participant,
+        }
+    }
+}
 
 /// The unsafe pairs of a plan, in groups of one cause each: the shortest wire first.
 #[derive(Drop)]
 pub struct Grouped {
     groups: Groups,
+    labels: Labels,
     /// What each participant is called with all of its family.
     parties: Vec<String>,
     /// Who meets in the groups, group by group, and no two twice.
@@ -56,11 +109,11 @@ impl Grouped {
         to.saturating_sub(from)
     }
 
-    /// What the two of the `i`th of these are called.
+    /// What the two of the `i`th of these are called: with all of its family, where several of it meet there, and else alone.
     pub fn meet(&self, g: usize, i: usize) -> (&str, &str) {
         let (from, _) = self.range(g);
         match self.meets.get(from.saturating_add(i)) {
-            Some((_, x, y)) => (self.party(*x), self.party(*y)),
+            Some(meet) => (self.name(meet.first), self.name(meet.second)),
             None => ("", ""),
         }
     }
@@ -74,10 +127,10 @@ impl Grouped {
         )
     }
 
-    fn party(&self, p: u32) -> &str {
-        match self.parties.get(p as usize) {
-            Some(party) => party.as_str(),
-            None => "",
+    fn name(&self, called: Called) -> &str {
+        match self.parties.get(called.participant as usize) {
+            Some(party) if called.has_others => party.as_str(),
+            _ => self.labels.of(called.participant),
         }
     }
 }
@@ -104,11 +157,13 @@ pub(crate) fn grouped_of(
 {
     let families = families_of(alloc, plan, words)?;
     let groups = groups_of(alloc, plan, families.as_slice(), faults)?;
+    let labels = called_by(alloc, words)?;
     let parties = parties_of(alloc, words, families.as_slice())?;
     let meets = meets_of(alloc, plan, faults, &groups, parties.as_slice())?;
     let starts = starts_of(alloc, meets.as_slice())?;
     Ok(Grouped {
         groups,
+        labels,
         parties,
         meets,
         starts,
@@ -161,16 +216,16 @@ fn meets_of(
     for k in 0..faults.len() {
         let (pair, _) = faults.get(k);
         if k < groups.pairs() {
-            all.push(meet_of(plan, groups.group_of(k), pair, firsts.as_slice()))?;
+            let both = both_of(plan, pair);
+            all.push((key_of(groups.group_of(k), both, firsts.as_slice()), both))?;
         }
     }
     all.sort()?;
-    once_each(alloc, all.as_slice())
+    together(alloc, all.as_slice())
 }
 
-fn meet_of(plan: &Plan, g: usize, pair: u32, firsts: &[u32]) -> Meet {
-    let (x, y) = both_of(plan, pair);
-    (g, first_at(firsts, x), first_at(firsts, y))
+fn key_of(g: usize, both: (u32, u32), firsts: &[u32]) -> Key {
+    (g, first_at(firsts, both.0), first_at(firsts, both.1))
 }
 
 fn first_at(firsts: &[u32], p: u32) -> u32 {
@@ -180,24 +235,35 @@ fn first_at(firsts: &[u32], p: u32) -> u32 {
     }
 }
 
-// The same without those that stand there already: equal ones stand side by side.
-fn once_each(alloc: Global, all: &[Meet]) -> Result<Vec<Meet>, AllocError> {
+// Those that count for the same once: they stand side by side.
+fn together(alloc: Global, all: &[(Key, (u32, u32))]) -> Result<Vec<Meet>, AllocError> {
     let mut meets = Vec::new(alloc);
-    let mut last = None;
-    for meet in all {
-        if last != Some(*meet) {
-            meets.push(*meet)?;
-            last = Some(*meet);
-        }
+    let mut open: Option<(Key, Meet)> = None;
+    for (key, both) in all {
+        open = match open {
+            Some((last, meet)) if last == *key => Some((last, meet.with(*both))),
+            before => {
+                push_meet(&mut meets, before)?;
+                Some((*key, Meet::new(key.0, *both)))
+            }
+        };
     }
+    push_meet(&mut meets, open)?;
     Ok(meets)
+}
+
+fn push_meet(meets: &mut Vec<Meet>, meet: Option<(Key, Meet)>) -> Result<(), AllocError> {
+    if let Some((_, meet)) = meet {
+        meets.push(meet)?;
+    }
+    Ok(())
 }
 
 // Where those of each group begin. Each group has one.
 fn starts_of(alloc: Global, meets: &[Meet]) -> Result<Vec<usize>, AllocError> {
     let mut starts = Vec::new(alloc);
     for (k, meet) in meets.iter().enumerate() {
-        if meet.0 == starts.len() {
+        if meet.group == starts.len() {
             starts.push(k)?;
         }
     }

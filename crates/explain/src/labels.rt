@@ -43,7 +43,7 @@ pub fn labels_of(alloc: Global, plan: &Plan) -> Result<Labels, AllocError> {
 /// # Errors
 ///
 /// Where an allocation fails.
-pub(crate) fn called_by(alloc: Global, words: PlanWords<'_>) -> Result<Labels, AllocError> {
+pub fn called_by(alloc: Global, words: PlanWords<'_>) -> Result<Labels, AllocError> {
     let participants = words.plan().participants();
     let mut labels = Vec::with_capacity(alloc, participants as usize)?;
     for p in 0..participants {

@@ -1,11 +1,12 @@
 //! What people read of a run: bytes in the place of slots, and why a line says what it says.
 //!
-//! Each thing that is explained is a value first: `meetings` has where an unsafe pair meets, `groups` which unsafe pairs have one cause (`families` which messages
-//! count as one there), `mends` what mends a plan (`keeping` by labels of a brief), `safety` how the pairs of a safe one are kept
-//! apart, `reasons` which of the two a plan has, `mistakes` and `breaks` what is wrong with a certificate, `tracks` what starters put
-//! along a wire. `reports` writes a report with lines for people between its own, made of these values by `faults`, `group_lines`, `plans`,
-//! `certificates` and `benches`; each of these lines begins with four spaces and has at most 80 columns, however long the names
-//! are. The exact lines are those of the crates below.
+//! Each thing that is explained is a value first: `meetings` has where an unsafe pair meets, `groups` which unsafe pairs
+//! have one cause (`families` which messages count as one there), `mends` what mends a plan (`keeping` by labels of a
+//! brief, and `rewritten` by those of families that a brief could have), `safety` how the pairs of a safe one are kept apart, `reasons` which of the two a plan has, `unchecked` what a
+//! check did not look at, `mistakes` and `breaks` what is wrong with a certificate, `tracks` what starters put along a
+//! wire. `reports` writes a report with lines for people between its own, made of these values by `faults`, `group_lines`,
+//! `plans`, `certificates` and `benches`; each of these lines begins with four spaces and has at most 80 columns, however
+//! long the names are. The exact lines are those of the crates below.
 //!
 //! What a dump shows goes to sinks: `capture_lines` writes its transactions with who explains each, and `decode_lines` without
 //! a plan, as they end. `selecting` has which of them are told, `moments` their times, `captures` what people read below them
@@ -42,12 +43,14 @@ mod plans;
 mod pulse_lines;
 mod reasons;
 mod reports;
+mod rewritten;
 mod rows;
 mod safety;
 mod selecting;
 mod sending;
 mod tallies;
 mod tracks;
+mod unchecked;
 mod words;
 mod written;
 
@@ -57,16 +60,17 @@ pub use capture_lines::{CaptureLines, Layout};
 pub use decode_lines::DecodeLines;
 pub use glitches::{Cut, Cuts};
 pub use groups::Grouped;
-pub use labels::{Labels, label_of, labels_of};
+pub use labels::{Labels, called_by, label_of, labels_of};
 pub use leaving::{Leaves, mark_words, nearest, offer_words};
 pub use meetings::{Meeting, Rule, Side, meeting_of};
 pub use mends::{Mends, Never, kept_apart};
 pub use mistakes::{Mistake, mistake_of};
 pub use paints::Paint;
-pub use reasons::{Reasons, reasons_of};
+pub use reasons::{Reasons, count_groups, reasons_of};
 pub use reports::{Detail, explain_answer, explain_check, explain_rehearsal};
 pub use safety::{Decided, Safety};
 pub use selecting::{Seen, Selection};
 pub use tallies::{Explains, Others, Tallies};
 pub use tracks::{Track, WireTracks, tracks_of};
+pub use unchecked::{is_all_checked, unsent_in};
 pub use words::bytes_of;

@@ -38,3 +38,20 @@ pub fn reasons_of(
         Ok(Reasons::Unsafe(mends, groups))
     }
 }
+
+/// How many groups the unsafe pairs of a plan that was checked are, in these words of it.
+///
+/// # Errors
+///
+/// Where an allocation fails.
+pub fn count_groups(
+    alloc: Global,
+    checked: &Checked,
+    words: PlanWords<'_>,
+) -> Result<usize, AllocError>
+    requires { AreFaults (plan_contents checked.now.plan) (fault_list checked.now.faults) }
+{
+    let Checked { plan, faults } = checked;
+    let groups = grouped_of(alloc, plan, words, faults)?;
+    Ok(groups.len())
+}

@@ -13,10 +13,7 @@ const DEPTH: u32 = 512;
 /// How the pairs of a safe plan are kept apart, and what the plan leaves out.
 #[derive(Drop)]
 pub struct Safety {
-    pub pairs: u32,
     pub decided: Decided,
-    /// The messages that no controller lists.
-    pub unsent: Vec<u32>,
     /// How many pairs of two controllers the `never` items of the plan leave out.
     pub kept_apart: u64,
 }
@@ -39,33 +36,10 @@ pub struct Decided {
 pub(crate) fn safety_of(alloc: Global, words: PlanWords<'_>) -> Result<Safety, AllocError> {
     let plan = words.plan();
     let decided = decided_in(alloc, plan)?;
-    let unsent = unsent_in(alloc, plan)?;
     Ok(Safety {
-        pairs: plan.pair_count(),
         decided,
-        unsent,
         kept_apart: kept_apart(words),
     })
-}
-
-fn unsent_in(alloc: Global, plan: &Plan) -> Result<Vec<u32>, AllocError> {
-    let mut unsent = Vec::new(alloc);
-    for k in 0..plan.messages() {
-        if !is_sent(plan, k) {
-            unsent.push(k)?;
-        }
-    }
-    Ok(unsent)
-}
-
-// Whether some controller has the message.
-fn is_sent(plan: &Plan, message: u32) -> bool {
-    for c in 0..plan.controllers() {
-        if plan.controller_messages(c).contains(&message) {
-            return true;
-        }
-    }
-    false
 }
 
 // Where a pair is decided.

@@ -4,8 +4,9 @@
 //! Nothing here decides anything. A refusal is the caller's, and the reader knows its place. After that of a plan or of a brief
 //! `texts` shows the place, `expected` says what could stand there, `words` why a word cannot, `names` where a name stands
 //! already or which are nearest, and `wording` what the other refusals mean. `certs` shows the place in a certificate, and
-//! `starters` looks for labels in the plan. `safety` says what a safe plan leaves out, `odd` what is likely a mistake in briefs,
-//! `plans` why a plan has no brief, and `devices` which file failed. What is said of dumps stands in `captures`.
+//! `starters` looks for labels in the plan. `safety` says what a safe plan leaves out, `summaries` how many unsafe pairs are
+//! seen in groups, `odd` what is likely a mistake in briefs, `plans` why a plan has no brief, and `devices` which file failed.
+//! What is said of dumps stands in `captures`.
 //!
 //! `values` has the hints, and writes them as lines: it puts the word `hint:` before each, and breaks sentences for 80 columns.
 //! `lines` puts hints together from parts, `marking` shows a place in its line, and `paths` writes names of files as a shell takes
@@ -28,6 +29,7 @@ mod paths;
 mod plans;
 mod safety;
 mod starters;
+mod summaries;
 mod texts;
 mod values;
 mod wording;
@@ -44,7 +46,7 @@ pub use devices::{
 pub use names::first_stand;
 pub use paths::{file_word, shown, visible};
 pub use plans::on_no_brief;
-pub use safety::{on_checked, on_safe};
+pub use safety::{Found, on_checked, on_safe};
 pub use starters::{on_starters, unknown_starter};
 pub use texts::{Earlier, RefusedIn, SemicolonAt, missing_semicolon_at, on_text};
 pub use values::{Hint, Hints};

@@ -373,11 +373,26 @@ fn push_absent_side(
     let controller = controller_of(word);
     match halves(word) {
         Some((_, label)) if spot_of(known, Kind::Controller, controller).is_some() => {
+            if refused.is_before(b'*') {
+                push_star(lines, known, controller, label);
+            }
             lines.say("the controller of this label lists no such message; it lists:");
             push_all(alloc, lines, known, label, Listed::By(controller));
         }
         _ => push_nearest(alloc, lines, refused, known, Kind::Controller, controller),
     }
+}
+
+// Of a label with `*` after it, as reports write all messages of a family: the label of that family.
+fn push_star(lines: &mut Lines, known: &[Known<'_>], controller: &[u8], label: &[u8]) {
+    let family = label.strip_suffix(b"_").unwrap_or(label);
+    lines.part("'*' is no part of a label");
+    if spot_of(known, Kind::Message, family).is_some() {
+        let controller = str::from_utf8(controller).unwrap_or("");
+        let family = str::from_utf8(family).unwrap_or("");
+        lines.part(format_args!(": the family has the label '{controller}/{family}'"));
+    }
+    lines.end();
 }
 
 fn push_nearest(

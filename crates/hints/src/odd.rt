@@ -10,24 +10,37 @@ use std::alloc::{AllocError, Global};
 // The most of them that are told.
 const MOST: usize = 10;
 
-/// Says what is likely a mistake in the briefs that mean a plan, each with its place.
+/// Says what is likely a mistake in the briefs that mean a plan, each with its place. Messages that nobody sends are left out where
+/// the report has told them.
 pub(crate) fn push_oddities(
     alloc: Global,
     lines: &mut Lines,
     words: PlanWords<'_>,
     odd: &[Oddity<'_>],
+    is_explained: bool,
 ) -> Result<(), AllocError> {
-    for oddity in odd.get(..MOST).unwrap_or(odd) {
-        if let Some(place) = words.at(oddity.spot()) {
-            lines.part(place_of(alloc, place)?);
+    let mut count = 0usize;
+    for oddity in odd {
+        if is_explained && is_unsent(*oddity) {
+            continue;
         }
-        push_oddity(alloc, lines, words, *oddity)?;
+        if count < MOST {
+            if let Some(place) = words.at(oddity.spot()) {
+                lines.part(place_of(alloc, place)?);
+            }
+            push_oddity(alloc, lines, words, *oddity)?;
+        }
+        count = count.saturating_add(1);
     }
-    let more = odd.len().saturating_sub(MOST);
+    let more = count.saturating_sub(MOST);
     if more != 0 {
         lines.say(format_args!("and {more} more of this kind"));
     }
     Ok(())
+}
+
+fn is_unsent(oddity: Oddity<'_>) -> bool {
+    matches!(oddity, Oddity::Unsent { .. })
 }
 
 fn place_of(alloc: Global, place: FileLine<'_>) -> Result<String, AllocError> {

@@ -2,6 +2,7 @@
 
 use crate::lines::Lines;
 use crate::odd::push_oddities;
+use crate::summaries::push_summary;
 use crate::values::Hints;
 use lint::Oddity;
 use plan_core::Plan;
@@ -20,23 +21,39 @@ pub fn on_safe(alloc: Global, words: PlanWords<'_>, kept_apart: u64) -> Result<H
     lines.finish()
 }
 
+/// What was found of a plan.
+#[derive(Clone, Copy)]
+pub struct Found {
+    /// How many pairs are unsafe.
+    pub unsafe_pairs: usize,
+    /// In how many groups they are, where that is to be said.
+    pub groups: Option<usize>,
+    /// Whether the report is explained: it has told what was not looked at.
+    pub is_explained: bool,
+    /// How many pairs `never` leaves out.
+    pub kept_apart: u64,
+}
+
 /// What to say of a plan that was checked, in these words of it: what is likely a mistake in its briefs, and where it is safe
-/// also what `on_safe` says.
+/// also what `on_safe` says. What an explained report has told is not said again. Of many unsafe pairs it says how they are seen in
+/// groups.
 pub fn on_checked(
     alloc: Global,
     words: PlanWords<'_>,
     odd: &[Oddity<'_>],
-    is_safe: bool,
-    kept_apart: u64,
+    found: Found,
 ) -> Result<Hints, AllocError> {
     let mut lines = Lines::new(alloc);
-    push_oddities(alloc, &mut lines, words, odd)?;
-    if is_safe {
+    push_oddities(alloc, &mut lines, words, odd, found.is_explained)?;
+    if found.unsafe_pairs == 0 && !found.is_explained {
         // (of briefs it is among the likely mistakes)
         if !words.has_briefs() {
             push_unsent(&mut lines, words.plan());
         }
-        push_left_out(&mut lines, words, kept_apart);
+        push_left_out(&mut lines, words, found.kept_apart);
+    }
+    if let Some(groups) = found.groups {
+        push_summary(alloc, &mut lines, words.files(), found.unsafe_pairs, groups)?;
     }
     lines.finish()
 }

@@ -47,6 +47,11 @@ impl<'a> RefusedIn<'a> {
         self.part(0, self.place.start)
     }
 
+    /// Whether this stands right after it.
+    pub(crate) fn is_before(&self, sign: u8) -> bool {
+        self.text.get(self.place.end).copied() == Some(sign)
+    }
+
     fn part(&self, start: usize, end: usize) -> &'a [u8] {
         self.text.get(start..end).unwrap_or(&[])
     }

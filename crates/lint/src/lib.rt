@@ -15,7 +15,7 @@ pub enum Oddity<'a> {
     CarriageReturn(Spot),
     /// The second device has the address of the first, in all bits.
     SameAddress(&'a Device, &'a Device),
-    /// UM10204, 3.1.12 reserves the address: its first four bits are 0000 or 1111.
+    /// UM10204, 3.1.12 reserves the address: it begins with 0000 or 11111. (With 11110 begins an address of ten bits.)
     ReservedAddress(&'a Device),
     /// No message and no interrupt names the device.
     UnusedDevice(&'a Device),
@@ -137,14 +137,15 @@ fn with_address(devices: &[Device], address: Address) -> Option<&Device> {
     None
 }
 
-// Whether the first four bits, which are sent first, are 0000 or 1111.
+// Whether it begins with 0000 or 11111. What begins with 11110 is the first byte of an address of ten bits.
 fn is_reserved(address: Address) -> bool {
-    begins_with(address, Bit::Zero) || begins_with(address, Bit::One)
+    begins_with(address, Bit::Zero, 4) || begins_with(address, Bit::One, 5)
 }
 
-fn begins_with(address: Address, bit: Bit) -> bool {
-    for place in 0..4u8 {
-        if address.bit(place) != bit {
+// Whether so many bits at its beginning are these.
+fn begins_with(address: Address, bit: Bit, count: u8) -> bool {
+    for place in 0..7u8 {
+        if place < count && address.bit(place) != bit {
             return false;
         }
     }

@@ -7,6 +7,7 @@ use causes::{Group, Place};
 use certificate::Fault;
 use explain::{
     Detail, Grouped, Labels, Meeting, Mends, Reasons, Rule, Safety, labels_of, meeting_of,
+    unsent_in,
 };
 use growing_text::Text;
 use lint::Oddity;
@@ -52,6 +53,7 @@ struct Mended<'a> {
     never: &'a [[&'a str; 2]],
     unchecked: u64,
     interrupts: &'a [u32],
+    unsent: &'a [&'a str],
     kept_apart: u64,
 }
 
@@ -329,10 +331,16 @@ fn add_verdict(lines: &mut ObjectLines, checked: &Checked, explain: Option<Why<'
 }
 
 fn add_safe(lines: &mut ObjectLines, checked: &Checked, safety: &Safety) -> Result<(), AllocError> {
-    let unsent = names_of(lines.alloc, &checked.plan, &safety.unsent)?;
+    let unsent = unsent_of(lines.alloc, &checked.plan)?;
     let why = kept_of(safety, unsent.as_slice());
     add_verdict(lines, checked, Some(Why::Safe(why)));
     Ok(())
+}
+
+// The names of the messages that no controller lists.
+fn unsent_of<'a>(alloc: Global, plan: &'a Plan) -> Result<Vec<&'a str>, AllocError> {
+    let unsent = unsent_in(alloc, plan)?;
+    names_of(alloc, plan, unsent.as_slice())
 }
 
 fn names_of<'a>(
@@ -371,12 +379,14 @@ fn add_unsafe(
     most: usize,
 ) -> Result<(), AllocError> {
     let never = nevers_of(lines.alloc, mends)?;
+    let unsent = unsent_of(lines.alloc, &checked.plan)?;
     let why = Mended {
         explained: groups.min(most),
         groups,
         never: never.as_slice(),
         unchecked: mends.unchecked,
         interrupts: mends.interrupted.as_slice(),
+        unsent: unsent.as_slice(),
         kept_apart: mends.kept_apart,
     };
     add_verdict(lines, checked, Some(Why::Unsafe(why)));

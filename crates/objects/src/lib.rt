@@ -25,5 +25,5 @@ pub use certificates::write_answer;
 pub use checks::write_check;
 pub use decodes::DecodeObjects;
 pub use listed::write_signals;
-pub use orders::write_order;
+pub use orders::{write_order, write_scores};
 pub use refusals::{Detail, EarlierAt, TextDetail, hint_objects, refusal_object, timescale_object};

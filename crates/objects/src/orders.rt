@@ -3,7 +3,7 @@
 use crate::file_lines::{BothAt, OneAt, both_at, one_at};
 use crate::writing::ObjectLines;
 use explain::labels_of;
-use order::{Order, Outcomes, Slots, Total};
+use order::{Order, Outcomes, Scores, Slots, Total};
 use plan_words::PlanWords;
 use run_parts::{Output, RunError};
 use serde::Serialize;
@@ -37,6 +37,62 @@ struct Wins<'a> {
     wins: u32,
     may_win: u32,
     loses: u32,
+}
+
+// How the pairs of two controllers end, or of one and an interrupt, or of two interrupts: how many each of the two wins, how many
+// either may win, and so on.
+#[derive(Drop, Serialize)]
+struct Arbitration<'a> {
+    kind: &'static str,
+    between: [&'a str; 2],
+    pairs: u32,
+    wins: (u32, u32),
+    may_win: u32,
+    alike: u32,
+    unsafe_pairs: u32,
+}
+
+/// Writes an object for each two sides that have pairs, where the sides have these names.
+///
+/// # Errors
+///
+/// `Write` where the writer failed or took no bytes, and `NoMemory`. A part of the objects may have been written.
+pub fn write_scores<O: Output>(
+    alloc: Global,
+    scores: &Scores,
+    names: &[String],
+    out: &mut O,
+) -> Result<(), RunError> {
+    let mut lines = ObjectLines::new(alloc);
+    for (one, first) in names.iter().enumerate() {
+        for (other, second) in names.iter().enumerate() {
+            if one < other {
+                let between = [first.as_str(), second.as_str()];
+                add_arbitration(&mut lines, scores, (one, other), between);
+            }
+        }
+    }
+    lines.write_rest(out)
+}
+
+fn add_arbitration(
+    lines: &mut ObjectLines,
+    scores: &Scores,
+    two: (usize, usize),
+    between: [&str; 2],
+) {
+    let score = scores.between(two.0, two.1);
+    if score.pairs() != 0 {
+        lines.add(&Arbitration {
+            kind: "arbitration",
+            between,
+            pairs: score.pairs(),
+            wins: (score.wins, score.loses),
+            may_win: score.may_win,
+            alike: score.alike,
+            unsafe_pairs: score.unsafe_pairs,
+        });
+    }
 }
 
 /// Writes an object for each pair of the plan of these words, and one for each participant that can win or lose.

@@ -5,9 +5,12 @@
 //! are made here: the exact lines of reports have the names of the plan.
 #![tactic(auto)]
 
+mod sides;
+
 use brief_text::{ControllerOrigin, FamilyOrigin, Origins, Spot};
 use growing_text::Text;
 use plan_core::{Name, Participant, Plan};
+pub use sides::{Sides, sides_of};
 use std::alloc::{AllocError, Global};
 
 /// The files of the briefs that mean a plan, as the command line names them.
@@ -74,6 +77,11 @@ impl<'a> PlanWords<'a> {
     /// The plan itself.
     pub fn plan(self) -> &'a Plan {
         self.plan
+    }
+
+    /// The files that gave the plan.
+    pub fn files(self) -> BriefFiles<'a> {
+        self.files
     }
 
     /// Whether briefs mean the plan.
@@ -193,6 +201,12 @@ impl<'a> PlanWords<'a> {
             Participant::Sending { message, .. } => origins.messages.get(message as usize)?,
             Participant::Interrupt(interrupt) => origins.interrupts.get(interrupt as usize)?,
         };
+        self.at(*spot)
+    }
+
+    /// Where a message of the plan stands. None for a number that is none, and where no brief means the plan.
+    pub fn message_at(self, message: u32) -> Option<FileLine<'a>> {
+        let spot = self.origins?.messages.get(message as usize)?;
         self.at(*spot)
     }
 

@@ -66,22 +66,52 @@ fn expected(g: usize) -> Group {
         0 => group(
             (G, Kind::Heard),
             (S, Kind::Claim),
-            0,
+            (0, 0b1_1010_0101),
             Place::Header,
             (2, 13),
         ),
-        1 => group((A, Kind::Stop), (B, Kind::Sent), 0, Place::Data, (9, 0)),
-        2 => group((P, Kind::Sent), (Q, Kind::Stop), 0, Place::Byte(2), (2, 9)),
-        3 => group((Q, Kind::Stop), (R, Kind::Sent), 0, Place::Byte(2), (1, 12)),
-        4 => group((P, Kind::Stop), (R, Kind::Sent), 0, Place::Byte(3), (1, 10)),
-        _ => group((D, Kind::Stop), (E, Kind::Sent), 1, Place::Byte(2), (1, 14)),
+        1 => group(
+            (A, Kind::Stop),
+            (B, Kind::Sent),
+            (0, 0b1_1010_0000),
+            Place::Data,
+            (9, 0),
+        ),
+        2 => group(
+            (P, Kind::Sent),
+            (Q, Kind::Stop),
+            (0, 0b1_1010_0010),
+            Place::Byte(2),
+            (2, 9),
+        ),
+        3 => group(
+            (Q, Kind::Stop),
+            (R, Kind::Sent),
+            (0, 0b1_1010_0010),
+            Place::Byte(2),
+            (1, 12),
+        ),
+        4 => group(
+            (P, Kind::Stop),
+            (R, Kind::Sent),
+            (0, 0b1_1010_0010),
+            Place::Byte(3),
+            (1, 10),
+        ),
+        _ => group(
+            (D, Kind::Stop),
+            (E, Kind::Sent),
+            (1, 0b1_1010_0110),
+            Place::Byte(2),
+            (1, 14),
+        ),
     }
 }
 
 fn group(
     first: (Family, Kind),
     second: (Family, Kind),
-    frame: usize,
+    frame: (usize, usize),
     place: Place,
     counted: (usize, usize),
 ) -> Group {
@@ -89,7 +119,8 @@ fn group(
         cause: Cause {
             first: side(first),
             second: side(second),
-            frame,
+            frame: frame.0,
+            header: frame.1,
             place,
         },
         pairs: counted.0,

@@ -14,17 +14,20 @@ use brief_text::Origins;
 use cert_check::{Answer, Judged, check_certificate_at};
 use certificate::Refusal;
 use explain::{
-    Detail, Mistake, Paint, Reasons, explain_answer, explain_check, kept_apart, mistake_of,
-    reasons_of,
+    Detail, Mistake, Paint, Reasons, called_by, count_groups, explain_answer, explain_check,
+    is_all_checked, kept_apart, mistake_of, reasons_of,
 };
-use hints::{on_certificate, on_checked, on_safe};
+use hints::{Found, Hints, on_certificate, on_checked, on_safe};
 use lint::{Oddity, oddities};
-use objects::{write_answer, write_check, write_order};
-use order::{Order, order_of, order_report};
+use objects::{write_answer, write_check, write_order, write_scores};
+use order::{Called, Order, order_of, order_report, order_summary, scores_of};
 use plan_core::Plan;
-use plan_words::PlanWords;
-use given_plans::{GivenPlan};
-use report::{Answered, Checked, Input, NoGate, Output, RunError, Status, answer_line, check_found, check_report, read_within, status_of_answer, verify_found};
+use given_plans::GivenPlan;
+use plan_words::{PlanWords, sides_of};
+use report::{
+    Answered, Checked, Input, NoGate, Output, RunError, Status, answer_line, check_found,
+    check_report, read_within, status_of_answer, verify_found,
+};
 use run_parts::devices::reading::READS;
 use run_parts::write_lines;
 use std::alloc::{AllocError, Global};
@@ -33,12 +36,16 @@ use std::thread::Threads;
 use std::time::Clock;
 use verdicts::MOST_WORKERS;
 
-/// How a plan is looked at: by so many workers, explained in this detail, and with the waves of an unsafe pair in a
-/// file: of the first one, or of the one with this number.
+// So many unsafe pairs are seen without groups.
+const FEW: usize = 20;
+
+/// How a plan is looked at: by so many workers, explained in this detail, strictly, so that a safe plan of which not all was
+/// looked at is not good, and with the waves of an unsafe pair in a file: of the first one, or of the one with this number.
 #[derive(Clone, Copy)]
 pub struct Look<'a> {
     pub workers: u32,
     pub explain: Option<Detail>,
+    pub strict: bool,
     pub wave: Option<&'a str>,
     pub pair: Option<u32>,
 }
@@ -74,10 +81,26 @@ pub fn check<R: Files + Print + Eprint + Clock + AllocGlobal + Threads + Sync, I
     if let Some(canvas) = canvas {
         draw_fault(rt, &checked, look.pair, status, canvas)?;
     }
+    let is_explained = look.explain.is_some();
     Ok(Ended {
-        status,
-        remark: remark_on(rt.alloc(), &checked, words, odd.as_slice(), extras),
+        status: judged(status, &checked.plan, look.strict),
+        remark: remark_on(
+            rt.alloc(),
+            &checked,
+            words,
+            odd.as_slice(),
+            is_explained,
+            extras,
+        ),
     })
+}
+
+// The status of a run with this status over a plan. One that is strict is good where all of the plan was looked at.
+fn judged(status: Status, plan: &Plan, strict: bool) -> Status {
+    match status {
+        Status::Good if strict && !is_all_checked(plan) => Status::Bad,
+        _ => status,
+    }
 }
 
 // What is likely a mistake in the briefs that mean this plan, where briefs do.
@@ -98,19 +121,50 @@ fn remark_on(
     checked: &Checked,
     words: PlanWords<'_>,
     odd: &[Oddity<'_>],
+    is_explained: bool,
     extras: Extras,
-) -> Remark {
+) -> Remark
+    requires { AreFaults (plan_contents checked.now.plan) (fault_list checked.now.faults) }
+{
     if extras.hints {
-        Remark::hints(on_checked(
-            alloc,
-            words,
-            odd,
-            checked.faults.is_safe(),
-            kept_apart(words),
-        ))
+        Remark::hints(hints_on(alloc, checked, words, odd, is_explained))
     } else {
         Remark::Nothing
     }
+}
+
+fn hints_on(
+    alloc: Global,
+    checked: &Checked,
+    words: PlanWords<'_>,
+    odd: &[Oddity<'_>],
+    is_explained: bool,
+) -> Result<Hints, AllocError>
+    requires { AreFaults (plan_contents checked.now.plan) (fault_list checked.now.faults) }
+{
+    let found = Found {
+        unsafe_pairs: checked.faults.len(),
+        groups: groups_to_tell(alloc, checked, words, is_explained)?,
+        is_explained,
+        kept_apart: kept_apart(words),
+    };
+    on_checked(alloc, words, odd, found)
+}
+
+// In how many groups the unsafe pairs are, where they are many and the report has not shown the groups.
+fn groups_to_tell(
+    alloc: Global,
+    checked: &Checked,
+    words: PlanWords<'_>,
+    is_explained: bool,
+) -> Result<Option<usize>, AllocError>
+    requires { AreFaults (plan_contents checked.now.plan) (fault_list checked.now.faults) }
+{
+    if is_explained || checked.faults.len() <= FEW {
+        return Ok(None);
+    }
+    let groups = count_groups(alloc, checked, words)?;
+    Ok(Some(groups))
 }
 
 // Writes what was found, with the reasons and the groups of unsafe pairs where that is wanted.
@@ -270,11 +324,12 @@ pub fn remark_on_answer(
 
 // ---- order
 
-/// Says who wins arbitration in each pair of the plan that the reader gives.
+/// Says who wins arbitration in each pair of the plan that the reader gives, after a summary where that is to be explained.
 pub fn order<R: AllocGlobal + Threads + Sync, I: Input, O: Output>(
     rt: &R,
     plans: &mut Sources<'_, I>,
     out: &mut O,
+    explain: bool,
     style: Style,
 ) -> Result<Ended, Halt> {
     let alloc = rt.alloc();
@@ -282,8 +337,35 @@ pub fn order<R: AllocGlobal + Threads + Sync, I: Input, O: Output>(
     let checked = check_found(rt, alloc, plan, 1, &NoGate)?;
     let order = order_of(alloc, &checked.plan, &checked.faults)?;
     let words = plans.words(&checked.plan, &origins);
+    if explain {
+        write_summary(alloc, words, &order, out, style)?;
+    }
     write_ordered(alloc, words, &order, out, style)?;
     Ok(Ended::quietly(status_of(&checked)))
+}
+
+// How the pairs of each two controllers end, in the words of people.
+fn write_summary<O: Output>(
+    alloc: Global,
+    words: PlanWords<'_>,
+    order: &Order,
+    out: &mut O,
+    style: Style,
+) -> Result<(), RunError> {
+    let sides = sides_of(alloc, words)?;
+    let names = sides.names.as_slice();
+    let scores = scores_of(alloc, order, sides.numbers.as_slice(), names.len())?;
+    if let Style::Objects = style {
+        return write_scores(alloc, &scores, names, out);
+    }
+    let labels = called_by(alloc, words)?;
+    let called = Called {
+        sides: names,
+        participants: labels.all(),
+    };
+    let summary = order_summary(alloc, &scores, called)?;
+    write_lines(out, summary.as_bytes(), Status::Good)?;
+    Ok(())
 }
 
 fn write_ordered<O: Output>(

@@ -34,7 +34,7 @@ pub enum Task<'a> {
 #[derive(Clone, Copy)]
 pub enum Over<'a> {
     Check(Look<'a>),
-    Order,
+    Order { explain: bool },
     Page,
     Rewrite(Rewriting),
     Bench(Play<'a>),
@@ -62,12 +62,14 @@ pub fn task_of<'a>(request: Request<'a>) -> Task<'a> {
             workers,
             explain,
             summary,
+            strict,
             wave,
             pair,
         } => {
             let look = Look {
                 workers,
                 explain: detail_of(explain, summary),
+                strict,
                 wave,
                 pair,
             };
@@ -127,7 +129,9 @@ pub fn task_of<'a>(request: Request<'a>) -> Task<'a> {
             };
             bench_of(the_plan(plan), cert, play)
         }
-        Request::Order { plan } => Task::One(the_plan(plan), Over::Order, Form::Plain),
+        Request::Order { plan, explain } => {
+            Task::One(the_plan(plan), Over::Order { explain }, Form::Plain)
+        }
         Request::Signals { vcd, limits } => {
             Task::One(the_capture(vcd), Over::Signals(limits), Form::Plain)
         }
@@ -239,7 +243,7 @@ impl<'a> Over<'a> {
         let canvas = canvas_of(self.wave(), extras, read);
         match self {
             Over::Check(look) => check(rt, sources, out, look, extras, canvas),
-            Over::Order => order(rt, sources, out, extras.style()),
+            Over::Order { explain } => order(rt, sources, out, explain, extras.style()),
             Over::Page => write_page_alone(rt, path, sources, out),
             Over::Rewrite(rewriting) => rewriting.run(rt.alloc(), sources, out),
             Over::Bench(play) => bench_alone(rt, sources, out, play, extras, canvas),

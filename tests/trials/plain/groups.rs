@@ -3,7 +3,7 @@
 use super::found::Fault;
 use super::participants::Participants;
 use super::wires::Item;
-use std::collections::HashMap;
+use std::collections::{BTreeMap, BTreeSet, HashMap};
 
 /// What is alike in a group.
 #[derive(Clone, Debug, PartialEq, Eq, Hash)]
@@ -11,6 +11,8 @@ pub struct Likeness {
     /// The families that meet, each with the word of its kind: in the order of these words.
     pub sides: [(String, &'static str); 2],
     pub frame: usize,
+    /// The address and the R/W bit of the frame, as they are on the wire.
+    pub header: String,
     /// Whether they meet after the header of the frame.
     pub in_data: bool,
     /// The data byte of the frame, from 1 on, where it counts.
@@ -22,7 +24,7 @@ pub struct Likeness {
 pub struct Group {
     pub likeness: Likeness,
     pub pairs: Vec<usize>,
-    /// Who meets in it, by controllers and families.
+    /// Who meets in it, by controllers and families; a message that is alone of its family there by its name.
     pub between: Vec<[String; 2]>,
 }
 
@@ -43,13 +45,20 @@ pub fn groups_of(plan: &Participants, faults: &[Fault]) -> Vec<Group> {
     let parties: Vec<String> = plan.all.iter().map(|one| party(plan, &one.label)).collect();
     let called: HashMap<&str, usize> = plan.all.iter().enumerate().map(|(k, one)| (one.label.as_str(), k)).collect();
     for group in &mut groups {
-        let first = |label: &str| parties.iter().position(|it| *it == parties[called[label]]);
-        let both = |place: &usize| (first(&faults[*place].x.label), first(&faults[*place].y.label));
-        let mut meets: Vec<_> = group.pairs.iter().map(both).collect();
-        meets.sort_unstable();
-        meets.dedup();
-        let name = |place: Option<usize>| place.map(|k| parties[k].clone()).unwrap_or_default();
-        group.between = meets.into_iter().map(|(x, y)| [name(x), name(y)]).collect();
+        let first = |label: &str| parties.iter().position(|it| *it == parties[called[label]]).unwrap_or_default();
+        // for each two that are called so, the labels of those who meet
+        let mut meets: BTreeMap<[usize; 2], [BTreeSet<&str>; 2]> = BTreeMap::new();
+        for place in &group.pairs {
+            let [x, y] = [&faults[*place].x, &faults[*place].y].map(|one| one.label.as_str());
+            let [ones, others] = meets.entry([first(x), first(y)]).or_default();
+            ones.insert(x);
+            others.insert(y);
+        }
+        let name = |k: usize, labels: &BTreeSet<&str>| match labels.first() {
+            Some(label) if labels.len() == 1 => (*label).to_owned(),
+            _ => parties[k].clone(),
+        };
+        group.between = meets.iter().map(|([x, y], [ones, others])| [name(*x, ones), name(*y, others)]).collect();
     }
     groups
 }
@@ -65,6 +74,7 @@ fn likeness_of(plan: &Participants, fault: &Fault) -> Likeness {
     Likeness {
         sides,
         frame: wire.iter().filter(|item| **item == Item::Again).count(),
+        header: wire[wire.len() - slot..].iter().take(8).map(|item| item.symbol()).collect(),
         in_data: slot >= 9,
         byte: (slot >= 9 && !has_several).then_some(slot / 9),
     }

@@ -1,7 +1,7 @@
 // The report of a check, explained.
 
 use crate::faults::below_unsafe;
-use crate::group_lines::{of_group, of_rest};
+use crate::group_lines::{above_rest, of_group, of_rest};
 use crate::groups::Grouped;
 use crate::meetings::meeting_of;
 use crate::mends::both_of;
@@ -9,6 +9,7 @@ use crate::paints::Paint;
 use crate::plans::below_safe;
 use crate::reasons::Reasons;
 use crate::reports::{BLOCK, write_block};
+use crate::unchecked::below_checked;
 use certificate::Fault;
 use growing_text::Text;
 use plan_core::Plan;
@@ -25,8 +26,8 @@ pub struct Detail {
     pub groups: u32,
 }
 
-/// Writes the report of a check. The words are those of its plan. Where there are reasons, they stand at its end, and before its
-/// last line an example of each group of unsafe pairs, with the bytes of both participants.
+/// Writes the report of a check. The words are those of its plan. Where there are reasons, they stand at its end with what was
+/// not checked, and before its last line an example of each group of unsafe pairs, with the bytes of both participants.
 ///
 /// # Errors
 ///
@@ -48,7 +49,7 @@ pub fn explain_check<O: Output>(
     if let Some(Reasons::Unsafe(_, groups)) = reasons {
         write_groups(alloc, words, faults, groups, detail.groups, &mut text, out)?;
     }
-    push_end(alloc, &mut text, checked, reasons, paint);
+    push_end(alloc, &mut text, checked, words, reasons, paint);
     write_block(text, out)
 }
 
@@ -67,7 +68,7 @@ fn write_pairs<O: Output>(
     Ok(())
 }
 
-// So many groups, and how many more there are.
+// So many groups, and a line of each further one.
 fn write_groups<O: Output>(
     alloc: Global,
     words: PlanWords<'_>,
@@ -83,7 +84,11 @@ fn write_groups<O: Output>(
         write_full(alloc, text, out)?;
     }
     if explained < groups.len() {
-        text.push_made(of_rest(alloc, groups, explained));
+        text.push_made(above_rest(alloc, groups.len()));
+    }
+    for g in explained..groups.len() {
+        text.push_made(of_rest(alloc, groups, g));
+        write_full(alloc, text, out)?;
     }
     Ok(())
 }
@@ -96,11 +101,12 @@ fn write_full<O: Output>(alloc: Global, text: &mut Text, out: &mut O) -> Result<
     Ok(())
 }
 
-// The last line, and the reasons below it.
+// The last line, and below it the reasons and what was not checked.
 fn push_end(
     alloc: Global,
     text: &mut Text,
     checked: &Checked,
+    words: PlanWords<'_>,
     reasons: Option<&Reasons>,
     paint: Paint,
 ) {
@@ -109,10 +115,13 @@ fn push_end(
     let word = (0, if is_safe { 4 } else { 6 });
     paint.push_verdict(text, last_line(alloc, plan, faults.len()), word, is_safe);
     match reasons {
-        Some(Reasons::Safe(safety)) => text.push_made(below_safe(alloc, plan, safety)),
-        Some(Reasons::Unsafe(mends, _)) => text.push_made(below_unsafe(alloc, mends)),
-        None => {}
+        Some(Reasons::Safe(safety)) => text.push_made(below_safe(alloc, safety)),
+        Some(Reasons::Unsafe(mends, _)) => {
+            text.push_made(below_unsafe(alloc, words, faults, mends))
+        }
+        None => return,
     }
+    text.push_made(below_checked(alloc, words));
 }
 
 // The line of an unsafe pair.
