@@ -151,7 +151,10 @@ fn grows(shorter: &Payload, longer: &Payload) -> bool {
     let mut last: Option<Pattern> = None;
     for _ in 0..BYTES {
         match (byte_of(one), byte_of(other)) {
-            (Some((first, rest)), Some((second, more))) if first == second => {
+            (Some((first, rest)), Some((second, more))) => {
+                if first != second {
+                    return false;
+                }
                 last = Some(first);
                 one = rest;
                 other = more;
@@ -159,7 +162,7 @@ fn grows(shorter: &Payload, longer: &Payload) -> bool {
             (None, Some((second, more))) => {
                 return is_end(one) && is_end(more) && last == Some(second);
             }
-            _ => return false,
+            (_, None) => return false,
         }
     }
     false

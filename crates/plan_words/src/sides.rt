@@ -37,7 +37,8 @@ impl Sides {
         if number == self.names.len() {
             self.names.push(name)?;
         }
-        self.numbers.push(number)
+        self.numbers.push(number)?;
+        Ok(())
     }
 
     // The number of the side that is called so, or that of the next one.
