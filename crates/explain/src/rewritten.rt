@@ -276,8 +276,20 @@ fn family_of(plan: &Plan, run: Run) -> Option<&str> {
 fn is_word(name: &str) -> bool {
     matches!(
         name,
-        "" | "plan" | "message" | "controller" | "interrupt" | "never" | "write" | "read" | "stop" | "again" | "else"
-            | "brief" | "device" | "byte" | "any"
+        "" | "plan"
+            | "message"
+            | "controller"
+            | "interrupt"
+            | "never"
+            | "write"
+            | "read"
+            | "stop"
+            | "again"
+            | "else"
+            | "brief"
+            | "device"
+            | "byte"
+            | "any"
     )
 }
 
@@ -300,9 +312,8 @@ fn between_of(
     for k in 0..faults.len() {
         let (pair, _) = faults.get(k);
         if let Some((c, d)) = controllers_in(words, run, both_of(words.plan(), pair)) {
-            let is_known = between
-                .iter()
-                .any(|known| words.is_one(known.0, c) && words.is_one(known.1, d));
+            let is_known = between.iter().any(|known| words.is_one(known.0, c)
+                && words.is_one(known.1, d));
             if !is_known {
                 between.push((c, d))?;
             }

@@ -81,11 +81,7 @@ fn tell_apart(lines: &mut Lines, words: PlanWords<'_>) {
     lines.end();
 }
 
-fn tell_unsent(
-    alloc: Global,
-    lines: &mut Lines,
-    words: PlanWords<'_>,
-) -> Result<(), AllocError> {
+fn tell_unsent(alloc: Global, lines: &mut Lines, words: PlanWords<'_>) -> Result<(), AllocError> {
     let unsent = unsent_in(alloc, words.plan())?;
     if unsent.is_empty() {
         return Ok(());
@@ -124,11 +120,7 @@ fn tell_runs(alloc: Global, lines: &mut Lines, words: PlanWords<'_>, runs: &[Run
 type Run = (u32, u32);
 
 // These messages, those together that follow one another and stand in one place of a brief, as a family does.
-fn runs_of(
-    alloc: Global,
-    words: PlanWords<'_>,
-    messages: &[u32],
-) -> Result<Vec<Run>, AllocError> {
+fn runs_of(alloc: Global, words: PlanWords<'_>, messages: &[u32]) -> Result<Vec<Run>, AllocError> {
     let mut runs: Vec<Run> = Vec::new(alloc);
     let mut open: Option<Run> = None;
     for message in messages {

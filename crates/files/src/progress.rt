@@ -2,9 +2,9 @@
 
 ghost use Rattle.std.specs.Prelude.{◌<◌};
 
-use verdicts::Gate;
 use std::io::{self, Read};
 use std::time::{Clock, Instant};
+use verdicts::Gate;
 
 // After how many tenths of a second the line is there.
 const PATIENCE: u128 = 10;

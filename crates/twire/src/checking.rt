@@ -6,10 +6,9 @@ ghost use Rattle.verdicts.specs.Faults.{AreFaults, fault_list};
 
 use crate::drawings::{Canvas, draw_fault};
 use crate::endings::{Ended, Halt, Remark};
-use crate::styles::Style;
-use files::Comparing;
 use crate::runs::Extras;
 use crate::sources::Sources;
+use crate::styles::Style;
 use brief_text::Origins;
 use cert_check::{Answer, Judged, check_certificate_at};
 use certificate::Refusal;
@@ -17,12 +16,13 @@ use explain::{
     Detail, Mistake, Paint, Reasons, called_by, count_groups, explain_answer, explain_check,
     is_all_checked, kept_apart, mistake_of, reasons_of,
 };
+use files::Comparing;
+use given_plans::GivenPlan;
 use hints::{Found, Hints, on_certificate, on_checked, on_safe};
 use lint::{Oddity, oddities};
 use objects::{write_answer, write_check, write_order, write_scores};
 use order::{Called, Order, order_of, order_report, order_summary, scores_of};
 use plan_core::Plan;
-use given_plans::GivenPlan;
 use plan_words::{PlanWords, sides_of};
 use report::{
     Answered, Checked, Input, NoGate, Output, RunError, Status, answer_line, check_found,

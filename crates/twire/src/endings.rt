@@ -3,10 +3,10 @@
 use crate::inputs::NamedSources;
 use dump_tokens::Window;
 use explain::Seen;
+use given_plans::{NoPlan, RefusedText};
 use hints::{Earlier, Hints, RefusedIn, first_stand, missing_semicolon_at};
 use objects::{Detail, EarlierAt, TextDetail};
 use plan_text::PlanError;
-use given_plans::{NoPlan, RefusedText};
 use report::{RunError, Status};
 use std::alloc::{AllocError, Global};
 use std::io;

@@ -8,13 +8,15 @@ use capture_check::Transaction;
 use decoding::{ExplainedSink, Explaining};
 use dump_tokens::Bus;
 use explain::{CaptureLines, Layout, Paint, Selection};
+use given_plans::GivenPlan;
 use order::{order_of, order_report};
 use page::{Page, Recording, Texts, page_of};
 use plan_core::Plan;
 use plan_text::print_plan;
 use plan_words::PlanWords;
-use given_plans::{GivenPlan};
-use report::{Checked, Input, NoGate, Output, RunError, Status, Watched, check_found, check_report};
+use report::{
+    Checked, Input, NoGate, Output, RunError, Status, Watched, check_found, check_report,
+};
 use run_parts::write_lines;
 use signals::Dump;
 use std::alloc::Global;

@@ -1,16 +1,18 @@
 // Runs over the dump of a recorded bus: each hands what the dump shows to the form that is wanted.
 
 use crate::endings::{Ended, Halt, Recorded, Remark};
-use crate::styles::Style;
 use crate::sources::Sources;
+use crate::styles::Style;
 use decoding::Explaining;
 use dump_tokens::{Bus, BusLines, Limits, Quiet};
 use explain::{CaptureLines, DecodeLines, Layout, Paint, Seen, Selection};
+use given_plans::GivenPlan;
 use objects::{CaptureObjects, DecodeObjects, write_signals};
 use plan_core::Plan;
 use plan_words::PlanWords;
-use given_plans::{GivenPlan};
-use report::{CaptureCounts, CaptureReport, Input, Output, RunError, Status, Telling, live_capture};
+use report::{
+    CaptureCounts, CaptureReport, Input, Output, RunError, Status, Telling, live_capture,
+};
 use run_parts::write_lines;
 use signals::{Dump, Learned, Likeness, Listed, Sights, SignalDump, brief_of, needs_picking};
 use std::alloc::Global;

@@ -2,9 +2,9 @@
 
 use crate::endings::{Halt, Takes};
 use brief_text::{Briefs, Origins};
+use given_plans::{Further, GivenPlan, GivenText, find_further, find_given, given_by};
 use plan_core::Plan;
 use plan_words::{BriefFiles, PlanWords};
-use given_plans::{Further, GivenPlan, GivenText, find_further, find_given, given_by};
 use report::{Input, RunError};
 use std::alloc::Global;
 
