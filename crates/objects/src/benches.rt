@@ -1,10 +1,10 @@
 // Objects of a rehearsal.
 
 use crate::file_lines::{OneAt, one_at};
-use crate::writing::ObjectLines;
 use bench_run::Rehearsal;
 use certificate::push_wire;
 use explain::{Labels, Track, labels_of, tracks_of};
+use object_lines::ObjectLines;
 use plan_words::PlanWords;
 use report::{Output, RunError};
 use serde::Serialize;

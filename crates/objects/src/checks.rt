@@ -2,7 +2,6 @@
 
 use crate::file_lines::all_at;
 use crate::oddities::add_oddities;
-use crate::writing::ObjectLines;
 use causes::{Group, Place};
 use certificate::Fault;
 use explain::{
@@ -11,6 +10,7 @@ use explain::{
 };
 use growing_text::Text;
 use lint::Oddity;
+use object_lines::ObjectLines;
 use plan_core::Plan;
 use plan_words::PlanWords;
 use report::{Checked, Output, RunError};

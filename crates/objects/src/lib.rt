@@ -1,8 +1,8 @@
-//! What runs find as JSON, one object a line, for programs; and refusals and hints.
+//! What runs find as JSON, one object a line, for programs.
 //!
-//! `writing` writes them, and `written` as they come. `checks`, `certificates`, `benches` and `orders` have the objects of what
-//! commands over plans find, `captures`, `decodes` (`transactions` for both) and `listed` those of what a dump shows, and
-//! `refusals` what goes to standard error: each is a plain struct, made of a value.
+//! `written` writes them as they come. `checks`, `certificates`, `benches` and `orders` have the objects of what
+//! commands over plans find, `captures`, `decodes` (`transactions` for both) and `listed` those of what a dump shows: each is a
+//! plain struct, made of a value.
 #![tactic(auto)]
 
 mod benches;
@@ -14,9 +14,7 @@ mod file_lines;
 mod listed;
 mod oddities;
 mod orders;
-mod refusals;
 mod transactions;
-mod writing;
 mod written;
 
 pub use benches::write_rehearsal;
@@ -26,4 +24,3 @@ pub use checks::write_check;
 pub use decodes::DecodeObjects;
 pub use listed::write_signals;
 pub use orders::{write_order, write_scores};
-pub use refusals::{Detail, EarlierAt, TextDetail, hint_objects, refusal_object, timescale_object};

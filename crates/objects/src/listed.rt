@@ -1,6 +1,6 @@
 // Objects of the signals of a dump.
 
-use crate::writing::ObjectLines;
+use object_lines::ObjectLines;
 use run_parts::{Output, RunError};
 use serde::Serialize;
 use signals::{Listed, Pair, Signal};

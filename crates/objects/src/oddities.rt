@@ -1,8 +1,8 @@
 // Objects of what is likely a mistake in briefs.
 
 use crate::file_lines::{At, line_at};
-use crate::writing::ObjectLines;
 use lint::Oddity;
+use object_lines::ObjectLines;
 use plan_core::Plan;
 use plan_words::PlanWords;
 use serde::Serialize;

@@ -1,8 +1,8 @@
 // Objects of who wins.
 
 use crate::file_lines::{BothAt, OneAt, both_at, one_at};
-use crate::writing::ObjectLines;
 use explain::labels_of;
+use object_lines::ObjectLines;
 use order::{Order, Outcomes, Scores, Slots, Total};
 use plan_words::PlanWords;
 use run_parts::{Output, RunError};

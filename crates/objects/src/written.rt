@@ -1,6 +1,6 @@
 // Objects that are written as they come.
 
-use crate::writing::ObjectLines;
+use object_lines::ObjectLines;
 use run_parts::{Output, RunError};
 use serde::Serialize;
 use std::alloc::{AllocError, Global};

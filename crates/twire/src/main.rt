@@ -1,21 +1,10 @@
 //! Checks message plans of controllers and targets that share one two-wire bus.
 #![tactic(auto)]
 
-mod advice;
-mod checking;
-mod drawings;
-mod endings;
-mod inputs;
 mod pages;
-mod recordings;
-mod rehearsals;
-mod rewriting;
 mod runs;
-mod sources;
-mod styles;
 mod tasks;
 mod versions;
-mod voices;
 
 use runs::Terminals;
 use std::io::IsTerminal;

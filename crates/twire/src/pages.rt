@@ -1,22 +1,21 @@
 // The run that writes a page. Each value and each text of it has a function that owns it, and the next one borrows it.
 
-use crate::checking::status_of;
-use crate::endings::{Ended, Halt, Recorded, Remark};
-use crate::recordings::{halted, open};
-use crate::sources::Sources;
 use capture_check::Transaction;
 use decoding::{ExplainedSink, Explaining};
+use dump_runs::{halted, open};
 use dump_tokens::Bus;
 use explain::{CaptureLines, Layout, Paint, Selection};
 use given_plans::GivenPlan;
 use order::{order_of, order_report};
 use page::{Page, Recording, Texts, page_of};
 use plan_core::Plan;
+use plan_runs::status_of;
 use plan_text::print_plan;
 use plan_words::PlanWords;
 use report::{
     Checked, Input, NoGate, Output, RunError, Status, Watched, check_found, check_report,
 };
+use run_ends::{Ended, Halt, Recorded, Remark, Sources};
 use run_parts::write_lines;
 use signals::Dump;
 use std::alloc::Global;

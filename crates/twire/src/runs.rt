@@ -1,59 +1,22 @@
 // What the program does, and the status that it ends with.
 
-use crate::advice::{About, Closing, advise, no_timescale};
-use crate::endings::{Ended, Halt, Remark};
-use crate::inputs::{Inputs, NamedSources, both_read, one_read, open_both, open_sources};
-use crate::styles::Style;
 use crate::tasks::{Over, OverBoth, Task, task_of};
 use crate::versions::version_of;
-use crate::voices::{Voice, refused};
 use command_words::{Asked, Manner, Request, When, read_words};
-use explain::Paint;
 use files::{FilesRead, Form, Sheet, Watcher, is_standard_input};
 use hints::{Named, visible};
-use objects::Detail;
+use object_lines::Detail;
 use report::{RunError, Status, Watched};
+use run_ends::{
+    About, Closing, Ended, Extras, Halt, Inputs, NamedSources, Remark, Voice, advise, both_read,
+    no_timescale, one_read, open_both, open_sources, refused,
+};
 use std::env::{self, VarError};
 use std::io;
 use std::rt::{Env, Files};
 use std::sync::Wait;
 use std::thread::Threads;
 use std::time::Clock;
-
-/// What people get beside the exact report: hints, colours in the report and in hints, and how far a long run is; or that
-/// reports, refusals and hints are objects, for programs.
-#[derive(Clone, Copy)]
-pub struct Extras {
-    pub hints: bool,
-    pub colors_out: bool,
-    pub colors_err: bool,
-    pub is_json: bool,
-    pub watcher: Watcher,
-}
-
-impl Extras {
-    /// How what a run finds is written.
-    pub fn style(self) -> Style {
-        if self.is_json {
-            Style::Objects
-        } else if self.colors_out {
-            Style::Lines(Paint::Colored)
-        } else {
-            Style::Lines(Paint::Plain)
-        }
-    }
-
-    /// How refusals and hints are written.
-    pub fn voice(self) -> Voice {
-        if self.is_json {
-            Voice::Objects
-        } else if self.colors_err {
-            Voice::Colored
-        } else {
-            Voice::Plain
-        }
-    }
-}
 
 /// Which of the standard streams are those of a terminal, where somebody types and sees.
 #[derive(Clone, Copy)]

@@ -1,22 +1,15 @@
 // What a request comes to: a run over one text or over two, and where its report goes.
 
-use crate::advice::{About, names_of, no_lines};
-use crate::checking::{Look, check, order, verify};
-use crate::drawings::Canvas;
-use crate::endings::{Ended, Halt};
-use crate::inputs::NamedSources;
 use crate::pages::{write_page_alone, write_page_with};
-use crate::recordings::{Capture, decode, explain_capture, learn, list_signals};
-use crate::rehearsals::{Play, bench, bench_alone};
-use crate::rewriting::Rewriting;
-use crate::runs::Extras;
-use crate::sources::Sources;
 use command_words::Request;
+use dump_runs::{Capture, decode, explain_capture, learn, list_signals};
 use dump_tokens::{Bus, BusLines, Limits};
 use explain::Detail;
 use files::{FilesRead, Form};
 use hints::Named;
+use plan_runs::{Canvas, Look, Play, Rewriting, bench, bench_alone, check, order, verify};
 use report::{Input, Output};
+use run_ends::{About, Ended, Extras, Halt, NamedSources, Sources, names_of, no_lines};
 use signals::Likeness;
 use std::rt::Files;
 use std::sync::Wait;

@@ -1,8 +1,8 @@
 // Further lines for people on standard error, after a refusal or a report.
 
 use crate::endings::{Recorded, Remark};
+use crate::extras::Extras;
 use crate::inputs::{Inputs, NamedSources};
-use crate::runs::Extras;
 use crate::voices::{Voice, refused_timescale, say};
 use dump_tokens::BusLines;
 use explain::Seen;

@@ -1,8 +1,5 @@
 // Runs over the dump of a recorded bus: each hands what the dump shows to the form that is wanted.
 
-use crate::endings::{Ended, Halt, Recorded, Remark};
-use crate::sources::Sources;
-use crate::styles::Style;
 use decoding::Explaining;
 use dump_tokens::{Bus, BusLines, Limits, Quiet};
 use explain::{CaptureLines, DecodeLines, Layout, Paint, Seen, Selection};
@@ -13,6 +10,7 @@ use plan_words::PlanWords;
 use report::{
     CaptureCounts, CaptureReport, Input, Output, RunError, Status, Telling, live_capture,
 };
+use run_ends::{Ended, Halt, Recorded, Remark, Sources, Style};
 use run_parts::write_lines;
 use signals::{Dump, Learned, Likeness, Listed, Sights, SignalDump, brief_of, needs_picking};
 use std::alloc::Global;

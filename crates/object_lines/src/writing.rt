@@ -11,15 +11,15 @@ const BLOCK: usize = 65_536;
 
 /// Objects, one a line, as they are written.
 #[derive(Drop)]
-pub(crate) struct ObjectLines {
-    pub(crate) alloc: Global,
+pub struct ObjectLines {
+    pub alloc: Global,
     /// What was gathered. An object whose fields are pushed word by word is pushed to it.
-    pub(crate) text: Text,
+    pub text: Text,
 }
 
 impl ObjectLines {
     /// No object yet.
-    pub(crate) fn new(alloc: Global) -> ObjectLines {
+    pub fn new(alloc: Global) -> ObjectLines {
         ObjectLines {
             alloc,
             text: Text::new(alloc),
@@ -27,13 +27,13 @@ impl ObjectLines {
     }
 
     /// One more object.
-    pub(crate) fn add<T: Serialize>(&mut self, object: &T) {
+    pub fn add<T: Serialize>(&mut self, object: &T) {
         self.value(object);
         self.text.push("\n");
     }
 
     /// A field's value, in an object whose fields are pushed.
-    pub(crate) fn value<T: Serialize>(&mut self, value: &T) {
+    pub fn value<T: Serialize>(&mut self, value: &T) {
         // these values have no text that JSON refuses, so an error is out of memory
         match serde_json::to_string(self.alloc, value) {
             Ok(value) => self.text.push(value.as_str()),
@@ -42,12 +42,12 @@ impl ObjectLines {
     }
 
     /// An allocation failed for what would come next.
-    pub(crate) fn cut(&mut self) {
+    pub fn cut(&mut self) {
         self.text.cut();
     }
 
     /// Writes what was gathered, where that is much.
-    pub(crate) fn write_block<O: Output>(&mut self, out: &mut O) -> Result<(), RunError> {
+    pub fn write_block<O: Output>(&mut self, out: &mut O) -> Result<(), RunError> {
         if BLOCK <= self.text.len() || !self.text.is_whole() {
             self.write_all(out)?;
         }
@@ -55,19 +55,19 @@ impl ObjectLines {
     }
 
     /// Writes all that was gathered.
-    pub(crate) fn write_all<O: Output>(&mut self, out: &mut O) -> Result<(), RunError> {
+    pub fn write_all<O: Output>(&mut self, out: &mut O) -> Result<(), RunError> {
         let text = mem::replace(&mut self.text, Text::new(self.alloc)).finish()?;
         write_report(out, text.as_bytes())
     }
 
     /// Writes what is left.
-    pub(crate) fn write_rest<O: Output>(self, out: &mut O) -> Result<(), RunError> {
+    pub fn write_rest<O: Output>(self, out: &mut O) -> Result<(), RunError> {
         let text = self.text.finish()?;
         write_report(out, text.as_bytes())
     }
 
     /// All objects.
-    pub(crate) fn finish(self) -> Result<String, AllocError> {
+    pub fn finish(self) -> Result<String, AllocError> {
         self.text.finish()
     }
 }

@@ -5,10 +5,6 @@ ghost use Rattle.bench_run.specs.Outcomes.{HasWinners};
 
 use crate::checking::{remark_on_answer, tell_answer};
 use crate::drawings::{Canvas, draw_outcome};
-use crate::endings::{Ended, Halt, Remark};
-use crate::runs::Extras;
-use crate::sources::Sources;
-use crate::styles::Style;
 use bench_run::{NoGate, Outcome, Rehearsal, outcome_report, rehearse, status_of_outcome};
 use bus_bench::opening::MOST_SLOTS;
 use explain::{Paint, explain_answer, explain_rehearsal, mistake_of};
@@ -19,6 +15,7 @@ use objects::write_rehearsal;
 use plan_core::Plan;
 use plan_words::PlanWords;
 use report::{Input, Output, RunError, read_within};
+use run_ends::{Ended, Extras, Halt, Remark, Sources, Style};
 use run_parts::devices::reading::READS;
 use run_parts::write_lines;
 use std::alloc::{AllocError, Global};

@@ -5,7 +5,7 @@ use dump_tokens::Window;
 use explain::Seen;
 use given_plans::{NoPlan, RefusedText};
 use hints::{Earlier, Hints, RefusedIn, first_stand, missing_semicolon_at};
-use objects::{Detail, EarlierAt, TextDetail};
+use object_lines::{Detail, EarlierAt, TextDetail};
 use plan_text::PlanError;
 use report::{RunError, Status};
 use std::alloc::{AllocError, Global};

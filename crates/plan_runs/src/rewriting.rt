@@ -1,12 +1,11 @@
 // Runs that write a text in another form.
 
-use crate::endings::{Ended, Halt, Remark, Takes};
-use crate::sources::Sources;
 use given_plans::{NoPlan, RefusedText};
 use hints::on_no_brief;
 use plan_core::Plan;
 use plan_text::{Language, NoBrief, Refused, read_plan_at};
 use report::{Input, Output, RunError, Status, certify_found, read_within};
+use run_ends::{Ended, Halt, Remark, Sources, Takes};
 use run_parts::devices::reading::READS;
 use run_parts::write_lines;
 use spellings::{brief_of, print_found};

@@ -5,10 +5,6 @@ ghost use Rattle.plan_core.specs.PlanContents.{plan_contents};
 ghost use Rattle.verdicts.specs.Faults.{AreFaults, fault_list};
 
 use crate::drawings::{Canvas, draw_fault};
-use crate::endings::{Ended, Halt, Remark};
-use crate::runs::Extras;
-use crate::sources::Sources;
-use crate::styles::Style;
 use brief_text::Origins;
 use cert_check::{Answer, Judged, check_certificate_at};
 use certificate::Refusal;
@@ -28,6 +24,7 @@ use report::{
     Answered, Checked, Input, NoGate, Output, RunError, Status, answer_line, check_found,
     check_report, read_within, status_of_answer, verify_found,
 };
+use run_ends::{Ended, Extras, Halt, Remark, Sources, Style};
 use run_parts::devices::reading::READS;
 use run_parts::write_lines;
 use std::alloc::{AllocError, Global};

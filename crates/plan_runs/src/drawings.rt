@@ -1,12 +1,10 @@
 // Waves that are drawn into a file.
 
-use crate::endings::Halt;
-use crate::runs::Extras;
-use crate::voices::say;
 use bench_run::Outcome;
 use files::{FilesRead, Form, Sheet};
 use hints::on_no_waves;
 use report::{Checked, Status, Watched};
+use run_ends::{Extras, Halt, say};
 use run_parts::write_lines;
 use std::rt::Files;
 use std::time::Clock;

@@ -1,12 +1,12 @@
 // What is read: files that the command line names, or standard input.
 
 use crate::advice::{advise_on_closed_input, advise_on_opening};
-use crate::runs::Extras;
+use crate::extras::Extras;
 use crate::sources::Sources;
 use crate::voices::refused;
 use files::{FileId, Source, is_standard_input, missing, open_file};
 use hints::Named;
-use objects::Detail;
+use object_lines::Detail;
 use plan_words::BriefFiles;
 use report::{Input as _, Opened, RunError};
 use std::io;

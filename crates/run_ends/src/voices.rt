@@ -1,7 +1,7 @@
 // What goes to standard error: refusals, and hints for people.
 
 use hints::{Hints, shown};
-use objects::{Detail, TextDetail, hint_objects, refusal_object, timescale_object};
+use object_lines::{Detail, TextDetail, hint_objects, refusal_object, timescale_object};
 use report::RunError;
 use std::alloc::{AllocError, Global};
 

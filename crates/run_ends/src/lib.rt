@@ -1,0 +1,22 @@
+//! What a run of the program is over, and how it ends: the files that it reads, its refusals, and hints for people.
+//!
+//! `inputs` opens the files of a run, each once, and says which cannot be opened. `sources` has what gives a plan: one text, or
+//! several briefs. `endings` says how a run has ended, and what is to be said of it; `advice` says that, and `voices` how it
+//! sounds: as lines, or as JSON. `extras` has what people get beside the exact report, and `styles` how a report is written.
+#![tactic(auto)]
+
+mod advice;
+mod endings;
+mod extras;
+mod inputs;
+mod sources;
+mod styles;
+mod voices;
+
+pub use advice::{About, Closing, advise, names_of, no_lines, no_timescale};
+pub use endings::{Ended, Halt, Recorded, RefusedSource, Remark, Takes};
+pub use extras::Extras;
+pub use inputs::{Inputs, NamedSources, both_read, one_read, open_both, open_sources};
+pub use sources::Sources;
+pub use styles::Style;
+pub use voices::{Voice, refused, say};
