@@ -54,10 +54,11 @@ impl Sides {
 
 // What the side of a participant is called.
 fn name_of(alloc: Global, words: PlanWords<'_>, p: u32) -> Result<String, AllocError> {
-    if words.plan().participants() <= p {
+    let plan = words.plan();
+    if plan.participants() <= p {
         return Ok(String::new(alloc));
     }
-    match words.plan().participant(p) {
+    match plan.participant(p) {
         Participant::Sending { controller, .. } => {
             let mut text = Text::new(alloc);
             text.push(words.name(controller));
