@@ -229,8 +229,8 @@ sed '1,2d' three >no_scale
 expect "a unit, and a dump without one" 2 "" "refused timescale" decode no_scale --from 5us
 expect "the same for pulses" 2 "" "refused timescale" decode no_scale --min-pulse 5us
 expect "plain times in their place" 0 "$("$twire" decode three)" "" decode no_scale --times si
-refuses "a time that is none" "the value for '--from <TIME>' is no time as 15 or 15us" decode header --from 1.5us
-refuses "a pulse of no time" "the value for '--min-pulse <T>' is no time as 15 or 15us" decode header --min-pulse 5min
+refuses "a time that is none" "the value for '--from <TIME>' is no time as 15 or 1.5us" decode header --from 1.5.5us
+refuses "a pulse of no time" "the value for '--min-pulse <T>' is no time as 15 or 1.5us" decode header --min-pulse 5min
 refuses "two ways for SCL" "'--scl' and '--scl-code' both say which signal is SCL: give one" decode header --scl a --scl-code b
 refuses "an option of captures" "unexpected argument '--at-least' found" decode header --at-least 1
 refuses "another option of captures" "unexpected argument '--explain' found" decode header --explain

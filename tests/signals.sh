@@ -512,7 +512,7 @@ no_clock=$'5-160 unexplained\n1 transactions, 1 unexplained'
 expect "a hint on a clock that is left out" 1 "$no_clock" "$lost_clock" capture plan two --min-pulse 6 --scope top.i2c0 --hints always
 expect "the same by a unit" 1 "$no_clock" "$lost_clock" capture plan two --min-pulse 5001ns --scope top.i2c0 --hints always
 expect "no hint on one that is not" 0 "$first" "" capture plan two --min-pulse 5 --scope top.i2c0 --hints always
-refuses "a pulse of no time" "the value for '--min-pulse <T>' is no time as 15 or 15us" capture plan two --min-pulse 1.5us
+refuses "a pulse of no time" "the value for '--min-pulse <T>' is no time as 15 or 1.5us" capture plan two --min-pulse 1.5.5us
 
 # ---- signals without short pulses, and within times: SCL of the first bus rises at 20, 35 and so on to 140, and at 155, and
 # falls at 10, 25 and so on to 145; SDA changes at 5, 15, 30, 60, 75 and 160. Those of the second bus change at 200 to 355.
@@ -593,9 +593,9 @@ hint:   sda
 hint: give the name that the line has in the file with --scl NAME
 hint: two signals look like a bus; try
 hint:   twire decode glitch --scl-code '!' --sda-code '\"'" decode glitch --scl sck --min-pulse 2 --hints always
-refuses "a pulse of signals of no time" "the value for '--min-pulse <T>' is no time as 15 or 15us" signals two --min-pulse us
-refuses "a time of signals that is none" "the value for '--from <TIME>' is no time as 15 or 15us" signals two --from 1.5us
-refuses "another time of signals that is none" "the value for '--to <TIME>' is no time as 15 or 15us" signals two --to 5min
+refuses "a pulse of signals of no time" "the value for '--min-pulse <T>' is no time as 15 or 1.5us" signals two --min-pulse us
+refuses "a time of signals that is none" "the value for '--from <TIME>' is no time as 15 or 1.5us" signals two --from 1.5.5us
+refuses "another time of signals that is none" "the value for '--to <TIME>' is no time as 15 or 1.5us" signals two --to 5min
 refuses "how times of signals are written" "unexpected argument '--times' found" signals two --times si
 
 # ---- lines that are exchanged
@@ -619,10 +619,10 @@ refuses "both ways for SDA" "'--sda' and '--sda-code' both say which signal is S
     learn two --sda sda --sda-code '#'
 refuses "a scope for codes" "'--scope' is where names are looked for, and codes need none" \
     capture plan two --scl-code '#' --sda-code '$' --scope top
-refuses "a time that is none" "the value for '--from <TIME>' is no time as 15 or 15us" capture plan two --from 1.5us
-refuses "a time that is too great" "the value for '--to <TIME>' is no time as 15 or 15us" \
+refuses "a time that is none" "the value for '--from <TIME>' is no time as 15 or 1.5us" capture plan two --from 1.5.5us
+refuses "a time that is too great" "the value for '--to <TIME>' is no time as 15 or 1.5us" \
     capture plan two --to 18446744073709551616
-refuses "a unit that is none" "the value for '--to <TIME>' is no time as 15 or 15us" capture plan two --to 5min
+refuses "a unit that is none" "the value for '--to <TIME>' is no time as 15 or 1.5us" capture plan two --to 5min
 refuses "a summary that is explained" "'--summary' leaves no transactions for '--explain'" \
     capture plan two --summary --explain
 
@@ -910,7 +910,7 @@ expect "odd times in parts of a second" 1 'brief 1
 #   byte, or no byte between two
 
 controller seen ;' "" learn parts_glitch --to 5 --times si
-refuses "a time to learn from that is none" "the value for '--from <TIME>' is no time as 15 or 15us" learn parts --from x
+refuses "a time to learn from that is none" "the value for '--from <TIME>' is no time as 15 or 1.5us" learn parts --from x
 refuses "a summary of what is learned" "unexpected argument '--summary' found" learn parts --summary
 expect "a signal that is not there" 2 "" "refused V1 scl" learn blanks
 

@@ -93,13 +93,13 @@ impl<'a> Options<'a> {
             return Some("'--scope' is where names are looked for, and codes need none");
         }
         if is_no_time(self.min_pulse) {
-            return Some("the value for '--min-pulse <T>' is no time as 15 or 15us");
+            return Some("the value for '--min-pulse <T>' is no time as 15 or 1.5us");
         }
         if is_no_time(self.from) {
-            return Some("the value for '--from <TIME>' is no time as 15 or 15us");
+            return Some("the value for '--from <TIME>' is no time as 15 or 1.5us");
         }
         if is_no_time(self.to) {
-            return Some("the value for '--to <TIME>' is no time as 15 or 15us");
+            return Some("the value for '--to <TIME>' is no time as 15 or 1.5us");
         }
         if self.summary && self.explain {
             return Some("'--summary' leaves no transactions for '--explain'");

@@ -15,20 +15,12 @@ pub struct Scale {
 impl Scale {
     /// Reads what stands in a `$timescale`, with its white space left out: 1, 10 or 100 and a unit, as `10ns`.
     pub fn read(text: &str) -> Option<Scale> {
-        let Time {
-            number,
-            unit: Some(unit),
-        } = Time::read(text)?
-        else {
-            return None;
-        };
-        let number = match number {
-            1 => 1,
-            10 => 10,
-            100 => 100,
-            _ => return None,
-        };
-        Some(Scale { number, unit })
+        for number in [1u8, 10, 100] {
+            if let Some(unit) = unit_after(text, number) {
+                return Some(Scale { number, unit });
+            }
+        }
+        None
     }
 
     // So many steps, in femtoseconds: below 2 to the power 121.
@@ -40,26 +32,37 @@ impl Scale {
 
     /// How a time of the dump stands to one that people wrote: one without a unit counts steps of the dump.
     pub fn compare(self, time: u64, other: Time) -> Ordering {
-        match other.unit {
-            None => time.cmp(&other.number),
-            Some(unit) => {
-                let other = u128::from(other.number).saturating_mul(unit.femtoseconds());
-                self.femtoseconds(time).cmp(&other)
-            }
+        match other {
+            Time::Steps(steps) => time.cmp(&steps),
+            Time::Span(femtoseconds) => self.femtoseconds(time).cmp(&femtoseconds),
         }
     }
 
     /// A time of a dump as people write it: the greatest unit of which it has at least one, with as many digits after the
     /// point as it takes, as `15.5 us`.
     pub fn told(self, alloc: Global, time: u64) -> Result<String, AllocError> {
-        let time = self.femtoseconds(time);
-        for unit in UNITS {
-            if time >= unit.femtoseconds() {
-                return told_in(alloc, time, unit);
-            }
-        }
-        String::from_str(alloc, "0 s")
+        told(alloc, self.femtoseconds(time))
     }
+}
+
+// The unit after this number, where the text is both.
+fn unit_after(text: &str, number: u8) -> Option<Unit> {
+    let unit = match number {
+        1 => text.strip_prefix("1"),
+        10 => text.strip_prefix("10"),
+        _ => text.strip_prefix("100"),
+    };
+    Unit::of(unit?)
+}
+
+/// So many femtoseconds in the greatest unit of which these are at least one.
+pub(crate) fn told(alloc: Global, femtoseconds: u128) -> Result<String, AllocError> {
+    for unit in UNITS {
+        if femtoseconds >= unit.femtoseconds() {
+            return told_in(alloc, femtoseconds, unit);
+        }
+    }
+    String::from_str(alloc, "0 s")
 }
 
 fn told_in(alloc: Global, time: u128, unit: Unit) -> Result<String, AllocError> {

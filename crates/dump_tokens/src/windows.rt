@@ -102,7 +102,7 @@ impl Limits {
 /// Whether it has a unit.
 pub fn has_unit(time: Option<Time>) -> bool {
     match time {
-        Some(time) => time.unit.is_some(),
+        Some(time) => time.has_unit(),
         None => false,
     }
 }
@@ -110,8 +110,8 @@ pub fn has_unit(time: Option<Time>) -> bool {
 /// The least number of steps of a dump that are at least this time, where the dump says what they count or the time counts
 /// steps; at most 2 to the power 64, less one.
 pub fn steps(scale: Option<Scale>, time: Time) -> Option<u64> {
-    if time.unit.is_none() {
-        return Some(time.number);
+    if let Time::Steps(steps) = time {
+        return Some(steps);
     }
     let scale = scale?;
     let mut below = 0u64;
@@ -130,8 +130,10 @@ pub fn steps(scale: Option<Scale>, time: Time) -> Option<u64> {
 }
 
 fn compare(scale: Option<Scale>, time: u64, other: Time) -> Ordering {
-    match scale {
-        Some(scale) => scale.compare(time, other),
-        None => time.cmp(&other.number),
+    match (scale, other) {
+        (Some(scale), _) => scale.compare(time, other),
+        (None, Time::Steps(steps)) => time.cmp(&steps),
+        // (such a dump is refused with a time that has a unit)
+        (None, Time::Span(_)) => Ordering::Equal,
     }
 }

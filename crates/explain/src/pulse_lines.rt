@@ -13,11 +13,7 @@ pub(crate) fn pulse_line(alloc: Global, quiet: Quiet, short: u64) -> Result<Stri
         line.push_number(short);
         line.push(if is_one { " pulse" } else { " pulses" });
         line.push(" shorter than ");
-        line.push_number(time.number);
-        if let Some(unit) = time.unit {
-            line.push(" ");
-            line.push(unit.symbol());
-        }
+        line.push_made(time.told(alloc));
         line.push(if is_one { " was" } else { " were" });
         line.push(" left out\n");
     }
