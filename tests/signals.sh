@@ -487,6 +487,9 @@ expect "each level counts" 1 "$torn" "" capture plan glitch --min-pulse 0
 expect "a glitch by a unit" 0 "$first" "" capture plan glitch --min-pulse 2us
 expect "one that lasts just so long by a unit" 1 "$torn" "" capture plan glitch --min-pulse 1us
 expect "a part of a step more" 0 "$first" "" capture plan glitch --min-pulse 1000001ps
+expect "a glitch by a decimal number" 0 "$first" "" capture plan glitch --min-pulse 1.000001us
+expect "one that lasts just so long by a decimal number" 1 "$torn" "" capture plan glitch --min-pulse 0.001ms
+expect "a glitch by a unit after a blank" 0 "$first" "" capture plan glitch --min-pulse '1.5 us'
 expect "a unit without a scale for pulses" 2 "" "refused timescale" capture plan glitch_no_scale --min-pulse 2us
 expect "steps without a scale" 0 "$first" "" capture plan glitch_no_scale --min-pulse 2
 expect "a line that chatters" 0 "$first" "" capture plan chatter --min-pulse 2
@@ -497,6 +500,10 @@ expect "nothing to leave out" 0 "$first" "" capture plan two --min-pulse 5
 expect "pulses in one of two scopes" 0 "$first" "" capture plan glitch --min-pulse 2us --scope top.i2c0
 expect "pulses and times" 0 $'5 us-160 us a/m\n1 transactions, 0 unexplained' "" \
     capture plan glitch --min-pulse 2us --times si
+expect "a decimal number is told in the greatest unit" 0 '5-160 a/m
+    S 48 Wr A P
+    1 pulse shorter than 1.5 us was left out
+1 transactions, 0 unexplained' "" capture plan glitch --min-pulse 0.0015ms --explain
 expect "a pulse is counted" 0 '5-160 a/m
     S 48 Wr A P
     1 pulse shorter than 2 us was left out
@@ -620,6 +627,11 @@ refuses "both ways for SDA" "'--sda' and '--sda-code' both say which signal is S
 refuses "a scope for codes" "'--scope' is where names are looked for, and codes need none" \
     capture plan two --scl-code '#' --sda-code '$' --scope top
 refuses "a time that is none" "the value for '--from <TIME>' is no time as 15 or 1.5us" capture plan two --from 1.5.5us
+refuses "a part of a femtosecond" "the value for '--to <TIME>' is no time as 15 or 1.5us" capture plan two --to 1.5fs
+refuses "a decimal number of steps" "the value for '--to <TIME>' is no time as 15 or 1.5us" capture plan two --to 1.5
+refuses "a point without digits" "the value for '--to <TIME>' is no time as 15 or 1.5us" capture plan two --to 1.us
+refuses "two blanks" "the value for '--to <TIME>' is no time as 15 or 1.5us" capture plan two --to '1  us'
+refuses "a blank without a unit" "the value for '--to <TIME>' is no time as 15 or 1.5us" capture plan two --to '1 '
 refuses "a time that is too great" "the value for '--to <TIME>' is no time as 15 or 1.5us" \
     capture plan two --to 18446744073709551616
 refuses "a unit that is none" "the value for '--to <TIME>' is no time as 15 or 1.5us" capture plan two --to 5min

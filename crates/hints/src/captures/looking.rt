@@ -273,9 +273,10 @@ impl Clock {
     }
 
     fn is_short(&self, lasted: u64) -> bool {
-        match self.scale {
-            Some(scale) => scale.compare(lasted, self.least) == Ordering::Less,
-            None => self.least.unit.is_none() && lasted < self.least.number,
+        match (self.scale, self.least) {
+            (Some(scale), least) => scale.compare(lasted, least) == Ordering::Less,
+            (None, Time::Steps(least)) => lasted < least,
+            (None, Time::Span(_)) => false,
         }
     }
 }
