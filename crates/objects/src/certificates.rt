@@ -95,7 +95,7 @@ pub fn write_answer<O: Output>(
             };
             lines.add(&object_of(answer, Some(why)));
         }
-        Some(Mistake::Text) | None => lines.add(&object_of(answer, None)),
+        Some(Mistake::Text | Mistake::Unsafe { .. }) | None => lines.add(&object_of(answer, None)),
     }
     lines.write_rest(out)
 }
