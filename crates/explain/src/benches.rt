@@ -3,7 +3,7 @@
 use crate::below::{begin, begin_titled, pad, room_after};
 use crate::cells::{Cell, cells_of};
 use crate::labels::Labels;
-use crate::rows::beside;
+use crate::rows::{ALIKE, beside};
 use crate::tracks::Track;
 use growing_text::{Lines, Text};
 use message_tree::Item;
@@ -87,7 +87,7 @@ fn tell_alike(lines: &mut Lines, bytes: usize) {
         begin(lines);
         lines.word("..");
         lines.number(bytes as u64, "");
-        lines.words("bytes alike ..");
+        lines.words(ALIKE);
         lines.end();
     }
 }

@@ -5,13 +5,19 @@ use crate::faults::{bus_row, row_of, tell_item};
 use crate::glitches::{Cut, Cuts};
 use crate::labels::Labels;
 use crate::leaving::{Leaves, NEAREST, bytes_until, mark_words, nearest, offer_words};
-use crate::rows::tell_rows;
+use crate::rows::{ALIKE, BYTES, ends_byte, tell_rows};
 use crate::words::bytes_of;
 use capture_check::{Mark, Transaction, Until};
 use growing_text::{Lines, Text};
 use plan_core::Plan;
 use plan_words::PlanWords;
 use std::alloc::{AllocError, Global};
+
+// How many columns bytes have at most that are always shown.
+const SHORT: usize = 52;
+
+// How many bytes are shown rather than counted.
+const FEW: usize = 4;
 
 /// What is said below the line of a transaction: its bytes, and where a STOP ended it whether a byte was cut short, and, where
 /// nobody explains it, which participants go along with it furthest, where each leaves it, and where it stands in a brief.
@@ -58,14 +64,45 @@ fn tell_rows_of(
             sent.push((bytes_until(alloc, plan, *near, marks)?, *near))?;
         }
     }
-    let bus = bytes_of(alloc, marks)?;
+    let said = if sent.is_empty() { BYTES } else { ALIKE };
+    let bus = bus_until(alloc, bytes_of(alloc, marks)?, sent.first())?;
     let mut rows = Vec::new(alloc);
     rows.push(bus_row(bus.as_str()))?;
     for (bytes, near) in &sent {
         rows.push(row_of(labels.of(near.participant), bytes.as_str(), near.offered))?;
     }
-    tell_rows(lines, rows.as_slice());
+    tell_rows(lines, rows.as_slice(), said);
     Ok(())
+}
+
+// The bytes on the bus: where they are many, up to the one in which the last one leaves who goes along, and how many come
+// after it.
+fn bus_until(
+    alloc: Global,
+    bus: String,
+    furthest: Option<&(String, Leaves)>,
+) -> Result<String, AllocError> {
+    let Some((bytes, _)) = furthest else {
+        return Ok(bus);
+    };
+    let shown = bytes.as_str().split(' ').count();
+    let mut text = Text::new(alloc);
+    let mut more = 0usize;
+    for (k, word) in bus.as_str().split(' ').enumerate() {
+        if shown < k {
+            more = more.saturating_add(usize::from(ends_byte(word)));
+        } else {
+            text.push(if k == 0 { "" } else { " " });
+            text.push(word);
+        }
+    }
+    if bus.len() <= SHORT || more < FEW {
+        return Ok(bus);
+    }
+    text.push(" .. ");
+    text.push_number(more as u64);
+    text.push(" bytes more");
+    text.finish()
 }
 
 /// What is said below a transaction after which so many bits came on the free bus, as if its STOP had been none.

@@ -2,9 +2,11 @@
 
 use crate::below::{begin, say, say_all};
 use crate::breaks::{Break, Reason};
-use crate::faults::tell_places;
+use crate::faults::{row_of, tell_places};
 use crate::group_lines::{tell_alone, tell_two};
+use crate::meetings::Side;
 use crate::mistakes::Mistake;
+use crate::rows::{BYTES, tell_rows};
 use growing_text::{Lines, Text};
 use plan_words::PlanWords;
 use std::alloc::{AllocError, Global};
@@ -14,7 +16,7 @@ const NOT_SO: &str = "what the certificate says is not so";
 const AFTER_A_CHANGE: &str = "a plan that was changed wants a new certificate: twire certify PLAN";
 
 const AFTER_A_FAULT: &str =
-    "a certificate has one unsafe pair; all of them, in groups: twire check --explain PLAN";
+    "a certificate names one pair; all, in groups: twire check --explain PLAN";
 
 const AFTER_A_CUT: &str = "so it is no whole certificate: twire certify PLAN writes one";
 
@@ -35,8 +37,12 @@ pub(crate) fn below_mistake(
         Mistake::Pair {
             participants,
             found,
+            sides,
             ..
         } => {
+            if let Some(sides) = sides {
+                tell_two_rows(alloc, &mut lines, words, *participants, sides)?;
+            }
             if let Some(found) = found {
                 tell_break(alloc, &mut lines, *found);
             }
@@ -80,6 +86,24 @@ fn tell_said(lines: &mut Lines, said: u32) {
     lines.words("its second line says that it has");
     lines.number(u64::from(said), "");
     lines.end();
+}
+
+// What both send up to where their proof breaks off.
+fn tell_two_rows(
+    alloc: Global,
+    lines: &mut Lines,
+    words: PlanWords<'_>,
+    both: (u32, u32),
+    sides: &(Side, Side),
+) -> Result<(), AllocError> {
+    let first = words.label(alloc, both.0)?;
+    let second = words.label(alloc, both.1)?;
+    let rows = [
+        row_of(first.as_str(), sides.0.bytes.as_str(), sides.0.next),
+        row_of(second.as_str(), sides.1.bytes.as_str(), sides.1.next),
+    ];
+    tell_rows(lines, &rows, BYTES);
+    Ok(())
 }
 
 fn tell_break(alloc: Global, lines: &mut Lines, found: Break) {

@@ -4,7 +4,7 @@ use crate::below::{begin, say, say_all};
 use crate::meetings::{Meeting, Rule, Side};
 use crate::mends::{Mends, Never};
 use crate::rewritten::tell_families;
-use crate::rows::{Row, tell_rows};
+use crate::rows::{ALIKE, Row, tell_rows};
 use crate::sending::deed;
 use growing_text::{Lines, Text};
 use places::Offered;
@@ -49,7 +49,7 @@ fn tell_sides(alloc: Global, lines: &mut Lines, labels: (&str, &str), meeting: &
         row_of(labels.0, first.bytes.as_str(), first.next),
         row_of(labels.1, second.bytes.as_str(), second.next),
     ];
-    tell_rows(lines, &rows);
+    tell_rows(lines, &rows, ALIKE);
     tell_reason(alloc, lines, meeting);
     tell_open(alloc, lines, labels.0, first);
     tell_open(alloc, lines, labels.1, second);

@@ -21,7 +21,7 @@ pub(crate) fn tell_alone(
 ) -> Result<(), AllocError> {
     let (number, both) = pair;
     begin(lines);
-    lines.words("as pair");
+    lines.word("pair");
     lines.number(number as u64, ":");
     lines.end();
     let meeting = meeting_of(alloc, words.plan(), both, fault.wire.as_slice())?;

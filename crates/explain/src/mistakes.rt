@@ -5,6 +5,8 @@ ghost use Rattle.plan_core.specs.PlanContents.{plan_contents};
 ghost use Rattle.plan_core.specs.Pairs.{pairs_of};
 
 use crate::breaks::{Break, break_of};
+use crate::broken::sides_at;
+use crate::meetings::Side;
 use cert_check::Answer;
 use certificate::{CertError, CertFault, Fault, Head, read_head};
 use plan_core::Plan;
@@ -23,8 +25,9 @@ pub enum Mistake {
     Pair {
         pair: u32,
         participants: (u32, u32),
-        /// Where the line of its proof breaks off, where the certificate has proofs.
+        /// Where the line of its proof breaks off, and what both send up to there, where the certificate has proofs.
         found: Option<Break>,
+        sides: Option<(Side, Side)>,
     },
     /// The plan has so many pairs, and the certificate so many lines of proofs. Its second line says that it has so
     /// many.
@@ -80,14 +83,19 @@ fn misproved_pair(alloc: Global, plan: &Plan, cert: &[u8], pair: u32) -> Result<
     requires { pair < length (pairs_of (plan_contents plan.now)) }
 {
     let participants = plan.pair(pair);
-    let found = match proof_line(cert, pair) {
-        Some(proof) => break_of(alloc, plan, participants, proof)?,
-        None => None,
-    };
+    let mut found = None;
+    let mut sides = None;
+    if let Some(proof) = proof_line(cert, pair) {
+        found = break_of(alloc, plan, participants, proof)?;
+        if let Some(it) = found {
+            sides = Some(sides_at(alloc, plan, participants, proof, it.word)?);
+        }
+    }
     Ok(Mistake::Pair {
         pair,
         participants,
         found,
+        sides,
     })
 }
 

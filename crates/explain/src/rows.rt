@@ -12,6 +12,11 @@ const ABOVE: usize = 5;
 // How many words at the beginning of a row are never left out: START, address, direction and acknowledge.
 const KEPT: usize = 4;
 
+/// What is said of bytes that are left out, after how many they are: of those that all rows have, and of others.
+pub(crate) const ALIKE: &str = "bytes alike ..";
+
+pub(crate) const BYTES: &str = "bytes ..";
+
 // What stands before what comes next.
 const NEXT: &str = "next:";
 
@@ -53,8 +58,8 @@ impl LeftOut {
     }
 }
 
-// Whether a byte ends with this word, its acknowledge.
-fn ends_byte(word: &str) -> bool {
+/// Whether a byte ends with this word, its acknowledge.
+pub(crate) fn ends_byte(word: &str) -> bool {
     matches!(word, "A" | "NA" | "A/NA")
 }
 
@@ -121,10 +126,10 @@ impl Row<'_> {
     }
 }
 
-/// The rows, each on one line, with their words beside the titles. Where one of them has no room, a count stands for bytes
-/// after its first one, for the same ones in each row: what all send alike stays one below the other. Titles that are long have
+/// The rows, each on one line, with their words beside the titles. Where one of them has no room, a count with this stands for
+/// bytes after its first one, for the same ones in each row: what all send alike stays one below the other. Titles that are long have
 /// lines of their own, and so have shorter ones where the rows have no room beside them.
-pub(crate) fn tell_rows(lines: &mut Lines, rows: &[Row<'_>]) {
+pub(crate) fn tell_rows(lines: &mut Lines, rows: &[Row<'_>], said: &str) {
     let shape = shape_of(rows);
     let mut width = 0usize;
     for row in rows {
@@ -132,11 +137,6 @@ pub(crate) fn tell_rows(lines: &mut Lines, rows: &[Row<'_>]) {
             width = width.max(row.width(row.shown_in(shape)));
         }
     }
-    let said = if rows.len() == 1 {
-        "bytes .."
-    } else {
-        "bytes alike .."
-    };
     for row in rows {
         begin_titled(lines, row.title, shape.columns);
         tell_row(lines, *row, row.shown_in(shape), width, said);
