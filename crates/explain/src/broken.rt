@@ -67,7 +67,10 @@ fn steps_to(alloc: Global, line: &[u8], word: u32) -> Result<Vec<Step>, AllocErr
 fn turn(steps: &mut Vec<Step>) -> Result<(), AllocError> {
     for _ in 0..steps.len() {
         match steps.pop() {
-            Some(Step::Byte(false) | Step::Reads) => return steps.push(Step::Byte(true)),
+            Some(Step::Byte(false) | Step::Reads) => {
+                steps.push(Step::Byte(true))?;
+                return Ok(());
+            }
             _ => {}
         }
     }
@@ -97,7 +100,8 @@ fn push_step(
         Step::Again => {
             both.pass(Item::Again);
             first.push(Item::Again)?;
-            second.push(Item::Again)
+            second.push(Item::Again)?;
+            Ok(())
         }
     }
 }
@@ -124,7 +128,8 @@ fn push_byte(wire: &mut Vec<Item>, start: Place<'_>, answer: bool) -> Result<(),
         }
         wire.push(item)?;
     }
-    wire.push(Item::Heard(answer))
+    wire.push(Item::Heard(answer))?;
+    Ok(())
 }
 
 // So many bytes of a target, the last one not acknowledged.

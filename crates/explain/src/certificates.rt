@@ -98,12 +98,16 @@ fn tell_two_rows(
 ) -> Result<(), AllocError> {
     let first = words.label(alloc, both.0)?;
     let second = words.label(alloc, both.1)?;
+    tell_sides(lines, (first.as_str(), second.as_str()), &sides.0, &sides.1);
+    Ok(())
+}
+
+fn tell_sides(lines: &mut Lines, labels: (&str, &str), first: &Side, second: &Side) {
     let rows = [
-        row_of(first.as_str(), sides.0.bytes.as_str(), sides.0.next),
-        row_of(second.as_str(), sides.1.bytes.as_str(), sides.1.next),
+        row_of(labels.0, first.bytes.as_str(), first.next),
+        row_of(labels.1, second.bytes.as_str(), second.next),
     ];
     tell_rows(lines, &rows, BYTES);
-    Ok(())
 }
 
 fn tell_break(alloc: Global, lines: &mut Lines, found: Break) {
