@@ -1,6 +1,6 @@
 // What the two of a pair send up to a word of its proof.
 
-use crate::breaks::{Both, is_blank, start_of};
+use crate::breaks::{Both, Break, is_blank, start_of};
 use crate::meetings::{Side, side_of};
 use message_tree::{Bit, Item};
 use places::{Offered, Place};
@@ -20,8 +20,8 @@ enum Step {
     Again,
 }
 
-/// What both send up to this word of the line of their proof, each along a wire of its own: the proof need not say that they
-/// send alike.
+/// What both send up to where the line of their proof breaks off, each along a wire of its own: the proof need not say that
+/// they send alike.
 ///
 /// # Errors
 ///
@@ -31,13 +31,13 @@ pub(crate) fn sides_at(
     plan: &Plan,
     pair: (u32, u32),
     line: &[u8],
-    word: u32,
+    found: Break,
 ) -> Result<(Side, Side), AllocError> {
     let mut first = Vec::new(alloc);
     let mut second = Vec::new(alloc);
     if let Some(mut both) = start_of(plan, pair) {
-        for step in &steps_to(alloc, line, word)? {
-            push_step(&mut both, *step, &mut first, &mut second)?;
+        for step in &steps_to(alloc, line, found.word)? {
+            push_step(&mut both, *step, found.slot, &mut first, &mut second)?;
         }
     }
     let first = side_of(alloc, plan, pair.0, first.as_slice())?;
@@ -77,9 +77,11 @@ fn turn(steps: &mut Vec<Step>) -> Result<(), AllocError> {
     Ok(())
 }
 
+// A step of both, of reads as far as to this slot.
 fn push_step(
     both: &mut Both<'_>,
     step: Step,
+    slot: u32,
     first: &mut Vec<Item>,
     second: &mut Vec<Item>,
 ) -> Result<(), AllocError> {
@@ -88,7 +90,10 @@ fn push_step(
         Step::Reads => {
             push_bytes(both, false, first, second)?;
             let before = both.slot;
-            both.pass_reads();
+            let mut ended = *both;
+            if ended.pass_reads() && ended.slot <= slot {
+                *both = ended;
+            }
             let bytes = both
                 .slot
                 .saturating_sub(before)

@@ -88,7 +88,7 @@ fn misproved_pair(alloc: Global, plan: &Plan, cert: &[u8], pair: u32) -> Result<
     if let Some(proof) = proof_line(cert, pair) {
         found = break_of(alloc, plan, participants, proof)?;
         if let Some(it) = found {
-            sides = Some(sides_at(alloc, plan, participants, proof, it.word)?);
+            sides = Some(sides_at(alloc, plan, participants, proof, it)?);
         }
     }
     Ok(Mistake::Pair {
