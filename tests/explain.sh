@@ -393,10 +393,11 @@ want 0 "accepted safe" ""
 run "nothing is said below an acceptance" verify --explain "$examples/two_writers.plan" two.cert
 sed 's/P6/P5/' two.cert >wrong.cert
 want 2 "wrong C5 pair 1
-    pair 1 is main/write_limit and guard/write_alarm: what the certificate says
-    of them is not so
-    it breaks off at word 2, in slot 9: no bit of this number is known in both
-    and different there
+    main/write_limit   S 48 Wr A 01  next: a data bit
+    guard/write_alarm  S 48 Wr A 01  next: a data bit
+    slot 9, word 2 of its proof: no bit of this number is known in both and
+    different there
+    main/write_limit × guard/write_alarm: what the certificate says is not so
     a plan that was changed wants a new certificate: twire certify PLAN" ""
 run "a proof that names another bit" verify --explain "$examples/two_writers.plan" wrong.cert
 sed '3d' two.cert >wrong.cert
@@ -415,12 +416,15 @@ want 2 "wrong C1 line 1
     a plan that was changed wants a new certificate: twire certify PLAN" ""
 run "a certificate of another form" verify --explain "$examples/two_writers.plan" wrong.cert
 
-# breaks PROOF WORD SLOT REASON: below a certificate with this proof of one pair stands where it breaks off.
+# breaks PROOF WORD SLOT BYTES NEXT REASON: below a certificate with this proof of one pair stand the bytes of both up to where
+# it breaks off, and why.
 breaks() {
     printf 'cert 1\npairs 1\n%s\n' "$1" >c.cert
     want 2 "wrong C5 pair 0
-    pair 0 is a/one and b/two: what the certificate says of them is not so
-$(echo "it breaks off at word $2, in slot $3: $4" | fold -s -w 77 | sed 's/^/    /; s/ $//')
+    a/one  $4  next: $5
+    b/two  $4  next: $5
+$(echo "slot $3, word $2 of its proof: $6" | fold -s -w 77 | sed 's/^/    /; s/ $//')
+    a/one × b/two: what the certificate says is not so
     a plan that was changed wants a new certificate: twire certify PLAN" ""
     run "the proof $1" verify --explain p.plan c.cert
 }
@@ -431,27 +435,60 @@ printf 'cert 1\npairs 1\nB B S D R . . .\n' >c.cert
 want 0 "accepted safe" ""
 run "the proof that there is" verify --explain p.plan c.cert
 again="the two do not both send a repeated START there"
-breaks "D B S D R . . ." 1 0 "the two do not both read there"
-breaks "B B B . . . ." 3 18 "the two do not both write a byte there"
-breaks "B S . ." 2 9 "$again"
-breaks "B . ." 2 9 "the two do not both send a STOP there"
-breaks "B B S B R . . ." 4 19 "the two do not both write a byte there"
-breaks "B B S P7 . ." 4 19 "no bit of this number is known in both and different there"
-breaks "B B S D . . . ." 5 28 "the two never read the same number of bytes"
-breaks "B B S D R S . . ." 6 28 "$again"
-breaks "B B S D R . S . ." 7 18 "$again"
-breaks "B B S D R . . S ." 8 9 "$again"
-breaks "R" 1 0 "a proof has no such word there"
+both="S 48 Wr A 0000000x A"
+bit="a data bit"
+breaks "D B S D R . . ." 1 0 "S 48 Wr" "$bit" "the two do not both read there"
+breaks "B B B . . . ." 3 18 "$both Sr" "a repeated START" "the two do not both write a byte there"
+breaks "B S . ." 2 9 "S 48 Wr A 0000000x" "$bit" "$again"
+breaks "B . ." 2 9 "S 48 Wr A 0000000x" "$bit" "the two do not both send a STOP there"
+breaks "B B S B R . . ." 4 19 "$both Sr 48 Rd" "$bit" "the two do not both write a byte there"
+breaks "B B S P7 . ." 4 19 "$both Sr 48 Rd" "$bit" "no bit of this number is known in both and different there"
+breaks "B B S D . . . ." 5 28 "$both Sr 48 Rd A" "a target's bit" "the two never read the same number of bytes"
+# After a word that proves its part come the answers that are no acknowledges, of the last byte first.
+breaks "B B S D R S . . ." 6 28 "$both Sr 48 Rd NA P" "a STOP" "$again"
+breaks "B B S D R . S . ." 7 18 "S 48 Wr A 0000000x NA P" "a STOP" "$again"
+breaks "B B S D R . . S ." 8 9 "S 48 Wr NA P" "a STOP" "$again"
+breaks "R" 1 0 "S 48 Wr" "$bit" "a proof has no such word there"
 plan 'plan 1' "message one write 1001000 0000000x again read 1001000 2 $tails ;" \
     "message two write 1001000 0000000x again read 1001000 2 $tails ;" 'controller a one ;' 'controller b two ;'
-breaks "B B S D R . . ." 5 28 "both may read the same number of bytes"
-breaks "B B S D S . . . ." 5 46 "$again"
+breaks "B B S D R . . ." 5 28 "$both Sr 48 Rd A" "a target's bit" "both may read the same number of bytes"
+breaks "B B S D S . . . ." 5 46 "$both Sr 48 Rd A 00 A 00 NA P" "a STOP" "$again"
+
+# A certificate of a fault: its pair, as a group has its example.
+printf '%s\n' 'cert 1' 'fault 0 00100000l data stop' >fault.cert
+named="accepted unsafe
+    pair 0:
+    bus                S 10 Wr A
+    main/write_output  S 10 Wr A xxxxxxxx  next: a data bit
+    service/probe_10   S 10 Wr A P         next: a STOP
+    slot 9, UM10204 3.1.8: a data bit meets a STOP. Both send alike until here.
+    main/write_output × service/probe_10: lengths differ
+    a certificate names one pair; all, in groups: twire check --explain PLAN"
+want 1 "$named" ""
+run "a certificate of a fault" verify --explain "$examples/stop_meets_data.plan" fault.cert
+run "a rehearsal of a plan that is not safe" bench --explain "$examples/stop_meets_data.plan" fault.cert service/probe_10
+run "the same without a certificate" bench --explain --certify "$examples/stop_meets_data.plan" service/probe_10
+# The fault that it names need not be the first one of its pair.
+plan 'plan 2' 'message few read 1001000 1..2 stop else stop ;' 'message one read 1001000 1 again write 1001000 stop else stop else stop ;' \
+    'controller a few ;' 'controller b one ;'
+printf '%s\n' 'cert 1' 'fault 0 10010001lhlhlhlhl1 stop restart' >c.cert
+want 1 "accepted unsafe
+    pair 0:
+    bus    S 48 Rd A aa NA
+    a/few  S 48 Rd A aa A/NA P  next: a STOP
+    b/one  S 48 Rd A aa NA Sr   next: a repeated START
+    slot 18, UM10204 3.1.8: a STOP meets a repeated START. Both send alike until
+    here.
+    a/few may send either bit before it in slot 17
+    a/few × b/one: one ends, one repeats START
+    a certificate names one pair; all, in groups: twire check --explain PLAN" ""
+run "another fault of the same pair" verify --explain p.plan c.cert
 
 # ---- A rehearsal.
 
 want 0 "wire 10010000l00000001l00100000ls
     slot               0          9          18
-    byte               48 Wr    A 01       A 20       A P
+    bus                48 Wr    A 01       A 20       A P
     wire               10010000 l 00000001 l 00100000 l s
     main/write_limit   10010000 . 0000001  lost in slot 15
     guard/write_alarm  10010000 . 00000001 . 00100000 . s  won
@@ -465,12 +502,12 @@ plan 'plan 1' 'message fetch_some write 1001000 00000001 again read 1001000 4 st
     'controller guard warn ;'
 want 0 "wire 10010000l00000001lr10010001lllllllll0llllllll0llllllll0llllllll1s
     slot             0          9             19         28         37
-    byte             48 Wr    A 01       A Sr 48 Rd    A 00       A 00       A
+    bus              48 Wr    A 01       A Sr 48 Rd    A 00       A 00       A
     wire             10010000 l 00000001 l r  10010001 l llllllll 0 llllllll 0
     main/fetch_some  10010000 . 00000001 . r  10010001 . ........ 0 ........ 0
     guard/warn       10010000 . 0000001  lost in slot 15
     slot             46         55
-    byte             00       A 00       NA P
+    bus              00       A 00       NA P
     wire             llllllll 0 llllllll 1  s
     main/fetch_some  ........ 0 ........ 1  s  won
 won main/fetch_some" ""
@@ -479,7 +516,7 @@ run "a wire in two blocks, with a repeated START" bench --explain p.plan --certi
 # ---- Captures.
 
 want 0 "5-160 service/probe_10
-    S 10 Wr A P
+    bus  S 10 Wr A P
 1 transactions, 0 unexplained" ""
 run "the bytes of a transaction" capture --explain "$examples/stop_meets_data.plan" "$examples/stop_meets_data.vcd"
 plan 'plan 1' 'message m write 1001000 00000001 stop else stop else stop ;' \
@@ -487,46 +524,61 @@ plan 'plan 1' 'message m write 1001000 00000001 stop else stop else stop ;' \
     'message o write 0010000 1xxxxxxx stop else stop else stop ;' 'message q read 0010000 1 stop else stop ;' \
     'controller a m ;' 'controller b n o q ;'
 want 1 "5-160 unexplained
-    S 10 Wr A P
-    b/n leaves at slot 9: it sends 0 there, the wire has a STOP
-    b/o leaves at slot 9: it sends 1 there, the wire has a STOP
-    b/q leaves at slot 7: it sends 1 there, the wire has 0
+    bus  S 10 Wr A P
+    b/n  S 10 Wr A 01        next: a data bit
+    b/o  S 10 Wr A 1xxxxxxx  next: a data bit
+    b/q  S 10 Rd             next: a data bit
+    slot 9, b/n: it sends 0, the bus has a STOP
+    slot 9, b/o: it sends 1, the bus has a STOP
+    slot 7, b/q: it sends 1, the bus has 0
 1 transactions, 1 unexplained" ""
 run "who goes along furthest with a transaction that nobody explains" capture --explain p.plan \
     "$examples/stop_meets_data.vcd"
 "$tests/../tools/dump" 00100000000 >d.vcd
 want 1 "5-190 unexplained
-    S 10 Wr A 0b00(cut) P
+    bus  S 10 Wr A 0b00(cut) P
+    b/n  S 10 Wr A 01        next: a data bit
+    b/o  S 10 Wr A 1xxxxxxx  next: a data bit
+    b/q  S 10 Rd             next: a data bit
     the STOP comes after 2 of a byte's nine bits: is it a glitch?
-    b/n leaves at slot 11: it sends 0 there, the wire has a STOP
-    b/o leaves at slot 9: it sends 1 there, the wire has 0
-    b/q leaves at slot 7: it sends 1 there, the wire has 0
+    slot 11, b/n: it sends 0, the bus has a STOP
+    slot 9, b/o: it sends 1, the bus has 0
+    slot 7, b/q: it sends 1, the bus has 0
 1 transactions, 1 unexplained" ""
 run "a STOP in the middle of a byte" capture --explain p.plan d.vcd
 "$tests/../tools/dump" 00100000 >d.vcd
 want 1 "5-145 unexplained
-    S 10 Wr(cut) P
+    bus  S 10 Wr(cut) P
+    b/n  S 10 Wr  next: a target's bit
+    b/o  S 10 Wr  next: a target's bit
+    b/q  S 10 Rd  next: a data bit
     the STOP comes after 8 of a byte's nine bits: is it a glitch?
-    b/n leaves at slot 8: a target answers it there, the wire has a STOP
-    b/o leaves at slot 8: a target answers it there, the wire has a STOP
-    b/q leaves at slot 7: it sends 1 there, the wire has 0
+    slot 8, b/n: a target answers it, the bus has a STOP
+    slot 8, b/o: a target answers it, the bus has a STOP
+    slot 7, b/q: it sends 1, the bus has 0
 1 transactions, 1 unexplained" ""
 run "a STOP after a whole byte, in the place of its acknowledge" capture --explain p.plan d.vcd
 "$tests/../tools/dump" 00100000010r001000010 >d.vcd
 want 1 "5-345 unexplained
-    S 10 Wr A 0b10(cut) Sr 10 Rd A P
+    bus  S 10 Wr A 0b10(cut) Sr 10 Rd A P
+    b/o  S 10 Wr A 1xxxxxxx  next: a data bit
+    b/n  S 10 Wr A 01        next: a data bit
+    b/q  S 10 Rd             next: a data bit
     the repeated START comes after 2 of a byte's nine bits: is it a glitch?
-    b/o leaves at slot 11: it sends a bit there, the wire has a repeated START
-    b/n leaves at slot 9: it sends 0 there, the wire has 1
-    b/q leaves at slot 7: it sends 1 there, the wire has 0
+    slot 11, b/o: it sends a bit, the bus has a repeated START
+    slot 9, b/n: it sends 0, the bus has 1
+    slot 7, b/q: it sends 1, the bus has 0
 1 transactions, 1 unexplained" ""
 run "a repeated START in the middle of a byte" capture --explain p.plan d.vcd
 "$tests/../tools/dump" 001000000r001000010101010101 >d.vcd
 want 1 "5-450 unexplained
-    S 10 Wr A Sr 10 Rd A aa NA P
-    b/n leaves at slot 9: it sends 0 there, the wire has a repeated START
-    b/o leaves at slot 9: it sends 1 there, the wire has a repeated START
-    b/q leaves at slot 7: it sends 1 there, the wire has 0
+    bus  S 10 Wr A Sr 10 Rd A aa NA P
+    b/n  S 10 Wr A 01        next: a data bit
+    b/o  S 10 Wr A 1xxxxxxx  next: a data bit
+    b/q  S 10 Rd             next: a data bit
+    slot 9, b/n: it sends 0, the bus has a repeated START
+    slot 9, b/o: it sends 1, the bus has a repeated START
+    slot 7, b/q: it sends 1, the bus has 0
 1 transactions, 1 unexplained" ""
 run "a repeated START and a read" capture --explain p.plan d.vcd
 
@@ -537,10 +589,13 @@ run "a repeated START and a read" capture --explain p.plan d.vcd
     printf '#%s 0!\n#%s 1!\n' 20 30 40 50 60 70
 } >d.vcd
 want 1 "10-11 unexplained
-    S P
-    a/m leaves at slot 0: it sends 1 there, the wire has a STOP
-    b/n leaves at slot 0: it sends 0 there, the wire has a STOP
-    b/o leaves at slot 0: it sends 0 there, the wire has a STOP
+    bus  S P
+    a/m  S 48 Wr  next: a data bit
+    b/n  S 10 Wr  next: a data bit
+    b/o  S 10 Wr  next: a data bit
+    slot 0, a/m: it sends 1, the bus has a STOP
+    slot 0, b/n: it sends 0, the bus has a STOP
+    slot 0, b/o: it sends 0, the bus has a STOP
     2 bits follow on a free bus: is the STOP a glitch?
 1 transactions, 1 unexplained" ""
 run "a glitch" capture --explain p.plan d.vcd
@@ -855,19 +910,23 @@ brief 'brief 1' 'message set write 0x48 0x01 any ;' 'message get write 0x48 0x02
 "$twire" certify board.brief >c.cert
 sed -i 's/P[0-9]*/P1/' c.cert
 want 2 "wrong C5 pair 0
-    pair 0 is bmc/set and pch/get: what the certificate says of them is not so
+    bmc/set  S 48 Wr A 01  next: a data bit
+    pch/get  S 48 Wr A 02  next: a data bit
+    slot 9, word 2 of its proof: no bit of this number is known in both and
+    different there
     see board.brief:2 and board.brief:3
-    it breaks off at word 2, in slot 9: no bit of this number is known in both
-    and different there
+    bmc/set × pch/get: what the certificate says is not so
     a plan that was changed wants a new certificate: twire certify PLAN" ""
 run "a certificate of a brief" verify --explain board.brief c.cert
 brief 'brief 1' 'message set write 0x48 0x01 ;' 'controller bmc set ;' '# the sensor' 'interrupt al 0x49 ;'
 printf '%s\n' 'cert 1' 'pairs 1' 'P1' >c.cert
 want 2 "wrong C5 pair 0
-    pair 0 is bmc/set and !al: what the certificate says of them is not so
+    bmc/set  S 48 Wr  next: a data bit
+    !al      S 49 Rd  next: a data bit
+    slot 0, word 1 of its proof: no bit of this number is known in both and
+    different there
     see board.brief:2 and board.brief:5
-    it breaks off at word 1, in slot 0: no bit of this number is known in both
-    and different there
+    bmc/set × !al: what the certificate says is not so
     a plan that was changed wants a new certificate: twire certify PLAN" ""
 run "a certificate of a brief, of an interrupt" verify --explain board.brief c.cert
 
@@ -875,31 +934,37 @@ brief 'brief 1' 'message set write 0x48 0x01 any ;' 'message page write 0x50 any
     'interrupt al 0x48 ;' 'controller pch ;' 'never bmc/page pch ;'
 want 0 "wire 10010001c
     slot        0
-    byte        48 Rd
+    bus         48 Rd
     wire        10010001 c
     bmc/page_1  101  lost in slot 2
     !al         10010001 c  won
 won !al" ""
 run "a rehearsal of a brief" bench --explain --certify board.brief 'bmc_page/page_1,!al' --rest 0
 want 1 "5-160 unexplained
-    S 10 Wr A P
-    bmc/set leaves at slot 0: it sends 1 there, the wire has 0
+    bus         S 10 Wr A P
+    bmc/set     S 48 Wr  next: a data bit
+    bmc/page_1  S 50 Wr  next: a data bit
+    bmc/page_2  S 50 Wr  next: a data bit
+    slot 0, bmc/set: it sends 1, the bus has 0
     see board.brief:2
-    bmc/page_1 leaves at slot 0: it sends 1 there, the wire has 0
+    slot 0, bmc/page_1: it sends 1, the bus has 0
     see board.brief:3
-    bmc/page_2 leaves at slot 0: it sends 1 there, the wire has 0
+    slot 0, bmc/page_2: it sends 1, the bus has 0
     see board.brief:3
 1 transactions, 1 unexplained" ""
 run "a capture by a brief" capture --explain board.brief "$examples/stop_meets_data.vcd"
 run "a live capture by a brief" capture --explain --live board.brief "$examples/stop_meets_data.vcd"
 "$tests/../tools/dump" 100100000 >d.vcd
 want 1 "5-160 unexplained
-    S 48 Wr A P
-    bmc/set leaves at slot 9: it sends 0 there, the wire has a STOP
+    bus         S 48 Wr A P
+    bmc/set     S 48 Wr A 01  next: a data bit
+    !al         S 48 Rd       next: a data bit
+    bmc/page_1  S 50 Wr       next: a data bit
+    slot 9, bmc/set: it sends 0, the bus has a STOP
     see board.brief:2
-    !al leaves at slot 7: it sends 1 there, the wire has 0
+    slot 7, !al: it sends 1, the bus has 0
     see board.brief:5
-    bmc/page_1 leaves at slot 2: it sends 1 there, the wire has 0
+    slot 2, bmc/page_1: it sends 1, the bus has 0
     see board.brief:3
 1 transactions, 1 unexplained" ""
 run "an interrupt of a brief that goes along with a transaction" capture --explain board.brief d.vcd
@@ -1006,9 +1071,9 @@ brief 'brief 1' 'message short write 0x50 any*3 ;' 'message long write 0x50 any*
     'controller host long ;'
 want 1 "pair 0 bmc/short host/long: stop against data after 10100000l00000000l00000000l00000000l
     group 0, as pair 0:
-    bus        S 50 Wr A .. A 00 A 00 A
-    bmc/short  S 50 Wr A .. A xxxxxxxx A xxxxxxxx A P         next: a STOP
-    host/long  S 50 Wr A .. A xxxxxxxx A xxxxxxxx A xxxxxxxx  next: a data bit
+    bus        S 50 Wr A .. 3 bytes alike ..
+    bmc/short  S 50 Wr A .. 3 bytes alike .. P         next: a STOP
+    host/long  S 50 Wr A .. 3 bytes alike .. xxxxxxxx  next: a data bit
     slot 36, UM10204 3.1.8: a STOP meets a data bit. Both send alike until here.
     bmc/short may send either bit before it in slot 9..16, 18..25, 27..34
     host/long may send either bit before it in slot 9..16, 18..25, 27..34

@@ -64,13 +64,12 @@ pub(crate) fn ends_byte(word: &str) -> bool {
 }
 
 impl Row<'_> {
-    // How many columns it has with all words.
-    fn columns(&self) -> usize {
-        let next = match self.next {
+    // How many columns stand after its words.
+    fn after(&self) -> usize {
+        match self.next {
             Some(next) => next.len().saturating_add(NEXT.len()).saturating_add(3),
             None => 0,
-        };
-        self.words.len().saturating_add(next)
+        }
     }
 
     // The first word that is shown after those that are left out: that of all rows, and its own one where it ends before that.
@@ -104,7 +103,7 @@ impl Row<'_> {
     // The first word after those that are left out, so that the row has room: KEPT where none is, and nothing where it never
     // has. Whole bytes are left out.
     fn first_shown(&self, room: usize) -> Option<usize> {
-        let columns = self.columns();
+        let columns = self.words.len().saturating_add(self.after());
         if columns <= room {
             return Some(KEPT);
         }
@@ -131,15 +130,27 @@ impl Row<'_> {
 /// lines of their own, and so have shorter ones where the rows have no room beside them.
 pub(crate) fn tell_rows(lines: &mut Lines, rows: &[Row<'_>], said: &str) {
     let shape = shape_of(rows);
-    let mut width = 0usize;
-    for row in rows {
-        if row.next.is_some() {
-            width = width.max(row.width(row.shown_in(shape)));
-        }
-    }
+    let width = aligned(rows, shape);
     for row in rows {
         begin_titled(lines, row.title, shape.columns);
         tell_row(lines, *row, row.shown_in(shape), width, said);
+    }
+}
+
+// After how many columns of words that stands which comes next: after the longest words, and right after its own ones in each
+// row where there is no room for that.
+fn aligned(rows: &[Row<'_>], shape: Shape) -> usize {
+    let (mut width, mut after) = (0usize, 0usize);
+    for row in rows {
+        if row.next.is_some() {
+            width = width.max(row.width(row.shown_in(shape)));
+            after = after.max(row.after());
+        }
+    }
+    if width.saturating_add(after) <= room_after(shape.columns) {
+        width
+    } else {
+        0
     }
 }
 
