@@ -126,7 +126,7 @@ impl Row<'_> {
 }
 
 /// The rows, each on one line, with their words beside the titles. Where one of them has no room, a count with this stands for
-/// bytes after its first one, for the same ones in each row: what all send alike stays one below the other. Titles that are long have
+/// bytes after its first one, for the same ones in each row: what all send alike stays one below the other. Long titles have
 /// lines of their own, and so have shorter ones where the rows have no room beside them.
 pub(crate) fn tell_rows(lines: &mut Lines, rows: &[Row<'_>], said: &str) {
     let shape = shape_of(rows);
