@@ -1055,16 +1055,118 @@ plan 'plan 1' "message $long write 1001000$bytes stop$stops ;" "message other wr
     "controller $long $long ;" 'controller b other ;' 'interrupt '"$long"' 1001001 ;'
 alike "names of 32 characters, and a clash after 250 bytes" check p.plan
 alike "who wins among names of 32 characters" order p.plan
-"$twire" check --explain p.plan >out
-grep -q '^    bus *S 48 Wr A \.\. .* A$' out
-echo $? >status
-want 0 "" ""
-: >out
-compare "words in the middle of a long row are left out"
+want 0 "    bus  S 48 Wr A .. 249 bytes alike .. 03 A
+    $long/$long
+         S 48 Wr A .. 249 bytes alike .. xx00xx11 A P         next: a STOP
+    b/other
+         S 48 Wr A .. 249 bytes alike .. xx00xx11 A 00000000  next: a data bit" ""
+"$twire" check --explain p.plan 2>err | sed -n '3,7p' >out
+echo 0 >status
+compare "bytes in the middle of a long row are counted"
 sed -i '/interrupt/d; s/^plan 1/plan 2/' p.plan
 echo "never $long b ;" >>p.plan
 "$twire" certify p.plan >c.cert
 alike "a rehearsal of 250 bytes" bench p.plan c.cert "$long/$long"
+
+# The longest names and 256 bytes, by each of the four commands: what is said to people has 80 columns, and is folded.
+one=$(printf 'a%.0s' {1..32}) other=$(printf 'b%.0s' {1..32}) left=$(printf 'c%.0s' {1..32}) right=$(printf 'd%.0s' {1..32})
+# longest FIRST SECOND: a brief with two messages that have such names, each of a controller.
+longest() {
+    brief 'brief 1' "message $one $1 ;" "message $other $2 ;" "controller $left $one ;" "controller $right $other ;"
+}
+# told NAME TEXT ARG..: with --explain these lines for people stand below the report.
+told() {
+    local name=$1 text=$2
+    shift 2
+    alike "$name" "$@"
+    want 0 "$text" ""
+    grep '^    ' explained >out
+    : >err
+    echo 0 >status
+    compare "$name"
+}
+longest 'write 0x48 any*255' 'write 0x48 any*254'
+meets="    bus  S 48 Wr A .. 253 bytes alike .. 00 A
+    $left/$one
+         S 48 Wr A .. 253 bytes alike .. xxxxxxxx A xxxxxxxx  next: a data bit
+    $right/$other
+         S 48 Wr A .. 253 bytes alike .. xxxxxxxx A P         next: a STOP
+    slot 2295, UM10204 3.1.8: a data bit meets a STOP. Both send alike until
+    here.
+    $left/$one may send
+    either bit before it in slot 9..16, 18..25, 27..34, 36..43, 45..52, 54..61
+    and 248 more
+    $right/$other may send
+    either bit before it in slot 9..16, 18..25, 27..34, 36..43, 45..52, 54..61
+    and 248 more
+    see board.brief:2 and board.brief:3
+    $left/$one ×"
+told "the longest that clash, by check" "    group 0, as pair 0:
+$meets
+    $right/$other: 1 pair,
+    lengths differ
+    to mend it: a bit before that slot, known in both and different; or the same
+    shape from there on; or:
+    never $left $right ;
+    (leaves 1 of 1 pair unchecked)" check board.brief
+meets="    pair 0:
+$meets
+    $right/$other: lengths
+    differ
+    a certificate names one pair; all, in groups: twire check --explain PLAN"
+"$twire" certify board.brief >c.cert
+told "the longest that clash, by verify" "$meets" verify board.brief c.cert
+told "the longest that clash, by bench" "$meets" bench board.brief c.cert "$left/$one"
+# They part in the last byte, and a proof that does not say so breaks off there.
+longest 'write 0x48 0x01*255' 'write 0x48 0x01*254 0x02'
+"$twire" certify board.brief | sed 's/P6/P0/' >c.cert
+told "a wrong proof of the longest" "    $left/$one
+         S 48 Wr A .. 251 bytes .. 01 A 01 A 01 A 01  next: a data bit
+    $right/$other
+         S 48 Wr A .. 251 bytes .. 01 A 01 A 01 A 02  next: a data bit
+    slot 2295, word 256 of its proof: no bit of this number is known in both and
+    different there
+    see board.brief:2 and board.brief:3
+    $left/$one ×
+    $right/$other: what the
+    certificate says is not so
+    a plan that was changed wants a new certificate: twire certify PLAN" verify board.brief c.cert
+byte=00000001
+told "a rehearsal of the longest" "    slot  0          9          18         27         36         45
+    bus   48 Wr    A 01       A 01       A 01       A 01       A 01       A
+    wire  10010000 l $byte l $byte l $byte l $byte l $byte l
+    $left/$one
+          10010000 . $byte . $byte . $byte . $byte . $byte .
+    $right/$other
+          10010000 . $byte . $byte . $byte . $byte . $byte .
+    .. 246 bytes alike ..
+    slot  2268       2277       2286       2295
+    bus   01       A 01       A 01       A 01       A P
+    wire  $byte l $byte l $byte l $byte l s
+    $left/$one
+          $byte . $byte . $byte . $byte . s  won
+    $right/$other
+          $byte . $byte . $byte . 0000001  lost in slot 2301" \
+    bench board.brief --certify "$left/$one,$right/$other" --rest 0
+# bytes COUNT: so many bytes 01 with their acknowledges, as levels.
+bytes() {
+    printf '000000010%.0s' $(seq "$1")
+}
+"$tests/../tools/dump" "100100000$(bytes 255)" >d.vcd
+told "the longest that somebody explains" "    bus  S 48 Wr A .. 248 bytes .. 01 A 01 A 01 A 01 A 01 A 01 A 01 A P" capture board.brief d.vcd
+# Both leave in the byte 05, after which 200 more come.
+"$tests/../tools/dump" "100100000$(bytes 20)000001010$(bytes 200)" >d.vcd
+told "the longest that nobody explains" "    bus  S 48 Wr A .. 17 bytes alike .. 01 A 01 A 01 A 05 A .. 200 bytes more
+    $left/$one
+         S 48 Wr A .. 17 bytes alike .. 01 A 01 A 01 A 01  next: a data bit
+    $right/$other
+         S 48 Wr A .. 17 bytes alike .. 01 A 01 A 01 A 01  next: a data bit
+    slot 194, $left/$one:
+    it sends 0, the bus has 1
+    see board.brief:2
+    slot 194, $right/$other:
+    it sends 0, the bus has 1
+    see board.brief:3" capture board.brief d.vcd
 
 # Where one row is too long, the same bytes are left out of each, and the last one is shown.
 brief 'brief 1' 'message short write 0x50 any*3 ;' 'message long write 0x50 any*8 ;' 'controller bmc short ;' \
@@ -1085,12 +1187,12 @@ unsafe: 1 of 1 pairs
     never bmc host ;
     (leaves 1 of 1 pair unchecked)" ""
 run "a row that is too long" check --explain board.brief
-# Bytes that are known in one of them: the same words are left out of it, though it would have room for more.
+# Bytes that are known in one of them: the same ones are left out of it, though it would have room for more.
 brief 'brief 1' 'message short write 0x50 0x01*6 read 0x50 1 ;' 'message long write 0x50 any*9 ;' 'controller bmc short ;' \
     'controller host long ;'
-want 0 "    bus        S 50 Wr A .. A 01 A 01 A
-    bmc/short  S 50 Wr A .. A 01 A 01 A Sr  next: a repeated START
-    host/long  S 50 Wr A .. A xxxxxxxx A xxxxxxxx A xxxxxxxx  next: a data bit" ""
+want 0 "    bus        S 50 Wr A .. 6 bytes alike ..
+    bmc/short  S 50 Wr A .. 6 bytes alike .. Sr        next: a repeated START
+    host/long  S 50 Wr A .. 6 bytes alike .. xxxxxxxx  next: a data bit" ""
 "$twire" check --explain board.brief 2>err | sed -n '3,5p' >out
 echo 0 >status
 compare "known bytes in a row that is too long"
