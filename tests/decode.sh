@@ -361,7 +361,7 @@ slow "the same where short pulses are left out" "$((first + 5))" "$one" 0 "$("$t
 slow "who explains it" "$first" '5-160 a/m' 1 "$("$twire" capture plan three)" "" capture plan slow --live
 slow "who explains it in objects" "$first" '{"kind":"transaction","from":5,"to":160,"end":"stop","participants":["a/m"]}' 1 \
     "$("$twire" capture plan three --format json)" "" capture plan slow --live --format json
-slow "explained" "$first" $'5-160 a/m\n    S 48 Wr A P' 1 "$("$twire" capture plan three --explain)" "" \
+slow "explained" "$first" $'5-160 a/m\n    bus  S 48 Wr A P' 1 "$("$twire" capture plan three --explain)" "" \
     capture plan slow --live --explain
 
 # What is refused later: the lines so far stay.

@@ -393,7 +393,7 @@ want 0 "accepted safe" ""
 run "nothing is said below an acceptance" verify --explain "$examples/two_writers.plan" two.cert
 sed 's/P6/P5/' two.cert >wrong.cert
 want 2 "wrong C5 pair 1
-    main/write_limit   S 48 Wr A 01  next: a data bit
+    main/write_limit   S 48 Wr A 03  next: a data bit
     guard/write_alarm  S 48 Wr A 01  next: a data bit
     slot 9, word 2 of its proof: no bit of this number is known in both and
     different there
@@ -423,7 +423,7 @@ breaks() {
     want 2 "wrong C5 pair 0
     a/one  $4  next: $5
     b/two  $4  next: $5
-$(echo "slot $3, word $2 of its proof: $6" | fold -s -w 77 | sed 's/^/    /; s/ $//')
+$(echo "slot $3, word $2 of its proof: $6 " | fold -s -w 77 | sed 's/^/    /; s/ $//')
     a/one × b/two: what the certificate says is not so
     a plan that was changed wants a new certificate: twire certify PLAN" ""
     run "the proof $1" verify --explain p.plan c.cert
@@ -1057,9 +1057,9 @@ alike "names of 32 characters, and a clash after 250 bytes" check p.plan
 alike "who wins among names of 32 characters" order p.plan
 want 0 "    bus  S 48 Wr A .. 249 bytes alike .. 03 A
     $long/$long
-         S 48 Wr A .. 249 bytes alike .. xx00xx11 A P         next: a STOP
+         S 48 Wr A .. 249 bytes alike .. xx00xx11 A P   next: a STOP
     b/other
-         S 48 Wr A .. 249 bytes alike .. xx00xx11 A 00000000  next: a data bit" ""
+         S 48 Wr A .. 249 bytes alike .. xx00xx11 A 00  next: a data bit" ""
 "$twire" check --explain p.plan 2>err | sed -n '3,7p' >out
 echo 0 >status
 compare "bytes in the middle of a long row are counted"
