@@ -161,9 +161,11 @@ expect "no hints on lines that are LOW at first" 1 $'20-25 unexplained\n1 transa
 # Bits after a STOP count as long as both levels are known.
 dump following '#0 1! 1" #10 0" #11 1" #20 0! #30 1! #35 x! #36 1! #40 0! #45 1! #50 0!'
 expect "bits that follow before a level is unknown" 1 '10-11 unexplained
-    S P
-    a/m leaves at slot 0: it sends 1 there, the wire has a STOP
-    b/n leaves at slot 0: it sends 1 there, the wire has a STOP
+    bus  S P
+    a/m  S 48 Wr  next: a data bit
+    b/n  S 48 Wr  next: a data bit
+    slot 0, a/m: it sends 1, the bus has a STOP
+    slot 0, b/n: it sends 1, the bus has a STOP
 1 transactions, 1 unexplained' "" plan following --explain
 
 expect "hints on a missing file" 2 "" "refused read"$'\n'"$(hint "VCD, the capture \"missing\", cannot be opened:" \

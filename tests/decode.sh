@@ -361,7 +361,7 @@ slow "the same where short pulses are left out" "$((first + 5))" "$one" 0 "$("$t
 slow "who explains it" "$first" '5-160 a/m' 1 "$("$twire" capture plan three)" "" capture plan slow --live
 slow "who explains it in objects" "$first" '{"kind":"transaction","from":5,"to":160,"end":"stop","participants":["a/m"]}' 1 \
     "$("$twire" capture plan three --format json)" "" capture plan slow --live --format json
-slow "explained" "$first" $'5-160 a/m\n    S 48 Wr A P' 1 "$("$twire" capture plan three --explain)" "" \
+slow "explained" "$first" $'5-160 a/m\n    bus  S 48 Wr A P' 1 "$("$twire" capture plan three --explain)" "" \
     capture plan slow --live --explain
 
 # What is refused later: the lines so far stay.
@@ -450,11 +450,13 @@ stopped=$'5-160 a/m\n1005-1160 unexplained\n2 transactions, 1 unexplained'
 expect "the first that nobody explains is the last" 1 "$stopped" "" capture plan mixed --stop-at-unexplained
 expect "the same, live" 1 "$stopped" "" capture plan mixed --stop-at-unexplained --live
 expect "the same, explained" 1 '5-160 a/m
-    S 48 Wr A P
+    bus  S 48 Wr A P
 1005-1160 unexplained
-    S 48 Rd A P
-    a/m leaves at slot 7: it sends 0 there, the wire has 1
-    b/n leaves at slot 7: it sends 0 there, the wire has 1
+    bus  S 48 Rd A P
+    a/m  S 48 Wr  next: a data bit
+    b/n  S 48 Wr  next: a data bit
+    slot 7, a/m: it sends 0, the bus has 1
+    slot 7, b/n: it sends 0, the bus has 1
 2 transactions, 1 unexplained' "" capture plan mixed --stop-at-unexplained --explain
 expect "the same in sum" 1 'a/m 1 alone, 0 with others
 b/n 0 alone, 0 with others

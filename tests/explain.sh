@@ -393,10 +393,11 @@ want 0 "accepted safe" ""
 run "nothing is said below an acceptance" verify --explain "$examples/two_writers.plan" two.cert
 sed 's/P6/P5/' two.cert >wrong.cert
 want 2 "wrong C5 pair 1
-    pair 1 is main/write_limit and guard/write_alarm: what the certificate says
-    of them is not so
-    it breaks off at word 2, in slot 9: no bit of this number is known in both
-    and different there
+    main/write_limit   S 48 Wr A 03  next: a data bit
+    guard/write_alarm  S 48 Wr A 01  next: a data bit
+    slot 9, word 2 of its proof: no bit of this number is known in both and
+    different there
+    main/write_limit × guard/write_alarm: what the certificate says is not so
     a plan that was changed wants a new certificate: twire certify PLAN" ""
 run "a proof that names another bit" verify --explain "$examples/two_writers.plan" wrong.cert
 sed '3d' two.cert >wrong.cert
@@ -415,12 +416,15 @@ want 2 "wrong C1 line 1
     a plan that was changed wants a new certificate: twire certify PLAN" ""
 run "a certificate of another form" verify --explain "$examples/two_writers.plan" wrong.cert
 
-# breaks PROOF WORD SLOT REASON: below a certificate with this proof of one pair stands where it breaks off.
+# breaks PROOF WORD SLOT BYTES NEXT REASON: below a certificate with this proof of one pair stand the bytes of both up to where
+# it breaks off, and why.
 breaks() {
     printf 'cert 1\npairs 1\n%s\n' "$1" >c.cert
     want 2 "wrong C5 pair 0
-    pair 0 is a/one and b/two: what the certificate says of them is not so
-$(echo "it breaks off at word $2, in slot $3: $4" | fold -s -w 77 | sed 's/^/    /; s/ $//')
+    a/one  $4  next: $5
+    b/two  $4  next: $5
+$(echo "slot $3, word $2 of its proof: $6 " | fold -s -w 77 | sed 's/^/    /; s/ $//')
+    a/one × b/two: what the certificate says is not so
     a plan that was changed wants a new certificate: twire certify PLAN" ""
     run "the proof $1" verify --explain p.plan c.cert
 }
@@ -431,27 +435,60 @@ printf 'cert 1\npairs 1\nB B S D R . . .\n' >c.cert
 want 0 "accepted safe" ""
 run "the proof that there is" verify --explain p.plan c.cert
 again="the two do not both send a repeated START there"
-breaks "D B S D R . . ." 1 0 "the two do not both read there"
-breaks "B B B . . . ." 3 18 "the two do not both write a byte there"
-breaks "B S . ." 2 9 "$again"
-breaks "B . ." 2 9 "the two do not both send a STOP there"
-breaks "B B S B R . . ." 4 19 "the two do not both write a byte there"
-breaks "B B S P7 . ." 4 19 "no bit of this number is known in both and different there"
-breaks "B B S D . . . ." 5 28 "the two never read the same number of bytes"
-breaks "B B S D R S . . ." 6 28 "$again"
-breaks "B B S D R . S . ." 7 18 "$again"
-breaks "B B S D R . . S ." 8 9 "$again"
-breaks "R" 1 0 "a proof has no such word there"
+both="S 48 Wr A 0000000x A"
+bit="a data bit"
+breaks "D B S D R . . ." 1 0 "S 48 Wr" "$bit" "the two do not both read there"
+breaks "B B B . . . ." 3 18 "$both Sr" "a repeated START" "the two do not both write a byte there"
+breaks "B S . ." 2 9 "S 48 Wr A 0000000x" "$bit" "$again"
+breaks "B . ." 2 9 "S 48 Wr A 0000000x" "$bit" "the two do not both send a STOP there"
+breaks "B B S B R . . ." 4 19 "$both Sr 48 Rd" "$bit" "the two do not both write a byte there"
+breaks "B B S P7 . ." 4 19 "$both Sr 48 Rd" "$bit" "no bit of this number is known in both and different there"
+breaks "B B S D . . . ." 5 28 "$both Sr 48 Rd A" "a target's bit" "the two never read the same number of bytes"
+# After a word that proves its part come the answers that are no acknowledges, of the last byte first.
+breaks "B B S D R S . . ." 6 28 "$both Sr 48 Rd NA P" "a STOP" "$again"
+breaks "B B S D R . S . ." 7 18 "S 48 Wr A 0000000x NA P" "a STOP" "$again"
+breaks "B B S D R . . S ." 8 9 "S 48 Wr NA P" "a STOP" "$again"
+breaks "R" 1 0 "S 48 Wr" "$bit" "a proof has no such word there"
 plan 'plan 1' "message one write 1001000 0000000x again read 1001000 2 $tails ;" \
     "message two write 1001000 0000000x again read 1001000 2 $tails ;" 'controller a one ;' 'controller b two ;'
-breaks "B B S D R . . ." 5 28 "both may read the same number of bytes"
-breaks "B B S D S . . . ." 5 46 "$again"
+breaks "B B S D R . . ." 5 28 "$both Sr 48 Rd A" "a target's bit" "both may read the same number of bytes"
+breaks "B B S D S . . . ." 5 46 "$both Sr 48 Rd A 00 A 00 NA P" "a STOP" "$again"
+
+# A certificate of a fault: its pair, as a group has its example.
+printf '%s\n' 'cert 1' 'fault 0 00100000l data stop' >fault.cert
+named="accepted unsafe
+    pair 0:
+    bus                S 10 Wr A
+    main/write_output  S 10 Wr A xxxxxxxx  next: a data bit
+    service/probe_10   S 10 Wr A P         next: a STOP
+    slot 9, UM10204 3.1.8: a data bit meets a STOP. Both send alike until here.
+    main/write_output × service/probe_10: lengths differ
+    a certificate names one pair; all, in groups: twire check --explain PLAN"
+want 1 "$named" ""
+run "a certificate of a fault" verify --explain "$examples/stop_meets_data.plan" fault.cert
+run "a rehearsal of a plan that is not safe" bench --explain "$examples/stop_meets_data.plan" fault.cert service/probe_10
+run "the same without a certificate" bench --explain --certify "$examples/stop_meets_data.plan" service/probe_10
+# The fault that it names need not be the first one of its pair.
+plan 'plan 2' 'message few read 1001000 1..2 stop else stop ;' 'message one read 1001000 1 again write 1001000 stop else stop else stop ;' \
+    'controller a few ;' 'controller b one ;'
+printf '%s\n' 'cert 1' 'fault 0 10010001lhlhlhlhl1 stop restart' >c.cert
+want 1 "accepted unsafe
+    pair 0:
+    bus    S 48 Rd A aa NA
+    a/few  S 48 Rd A aa A/NA P  next: a STOP
+    b/one  S 48 Rd A aa NA Sr   next: a repeated START
+    slot 18, UM10204 3.1.8: a STOP meets a repeated START. Both send alike until
+    here.
+    a/few may send either bit before it in slot 17
+    a/few × b/one: one ends, one repeats START
+    a certificate names one pair; all, in groups: twire check --explain PLAN" ""
+run "another fault of the same pair" verify --explain p.plan c.cert
 
 # ---- A rehearsal.
 
 want 0 "wire 10010000l00000001l00100000ls
     slot               0          9          18
-    byte               48 Wr    A 01       A 20       A P
+    bus                48 Wr    A 01       A 20       A P
     wire               10010000 l 00000001 l 00100000 l s
     main/write_limit   10010000 . 0000001  lost in slot 15
     guard/write_alarm  10010000 . 00000001 . 00100000 . s  won
@@ -465,12 +502,12 @@ plan 'plan 1' 'message fetch_some write 1001000 00000001 again read 1001000 4 st
     'controller guard warn ;'
 want 0 "wire 10010000l00000001lr10010001lllllllll0llllllll0llllllll0llllllll1s
     slot             0          9             19         28         37
-    byte             48 Wr    A 01       A Sr 48 Rd    A 00       A 00       A
+    bus              48 Wr    A 01       A Sr 48 Rd    A 00       A 00       A
     wire             10010000 l 00000001 l r  10010001 l llllllll 0 llllllll 0
     main/fetch_some  10010000 . 00000001 . r  10010001 . ........ 0 ........ 0
     guard/warn       10010000 . 0000001  lost in slot 15
     slot             46         55
-    byte             00       A 00       NA P
+    bus              00       A 00       NA P
     wire             llllllll 0 llllllll 1  s
     main/fetch_some  ........ 0 ........ 1  s  won
 won main/fetch_some" ""
@@ -479,7 +516,7 @@ run "a wire in two blocks, with a repeated START" bench --explain p.plan --certi
 # ---- Captures.
 
 want 0 "5-160 service/probe_10
-    S 10 Wr A P
+    bus  S 10 Wr A P
 1 transactions, 0 unexplained" ""
 run "the bytes of a transaction" capture --explain "$examples/stop_meets_data.plan" "$examples/stop_meets_data.vcd"
 plan 'plan 1' 'message m write 1001000 00000001 stop else stop else stop ;' \
@@ -487,46 +524,61 @@ plan 'plan 1' 'message m write 1001000 00000001 stop else stop else stop ;' \
     'message o write 0010000 1xxxxxxx stop else stop else stop ;' 'message q read 0010000 1 stop else stop ;' \
     'controller a m ;' 'controller b n o q ;'
 want 1 "5-160 unexplained
-    S 10 Wr A P
-    b/n leaves at slot 9: it sends 0 there, the wire has a STOP
-    b/o leaves at slot 9: it sends 1 there, the wire has a STOP
-    b/q leaves at slot 7: it sends 1 there, the wire has 0
+    bus  S 10 Wr A P
+    b/n  S 10 Wr A 01        next: a data bit
+    b/o  S 10 Wr A 1xxxxxxx  next: a data bit
+    b/q  S 10 Rd             next: a data bit
+    slot 9, b/n: it sends 0, the bus has a STOP
+    slot 9, b/o: it sends 1, the bus has a STOP
+    slot 7, b/q: it sends 1, the bus has 0
 1 transactions, 1 unexplained" ""
 run "who goes along furthest with a transaction that nobody explains" capture --explain p.plan \
     "$examples/stop_meets_data.vcd"
 "$tests/../tools/dump" 00100000000 >d.vcd
 want 1 "5-190 unexplained
-    S 10 Wr A 0b00(cut) P
+    bus  S 10 Wr A 0b00(cut) P
+    b/n  S 10 Wr A 01        next: a data bit
+    b/o  S 10 Wr A 1xxxxxxx  next: a data bit
+    b/q  S 10 Rd             next: a data bit
     the STOP comes after 2 of a byte's nine bits: is it a glitch?
-    b/n leaves at slot 11: it sends 0 there, the wire has a STOP
-    b/o leaves at slot 9: it sends 1 there, the wire has 0
-    b/q leaves at slot 7: it sends 1 there, the wire has 0
+    slot 11, b/n: it sends 0, the bus has a STOP
+    slot 9, b/o: it sends 1, the bus has 0
+    slot 7, b/q: it sends 1, the bus has 0
 1 transactions, 1 unexplained" ""
 run "a STOP in the middle of a byte" capture --explain p.plan d.vcd
 "$tests/../tools/dump" 00100000 >d.vcd
 want 1 "5-145 unexplained
-    S 10 Wr(cut) P
+    bus  S 10 Wr(cut) P
+    b/n  S 10 Wr  next: a target's bit
+    b/o  S 10 Wr  next: a target's bit
+    b/q  S 10 Rd  next: a data bit
     the STOP comes after 8 of a byte's nine bits: is it a glitch?
-    b/n leaves at slot 8: a target answers it there, the wire has a STOP
-    b/o leaves at slot 8: a target answers it there, the wire has a STOP
-    b/q leaves at slot 7: it sends 1 there, the wire has 0
+    slot 8, b/n: a target answers it, the bus has a STOP
+    slot 8, b/o: a target answers it, the bus has a STOP
+    slot 7, b/q: it sends 1, the bus has 0
 1 transactions, 1 unexplained" ""
 run "a STOP after a whole byte, in the place of its acknowledge" capture --explain p.plan d.vcd
 "$tests/../tools/dump" 00100000010r001000010 >d.vcd
 want 1 "5-345 unexplained
-    S 10 Wr A 0b10(cut) Sr 10 Rd A P
+    bus  S 10 Wr A 0b10(cut) Sr 10 Rd A P
+    b/o  S 10 Wr A 1xxxxxxx  next: a data bit
+    b/n  S 10 Wr A 01        next: a data bit
+    b/q  S 10 Rd             next: a data bit
     the repeated START comes after 2 of a byte's nine bits: is it a glitch?
-    b/o leaves at slot 11: it sends a bit there, the wire has a repeated START
-    b/n leaves at slot 9: it sends 0 there, the wire has 1
-    b/q leaves at slot 7: it sends 1 there, the wire has 0
+    slot 11, b/o: it sends a bit, the bus has a repeated START
+    slot 9, b/n: it sends 0, the bus has 1
+    slot 7, b/q: it sends 1, the bus has 0
 1 transactions, 1 unexplained" ""
 run "a repeated START in the middle of a byte" capture --explain p.plan d.vcd
 "$tests/../tools/dump" 001000000r001000010101010101 >d.vcd
 want 1 "5-450 unexplained
-    S 10 Wr A Sr 10 Rd A aa NA P
-    b/n leaves at slot 9: it sends 0 there, the wire has a repeated START
-    b/o leaves at slot 9: it sends 1 there, the wire has a repeated START
-    b/q leaves at slot 7: it sends 1 there, the wire has 0
+    bus  S 10 Wr A Sr 10 Rd A aa NA P
+    b/n  S 10 Wr A 01        next: a data bit
+    b/o  S 10 Wr A 1xxxxxxx  next: a data bit
+    b/q  S 10 Rd             next: a data bit
+    slot 9, b/n: it sends 0, the bus has a repeated START
+    slot 9, b/o: it sends 1, the bus has a repeated START
+    slot 7, b/q: it sends 1, the bus has 0
 1 transactions, 1 unexplained" ""
 run "a repeated START and a read" capture --explain p.plan d.vcd
 
@@ -537,10 +589,13 @@ run "a repeated START and a read" capture --explain p.plan d.vcd
     printf '#%s 0!\n#%s 1!\n' 20 30 40 50 60 70
 } >d.vcd
 want 1 "10-11 unexplained
-    S P
-    a/m leaves at slot 0: it sends 1 there, the wire has a STOP
-    b/n leaves at slot 0: it sends 0 there, the wire has a STOP
-    b/o leaves at slot 0: it sends 0 there, the wire has a STOP
+    bus  S P
+    a/m  S 48 Wr  next: a data bit
+    b/n  S 10 Wr  next: a data bit
+    b/o  S 10 Wr  next: a data bit
+    slot 0, a/m: it sends 1, the bus has a STOP
+    slot 0, b/n: it sends 0, the bus has a STOP
+    slot 0, b/o: it sends 0, the bus has a STOP
     2 bits follow on a free bus: is the STOP a glitch?
 1 transactions, 1 unexplained" ""
 run "a glitch" capture --explain p.plan d.vcd
@@ -855,19 +910,23 @@ brief 'brief 1' 'message set write 0x48 0x01 any ;' 'message get write 0x48 0x02
 "$twire" certify board.brief >c.cert
 sed -i 's/P[0-9]*/P1/' c.cert
 want 2 "wrong C5 pair 0
-    pair 0 is bmc/set and pch/get: what the certificate says of them is not so
+    bmc/set  S 48 Wr A 01  next: a data bit
+    pch/get  S 48 Wr A 02  next: a data bit
+    slot 9, word 2 of its proof: no bit of this number is known in both and
+    different there
     see board.brief:2 and board.brief:3
-    it breaks off at word 2, in slot 9: no bit of this number is known in both
-    and different there
+    bmc/set × pch/get: what the certificate says is not so
     a plan that was changed wants a new certificate: twire certify PLAN" ""
 run "a certificate of a brief" verify --explain board.brief c.cert
 brief 'brief 1' 'message set write 0x48 0x01 ;' 'controller bmc set ;' '# the sensor' 'interrupt al 0x49 ;'
 printf '%s\n' 'cert 1' 'pairs 1' 'P1' >c.cert
 want 2 "wrong C5 pair 0
-    pair 0 is bmc/set and !al: what the certificate says of them is not so
+    bmc/set  S 48 Wr  next: a data bit
+    !al      S 49 Rd  next: a data bit
+    slot 0, word 1 of its proof: no bit of this number is known in both and
+    different there
     see board.brief:2 and board.brief:5
-    it breaks off at word 1, in slot 0: no bit of this number is known in both
-    and different there
+    bmc/set × !al: what the certificate says is not so
     a plan that was changed wants a new certificate: twire certify PLAN" ""
 run "a certificate of a brief, of an interrupt" verify --explain board.brief c.cert
 
@@ -875,31 +934,37 @@ brief 'brief 1' 'message set write 0x48 0x01 any ;' 'message page write 0x50 any
     'interrupt al 0x48 ;' 'controller pch ;' 'never bmc/page pch ;'
 want 0 "wire 10010001c
     slot        0
-    byte        48 Rd
+    bus         48 Rd
     wire        10010001 c
     bmc/page_1  101  lost in slot 2
     !al         10010001 c  won
 won !al" ""
 run "a rehearsal of a brief" bench --explain --certify board.brief 'bmc_page/page_1,!al' --rest 0
 want 1 "5-160 unexplained
-    S 10 Wr A P
-    bmc/set leaves at slot 0: it sends 1 there, the wire has 0
+    bus         S 10 Wr A P
+    bmc/set     S 48 Wr  next: a data bit
+    bmc/page_1  S 50 Wr  next: a data bit
+    bmc/page_2  S 50 Wr  next: a data bit
+    slot 0, bmc/set: it sends 1, the bus has 0
     see board.brief:2
-    bmc/page_1 leaves at slot 0: it sends 1 there, the wire has 0
+    slot 0, bmc/page_1: it sends 1, the bus has 0
     see board.brief:3
-    bmc/page_2 leaves at slot 0: it sends 1 there, the wire has 0
+    slot 0, bmc/page_2: it sends 1, the bus has 0
     see board.brief:3
 1 transactions, 1 unexplained" ""
 run "a capture by a brief" capture --explain board.brief "$examples/stop_meets_data.vcd"
 run "a live capture by a brief" capture --explain --live board.brief "$examples/stop_meets_data.vcd"
 "$tests/../tools/dump" 100100000 >d.vcd
 want 1 "5-160 unexplained
-    S 48 Wr A P
-    bmc/set leaves at slot 9: it sends 0 there, the wire has a STOP
+    bus         S 48 Wr A P
+    bmc/set     S 48 Wr A 01  next: a data bit
+    !al         S 48 Rd       next: a data bit
+    bmc/page_1  S 50 Wr       next: a data bit
+    slot 9, bmc/set: it sends 0, the bus has a STOP
     see board.brief:2
-    !al leaves at slot 7: it sends 1 there, the wire has 0
+    slot 7, !al: it sends 1, the bus has 0
     see board.brief:5
-    bmc/page_1 leaves at slot 2: it sends 1 there, the wire has 0
+    slot 2, bmc/page_1: it sends 1, the bus has 0
     see board.brief:3
 1 transactions, 1 unexplained" ""
 run "an interrupt of a brief that goes along with a transaction" capture --explain board.brief d.vcd
@@ -990,25 +1055,127 @@ plan 'plan 1' "message $long write 1001000$bytes stop$stops ;" "message other wr
     "controller $long $long ;" 'controller b other ;' 'interrupt '"$long"' 1001001 ;'
 alike "names of 32 characters, and a clash after 250 bytes" check p.plan
 alike "who wins among names of 32 characters" order p.plan
-"$twire" check --explain p.plan >out
-grep -q '^    bus *S 48 Wr A \.\. .* A$' out
-echo $? >status
-want 0 "" ""
-: >out
-compare "words in the middle of a long row are left out"
+want 0 "    bus  S 48 Wr A .. 249 bytes alike .. 03 A
+    $long/$long
+         S 48 Wr A .. 249 bytes alike .. xx00xx11 A P   next: a STOP
+    b/other
+         S 48 Wr A .. 249 bytes alike .. xx00xx11 A 00  next: a data bit" ""
+"$twire" check --explain p.plan 2>err | sed -n '3,7p' >out
+echo 0 >status
+compare "bytes in the middle of a long row are counted"
 sed -i '/interrupt/d; s/^plan 1/plan 2/' p.plan
 echo "never $long b ;" >>p.plan
 "$twire" certify p.plan >c.cert
 alike "a rehearsal of 250 bytes" bench p.plan c.cert "$long/$long"
+
+# The longest names and 256 bytes, by each of the four commands: what is said to people has 80 columns, and is folded.
+one=$(printf 'a%.0s' {1..32}) other=$(printf 'b%.0s' {1..32}) left=$(printf 'c%.0s' {1..32}) right=$(printf 'd%.0s' {1..32})
+# longest FIRST SECOND: a brief with two messages that have such names, each of a controller.
+longest() {
+    brief 'brief 1' "message $one $1 ;" "message $other $2 ;" "controller $left $one ;" "controller $right $other ;"
+}
+# told NAME TEXT ARG..: with --explain these lines for people stand below the report.
+told() {
+    local name=$1 text=$2
+    shift 2
+    alike "$name" "$@"
+    want 0 "$text" ""
+    grep '^    ' explained >out
+    : >err
+    echo 0 >status
+    compare "$name"
+}
+longest 'write 0x48 any*255' 'write 0x48 any*254'
+meets="    bus  S 48 Wr A .. 253 bytes alike .. 00 A
+    $left/$one
+         S 48 Wr A .. 253 bytes alike .. xxxxxxxx A xxxxxxxx  next: a data bit
+    $right/$other
+         S 48 Wr A .. 253 bytes alike .. xxxxxxxx A P         next: a STOP
+    slot 2295, UM10204 3.1.8: a data bit meets a STOP. Both send alike until
+    here.
+    $left/$one may send
+    either bit before it in slot 9..16, 18..25, 27..34, 36..43, 45..52, 54..61
+    and 248 more
+    $right/$other may send
+    either bit before it in slot 9..16, 18..25, 27..34, 36..43, 45..52, 54..61
+    and 248 more
+    see board.brief:2 and board.brief:3
+    $left/$one ×"
+told "the longest that clash, by check" "    group 0, as pair 0:
+$meets
+    $right/$other: 1 pair,
+    lengths differ
+    to mend it: a bit before that slot, known in both and different; or the same
+    shape from there on; or:
+    never $left $right ;
+    (leaves 1 of 1 pair unchecked)" check board.brief
+meets="    pair 0:
+$meets
+    $right/$other: lengths
+    differ
+    a certificate names one pair; all, in groups: twire check --explain PLAN"
+"$twire" certify board.brief >c.cert
+told "the longest that clash, by verify" "$meets" verify board.brief c.cert
+told "the longest that clash, by bench" "$meets" bench board.brief c.cert "$left/$one"
+# They part in the last byte, and a proof that does not say so breaks off there.
+longest 'write 0x48 0x01*255' 'write 0x48 0x01*254 0x02'
+"$twire" certify board.brief | sed 's/P6/P0/' >c.cert
+told "a wrong proof of the longest" "    $left/$one
+         S 48 Wr A .. 251 bytes .. 01 A 01 A 01 A 01  next: a data bit
+    $right/$other
+         S 48 Wr A .. 251 bytes .. 01 A 01 A 01 A 02  next: a data bit
+    slot 2295, word 256 of its proof: no bit of this number is known in both and
+    different there
+    see board.brief:2 and board.brief:3
+    $left/$one ×
+    $right/$other: what the
+    certificate says is not so
+    a plan that was changed wants a new certificate: twire certify PLAN" verify board.brief c.cert
+byte=00000001
+told "a rehearsal of the longest" "    slot  0          9          18         27         36         45
+    bus   48 Wr    A 01       A 01       A 01       A 01       A 01       A
+    wire  10010000 l $byte l $byte l $byte l $byte l $byte l
+    $left/$one
+          10010000 . $byte . $byte . $byte . $byte . $byte .
+    $right/$other
+          10010000 . $byte . $byte . $byte . $byte . $byte .
+    .. 246 bytes alike ..
+    slot  2268       2277       2286       2295
+    bus   01       A 01       A 01       A 01       A P
+    wire  $byte l $byte l $byte l $byte l s
+    $left/$one
+          $byte . $byte . $byte . $byte . s  won
+    $right/$other
+          $byte . $byte . $byte . 0000001  lost in slot 2301" \
+    bench board.brief --certify "$left/$one,$right/$other" --rest 0
+# bytes COUNT: so many bytes 01 with their acknowledges, as levels.
+bytes() {
+    printf '000000010%.0s' $(seq "$1")
+}
+"$tests/../tools/dump" "100100000$(bytes 255)" >d.vcd
+told "the longest that somebody explains" "    bus  S 48 Wr A .. 248 bytes .. 01 A 01 A 01 A 01 A 01 A 01 A 01 A P" capture board.brief d.vcd
+# Both leave in the byte 05, after which 200 more come.
+"$tests/../tools/dump" "100100000$(bytes 20)000001010$(bytes 200)" >d.vcd
+told "the longest that nobody explains" "    bus  S 48 Wr A .. 17 bytes alike .. 01 A 01 A 01 A 05 A .. 200 bytes more
+    $left/$one
+         S 48 Wr A .. 17 bytes alike .. 01 A 01 A 01 A 01  next: a data bit
+    $right/$other
+         S 48 Wr A .. 17 bytes alike .. 01 A 01 A 01 A 01  next: a data bit
+    slot 194, $left/$one:
+    it sends 0, the bus has 1
+    see board.brief:2
+    slot 194, $right/$other:
+    it sends 0, the bus has 1
+    see board.brief:3" capture board.brief d.vcd
 
 # Where one row is too long, the same bytes are left out of each, and the last one is shown.
 brief 'brief 1' 'message short write 0x50 any*3 ;' 'message long write 0x50 any*8 ;' 'controller bmc short ;' \
     'controller host long ;'
 want 1 "pair 0 bmc/short host/long: stop against data after 10100000l00000000l00000000l00000000l
     group 0, as pair 0:
-    bus        S 50 Wr A .. A 00 A 00 A
-    bmc/short  S 50 Wr A .. A xxxxxxxx A xxxxxxxx A P         next: a STOP
-    host/long  S 50 Wr A .. A xxxxxxxx A xxxxxxxx A xxxxxxxx  next: a data bit
+    bus        S 50 Wr A .. 3 bytes alike ..
+    bmc/short  S 50 Wr A .. 3 bytes alike .. P         next: a STOP
+    host/long  S 50 Wr A .. 3 bytes alike .. xxxxxxxx  next: a data bit
     slot 36, UM10204 3.1.8: a STOP meets a data bit. Both send alike until here.
     bmc/short may send either bit before it in slot 9..16, 18..25, 27..34
     host/long may send either bit before it in slot 9..16, 18..25, 27..34
@@ -1020,12 +1187,12 @@ unsafe: 1 of 1 pairs
     never bmc host ;
     (leaves 1 of 1 pair unchecked)" ""
 run "a row that is too long" check --explain board.brief
-# Bytes that are known in one of them: the same words are left out of it, though it would have room for more.
+# Bytes that are known in one of them: the same ones are left out of it, though it would have room for more.
 brief 'brief 1' 'message short write 0x50 0x01*6 read 0x50 1 ;' 'message long write 0x50 any*9 ;' 'controller bmc short ;' \
     'controller host long ;'
-want 0 "    bus        S 50 Wr A .. A 01 A 01 A
-    bmc/short  S 50 Wr A .. A 01 A 01 A Sr  next: a repeated START
-    host/long  S 50 Wr A .. A xxxxxxxx A xxxxxxxx A xxxxxxxx  next: a data bit" ""
+want 0 "    bus        S 50 Wr A .. 6 bytes alike ..
+    bmc/short  S 50 Wr A .. 6 bytes alike .. Sr        next: a repeated START
+    host/long  S 50 Wr A .. 6 bytes alike .. xxxxxxxx  next: a data bit" ""
 "$twire" check --explain board.brief 2>err | sed -n '3,5p' >out
 echo 0 >status
 compare "known bytes in a row that is too long"

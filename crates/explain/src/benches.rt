@@ -1,18 +1,22 @@
 // Lines below the wire of a rehearsal.
 
-use crate::below::{begin_titled, pad, room_after};
+use crate::below::{begin, begin_titled, pad, room_after};
 use crate::cells::{Cell, cells_of};
 use crate::labels::Labels;
+use crate::rows::{ALIKE, beside};
 use crate::tracks::Track;
 use growing_text::{Lines, Text};
 use message_tree::Item;
 use std::alloc::{AllocError, Global};
 
-// How many columns the labels of rows have at most; a longer one has a line of its own.
-const LABELS: usize = 22;
+// How many columns labels have at most that stand beside rows, and how many where each longer one has a line of its own.
+const BESIDE: usize = 24;
+
+const ABOVE: usize = 6;
 
 /// What is said below the line `wire WIRE` in the report of a rehearsal: the slots in which bytes begin, the bytes, the
-/// wire, and for each starter what it puts in each slot, with `.` where it listens, up to the slot in which it loses.
+/// wire, and for each starter what it puts in each slot, with `.` where it listens, up to the slot in which it loses. Of a long
+/// wire the parts in its middle are left out in which nobody loses.
 pub(crate) fn below_wire(
     alloc: Global,
     labels: &Labels,
@@ -23,23 +27,88 @@ pub(crate) fn below_wire(
     let columns = columns_for(labels, tracks);
     let mut lines = Lines::new(alloc);
     let mut rest = cells.as_slice();
+    let mut alike = 0usize;
     for _ in 0..cells.len() {
         if rest.is_empty() {
             break;
         }
         let count = fitting(rest, room_after(columns)).max(1).min(rest.len());
         let (block, after) = rest.split_at(count);
-        tell_slots(alloc, &mut lines, columns, block);
-        tell_bytes(alloc, &mut lines, columns, wire, block);
-        tell_wire(alloc, &mut lines, columns, wire, block);
-        for track in tracks {
-            let label = labels.of(track.participant);
-            let is_last = after.is_empty();
-            tell_track(alloc, &mut lines, columns, label, track, block, is_last);
+        let is_end = rest.len() == cells.len() || after.is_empty();
+        if is_end || is_lost_in(tracks, block) {
+            tell_alike(&mut lines, alike);
+            alike = 0;
+            tell_block(
+                alloc,
+                &mut lines,
+                columns,
+                labels,
+                tracks,
+                wire,
+                block,
+                after.is_empty(),
+            );
+        } else {
+            alike = alike.saturating_add(bytes_in(block));
         }
         rest = after;
     }
     lines.finish()
+}
+
+// Whether a starter loses in the block.
+fn is_lost_in(tracks: &[Track], block: &[Cell]) -> bool {
+    for track in tracks {
+        if is_lost(track, block) {
+            return true;
+        }
+    }
+    false
+}
+
+fn is_lost(track: &Track, block: &[Cell]) -> bool {
+    match (track.lost, block.first(), block.last()) {
+        (Some(slot), Some(first), Some(last)) => first.from <= slot && slot < last.end(),
+        _ => false,
+    }
+}
+
+fn bytes_in(block: &[Cell]) -> usize {
+    let mut bytes = 0usize;
+    for cell in block {
+        bytes = bytes.saturating_add(usize::from(cell.is_byte()));
+    }
+    bytes
+}
+
+// That blocks with so many bytes are left out, in which nobody loses.
+fn tell_alike(lines: &mut Lines, bytes: usize) {
+    if bytes != 0 {
+        begin(lines);
+        lines.word("..");
+        lines.number(bytes as u64, "");
+        lines.words(ALIKE);
+        lines.end();
+    }
+}
+
+fn tell_block(
+    alloc: Global,
+    lines: &mut Lines,
+    columns: usize,
+    labels: &Labels,
+    tracks: &[Track],
+    wire: &[Item],
+    block: &[Cell],
+    is_last: bool,
+) {
+    tell_slots(alloc, lines, columns, block);
+    tell_bytes(alloc, lines, columns, wire, block);
+    tell_wire(alloc, lines, columns, wire, block);
+    for track in tracks {
+        let label = labels.of(track.participant);
+        tell_track(alloc, lines, columns, label, track, block, is_last);
+    }
 }
 
 fn columns_for(labels: &Labels, tracks: &[Track]) -> usize {
@@ -47,7 +116,7 @@ fn columns_for(labels: &Labels, tracks: &[Track]) -> usize {
     for track in tracks {
         longest = longest.max(labels.of(track.participant).len());
     }
-    longest.saturating_add(2).clamp(6, LABELS)
+    beside(longest, ABOVE, BESIDE)
 }
 
 // How many of the cells fit into so many columns.
@@ -86,7 +155,7 @@ fn tell_bytes(alloc: Global, lines: &mut Lines, columns: usize, wire: &[Item], b
         cell.push_to(alloc, &mut line, column, wire);
         column = column.saturating_add(cell.width()).saturating_add(1);
     }
-    begin_titled(lines, "byte", columns);
+    begin_titled(lines, "bus", columns);
     lines.words_made(line.finish());
     lines.end();
 }
@@ -146,12 +215,12 @@ fn puts_in<'a>(track: &'a Track, cell: &Cell) -> &'a str {
 
 // That the starter loses in this block, or wins at its end.
 fn tell_fate(lines: &mut Lines, track: &Track, block: &[Cell], is_last: bool) {
-    match (track.lost, block.last()) {
-        (Some(slot), Some(last)) if slot < last.end() => {
+    match track.lost {
+        Some(slot) if is_lost(track, block) => {
             lines.words(" lost in slot");
             lines.number(slot as u64, "");
         }
-        (None, _) if is_last => lines.words(" won"),
+        None if is_last => lines.words(" won"),
         _ => {}
     }
 }

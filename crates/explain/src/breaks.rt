@@ -49,14 +49,8 @@ pub(crate) fn break_of(
     line: &[u8],
 ) -> Result<Option<Break>, AllocError> {
     let mut left = Left::new(alloc);
-    let (first, second) = pair;
-    if first < plan.participants() && second < plan.participants() {
-        left.push(Both {
-            first: Place::start(plan.sends(first)),
-            second: Place::start(plan.sends(second)),
-            slot: 0,
-            are_reads: false,
-        });
+    if let Some(both) = start_of(plan, pair) {
+        left.push(both);
     }
     let found = first_break(&mut left, line);
     if left.is_whole {
@@ -64,6 +58,20 @@ pub(crate) fn break_of(
     } else {
         Err(AllocError)
     }
+}
+
+/// The two of a pair of the plan, before their first slot.
+pub(crate) fn start_of(plan: &Plan, pair: (u32, u32)) -> Option<Both<'_>> {
+    let (first, second) = pair;
+    if plan.participants() <= first || plan.participants() <= second {
+        return None;
+    }
+    Some(Both {
+        first: Place::start(plan.sends(first)),
+        second: Place::start(plan.sends(second)),
+        slot: 0,
+        are_reads: false,
+    })
 }
 
 fn first_break(left: &mut Left<'_>, line: &[u8]) -> Option<Break> {
@@ -82,7 +90,8 @@ fn first_break(left: &mut Left<'_>, line: &[u8]) -> Option<Break> {
     None
 }
 
-fn is_blank(byte: &u8) -> bool {
+/// Whether words of a proof end there.
+pub(crate) fn is_blank(byte: &u8) -> bool {
     *byte == b' '
 }
 
@@ -158,33 +167,33 @@ fn listens(place: Place<'_>) -> bool {
     place.offered() == Offered::Listen
 }
 
-// Two senders at one place, which the next words are to prove.
+/// Two senders at one place, which the next words are to prove.
 #[derive(Clone, Copy, Drop)]
-struct Both<'a> {
-    first: Place<'a>,
-    second: Place<'a>,
-    slot: u32,
+pub(crate) struct Both<'a> {
+    pub(crate) first: Place<'a>,
+    pub(crate) second: Place<'a>,
+    pub(crate) slot: u32,
     // whether they are two reads of which each has been acknowledged
     are_reads: bool,
 }
 
 impl Both<'_> {
-    // Goes on by an item of one slot, where it may come next in both.
-    fn pass(&mut self, item: Item) -> bool {
+    /// Goes on by an item of one slot, where it may come next in both.
+    pub(crate) fn pass(&mut self, item: Item) -> bool {
         self.slot = self.slot.saturating_add(1);
         self.are_reads = false;
         pass(&mut self.first, item) && pass(&mut self.second, item)
     }
 
-    // Goes on by a byte that each sends and this answer to it.
-    fn pass_byte(&mut self, answer: bool) -> bool {
+    /// Goes on by a byte that each sends and this answer to it.
+    pub(crate) fn pass_byte(&mut self, answer: bool) -> bool {
         self.slot = self.slot.saturating_add(9);
         self.are_reads = false;
         pass_byte(&mut self.first, answer) && pass_byte(&mut self.second, answer)
     }
 
-    // Goes on by a number of bytes with which both reads may end, where there is one.
-    fn pass_reads(&mut self) -> bool {
+    /// Goes on by a number of bytes with which both reads may end, where there is one.
+    pub(crate) fn pass_reads(&mut self) -> bool {
         for _ in 0..BYTES {
             for _ in 0..BITS {
                 if !self.pass(Item::Heard(false)) {

@@ -1,15 +1,23 @@
 // Lines for people below those of transactions.
 
-use crate::below::begin;
-use crate::faults::tell_item;
+use crate::below::{begin, say_all};
+use crate::faults::{bus_row, row_of, tell_item};
 use crate::glitches::{Cut, Cuts};
 use crate::labels::Labels;
-use crate::leaving::{Leaves, mark_words, nearest, offer_words};
+use crate::leaving::{Leaves, NEAREST, bytes_until, mark_words, nearest, offer_words};
+use crate::rows::{ALIKE, BYTES, ends_byte, tell_rows};
 use crate::words::bytes_of;
 use capture_check::{Mark, Transaction, Until};
-use growing_text::Lines;
+use growing_text::{Lines, Text};
+use plan_core::Plan;
 use plan_words::PlanWords;
 use std::alloc::{AllocError, Global};
+
+// How many columns bytes have at most that are always shown.
+const SHORT: usize = 52;
+
+// How many bytes are shown rather than counted.
+const FEW: usize = 4;
 
 /// What is said below the line of a transaction: its bytes, and where a STOP ended it whether a byte was cut short, and, where
 /// nobody explains it, which participants go along with it furthest, where each leaves it, and where it stands in a brief.
@@ -21,17 +29,80 @@ pub(crate) fn below_transaction(
     is_explained: bool,
 ) -> Result<String, AllocError> {
     let marks = transaction.marks.as_slice();
+    let is_stopped = matches!(transaction.until, Until::Stopped(_));
+    let near = if is_stopped && !is_explained {
+        nearest(words.plan(), marks)
+    } else {
+        [None; NEAREST]
+    };
     let mut lines = Lines::new(alloc);
-    begin(&mut lines);
-    lines.words_made(bytes_of(alloc, marks));
-    lines.end();
-    if let Until::Stopped(_) = transaction.until {
+    tell_rows_of(alloc, &mut lines, words.plan(), labels, marks, &near)?;
+    if is_stopped {
         tell_cuts(&mut lines, marks);
-        if !is_explained {
-            tell_nearest(alloc, &mut lines, words, labels, marks);
+    }
+    for near in near.iter() {
+        if let Some(near) = near {
+            tell_leaves(alloc, &mut lines, labels, marks.get(near.slot), *near);
+            tell_item(alloc, &mut lines, words, near.participant);
         }
     }
     lines.finish()
+}
+
+// The row of the bus, and those of who goes along with it.
+fn tell_rows_of(
+    alloc: Global,
+    lines: &mut Lines,
+    plan: &Plan,
+    labels: &Labels,
+    marks: &[Mark],
+    near: &[Option<Leaves>],
+) -> Result<(), AllocError> {
+    let mut sent = Vec::new(alloc);
+    for near in near {
+        if let Some(near) = near {
+            sent.push((bytes_until(alloc, plan, *near, marks)?, *near))?;
+        }
+    }
+    let said = if sent.is_empty() { BYTES } else { ALIKE };
+    let bus = bus_until(alloc, bytes_of(alloc, marks)?, sent.first())?;
+    let mut rows = Vec::new(alloc);
+    rows.push(bus_row(bus.as_str()))?;
+    for (bytes, near) in &sent {
+        rows.push(row_of(labels.of(near.participant), bytes.as_str(), near.offered))?;
+    }
+    tell_rows(lines, rows.as_slice(), said);
+    Ok(())
+}
+
+// The bytes on the bus: where they are many, up to the one in which the last one leaves who goes along, and how many come
+// after it.
+fn bus_until(
+    alloc: Global,
+    bus: String,
+    furthest: Option<&(String, Leaves)>,
+) -> Result<String, AllocError> {
+    let Some((bytes, _)) = furthest else {
+        return Ok(bus);
+    };
+    let shown = bytes.as_str().split(' ').count();
+    let mut text = Text::new(alloc);
+    let mut more = 0usize;
+    for (k, word) in bus.as_str().split(' ').enumerate() {
+        if shown < k {
+            more = more.saturating_add(usize::from(ends_byte(word)));
+        } else {
+            text.push(if k == 0 { "" } else { " " });
+            text.push(word);
+        }
+    }
+    if bus.len() <= SHORT || more < FEW {
+        return Ok(bus);
+    }
+    text.push(" .. ");
+    text.push_number(more as u64);
+    text.push(" bytes more");
+    text.finish()
 }
 
 /// What is said below a transaction after which so many bits came on the free bus, as if its STOP had been none.
@@ -66,28 +137,21 @@ fn tell_cut(lines: &mut Lines, cut: Cut) {
     lines.end();
 }
 
-fn tell_nearest(
+fn tell_leaves(
     alloc: Global,
     lines: &mut Lines,
-    words: PlanWords<'_>,
     labels: &Labels,
-    marks: &[Mark],
+    mark: Option<&Mark>,
+    near: Leaves,
 ) {
-    for near in nearest(words.plan(), marks).iter() {
-        if let Some(near) = near {
-            tell_leaves(lines, labels, marks.get(near.slot), *near);
-            tell_item(alloc, lines, words, near.participant);
-        }
-    }
-}
-
-fn tell_leaves(lines: &mut Lines, labels: &Labels, mark: Option<&Mark>, near: Leaves) {
-    begin(lines);
-    lines.words(labels.of(near.participant));
-    lines.words("leaves at slot");
-    lines.number(near.slot as u64, ":");
-    lines.words(offer_words(near.offered));
-    lines.words("there, the wire has");
-    lines.words(mark_words(mark));
-    lines.end();
+    let mut text = Text::new(alloc);
+    text.push("slot ");
+    text.push_number(near.slot as u64);
+    text.push(", ");
+    text.push(labels.of(near.participant));
+    text.push(": ");
+    text.push(offer_words(near.offered));
+    text.push(", the bus has ");
+    text.push(mark_words(mark));
+    say_all(lines, text);
 }

@@ -2,43 +2,60 @@
 
 use crate::below::{begin, say, say_all};
 use crate::breaks::{Break, Reason};
-use crate::faults::tell_places;
+use crate::faults::{row_of, tell_places};
+use crate::group_lines::{tell_alone, tell_two};
+use crate::meetings::Side;
 use crate::mistakes::Mistake;
+use crate::rows::{BYTES, tell_rows};
 use growing_text::{Lines, Text};
 use plan_words::PlanWords;
 use std::alloc::{AllocError, Global};
 
+const NOT_SO: &str = "what the certificate says is not so";
+
 const AFTER_A_CHANGE: &str = "a plan that was changed wants a new certificate: twire certify PLAN";
+
+const AFTER_A_FAULT: &str =
+    "a certificate names one pair; all, in groups: twire check --explain PLAN";
 
 const AFTER_A_CUT: &str = "so it is no whole certificate: twire certify PLAN writes one";
 
-/// What is said below the line of an answer that the certificate is wrong: which pair it is and where its proof breaks off, or
-/// how many proofs and pairs there are; and what to do.
+/// What is said below the line of an answer: of a fault that the certificate names, the pair that has it; of a certificate that
+/// is wrong, which pair it is and where its proof breaks off, or how many proofs and pairs there are; and what to do.
 pub(crate) fn below_mistake(
     alloc: Global,
     words: PlanWords<'_>,
-    mistake: Mistake,
+    mistake: &Mistake,
 ) -> Result<String, AllocError> {
     let mut lines = Lines::new(alloc);
     match mistake {
-        Mistake::Pair {
+        Mistake::Unsafe {
             pair,
             participants,
+            fault,
+        } => tell_alone(alloc, &mut lines, words, (*pair, *participants), fault)?,
+        Mistake::Pair {
+            participants,
             found,
+            sides,
+            ..
         } => {
-            tell_pair(alloc, &mut lines, words, pair, participants);
-            tell_places(alloc, &mut lines, words, participants);
-            if let Some(found) = found {
-                tell_break(&mut lines, found);
+            if let Some(sides) = sides {
+                tell_two_rows(alloc, &mut lines, words, *participants, sides)?;
             }
+            if let Some(found) = found {
+                tell_break(alloc, &mut lines, *found);
+            }
+            tell_places(alloc, &mut lines, words, *participants);
+            tell_two(alloc, &mut lines, words, *participants, NOT_SO);
         }
         Mistake::Count {
             pairs,
             says,
             proofs,
         } => {
-            tell_counts(&mut lines, pairs, proofs);
-            if let Some(said) = other_count(says, proofs) {
+            tell_counts(&mut lines, *pairs, *proofs);
+            if let Some(said) = other_count(*says, *proofs) {
                 tell_said(&mut lines, said);
             }
         }
@@ -48,9 +65,10 @@ pub(crate) fn below_mistake(
     lines.finish()
 }
 
-fn advice_on(mistake: Mistake) -> &'static str {
+fn advice_on(mistake: &Mistake) -> &'static str {
     match mistake {
-        Mistake::Count { says, proofs, .. } if other_count(says, proofs).is_some() => AFTER_A_CUT,
+        Mistake::Unsafe { .. } => AFTER_A_FAULT,
+        Mistake::Count { says, proofs, .. } if other_count(*says, *proofs).is_some() => AFTER_A_CUT,
         _ => AFTER_A_CHANGE,
     }
 }
@@ -70,32 +88,37 @@ fn tell_said(lines: &mut Lines, said: u32) {
     lines.end();
 }
 
-fn tell_pair(
+// What both send up to where their proof breaks off.
+fn tell_two_rows(
     alloc: Global,
     lines: &mut Lines,
     words: PlanWords<'_>,
-    pair: u32,
-    participants: (u32, u32),
-) {
-    let mut text = Text::new(alloc);
-    text.push("pair ");
-    text.push_number(u64::from(pair));
-    text.push(" is ");
-    text.push_made(words.label(alloc, participants.0));
-    text.push(" and ");
-    text.push_made(words.label(alloc, participants.1));
-    text.push(": what the certificate says of them is not so");
-    say_all(lines, text);
+    both: (u32, u32),
+    sides: &(Side, Side),
+) -> Result<(), AllocError> {
+    let first = words.label(alloc, both.0)?;
+    let second = words.label(alloc, both.1)?;
+    tell_sides(lines, (first.as_str(), second.as_str()), &sides.0, &sides.1);
+    Ok(())
 }
 
-fn tell_break(lines: &mut Lines, found: Break) {
-    begin(lines);
-    lines.words("it breaks off at word");
-    lines.number(u64::from(found.word), ",");
-    lines.words("in slot");
-    lines.number(u64::from(found.slot), ":");
-    lines.words(words_of(found.reason));
-    lines.end();
+fn tell_sides(lines: &mut Lines, labels: (&str, &str), first: &Side, second: &Side) {
+    let rows = [
+        row_of(labels.0, first.bytes.as_str(), first.next),
+        row_of(labels.1, second.bytes.as_str(), second.next),
+    ];
+    tell_rows(lines, &rows, BYTES);
+}
+
+fn tell_break(alloc: Global, lines: &mut Lines, found: Break) {
+    let mut text = Text::new(alloc);
+    text.push("slot ");
+    text.push_number(u64::from(found.slot));
+    text.push(", word ");
+    text.push_number(u64::from(found.word));
+    text.push(" of its proof: ");
+    text.push(words_of(found.reason));
+    say_all(lines, text);
 }
 
 fn words_of(reason: Reason) -> &'static str {

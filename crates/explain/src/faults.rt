@@ -4,15 +4,13 @@ use crate::below::{begin, say, say_all};
 use crate::meetings::{Meeting, Rule, Side};
 use crate::mends::{Mends, Never};
 use crate::rewritten::tell_families;
-use crate::rows::{Row, tell_rows};
+use crate::rows::{ALIKE, Row, tell_rows};
 use crate::sending::deed;
 use growing_text::{Lines, Text};
+use places::Offered;
 use plan_words::{FileLine, PlanWords};
 use std::alloc::{AllocError, Global};
 use verdicts::Faults;
-
-// How many columns the labels of rows have at most; a longer one has a line of its own.
-const LABELS: usize = 24;
 
 // How many columns a place has at most that stands on a line between `see` and `and`.
 const PLACE: usize = 68;
@@ -46,25 +44,33 @@ fn tell_sides(alloc: Global, lines: &mut Lines, labels: (&str, &str), meeting: &
         second,
         ..
     } = meeting;
-    let columns = labels
-        .0
-        .len()
-        .max(labels.1.len())
-        .saturating_add(2)
-        .clamp(5, LABELS);
     let rows = [
-        row_of("bus", bus.as_str(), None),
-        row_of(labels.0, first.bytes.as_str(), Some(deed(first.next))),
-        row_of(labels.1, second.bytes.as_str(), Some(deed(second.next))),
+        bus_row(bus.as_str()),
+        row_of(labels.0, first.bytes.as_str(), first.next),
+        row_of(labels.1, second.bytes.as_str(), second.next),
     ];
-    tell_rows(lines, &rows, columns);
+    tell_rows(lines, &rows, ALIKE);
     tell_reason(alloc, lines, meeting);
     tell_open(alloc, lines, labels.0, first);
     tell_open(alloc, lines, labels.1, second);
 }
 
-fn row_of<'a>(title: &'a str, words: &'a str, next: Option<&'static str>) -> Row<'a> {
-    Row { title, words, next }
+/// The row of the bytes on the bus.
+pub(crate) fn bus_row(words: &str) -> Row<'_> {
+    Row {
+        title: "bus",
+        words,
+        next: None,
+    }
+}
+
+/// The row of a participant: what it sends, and what it offers next.
+pub(crate) fn row_of<'a>(title: &'a str, words: &'a str, next: Offered) -> Row<'a> {
+    Row {
+        title,
+        words,
+        next: Some(deed(next)),
+    }
 }
 
 fn tell_reason(alloc: Global, lines: &mut Lines, meeting: &Meeting) {
@@ -98,7 +104,9 @@ fn tell_open(alloc: Global, lines: &mut Lines, label: &str, side: &Side) {
         }
     }
     if RANGES < side.open.len() {
-        words.push(", ..");
+        words.push(" and ");
+        words.push_number(side.open.len().saturating_sub(RANGES) as u64);
+        words.push(" more");
     }
     say_all(lines, words);
 }

@@ -1,14 +1,54 @@
-// Lines of a group of unsafe pairs.
+// Lines of a group of unsafe pairs, and of one pair by itself.
 
 use crate::below::{begin, say_all};
 use crate::faults::tell_pair;
 use crate::groups::Grouped;
-use crate::meetings::Meeting;
-use causes::{Cause, Group};
+use crate::meetings::{Meeting, meeting_of};
+use causes::Group;
+use certificate::Fault;
 use growing_text::{Lines, Text};
 use message_tree::Kind;
 use plan_words::PlanWords;
 use std::alloc::{AllocError, Global};
+
+/// What is said of an unsafe pair that stands by itself: its number, what is said of it, and why it is unsafe.
+pub(crate) fn tell_alone(
+    alloc: Global,
+    lines: &mut Lines,
+    words: PlanWords<'_>,
+    pair: (u32, (u32, u32)),
+    fault: &Fault,
+) -> Result<(), AllocError> {
+    let (number, both) = pair;
+    begin(lines);
+    lines.word("pair");
+    lines.number(number as u64, ":");
+    lines.end();
+    let meeting = meeting_of(alloc, words.plan(), both, fault.wire.as_slice())?;
+    tell_pair(alloc, lines, words, both, &meeting)?;
+    tell_two(alloc, lines, words, both, why(fault.first, fault.second));
+    Ok(())
+}
+
+/// Between which two this stands.
+pub(crate) fn tell_two(
+    alloc: Global,
+    lines: &mut Lines,
+    words: PlanWords<'_>,
+    both: (u32, u32),
+    said: &str,
+) {
+    let mut text = Text::new(alloc);
+    text.push_made(words.label(alloc, both.0));
+    text.push(BETWEEN);
+    text.push_made(words.label(alloc, both.1));
+    text.push(": ");
+    text.push(said);
+    say_all(lines, text);
+}
+
+// What stands between two who meet.
+const BETWEEN: &str = " × ";
 
 // How many of those who meet are named.
 const NAMED: usize = 4;
@@ -45,7 +85,7 @@ fn tell_alike(alloc: Global, lines: &mut Lines, groups: &Grouped, g: usize, grou
     words.push(": ");
     push_pairs(&mut words, group.pairs);
     words.push(", ");
-    words.push(why(group.cause));
+    words.push(why(group.cause.first.kind, group.cause.second.kind));
     say_all(lines, words);
 }
 
@@ -55,7 +95,7 @@ fn push_meets(words: &mut Text, groups: &Grouped, g: usize) {
         let (first, second) = groups.meet(g, i);
         words.push(if i == 0 { "" } else { ", " });
         words.push(first);
-        words.push(" × ");
+        words.push(BETWEEN);
         words.push(second);
     }
     if NAMED < all {
@@ -72,8 +112,8 @@ fn push_pairs(words: &mut Text, count: usize) {
 }
 
 // Why those are unsafe that meet so.
-fn why(cause: Cause) -> &'static str {
-    match (cause.first.kind, cause.second.kind) {
+fn why(first: Kind, second: Kind) -> &'static str {
+    match (first, second) {
         (Kind::Claim, _) | (_, Kind::Claim) => "an interrupt has the same header",
         (Kind::Again, Kind::Stop) | (Kind::Stop, Kind::Again) => "one ends, one repeats START",
         (Kind::Again, _) | (_, Kind::Again) => "one goes on, one repeats START",

@@ -1,14 +1,16 @@
 // Who goes along with a transaction that nobody explains, and where.
 
-use crate::sending::pass;
+use crate::sending::{pass, push_offered, push_rest};
+use crate::words::Words;
 use capture_check::Mark;
 use message_tree::{Bit, Item};
 use places::{Offered, Place};
 use plan_core::Plan;
+use std::alloc::{AllocError, Global};
 use std::mem;
 
-// How many participants are named for a transaction.
-const NEAREST: usize = 3;
+/// How many participants are named for a transaction.
+pub(crate) const NEAREST: usize = 3;
 
 /// Where a participant leaves a transaction: how many marks it goes along with, and what it does then.
 #[derive(Clone, Copy)]
@@ -59,6 +61,29 @@ fn leaving(start: Place<'_>, marks: &[Mark]) -> (usize, Offered) {
         }
     }
     (marks.len(), place.offered())
+}
+
+/// The bytes of who goes along with these marks, up to the end of the one in which it leaves them.
+pub(crate) fn bytes_until(
+    alloc: Global,
+    plan: &Plan,
+    leaves: Leaves,
+    marks: &[Mark],
+) -> Result<String, AllocError> {
+    let mut words = Words::new(alloc);
+    if leaves.participant < plan.participants() {
+        let mut place = Place::start(plan.sends(leaves.participant));
+        for mark in marks {
+            let offered = place.offered();
+            let item = item_for(offered, *mark);
+            if !pass(&mut place, item) {
+                break;
+            }
+            push_offered(&mut words, offered, item);
+        }
+        push_rest(&mut words, place);
+    }
+    words.finish()
 }
 
 // The item that leaves this mark, by whoever drives the bit.

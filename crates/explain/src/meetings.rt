@@ -76,7 +76,13 @@ pub(crate) fn bytes_of(alloc: Global, wire: &[Item]) -> Result<String, AllocErro
     words.finish()
 }
 
-fn side_of(alloc: Global, plan: &Plan, p: u32, wire: &[Item]) -> Result<Side, AllocError> {
+/// What a participant does along this wire, and next.
+pub(crate) fn side_of(
+    alloc: Global,
+    plan: &Plan,
+    p: u32,
+    wire: &[Item],
+) -> Result<Side, AllocError> {
     let mut words = Words::new(alloc);
     let Followed { open, next } = follow_wire(alloc, plan, p, wire, &mut words);
     let bytes = words.finish()?;

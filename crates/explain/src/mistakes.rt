@@ -1,24 +1,33 @@
-// What is wrong with a certificate of a plan.
+// What is wrong with a certificate of a plan, or with the plan.
 
 ghost use Rattle.std.specs.Prelude.{◌<◌, length};
 ghost use Rattle.plan_core.specs.PlanContents.{plan_contents};
 ghost use Rattle.plan_core.specs.Pairs.{pairs_of};
 
 use crate::breaks::{Break, break_of};
+use crate::broken::sides_at;
+use crate::meetings::Side;
 use cert_check::Answer;
-use certificate::CertFault;
+use certificate::{CertError, CertFault, Fault, Head, read_head};
 use plan_core::Plan;
 use std::alloc::{AllocError, Global};
 
-/// What is wrong with a certificate, beside what its answer says.
-#[derive(Clone, Copy)]
+/// What is wrong with a certificate, or with the plan by a certificate that is right, beside what its answer says.
+#[derive(Drop)]
 pub enum Mistake {
+    /// This pair of the plan, of these participants, has this fault.
+    Unsafe {
+        pair: u32,
+        participants: (u32, u32),
+        fault: Fault,
+    },
     /// What it says of this pair, of these participants, is not so.
     Pair {
         pair: u32,
         participants: (u32, u32),
-        /// Where the line of its proof breaks off, where the certificate has proofs.
+        /// Where the line of its proof breaks off, and what both send up to there, where the certificate has proofs.
         found: Option<Break>,
+        sides: Option<(Side, Side)>,
     },
     /// The plan has so many pairs, and the certificate so many lines of proofs. Its second line says that it has so
     /// many.
@@ -42,34 +51,51 @@ pub fn mistake_of(
     cert: &[u8],
     answer: Answer,
 ) -> Result<Option<Mistake>, AllocError> {
-    let Answer::Wrong(fault) = answer else {
-        return Ok(None);
-    };
-    Ok(Some(match fault {
-        CertFault::Pair(pair) if pair < plan.pair_count() => misproved_pair(
-            alloc, plan, cert, pair,
-        )?,
-        CertFault::Count => Mistake::Count {
+    match answer {
+        Answer::Safe => Ok(None),
+        Answer::Unsafe => unsafe_pair(alloc, plan, cert),
+        Answer::Wrong(CertFault::Pair(pair)) if pair < plan.pair_count() => {
+            Ok(Some(misproved_pair(alloc, plan, cert, pair)?))
+        }
+        Answer::Wrong(CertFault::Count) => Ok(Some(Mistake::Count {
             pairs: plan.pair_count(),
             says: proofs_said(cert),
             proofs: proofs_in(cert),
-        },
-        _ => Mistake::Text,
-    }))
+        })),
+        Answer::Wrong(_) => Ok(Some(Mistake::Text)),
+    }
+}
+
+// The pair with a fault that the certificate of this text names.
+fn unsafe_pair(alloc: Global, plan: &Plan, cert: &[u8]) -> Result<Option<Mistake>, AllocError> {
+    match read_head(alloc, cert) {
+        Ok(Head::Flaw(pair, fault)) if pair < plan.pair_count() => Ok(Some(Mistake::Unsafe {
+            pair,
+            participants: plan.pair(pair),
+            fault,
+        })),
+        Err(CertError::NoMemory) => Err(AllocError),
+        _ => Ok(None),
+    }
 }
 
 fn misproved_pair(alloc: Global, plan: &Plan, cert: &[u8], pair: u32) -> Result<Mistake, AllocError>
     requires { pair < length (pairs_of (plan_contents plan.now)) }
 {
     let participants = plan.pair(pair);
-    let found = match proof_line(cert, pair) {
-        Some(proof) => break_of(alloc, plan, participants, proof)?,
-        None => None,
-    };
+    let mut found = None;
+    let mut sides = None;
+    if let Some(proof) = proof_line(cert, pair) {
+        found = break_of(alloc, plan, participants, proof)?;
+        if let Some(it) = found {
+            sides = Some(sides_at(alloc, plan, participants, proof, it)?);
+        }
+    }
     Ok(Mistake::Pair {
         pair,
         participants,
         found,
+        sides,
     })
 }
 

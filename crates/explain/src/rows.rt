@@ -1,13 +1,21 @@
-// Rows that stand one below the other: the bytes on the bus, and those of each of two participants.
+// Rows that stand one below the other: the bytes on the bus, and those of participants.
 
 use crate::below::{begin_titled, room_after};
 use growing_text::Lines;
 
+// How many columns titles have at most that stand beside the words of rows.
+const BESIDE: usize = 24;
+
+// How many they have where each longer one has a line of its own.
+const ABOVE: usize = 5;
+
 // How many words at the beginning of a row are never left out: START, address, direction and acknowledge.
 const KEPT: usize = 4;
 
-// What stands for words that are left out.
-const LEFT_OUT: &str = "..";
+/// What is said of bytes that are left out, after how many they are: of those that all rows have, and of others.
+pub(crate) const ALIKE: &str = "bytes alike ..";
+
+pub(crate) const BYTES: &str = "bytes ..";
 
 // What stands before what comes next.
 const NEXT: &str = "next:";
@@ -20,20 +28,42 @@ pub(crate) struct Row<'a> {
     pub(crate) next: Option<&'static str>,
 }
 
-impl Row<'_> {
-    // How many columns its words have where some are left out up to this one.
-    fn width(&self, shown: usize) -> usize {
-        let mut columns = 0usize;
-        for (k, word) in self.words.split(' ').enumerate() {
-            if k < KEPT || shown <= k {
-                columns = columns.saturating_add(word.len()).saturating_add(1);
-            } else if k == KEPT {
-                columns = columns.saturating_add(LEFT_OUT.len()).saturating_add(1);
-            }
-        }
-        columns.saturating_sub(1)
+// How rows are written: in how many columns their titles stand, and which word is the first one after those that are left out,
+// KEPT where none is.
+#[derive(Clone, Copy)]
+struct Shape {
+    columns: usize,
+    shown: usize,
+}
+
+// Words that are left out: how many columns they have, and how many acknowledges are among them.
+#[derive(Clone, Copy)]
+struct LeftOut {
+    columns: usize,
+    bytes: usize,
+}
+
+impl LeftOut {
+    fn add(&mut self, word: &str) {
+        self.columns = self.columns.saturating_add(word.len()).saturating_add(1);
+        self.bytes = self.bytes.saturating_add(usize::from(ends_byte(word)));
     }
 
+    // How many columns fewer a row has without them, where a line says how many bytes they are.
+    fn gain(&self) -> usize {
+        let digits = self.bytes.checked_ilog10().unwrap_or(0) as usize;
+        self.columns
+            .saturating_sub(digits)
+            .saturating_sub(".. 1 bytes alike .. ".len())
+    }
+}
+
+/// Whether a byte ends with this word, its acknowledge.
+pub(crate) fn ends_byte(word: &str) -> bool {
+    matches!(word, "A" | "NA" | "A/NA")
+}
+
+impl Row<'_> {
     // How many columns stand after its words.
     fn after(&self) -> usize {
         match self.next {
@@ -42,57 +72,132 @@ impl Row<'_> {
         }
     }
 
-    // The first word that is shown after those that are left out, so that the row has room: a number up to KEPT where none is.
-    fn first_shown(&self, room: usize) -> usize {
+    // The first word that is shown after those that are left out: that of all rows, and its own one where it ends before that.
+    fn shown_in(&self, shape: Shape) -> usize {
+        if self.words.split(' ').count() < shape.shown {
+            self.first_shown(room_after(shape.columns)).unwrap_or(KEPT)
+        } else {
+            shape.shown
+        }
+    }
+
+    // How many columns its words have where some are left out up to this one.
+    fn width(&self, shown: usize) -> usize {
+        self.words.len().saturating_sub(self.left_out(shown).gain())
+    }
+
+    // What is left out of it up to this word.
+    fn left_out(&self, shown: usize) -> LeftOut {
+        let mut left = LeftOut {
+            columns: 0,
+            bytes: 0,
+        };
+        for (k, word) in self.words.split(' ').enumerate() {
+            if KEPT <= k && k < shown {
+                left.add(word);
+            }
+        }
+        left
+    }
+
+    // The first word after those that are left out, so that the row has room: KEPT where none is, and nothing where it never
+    // has. Whole bytes are left out.
+    fn first_shown(&self, room: usize) -> Option<usize> {
         let columns = self.words.len().saturating_add(self.after());
         if columns <= room {
-            return KEPT;
+            return Some(KEPT);
         }
-        let (mut at, mut kept, mut last) = (0usize, 0usize, 0usize);
+        let mut left = LeftOut {
+            columns: 0,
+            bytes: 0,
+        };
+        let mut is_end = false;
         for (k, word) in self.words.split(' ').enumerate() {
-            if k <= KEPT {
-                kept = at.saturating_add(LEFT_OUT.len()).saturating_add(1);
-            } else if columns.saturating_sub(at).saturating_add(kept) <= room {
-                return k;
+            if is_end && columns.saturating_sub(left.gain()) <= room {
+                return Some(k);
             }
-            at = at.saturating_add(word.len()).saturating_add(1);
-            last = k;
+            if KEPT <= k {
+                left.add(word);
+                is_end = ends_byte(word);
+            }
         }
-        last
+        None
     }
 }
 
-/// The rows, each on one line, with their words in the columns after so many. Where one of them has no room, `..` stands for
-/// words after the first few, for the same ones in each row: what two participants send alike stays one below the other.
-pub(crate) fn tell_rows(lines: &mut Lines, rows: &[Row<'_>], columns: usize) {
-    let room = room_after(columns);
-    let mut shown = KEPT;
+/// The rows, each on one line, with their words beside the titles. Where one of them has no room, a count with this stands for
+/// bytes after its first one, for the same ones in each row: what all send alike stays one below the other. Long titles have
+/// lines of their own, and so have shorter ones where the rows have no room beside them.
+pub(crate) fn tell_rows(lines: &mut Lines, rows: &[Row<'_>], said: &str) {
+    let shape = shape_of(rows);
+    let width = aligned(rows, shape);
     for row in rows {
-        shown = shown.max(row.first_shown(room));
+        begin_titled(lines, row.title, shape.columns);
+        tell_row(lines, *row, row.shown_in(shape), width, said);
     }
+}
+
+// After how many columns of words that stands which comes next: after the longest words, and right after its own ones in each
+// row where there is no room for that.
+fn aligned(rows: &[Row<'_>], shape: Shape) -> usize {
     let (mut width, mut after) = (0usize, 0usize);
     for row in rows {
         if row.next.is_some() {
-            width = width.max(row.width(shown));
+            width = width.max(row.width(row.shown_in(shape)));
             after = after.max(row.after());
         }
     }
-    if room < width.saturating_add(after) {
-        width = 0;
-    }
-    for row in rows {
-        tell_row(lines, *row, columns, shown, width);
+    if width.saturating_add(after) <= room_after(shape.columns) {
+        width
+    } else {
+        0
     }
 }
 
-// A row, without the words up to this one that are left out. What comes next stands after so many columns of words.
-fn tell_row(lines: &mut Lines, row: Row<'_>, columns: usize, shown: usize, width: usize) {
-    begin_titled(lines, row.title, columns);
+fn shape_of(rows: &[Row<'_>]) -> Shape {
+    let columns = columns_for(rows);
+    match shown_in(rows, room_after(columns)) {
+        Some(shown) => Shape { columns, shown },
+        None => Shape {
+            columns: ABOVE,
+            shown: shown_in(rows, room_after(ABOVE)).unwrap_or(KEPT),
+        },
+    }
+}
+
+fn columns_for(rows: &[Row<'_>]) -> usize {
+    let mut longest = 0usize;
+    for row in rows {
+        longest = longest.max(row.title.len());
+    }
+    beside(longest, ABOVE, BESIDE)
+}
+
+/// The columns of titles of which the longest has so many, two blanks among them: so many at least, and as many where that
+/// would be more than `most`.
+pub(crate) fn beside(longest: usize, least: usize, most: usize) -> usize {
+    let columns = longest.saturating_add(2).max(least);
+    if columns <= most { columns } else { least }
+}
+
+// The first word that is shown in all rows after those that are left out, where each row has room.
+fn shown_in(rows: &[Row<'_>], room: usize) -> Option<usize> {
+    let mut shown = KEPT;
+    for row in rows {
+        shown = shown.max(row.first_shown(room)?);
+    }
+    Some(shown)
+}
+
+// A row, without the words up to the one that is shown. What comes next stands after so many columns of words.
+fn tell_row(lines: &mut Lines, row: Row<'_>, shown: usize, width: usize, said: &str) {
     for (k, word) in row.words.split(' ').enumerate() {
         if k < KEPT || shown <= k {
             lines.word(word);
         } else if k == KEPT {
-            lines.word(LEFT_OUT);
+            lines.word("..");
+            lines.number(row.left_out(shown).bytes as u64, "");
+            lines.words(said);
         }
     }
     if let Some(next) = row.next {

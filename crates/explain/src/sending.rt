@@ -66,16 +66,16 @@ pub(crate) fn pass_own(place: &mut Place<'_>) -> bool {
     pass(place, Item::Sent(bit))
 }
 
-// A bit of its own as the message has it, and anything else as the wire has it.
-fn push_offered(words: &mut Words, offered: Offered, item: Item) {
+/// Adds a bit of its own as the message has it, and anything else as the wire has it.
+pub(crate) fn push_offered(words: &mut Words, offered: Offered, item: Item) {
     match offered {
         Offered::Bit(bit) => words.bit(bit),
         _ => words.item(item),
     }
 }
 
-// What the participant does next: a byte up to its end.
-fn push_rest(words: &mut Words, place: Place<'_>) {
+/// Adds what the participant does next: a byte up to its end.
+pub(crate) fn push_rest(words: &mut Words, place: Place<'_>) {
     let mut place = place;
     for _ in 0..8 {
         match place.offered() {

@@ -17,9 +17,9 @@ use report::{Checked, Output, RunError};
 use serde::Serialize;
 use std::alloc::{AllocError, Global};
 
-// Where the two of an unsafe pair meet.
+/// Where the two of an unsafe pair meet.
 #[derive(Drop, Serialize)]
-struct Met<'a> {
+pub(crate) struct Met<'a> {
     slot: usize,
     rule: &'static str,
     bus: &'a str,
@@ -285,7 +285,8 @@ fn add_met(
     Ok(())
 }
 
-fn met_of(meeting: &Meeting) -> Met<'_> {
+/// The same of a meeting.
+pub(crate) fn met_of(meeting: &Meeting) -> Met<'_> {
     let Meeting {
         slot,
         bus,

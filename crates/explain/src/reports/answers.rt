@@ -10,7 +10,7 @@ use plan_words::PlanWords;
 use report::{Output, RunError, answer_line};
 use std::alloc::Global;
 
-/// Writes the line of the answer to a certificate of a plan, and below it what is wrong with it, where that was found.
+/// Writes the line of the answer to a certificate of a plan, and below it what is wrong, where that was found.
 ///
 /// # Errors
 ///
@@ -30,7 +30,7 @@ pub fn explain_answer<O: Output>(
         Answer::Unsafe => paint.push_verdict(&mut text, line, (9, 6), false),
         Answer::Wrong(_) => text.push_made(line),
     }
-    if let Some(mistake) = mistake {
+    if let Some(mistake) = &mistake {
         text.push_made(below_mistake(alloc, words, mistake));
     }
     write_block(text, out)
