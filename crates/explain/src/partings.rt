@@ -1,6 +1,6 @@
 // Which bits part all pairs of a group, and whether the same shape from the slot of its fault on mends each. Both are tried on all
-// wires of each two senders: a bit that is known in both and different leaves them without a fault where each wire to a fault has
-// passed it.
+// wires of each two senders. A bit that is known in both and different leaves no wire on which both go on, so it mends a pair where
+// each wire to a fault goes through it.
 
 use crate::mends::both_of;
 use crate::sending::{Ranges, pass};
@@ -21,8 +21,8 @@ const ACKNOWLEDGE: u8 = 8;
 /// What mends each pair of a group, as far as its messages do.
 #[derive(Drop)]
 pub struct Parting {
-    /// The slots of the wire of its fault in which both of each pair may send either bit, and which each wire to any fault of
-    /// these two has passed, as first and last ones: such a bit parts the pair, if it is known in both and different.
+    /// The slots of the wire of its fault in which both of each pair may send either bit of an address or a data byte, and behind
+    /// which all its faults lie, as first and last ones: such a bit parts the pair, if it is known in both and different.
     pub slots: Vec<(usize, usize)>,
     /// Whether no other wire leads the two of a pair to a fault than through the slot of the one that is told: the same shape from
     /// there on mends it.
@@ -49,8 +49,8 @@ struct Both<'a> {
     place: u8,
 }
 
-// What was found of a group so far: for each slot of its shortest wire whether it is open in both of each pair, and the first slot
-// that some wire to a fault does not pass.
+// What was found of a group so far: for each slot of its shortest wire whether it is open in both of each pair, and the slot at which
+// the first wire to another fault leaves that of a pair.
 #[derive(Drop)]
 struct Tried {
     open: Vec<bool>,
@@ -122,7 +122,8 @@ impl<'a> Trial<'a> {
         }
     }
 
-    // Follows two along the wire of their fault: the first slot that another wire to a fault does not pass, and else its end.
+    // Follows two along the wire of their fault: the slot at which the first wire to another fault leaves it, and else its end.
+    // Before a NACK on it no wire does, since the fault is the first one in dictionary order.
     fn follow(
         &mut self,
         start: Both<'a>,
@@ -212,8 +213,10 @@ impl<'a> Both<'a> {
         }
     }
 
+    // Whether both may send either bit of an address or a data byte. The end of a read is none: it may end elsewhere too.
     fn is_open(&self) -> bool {
-        self.first.offered() == Offered::Bit(Bit::Either)
+        self.place != ACKNOWLEDGE
+            && self.first.offered() == Offered::Bit(Bit::Either)
             && self.second.offered() == Offered::Bit(Bit::Either)
     }
 
