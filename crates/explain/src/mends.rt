@@ -196,12 +196,17 @@ fn between_of(alloc: Global, plan: &Plan, pairs: &[u32]) -> Result<Vec<(u32, u32
     for pair in pairs {
         let (x, y) = both_of(plan, *pair);
         if let (Some(c), Some(d)) = (controller_of(plan, x), controller_of(plan, y)) {
-            if !between.contains(&(c, d)) {
+            if !is_named(between.as_slice(), c, d) {
                 between.push((c, d))?;
             }
         }
     }
     Ok(between)
+}
+
+// Whether these two are among them. Pairs come in the order of their controllers, so they are looked for from the end.
+fn is_named(between: &[(u32, u32)], c: u32, d: u32) -> bool {
+    between.iter().rev().any(|both| both.0 == c && both.1 == d)
 }
 
 // ---- what keeps the pairs apart
