@@ -625,6 +625,11 @@ pair 6 bmc_set/set pch/get: data against restart after 10010000l00000001l
     pch/page_2 may send either bit before it in slot 9..16
     see board.brief:5
     bmc/page_* × pch/page_*: 2 pairs, lengths differ
+    to mend each: a bit in slot 9..16, known in both and different (in messages
+    of their own); or the same shape from its slot on; or all of:
+    never bmc/page_1 pch/page_2 ;
+    never bmc/page_2 pch/page_1 ;
+    (leaves 2 of 7 pairs unchecked)
     group 1, as pair 6:
     bus      S 48 Wr A 01 A
     bmc/set  S 48 Wr A 01 A xxxxxxxx  next: a data bit
@@ -633,6 +638,9 @@ pair 6 bmc_set/set pch/get: data against restart after 10010000l00000001l
     until here.
     see board.brief:3 and board.brief:4
     bmc/set × pch/get: 1 pair, one goes on, one repeats START
+    to mend it: the same shape from its slot on; or:
+    never bmc/set pch/get ;
+    (leaves 1 of 7 pairs unchecked)
 unsafe: 3 of 7 pairs
     to mend each: a bit before its slot, known in both and different; or the
     same shape from there on; or all of:
@@ -1055,6 +1063,7 @@ want 1 "pair 0 bmc/short host/long: stop against data after 10100000l00000000l00
     host/long may send either bit before it in slot 9..16, 18..25, 27..34
     see board.brief:2 and board.brief:3
     bmc/short × host/long: 1 pair, lengths differ
+    to mend it: a bit in slot 9..16, 18..25, 27..34, known in both and different
 unsafe: 1 of 1 pairs
     to mend it: a bit before that slot, known in both and different; or the same
     shape from there on; or:
