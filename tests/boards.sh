@@ -423,6 +423,51 @@ for seed in {1..30}; do
     mended "a board that is mended: $seed"
 done
 
+# groups_mended NAME: board.brief with the items that are advised for each group alone. They leave out as many pairs as is said, and
+# at least the unsafe ones of the group.
+groups_mended() {
+    local name=$1 group items count pairs faults promised
+    "$asked" check --format json --hints never --summary --most 100 board.brief >objects 2>err
+    pairs=$(field pairs) faults=$(field unsafe_pairs)
+    sed '$d' objects >groups
+    while read -r group; do
+        items=$(sed -n 's/.*"never":\[\[\(.*\)\]\],"unchecked".*/\1/p' <<<"$group" | sed 's/\],\[/\n/g' | tr -d '"' |
+            sed -n 's/^\(.*\),\(.*\)$/never \1 \2 ;/p')
+        [[ -n $items ]] || continue
+        count=$(sed -n 's/^{"kind":"group","group":[0-9]*,"pairs":\([0-9]*\),.*/\1/p' <<<"$group")
+        promised=$(sed -n 's/.*"unchecked":\([0-9]*\)}}$/\1/p' <<<"$group")
+        printf '%s\n' "$(<board.brief)" "$items" >mended.brief
+        "$asked" check --format json --hints never mended.brief >objects 2>>err
+        echo "$((faults - $(field unsafe_pairs) >= count)), $((pairs - $(field pairs))) left out" >out
+        echo 0 >status
+        want 0 "1, $promised left out" ""
+        compare "$name: $items"
+    done <groups
+}
+
+for seed in {1..8}; do
+    board "$seed" >board.brief
+    groups_mended "a group of a board that is mended: $seed"
+done
+
+# Each of two groups has its own bits and items.
+lines two.brief "brief 1" "device eeprom 0x50 ;  device sensor 0x48 ;" "message page write eeprom any any*1..4 ;" \
+    "message entry write eeprom any read eeprom 1 ;" "message set write sensor 0x01 any ;" \
+    "message get write sensor 0x01 read sensor 2 ;" "controller bmc page set ;" "controller host entry get ;"
+"$twire" check --summary two.brief >report 2>err
+echo "$?" >status
+sed -n '/ × /,/ group \|^unsafe/p' report | grep '^    ' | grep -v ' group ' >out
+want 1 "    bmc/page_* × host/entry: 4 pairs, one goes on, one repeats START
+    to mend each: a bit in slot 9..16, known in both and different; or the same
+    shape from its slot on; or:
+    never bmc/page host/entry ;
+    (leaves 4 of 10 pairs unchecked)
+    bmc/set × host/get: 1 pair, one goes on, one repeats START
+    to mend it: the same shape from its slot on; or:
+    never bmc/set host/get ;
+    (leaves 1 of 10 pairs unchecked)" ""
+compare "what mends each of two groups of a brief"
+
 # ---- What is likely a mistake, which is no refusal.
 
 lines first.brief "brief 1" \

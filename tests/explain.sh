@@ -238,6 +238,11 @@ want 1 "$six
     b/p  S 48 Wr A P   next: a STOP
     slot 9, UM10204 3.1.8: a data bit meets a STOP. Both send alike until here.
     a/w × b/p, a/w × c/p, b/p × c/w: 3 pairs, lengths differ
+    to mend each: the same shape from its slot on; or all of:
+    never a b ;
+    never a c ;
+    never b c ;
+    (leaves 12 of 18 pairs unchecked)
     not explained (--most 3 explains all groups):
     a/v × b/p, a/v × c/p: 2 pairs, lengths differ
 unsafe: 6 of 18 pairs
@@ -347,6 +352,9 @@ want 1 "    group 0, as pair 0:
     until here.
     b/put may send either bit before it in slot 9..16
     a/get1 × b/put: 1 pair, one goes on, one repeats START
+    to mend it: the same shape from its slot on; or:
+    never a b ;
+    (leaves 16 of 16 pairs unchecked)
     not explained (--most 2 explains all groups):
     a/page_* × b/page_*: 6 pairs, lengths differ
 unsafe: 7 of 16 pairs
@@ -364,6 +372,39 @@ want 1 "    a/w × b/p, a/w × c/p, a/w × d/p, a/w × e/p and 16 more: 20 pairs
 echo "$?" >status
 grep -A 1 ' × ' explained | sed '/^unsafe/d' >out
 compare "two messages of five controllers"
+
+# ---- What mends each group.
+
+# mends NAME LINE..: what stands below the lines of each group of p.plan that say between whom it is, and how many pairs it has.
+mends() {
+    local name=$1
+    shift
+    want 1 "$(printf '    %s\n' "$@")" ""
+    "$twire" check --summary --most 100 p.plan 2>err >explained
+    echo "$?" >status
+    sed -n '/^unsafe/q; / × .*differ$/,/ group /p' explained | grep -v ' × \| group ' >out
+    compare "$name"
+}
+
+# Each two of these meet after one byte or two, before which their first byte is open in both.
+plan 'plan 1' "message w1 write 1010000$(any 1)$(tails 2)" "message w2 write 1010000$(any 1) 0xxxxxxx$(tails 3)" \
+    "message w3 write 1010000$(any 1) 00000001$(any 1)$(tails 4)" 'controller a w1 w2 w3 ;' 'controller b w1 w2 w3 ;'
+mends "a family against itself: each needs messages of its own" \
+    "to mend each: a bit in slot 9..16, known in both and different (in messages" "of their own)"
+# With another group each says what keeps its pairs apart.
+plan 'plan 1' "message w1 write 1010000$(any 2)$(tails 3)" "message w2 write 1010000$(any 3)$(tails 4)" \
+    "message v write 1010000 0000xxxx 1xxxxxx0$(tails 3)" "message probe write 1010001$(tails 1)" \
+    "message put write 1010001$(any 1)$(tails 2)" 'controller a w2 probe ;' 'controller b v put ;' 'controller c w1 ;'
+mends "three groups, each with items of its own" \
+    "to mend it: the same shape from its slot on; or:" "never a b ;" "(leaves 4 of 8 pairs unchecked)" \
+    "to mend it: a bit in slot 13..16, 19..24, known in both and different; or" "the same shape from its slot on; or:" \
+    "never a b ;" "(leaves 4 of 8 pairs unchecked)" \
+    "to mend it: a bit in slot 9..16, 18..25, known in both and different; or the" "same shape from its slot on; or:" \
+    "never a c ;" "(leaves 2 of 8 pairs unchecked)"
+# After a NACK of the first byte one repeats START and the other ends: no bit after it mends the pair, and no shape.
+plan 'plan 1' "message m write 101xxxx$(any 2) stop else stop else again write 1010000 stop else stop else stop ;" \
+    "message n write 1010xxx$(any 3)$(tails 4)" 'controller a m ;' 'controller b n ;'
+mends "another fault after a NACK" "to mend it: a bit in slot 4..6, 9..16, known in both and different"
 
 # ---- Safe plans.
 
@@ -639,6 +680,11 @@ pair 6 bmc_set/set pch/get: data against restart after 10010000l00000001l
     pch/page_2 may send either bit before it in slot 9..16
     see board.brief:5
     bmc/page_* × pch/page_*: 2 pairs, lengths differ
+    to mend each: a bit in slot 9..16, known in both and different (in messages
+    of their own); or the same shape from its slot on; or all of:
+    never bmc/page_1 pch/page_2 ;
+    never bmc/page_2 pch/page_1 ;
+    (leaves 2 of 7 pairs unchecked)
     group 1, as pair 6:
     bus      S 48 Wr A 01 A
     bmc/set  S 48 Wr A 01 A xxxxxxxx  next: a data bit
@@ -647,6 +693,9 @@ pair 6 bmc_set/set pch/get: data against restart after 10010000l00000001l
     until here.
     see board.brief:3 and board.brief:4
     bmc/set × pch/get: 1 pair, one goes on, one repeats START
+    to mend it: the same shape from its slot on; or:
+    never bmc/set pch/get ;
+    (leaves 1 of 7 pairs unchecked)
 unsafe: 3 of 7 pairs
     to mend each: a bit before its slot, known in both and different; or the
     same shape from there on; or all of:
@@ -1181,6 +1230,7 @@ want 1 "pair 0 bmc/short host/long: stop against data after 10100000l00000000l00
     host/long may send either bit before it in slot 9..16, 18..25, 27..34
     see board.brief:2 and board.brief:3
     bmc/short × host/long: 1 pair, lengths differ
+    to mend it: a bit in slot 9..16, 18..25, 27..34, known in both and different
 unsafe: 1 of 1 pairs
     to mend it: a bit before that slot, known in both and different; or the same
     shape from there on; or:

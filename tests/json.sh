@@ -121,11 +121,11 @@ dump=$examples/stop_meets_data.vcd
 run "an unsafe plan" 1 '{"kind":"pair","pair":0,"participants":["main/write_output","service/probe_10"],"meet":["data","stop"],"after":"00100000l"}
 {"kind":"plan","safe":false,"pairs":2,"unsafe_pairs":1}' "" check --format json "$stop"
 run "an unsafe plan, explained" 1 '{"kind":"pair","pair":0,"participants":["main/write_output","service/probe_10"],"meet":["data","stop"],"after":"00100000l","group":0}
-{"kind":"group","group":0,"pairs":1,"between":[["main/write_output","service/probe_10"]],"frame":0,"part":"data","example":{"pair":0,"participants":["main/write_output","service/probe_10"],"meet":["data","stop"],"after":"00100000l","explain":{"slot":9,"rule":"UM10204 3.1.8","bus":"S 10 Wr A","bytes":["S 10 Wr A xxxxxxxx","S 10 Wr A P"],"open":[[],[]]}}}
+{"kind":"group","group":0,"pairs":1,"between":[["main/write_output","service/probe_10"]],"frame":0,"part":"data","example":{"pair":0,"participants":["main/write_output","service/probe_10"],"meet":["data","stop"],"after":"00100000l","explain":{"slot":9,"rule":"UM10204 3.1.8","bus":"S 10 Wr A","bytes":["S 10 Wr A xxxxxxxx","S 10 Wr A P"],"open":[[],[]]}},"explain":{"parting":[],"shape":true,"never":[["main","service"]],"unchecked":2}}
 {"kind":"plan","safe":false,"pairs":2,"unsafe_pairs":1,"explain":{"explained":1,"groups":1,"never":[["main","service"]],"unchecked":2,"interrupts":[],"unsent":[],"kept_apart":0}}' \
     "" --format json check --explain "$stop"
 run "open bits before a fault" 1 '{"kind":"pair","pair":0,"participants":["main/read_register","guard/set_register"],"meet":["restart","stop"],"after":"10010000l00000010l","group":0}
-{"kind":"group","group":0,"pairs":1,"between":[["main/read_register","guard/set_register"]],"frame":0,"part":"data","byte":2,"example":{"pair":0,"participants":["main/read_register","guard/set_register"],"meet":["restart","stop"],"after":"10010000l00000010l","explain":{"slot":18,"rule":"UM10204 3.1.8","bus":"S 48 Wr A 02 A","bytes":["S 48 Wr A 000000xx A Sr","S 48 Wr A 0000001x A P"],"open":[[[15,16]],[[16,16]]]}}}
+{"kind":"group","group":0,"pairs":1,"between":[["main/read_register","guard/set_register"]],"frame":0,"part":"data","byte":2,"example":{"pair":0,"participants":["main/read_register","guard/set_register"],"meet":["restart","stop"],"after":"10010000l00000010l","explain":{"slot":18,"rule":"UM10204 3.1.8","bus":"S 48 Wr A 02 A","bytes":["S 48 Wr A 000000xx A Sr","S 48 Wr A 0000001x A P"],"open":[[[15,16]],[[16,16]]]}},"explain":{"parting":[],"shape":false,"never":[["main","guard"]],"unchecked":2}}
 {"kind":"plan","safe":false,"pairs":2,"unsafe_pairs":1,"explain":{"explained":1,"groups":1,"never":[["main","guard"]],"unchecked":2,"interrupts":[],"unsent":[],"kept_apart":0}}' \
     "" check --format json --explain "$examples/restart_meets_stop.plan"
 cat >p.plan <<'PLAN'
@@ -142,9 +142,9 @@ PLAN
 pairs='{"kind":"pair","pair":0,"participants":["a/w","b/p"],"meet":["data","stop"],"after":"10010000l","group":1}
 {"kind":"pair","pair":2,"participants":["a/w","c/p"],"meet":["data","stop"],"after":"10010000l","group":1}
 {"kind":"pair","pair":5,"participants":["b/q","!al"],"meet":["answer","claim"],"after":"00100001","group":0}'
-answer='{"kind":"group","group":0,"pairs":1,"between":[["b/q","!al"]],"frame":0,"part":"header","example":{"pair":5,"participants":["b/q","!al"],"meet":["answer","claim"],"after":"00100001","explain":{"slot":8,"rule":"interrupts","bus":"S 10 Rd","bytes":["S 10 Rd","S 10 Rd (waits)"],"open":[[],[]]}}}'
+answer='{"kind":"group","group":0,"pairs":1,"between":[["b/q","!al"]],"frame":0,"part":"header","example":{"pair":5,"participants":["b/q","!al"],"meet":["answer","claim"],"after":"00100001","explain":{"slot":8,"rule":"interrupts","bus":"S 10 Rd","bytes":["S 10 Rd","S 10 Rd (waits)"],"open":[[],[]]}},"explain":{"parting":[],"shape":false,"never":[],"unchecked":0}}'
 data='{"kind":"group","group":1,"pairs":2,"between":[["a/w","b/p"],["a/w","c/p"]],"frame":0,"part":"data","byte":1,"example":{"pair":0,"participants":["a/w","b/p"],"meet":["data","stop"],"after":"10010000l"'
-groups=$answer$'\n'$data',"explain":{"slot":9,"rule":"UM10204 3.1.8","bus":"S 48 Wr A","bytes":["S 48 Wr A 01","S 48 Wr A P"],"open":[[],[]]}}}
+groups=$answer$'\n'$data',"explain":{"slot":9,"rule":"UM10204 3.1.8","bus":"S 48 Wr A","bytes":["S 48 Wr A 01","S 48 Wr A P"],"open":[[],[]]}},"explain":{"parting":[],"shape":true,"never":[["a","b"],["a","c"]],"unchecked":3}}
 {"kind":"plan","safe":false,"pairs":7,"unsafe_pairs":3,"explain":{"explained":2,"groups":2,"never":[["a","b"],["a","c"]],"unchecked":3,"interrupts":[5],"unsent":[],"kept_apart":2}}'
 run "a pair with an interrupt, and pairs that are kept apart" 1 "$pairs"$'\n'"$groups" "" check --format json --explain p.plan
 run "groups alone" 1 "$groups" "" check --format json --summary p.plan
@@ -298,7 +298,7 @@ met='"participants":["bmc/set","pch/get"],"meet":["data","restart"],"after":"100
 run "an unsafe pair of two briefs" 1 '{"kind":"pair","pair":0,'"$met"'}
 {"kind":"plan","safe":false,"pairs":5,"unsafe_pairs":1}' "" check --format json "${board[@]}"
 run "an unsafe pair of two briefs, explained" 1 '{"kind":"pair","pair":0,'"$met"',"group":0}
-{"kind":"group","group":0,"pairs":1,"between":[["bmc/set","pch/get"]],"frame":0,"part":"data","byte":2,"example":{"pair":0,'"$met"',"explain":{"slot":18,"rule":"UM10204 3.1.8","bus":"S 48 Wr A 01 A","bytes":["S 48 Wr A 01 A xxxxxxxx","S 48 Wr A 01 A Sr"],"open":[[],[]]}}}
+{"kind":"group","group":0,"pairs":1,"between":[["bmc/set","pch/get"]],"frame":0,"part":"data","byte":2,"example":{"pair":0,'"$met"',"explain":{"slot":18,"rule":"UM10204 3.1.8","bus":"S 48 Wr A 01 A","bytes":["S 48 Wr A 01 A xxxxxxxx","S 48 Wr A 01 A Sr"],"open":[[],[]]}},"explain":{"parting":[],"shape":true,"never":[["bmc/set","pch"]],"unchecked":1}}
 {"kind":"plan","safe":false,"pairs":5,"unsafe_pairs":1,"explain":{"explained":1,"groups":1,"never":[["bmc/set","pch"]],"unchecked":1,"interrupts":[],"unsent":[],"kept_apart":2}}' \
     "" check --format json --explain "${board[@]}"
 "$twire" order --format json "${board[@]}" | sed -n '1,2p; /total/p' >out 2>err

@@ -49,12 +49,14 @@ fn in_lines() -> Run {
     Run { deed: Deed::Command, setup: Setup::WHOLE, due: Due::Wanted }
 }
 
-fn in_objects(explain: bool) -> Run {
+/// A run that writes objects.
+pub fn in_objects(explain: bool) -> Run {
     let hints = false;
     Run { deed: Deed::Objects { hints, explain }, setup: Setup::WHOLE, due: Due::Objects { hints, explain } }
 }
 
-fn try_run(desk: &mut Desk, name: &str, asked: Asked, run: &Run) -> io::Result<Option<Disagreement>> {
+/// Where a run says something else than the plain programs.
+pub fn try_run(desk: &mut Desk, name: &str, asked: Asked, run: &Run) -> io::Result<Option<Disagreement>> {
     let said = desk.run(run.deed, &asked, &run.setup)?;
     let wanted = said_plainly(&asked);
     let case = Case { name: name.to_owned(), asked, wanted, hints: None, is_thorough: false };

@@ -4,8 +4,10 @@ use crate::json::Value;
 use crate::plain::bytes::{bytes_along, bytes_on, open_slots};
 use crate::plain::captures::{Mark, Transaction, Until};
 use crate::plain::decoded::{self, cuts_of, nearest};
-use crate::plain::explained::{decided, kept_apart, mends, unsent, Decided};
+use crate::plain::explained::{decided, kept_apart, mends, unsent, Decided, Mends};
 use crate::plain::found::{Checked, Fault, Played};
+use crate::plain::groups::Group;
+use crate::plain::partings::{has_shape, parting};
 use crate::plain::{break_of, read_certificate, Certificate, Item, Kind, Participants, Wrong};
 use crate::values::object;
 
@@ -28,6 +30,25 @@ fn two((first, last): (usize, usize)) -> Value {
     Value::Array(vec![Value::of(first), Value::of(last)])
 }
 
+/// Of a group of unsafe pairs.
+pub fn of_group(plan: &Participants, group: &Group, faults: &[Fault]) -> Value {
+    let mut places = group.pairs.clone();
+    places.sort_unstable();
+    let faults: Vec<Fault> = places.iter().map(|place| faults[*place].clone()).collect();
+    let mends = mends(plan.items, &faults);
+    object(vec![
+        ("parting", Value::Array(parting(&faults).into_iter().map(two).collect())),
+        ("shape", Value::Bool(has_shape(&faults))),
+        ("never", nevers(plan, &mends)),
+        ("unchecked", Value::of(mends.unchecked)),
+    ])
+}
+
+fn nevers(plan: &Participants, mends: &Mends) -> Value {
+    let name = |place: usize| plan.items.controllers[place].name;
+    Value::Array(mends.nevers.iter().map(|(c, d)| Value::list([name(*c), name(*d)])).collect())
+}
+
 /// Of a plan, of which so many groups of unsafe pairs are explained at most.
 pub fn of_plan(plan: &Participants, checked: &Checked, groups: usize, most: usize) -> Value {
     if checked.faults.is_empty() {
@@ -39,12 +60,10 @@ pub fn of_plan(plan: &Participants, checked: &Checked, groups: usize, most: usiz
 
 fn of_unsafe(plan: &Participants, faults: &[Fault], groups: usize, most: usize) -> Value {
     let mends = mends(plan.items, faults);
-    let name = |place: usize| plan.items.controllers[place].name;
-    let nevers = mends.nevers.iter().map(|(c, d)| Value::list([name(*c), name(*d)]));
     object(vec![
         ("explained", Value::of(groups.min(most))),
         ("groups", Value::of(groups)),
-        ("never", Value::Array(nevers.collect())),
+        ("never", nevers(plan, &mends)),
         ("unchecked", Value::of(mends.unchecked)),
         ("interrupts", Value::Array(mends.interrupts.iter().map(|pair| Value::of(*pair)).collect())),
         ("unsent", Value::list(unsent(plan.items))),

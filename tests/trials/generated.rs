@@ -3,7 +3,7 @@
 use crate::cases::{Asked, Case};
 use crate::commands::Command;
 use crate::crew::Crew;
-use crate::decodings::decoding_fault;
+use crate::decodings::{decoding_fault, in_objects, try_run};
 use crate::desks::Desk;
 use crate::dice::Dice;
 use crate::disagreements::{Disagreement, Score};
@@ -137,6 +137,9 @@ fn compare(desk: &mut Desk, name: &str, asked: &Asked) -> io::Result<(String, Op
     let disagreement = Disagreement::of(&case, "twire and the plain programs", plain, &found, None);
     match disagreement {
         Some(disagreement) => Ok((kind, Some(disagreement))),
+        None if matches!(asked.command, Command::Check { .. }) => {
+            Ok((kind, try_run(desk, name, asked.clone(), &in_objects(true))?))
+        }
         None => Ok((kind, decoding_fault(desk, name, asked)?)),
     }
 }

@@ -330,7 +330,28 @@ fn group(fields: &mut Fields) -> Result<String, String> {
         explained_pair(&mut explain, slots)?;
         explain.end()?;
     }
-    example.end().map(|()| String::new())
+    example.end()?;
+    if let Some(mut explain) = fields.explain()? {
+        explained_group(&mut explain)?;
+        explain.end()?;
+    }
+    Ok(String::new())
+}
+
+// What mends its pairs.
+fn explained_group(explain: &mut Fields) -> Result<(), String> {
+    if let Some(parting) = explain.maybe("parting", Value::into_items)? {
+        ranges(parting)?;
+        explain.take("shape")?.into_bool()?;
+    }
+    nevers(explain)
+}
+
+fn nevers(explain: &mut Fields) -> Result<(), String> {
+    for never in explain.take("never")?.into_items()? {
+        two_of(never)?;
+    }
+    explain.number("unchecked").map(|_| ())
 }
 
 // An unsafe pair: its line, and how many slots its wire has.
@@ -358,9 +379,14 @@ fn open_slots(value: Value) -> Result<(), String> {
     let sides = value.into_items()?;
     only_if(sides.len() == 2, "the open slots are not those of two")?;
     for side in sides {
-        for range in side.into_items()? {
-            only_if(range.into_numbers()?.len() == 2, "a range has two ends")?;
-        }
+        ranges(side.into_items()?)?;
+    }
+    Ok(())
+}
+
+fn ranges(ranges: Vec<Value>) -> Result<(), String> {
+    for range in ranges {
+        only_if(range.into_numbers()?.len() == 2, "a range has two ends")?;
     }
     Ok(())
 }
@@ -388,10 +414,7 @@ fn explained_plan(explain: &mut Fields, is_safe: bool) -> Result<(), String> {
     } else {
         explain.number("explained")?;
         explain.number("groups")?;
-        for never in explain.take("never")?.into_items()? {
-            two_of(never)?;
-        }
-        explain.number("unchecked")?;
+        nevers(explain)?;
         explain.take("interrupts")?.into_numbers()?;
         explain.texts("unsent")?;
     }

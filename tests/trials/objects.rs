@@ -77,7 +77,7 @@ fn of_check(plan: &Participants, explain: bool) -> Vec<Value> {
     let faults = checked.faults.iter().enumerate();
     let mut objects: Vec<Value> = faults.map(|(place, fault)| of_fault(fault, numbers.get(&place))).collect();
     let numbered = groups.iter().enumerate();
-    objects.extend(numbered.map(|(number, group)| of_group(number, group, &checked.faults)));
+    objects.extend(numbered.map(|(number, group)| of_group(plan, number, group, &checked.faults)));
     let mut fields = vec![
         ("safe", Value::Bool(checked.faults.is_empty())),
         ("pairs", Value::of(checked.pairs)),
@@ -96,7 +96,7 @@ fn of_fault(fault: &Fault, group: Option<&usize>) -> Value {
     of_kind("pair", fields)
 }
 
-fn of_group(number: usize, group: &Group, faults: &[Fault]) -> Value {
+fn of_group(plan: &Participants, number: usize, group: &Group, faults: &[Fault]) -> Value {
     let between = group.between.iter().map(|[first, second]| Value::list([first.as_str(), second.as_str()]));
     let mut fields = vec![
         ("group", Value::of(number)),
@@ -112,6 +112,9 @@ fn of_group(number: usize, group: &Group, faults: &[Fault]) -> Value {
         shown.push(("explain", explains::of_fault(example)));
     }
     fields.push(("example", object(shown)));
+    if number < MOST {
+        fields.push(("explain", explains::of_group(plan, group, faults)));
+    }
     of_kind("group", fields)
 }
 

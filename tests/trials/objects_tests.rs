@@ -42,9 +42,14 @@ fn check(plan: &str) -> Vec<String> {
 }
 
 fn explain_of(object: &str) -> &str {
-    // (of a group its example has it)
-    let ends = if object.starts_with("{\"kind\":\"group\"") { "}}" } else { "}" };
-    object.split_once("\"explain\":").map_or("", |(_, explain)| explain.strip_suffix(ends).unwrap_or(explain))
+    // (of a group that of its example)
+    let ends = object.rsplit_once("},\"explain\":").map_or(object.strip_suffix('}'), |(example, _)| Some(example));
+    ends.and_then(|it| it.split_once("\"explain\":")).map_or("", |(_, explain)| explain)
+}
+
+// What mends a group.
+fn mends_of(object: &str) -> &str {
+    object.split_once("},\"explain\":").map_or("", |(_, mends)| mends.strip_suffix('}').unwrap_or(mends))
 }
 
 #[test]
@@ -62,7 +67,8 @@ fn unsafe_pairs_are_explained() {
              \"meet\":[\"data\",\"restart\"],\
              \"after\":\"10010000l00000001l\",\"explain\":{\"slot\":18,\"rule\":\"UM10204 3.1.8\",\
              \"bus\":\"S 48 Wr A 01 A\",\"bytes\":[\"S 48 Wr A 01 A 02\",\"S 48 Wr A 0000000x A Sr\"],\
-             \"open\":[[],[[16,16]]]}}}",
+             \"open\":[[],[[16,16]]]}},\"explain\":{\"parting\":[],\"shape\":true,\"never\":[[\"a\",\"b\"]],\
+             \"unchecked\":1}}",
             "{\"kind\":\"plan\",\"safe\":false,\"pairs\":1,\"unsafe_pairs\":1,\"explain\":{\"explained\":1,\
              \"groups\":1,\"never\":[[\"a\",\"b\"]],\"unchecked\":1,\"interrupts\":[],\"unsent\":[],\"kept_apart\":0}}"
         ]
@@ -161,6 +167,44 @@ fn pairs_of_another_address_are_another_group() {
             "[[\"a/set2\",\"b/probe2\"]],\"frame\":0,\"part\":\"data\"",
         ]
     );
+}
+
+#[test]
+fn groups_are_mended() {
+    let mends = |plan: &str| {
+        let found = check(plan);
+        found.iter().map(|object| mends_of(object).to_owned()).filter(|mends| !mends.is_empty()).collect::<Vec<String>>()
+    };
+    // All three meet after one byte or two, before which only the first eight bits are open in both of each pair.
+    let three = "plan 1 message w1 write 1010000 xxxxxxxx stop else stop else stop ;
+        message w2 write 1010000 xxxxxxxx 0xxxxxxx stop else stop else stop else stop ;
+        message w3 write 1010000 xxxxxxxx 00000001 xxxxxxxx stop else stop else stop else stop else stop ;
+        message probe write 1010000 stop else stop ; controller a w1 w2 w3 ; controller b w1 w2 w3 probe ;";
+    assert_eq!(
+        mends(three),
+        [
+            "{\"parting\":[],\"shape\":true,\"never\":[[\"a\",\"b\"]],\"unchecked\":12}",
+            "{\"parting\":[[9,16]],\"shape\":true,\"never\":[[\"a\",\"b\"]],\"unchecked\":12}",
+        ]
+    );
+    // After a NACK of the first byte one repeats START and one ends: a bit after it mends no pair, and no shape after it.
+    let nack = "plan 1 message m write 101xxxx xxxxxxxx xxxxxxxx stop else stop
+        else again write 1010000 stop else stop else stop ;
+        message n write 1010xxx xxxxxxxx xxxxxxxx xxxxxxxx stop else stop else stop else stop else stop ;
+        controller a m ; controller b n ;";
+    let never = "\"never\":[[\"a\",\"b\"]],\"unchecked\":1}";
+    assert_eq!(mends(nack), [format!("{{\"parting\":[[4,6],[9,16]],\"shape\":false,{never}")]);
+    // The fault is after a NACK: what was acknowledged parts in the data.
+    let after = "plan 1 message m write 101000x 00000001 stop else stop
+        else again write 10100xx xxxxxxxx stop else stop else stop ;
+        message n write 101000x 00000010 stop else stop
+        else again write 101000x xxxxxxxx xxxxxxxx stop else stop else stop else stop ;
+        controller a m ; controller b n ;";
+    assert_eq!(mends(after), [format!("{{\"parting\":[[6,6],[16,16],[19,26]],\"shape\":true,{never}")]);
+    // Both may end their reads after one byte or two: the acknowledge of the first is no bit that mends the pair.
+    let reads = "plan 2 message m read 100100x 1..2 stop else stop ;
+        message n read 100100x 1..3 again write 1001000 stop else stop else stop ; controller a m ; controller b n ;";
+    assert_eq!(mends(reads), [format!("{{\"parting\":[[6,6]],\"shape\":true,{never}")]);
 }
 
 #[test]

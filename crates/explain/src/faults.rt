@@ -1,13 +1,15 @@
 // Lines of unsafe pairs, and below the count of them.
 
 use crate::below::{begin, say, say_all};
+use crate::keeping::Kept;
 use crate::meetings::{Meeting, Rule, Side};
-use crate::mends::{Mends, Never};
+use crate::mends::{GroupMends, Mends, Never};
 use crate::rewritten::tell_families;
 use crate::rows::{ALIKE, Row, tell_rows};
 use crate::sending::deed;
 use growing_text::{Lines, Text};
 use places::Offered;
+use plan_core::Plan;
 use plan_words::{FileLine, PlanWords};
 use std::alloc::{AllocError, Global};
 use verdicts::Faults;
@@ -97,18 +99,22 @@ fn tell_open(alloc: Global, lines: &mut Lines, label: &str, side: &Side) {
     let mut words = Text::new(alloc);
     words.push(label);
     words.push(" may send either bit before it in slot");
-    for (k, range) in side.open.iter().enumerate() {
+    push_ranges(&mut words, side.open.as_slice());
+    say_all(lines, words);
+}
+
+fn push_ranges(words: &mut Text, ranges: &[(usize, usize)]) {
+    for (k, range) in ranges.iter().enumerate() {
         if k < RANGES {
             words.push(if k == 0 { " " } else { ", " });
-            push_range(&mut words, *range);
+            push_range(words, *range);
         }
     }
-    if RANGES < side.open.len() {
+    if RANGES < ranges.len() {
         words.push(" and ");
-        words.push_number(side.open.len().saturating_sub(RANGES) as u64);
+        words.push_number(ranges.len().saturating_sub(RANGES) as u64);
         words.push(" more");
     }
-    say_all(lines, words);
 }
 
 /// Where the message of a participant stands in a brief, or the interrupt that it is, if it does.
@@ -232,27 +238,87 @@ fn tell_mends(alloc: Global, lines: &mut Lines, pairs: u32, mends: &Mends) {
     if mends.interrupted.len() < mends.pairs {
         words.push("; or the same shape from there on");
     }
-    words.push(match mends.nevers.len() {
-        0 => "",
-        1 => "; or:",
-        _ => "; or all of:",
-    });
+    push_or(&mut words, &mends.kept, "; or:", "; or all of:");
     say_all(lines, words);
-    if !mends.nevers.is_empty() {
-        tell_nevers(alloc, lines, pairs, mends);
+    tell_nevers(alloc, lines, pairs, &mends.kept);
+}
+
+/// What mends the pairs of a group, of which there are so many: the bits that do, and where it is not the only group also
+/// whether the same shape does, and the items that keep them apart.
+pub(crate) fn tell_group_mends(
+    alloc: Global,
+    lines: &mut Lines,
+    plan: &Plan,
+    pairs: usize,
+    is_only: bool,
+    mends: &GroupMends,
+) {
+    let mut words = Text::new(alloc);
+    push_parting(&mut words, mends, is_only);
+    let has_more = !is_only && !mends.kept.nevers.is_empty();
+    if words.is_empty() && !has_more {
+        return;
+    }
+    let mut told = Text::new(alloc);
+    told.push(if pairs == 1 {
+        "to mend it:"
+    } else {
+        "to mend each:"
+    });
+    match (words.is_empty(), has_more) {
+        (true, _) => push_or(&mut told, &mends.kept, "", " all of:"),
+        (false, true) => push_or(&mut words, &mends.kept, "; or:", "; or all of:"),
+        (false, false) => {}
+    }
+    told.push_made(words.finish());
+    say_all(lines, told);
+    if has_more {
+        tell_nevers(alloc, lines, plan.pair_count(), &mends.kept);
     }
 }
 
-// The items, each on a line of its own, and how many of so many pairs they leave unchecked.
-fn tell_nevers(alloc: Global, lines: &mut Lines, pairs: u32, mends: &Mends) {
-    for never in &mends.nevers {
+fn push_parting(words: &mut Text, mends: &GroupMends, is_only: bool) {
+    let Some(parting) = &mends.parting else {
+        return;
+    };
+    if !parting.slots.is_empty() {
+        words.push(" a bit in slot");
+        push_ranges(words, parting.slots.as_slice());
+        words.push(", known in both and different");
+        words.push(if mends.is_shared {
+            " (in messages of their own)"
+        } else {
+            ""
+        });
+    }
+    if !is_only && parting.shape {
+        words.push(if words.is_empty() { " " } else { "; or " });
+        words.push("the same shape from its slot on");
+    }
+}
+
+// What stands before so many items.
+fn push_or(words: &mut Text, kept: &Kept, one: &str, several: &str) {
+    words.push(match kept.nevers.len() {
+        0 => "",
+        1 => one,
+        _ => several,
+    });
+}
+
+// The items, if there are any, each on a line of its own, and how many of so many pairs they leave unchecked.
+fn tell_nevers(alloc: Global, lines: &mut Lines, pairs: u32, kept: &Kept) {
+    if kept.nevers.is_empty() {
+        return;
+    }
+    for never in &kept.nevers {
         begin(lines);
         lines.word_made(item_of(alloc, never));
         lines.end();
     }
     let mut words = Text::new(alloc);
     words.push("(leaves ");
-    words.push_number(mends.unchecked);
+    words.push_number(kept.unchecked);
     words.push(" of ");
     words.push_number(u64::from(pairs));
     words.push(if pairs == 1 {

@@ -1,7 +1,7 @@
 // Lines of a group of unsafe pairs, and of one pair by itself.
 
 use crate::below::{begin, say_all};
-use crate::faults::tell_pair;
+use crate::faults::{tell_group_mends, tell_pair};
 use crate::groups::Grouped;
 use crate::meetings::{Meeting, meeting_of};
 use causes::Group;
@@ -54,7 +54,7 @@ const BETWEEN: &str = " × ";
 const NAMED: usize = 4;
 
 /// What is said of a group: its number and that of its example, what is said of that one, how many pairs are like it, and
-/// between whom.
+/// between whom, and what mends them.
 pub(crate) fn of_group(
     alloc: Global,
     words: PlanWords<'_>,
@@ -74,6 +74,10 @@ pub(crate) fn of_group(
     tell_pair(alloc, &mut lines, words, both, meeting)?;
     if let Some(group) = groups.group(g) {
         tell_alike(alloc, &mut lines, groups, g, group);
+        if let Some(mends) = groups.mends(g) {
+            let is_only = groups.len() == 1;
+            tell_group_mends(alloc, &mut lines, words.plan(), group.pairs, is_only, mends);
+        }
     }
     lines.finish()
 }

@@ -5,7 +5,7 @@ ghost use Rattle.verdicts.specs.Faults.{AreFaults, fault_list};
 
 use crate::families::{families_of, party_of};
 use crate::labels::{Labels, called_by};
-use crate::mends::both_of;
+use crate::mends::{GroupMends, both_of, mends_of_groups};
 use causes::{Family, Group, Groups, groups_of};
 use plan_core::Plan;
 use plan_words::PlanWords;
@@ -77,6 +77,8 @@ pub struct Grouped {
     meets: Vec<Meet>,
     /// Where those of each group begin.
     starts: Vec<usize>,
+    /// What mends the first groups.
+    mends: Vec<GroupMends>,
 }
 
 impl Grouped {
@@ -118,6 +120,11 @@ impl Grouped {
         }
     }
 
+    /// What mends the group with this number, if that was looked for.
+    pub fn mends(&self, g: usize) -> Option<&GroupMends> {
+        self.mends.get(g)
+    }
+
     // Where those who meet in this group begin, and where they end.
     fn range(&self, g: usize) -> (usize, usize) {
         let end = self.meets.len();
@@ -142,7 +149,7 @@ fn at(starts: &[usize], g: usize, end: usize) -> usize {
     }
 }
 
-/// The groups of the plan, which has these faults, in these words of it.
+/// The groups of the plan, which has these faults, in these words of it, and what mends the first so many.
 ///
 /// # Errors
 ///
@@ -152,6 +159,7 @@ pub(crate) fn grouped_of(
     plan: &Plan,
     words: PlanWords<'_>,
     faults: &Faults,
+    most: usize,
 ) -> Result<Grouped, AllocError>
     requires { AreFaults (plan_contents plan.now) (fault_list faults.now) }
 {
@@ -161,12 +169,14 @@ pub(crate) fn grouped_of(
     let parties = parties_of(alloc, words, families.as_slice())?;
     let meets = meets_of(alloc, plan, faults, &groups, parties.as_slice())?;
     let starts = starts_of(alloc, meets.as_slice())?;
+    let mends = mends_of_groups(alloc, words, faults, &groups, most)?;
     Ok(Grouped {
         groups,
         labels,
         parties,
         meets,
         starts,
+        mends,
     })
 }
 

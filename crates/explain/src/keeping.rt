@@ -4,7 +4,6 @@ use crate::mends::{Never, both_of, controller_of, has_interrupt, is_never, is_wh
 use plan_core::limits::MOST_CONTROLLERS;
 use plan_words::PlanWords;
 use std::alloc::{AllocError, Global};
-use verdicts::Faults;
 
 // How many items are said at most.
 const ITEMS: usize = 8;
@@ -15,16 +14,16 @@ const FEW: usize = 4;
 // How many characters a label has at most.
 const LABEL: usize = 32;
 
-/// Items that keep pairs apart, and how many pairs they leave unchecked.
+/// The `never` items that keep pairs apart, and how many pairs they leave unchecked.
 #[derive(Drop)]
-pub(crate) struct Kept {
-    pub(crate) nevers: Vec<Never>,
-    pub(crate) unchecked: u64,
+pub struct Kept {
+    pub nevers: Vec<Never>,
+    pub unchecked: u64,
 }
 
-/// Items that keep apart all unsafe pairs of two controllers, where briefs have words for them and they are few. The messages of
-/// a family that a controller lists are one group, and each other one is a group of its own. Two groups that have an unsafe pair
-/// have an item, or some, in the order of their first unsafe pairs.
+/// Items that keep apart these unsafe pairs of the plan, as far as they are of two controllers, where briefs have words for them and
+/// they are few. The messages of a family that a controller lists are one group, and each other one is a group of its own. Two groups
+/// that have an unsafe pair have an item, or some, in the order of their first unsafe pairs.
 ///
 /// # Errors
 ///
@@ -32,28 +31,28 @@ pub(crate) struct Kept {
 pub(crate) fn kept_by(
     alloc: Global,
     words: PlanWords<'_>,
-    faults: &Faults,
+    groups: &Groups,
+    unsafe_pairs: &[u32],
 ) -> Result<Option<Kept>, AllocError> {
     if !words.has_briefs() {
         return Ok(None);
     }
-    let groups = groups_of(alloc, words)?;
-    let clashes = clashes_of(alloc, words, &groups, faults)?;
+    let clashes = clashes_of(alloc, words, groups, unsafe_pairs)?;
     if ITEMS < clashes.len() {
         return Ok(None);
     }
-    let fine = fine_items(alloc, words, &groups, faults, clashes.as_slice())?;
-    match said(alloc, words, &groups, fine.as_slice())? {
+    let fine = fine_items(alloc, words, groups, unsafe_pairs, clashes.as_slice())?;
+    match said(alloc, words, groups, fine.as_slice())? {
         Some(kept) => Ok(Some(kept)),
-        None => said(alloc, words, &groups, clashes.as_slice()),
+        None => said(alloc, words, groups, clashes.as_slice()),
     }
 }
 
 // ---- groups
 
-// The groups of a plan's participants.
+/// The groups of a plan's participants.
 #[derive(Drop)]
-struct Groups {
+pub(crate) struct Groups {
     // for each participant the first one of its group
     firsts: Vec<u32>,
 }
@@ -81,7 +80,8 @@ impl Groups {
     }
 }
 
-fn groups_of(alloc: Global, words: PlanWords<'_>) -> Result<Groups, AllocError> {
+/// The groups of the plan's participants, in these words of it.
+pub(crate) fn groups_of(alloc: Global, words: PlanWords<'_>) -> Result<Groups, AllocError> {
     let participants = words.plan().participants();
     let mut families = Vec::with_capacity(alloc, participants as usize)?;
     let mut firsts = Vec::with_capacity(alloc, participants as usize)?;
@@ -143,15 +143,14 @@ fn clashes_of(
     alloc: Global,
     words: PlanWords<'_>,
     groups: &Groups,
-    faults: &Faults,
+    unsafe_pairs: &[u32],
 ) -> Result<Vec<Apart>, AllocError> {
     let mut clashes: Vec<Apart> = Vec::new(alloc);
-    for k in 0..faults.len() {
-        let (pair, _) = faults.get(k);
-        if has_interrupt(words.plan(), pair) || ITEMS < clashes.len() {
+    for pair in unsafe_pairs {
+        if has_interrupt(words.plan(), *pair) || ITEMS < clashes.len() {
             continue;
         }
-        let both = both_of(words.plan(), pair);
+        let both = both_of(words.plan(), *pair);
         if !clashes.iter().any(|clash| is_between(groups, *clash, both)) {
             clashes.push(Apart {
                 first: Side::Group(groups.of(both.0)),
@@ -173,13 +172,13 @@ fn fine_items(
     alloc: Global,
     words: PlanWords<'_>,
     groups: &Groups,
-    faults: &Faults,
+    unsafe_pairs: &[u32],
     clashes: &[Apart],
 ) -> Result<Vec<Apart>, AllocError> {
     let mut items = Vec::new(alloc);
     let mut spare = ITEMS.saturating_sub(clashes.len());
     for clash in clashes {
-        let pairs = pairs_between(alloc, words, groups, faults, *clash)?;
+        let pairs = pairs_between(alloc, words, groups, unsafe_pairs, *clash)?;
         let fine = items_for(alloc, words, groups, *clash, pairs.as_slice())?;
         let more = fine.len().saturating_sub(1);
         if more <= spare {
@@ -204,14 +203,13 @@ fn pairs_between(
     alloc: Global,
     words: PlanWords<'_>,
     groups: &Groups,
-    faults: &Faults,
+    unsafe_pairs: &[u32],
     apart: Apart,
 ) -> Result<Vec<(u32, u32)>, AllocError> {
     let mut pairs = Vec::new(alloc);
-    for k in 0..faults.len() {
-        let (pair, _) = faults.get(k);
-        let both = both_of(words.plan(), pair);
-        if !has_interrupt(words.plan(), pair) && is_between(groups, apart, both) {
+    for pair in unsafe_pairs {
+        let both = both_of(words.plan(), *pair);
+        if !has_interrupt(words.plan(), *pair) && is_between(groups, apart, both) {
             pairs.push(both)?;
         }
     }

@@ -1,10 +1,12 @@
 //! What people read of a run: bytes in the place of slots, and why a line says what it says.
 //!
 //! Each thing that is explained is a value first: `meetings` has where an unsafe pair meets, `groups` which unsafe pairs
-//! have one cause (`families` which messages count as one there), `mends` what mends a plan (`keeping` by labels of a
-//! brief, and `rewritten` by those of families that a brief could have), `safety` how the pairs of a safe one are kept apart, `reasons` which of the two a plan has, `unchecked` what a
-//! check did not look at, `mistakes` and `breaks` what is wrong with a certificate (`broken` what is sent up to there),
-//! `tracks` what starters put along a wire. `rows` has the rows of a bus and of participants, and folds them. `reports` writes a report with lines for people between its own, made of these values by `faults`, `group_lines`,
+//! have one cause (`families` which messages count as one there), `mends` what mends a plan and its groups (`keeping` by
+//! labels of a brief, `rewritten` by those of families that a brief could have, and `partings` by bits), `safety` how the
+//! pairs of a safe one are kept apart, `reasons` which of the two a plan has, `unchecked` what a check did not look at,
+//! `mistakes` and `breaks` what is wrong with a certificate (`broken` what is sent up to there), `tracks` what starters put
+//! along a wire. `rows` has the rows of a bus and of participants, and folds them. `reports` writes a report with lines for
+//! people between its own, made of these values by `faults`, `group_lines`,
 //! `plans`, `certificates` and `benches`; each of these lines begins with four spaces and has at most 80 columns, however
 //! long the names are. The exact lines are those of the crates below.
 //!
@@ -40,6 +42,7 @@ mod mends;
 mod mistakes;
 mod moments;
 mod paints;
+mod partings;
 mod plans;
 mod pulse_lines;
 mod reasons;
@@ -61,12 +64,14 @@ pub use capture_lines::{CaptureLines, Layout};
 pub use decode_lines::DecodeLines;
 pub use glitches::{Cut, Cuts};
 pub use groups::Grouped;
+pub use keeping::Kept;
 pub use labels::{Labels, called_by, label_of, labels_of};
 pub use leaving::{Leaves, mark_words, nearest, offer_words};
 pub use meetings::{Meeting, Rule, Side, meeting_of};
-pub use mends::{Mends, Never, kept_apart};
+pub use mends::{GroupMends, Mends, Never, kept_apart};
 pub use mistakes::{Mistake, mistake_of};
 pub use paints::Paint;
+pub use partings::Parting;
 pub use reasons::{Reasons, count_groups, reasons_of};
 pub use reports::{Detail, explain_answer, explain_check, explain_rehearsal};
 pub use safety::{Decided, Safety};

@@ -1,9 +1,11 @@
-// What mends an unsafe plan, and what its pairs leave out.
+// What mends an unsafe plan and the groups of its unsafe pairs, and what its pairs leave out.
 
 ghost use Rattle.plan_core.specs.PlanContents.{plan_contents};
 ghost use Rattle.verdicts.specs.Faults.{AreFaults, fault_list};
 
-use crate::keeping::{Kept, kept_by};
+use crate::keeping::{self, Kept, kept_by};
+use crate::partings::{Parting, Trial};
+use causes::{Group, Groups};
 use mending::nevers_that_mend;
 use plan_core::{Participant, Plan};
 use plan_words::PlanWords;
@@ -18,12 +20,21 @@ pub struct Mends {
     /// Those of them with an interrupt, which no shape and no `never` mends: an interrupt starts when it likes, and two equal
     /// headers are its fault.
     pub interrupted: Vec<u32>,
-    /// The `never` items that keep all others apart.
-    pub nevers: Vec<Never>,
-    /// How many pairs these would leave unchecked.
-    pub unchecked: u64,
+    /// What keeps all others apart.
+    pub kept: Kept,
     /// How many pairs of two controllers the `never` items of the plan leave out.
     pub kept_apart: u64,
+}
+
+/// What mends the pairs of a group.
+#[derive(Drop)]
+pub struct GroupMends {
+    /// What their messages do for it. None where the plan has too many slots to try it.
+    pub parting: Option<Parting>,
+    /// Whether one message is sent on both sides.
+    pub is_shared: bool,
+    /// What keeps them apart, as far as they have no interrupt.
+    pub kept: Kept,
 }
 
 /// A `never` item: what it keeps apart, as it is written. Of a plan text these are controllers, and of a brief a controller may
@@ -49,18 +60,153 @@ pub(crate) fn mends_of(
 {
     let between = nevers_that_mend(alloc, plan, faults)?;
     let interrupted = interrupted_in(alloc, plan, faults)?;
-    let kept = match kept_by(alloc, words, faults)? {
+    let sides = keeping::groups_of(alloc, words)?;
+    let all = all_of(alloc, faults)?;
+    let kept = match kept_by(alloc, words, &sides, all.as_slice())? {
         Some(kept) => kept,
         None => by_controllers(alloc, words, between.as_slice())?,
     };
-    let Kept { nevers, unchecked } = kept;
     Ok(Mends {
         pairs: faults.len(),
         interrupted,
-        nevers,
-        unchecked,
+        kept,
         kept_apart: kept_apart(words),
     })
+}
+
+fn all_of(alloc: Global, faults: &Faults) -> Result<Vec<u32>, AllocError> {
+    let mut all = Vec::with_capacity(alloc, faults.len())?;
+    for k in 0..faults.len() {
+        let (pair, _) = faults.get(k);
+        all.push(pair)?;
+    }
+    Ok(all)
+}
+
+// ---- groups
+
+/// What mends the first so many of these groups of the plan's unsafe pairs, in these words of it.
+pub(crate) fn mends_of_groups(
+    alloc: Global,
+    words: PlanWords<'_>,
+    faults: &Faults,
+    groups: &Groups,
+    most: usize,
+) -> Result<Vec<GroupMends>, AllocError> {
+    let mut mends = Vec::new(alloc);
+    if most == 0 {
+        return Ok(mends);
+    }
+    let sides = keeping::groups_of(alloc, words)?;
+    let all = by_groups(alloc, groups)?;
+    let mut trial = Trial::new(alloc, words.plan())?;
+    let mut rest = all.as_slice();
+    for g in 0..groups.len() {
+        if g < most {
+            let group = groups.get(g);
+            let members = rest.get(..group.pairs).unwrap_or(rest);
+            rest = rest.get(group.pairs..).unwrap_or(rest);
+            let pairs = pairs_at(alloc, faults, members)?;
+            mends.push(GroupMends {
+                parting: trial.parting(alloc, faults, group, members)?,
+                is_shared: is_shared(alloc, words, group, pairs.as_slice())?,
+                kept: kept_in(alloc, words, &sides, pairs.as_slice())?,
+            })?;
+        }
+    }
+    Ok(mends)
+}
+
+// Each unsafe pair by its group and its place among all, group by group.
+fn by_groups(alloc: Global, groups: &Groups) -> Result<Vec<(usize, usize)>, AllocError> {
+    let mut all = Vec::with_capacity(alloc, groups.pairs())?;
+    for k in 0..groups.pairs() {
+        all.push((groups.group_of(k), k))?;
+    }
+    all.sort()?;
+    Ok(all)
+}
+
+fn pairs_at(
+    alloc: Global,
+    faults: &Faults,
+    members: &[(usize, usize)],
+) -> Result<Vec<u32>, AllocError> {
+    let mut pairs = Vec::with_capacity(alloc, members.len())?;
+    for (_, k) in members {
+        if *k < faults.len() {
+            let (pair, _) = faults.get(*k);
+            pairs.push(pair)?;
+        }
+    }
+    Ok(pairs)
+}
+
+// Whether a message is sent on both sides of these pairs, all messages of which are of one family.
+fn is_shared(
+    alloc: Global,
+    words: PlanWords<'_>,
+    group: Group,
+    pairs: &[u32],
+) -> Result<bool, AllocError> {
+    if group.cause.first.family != group.cause.second.family {
+        return Ok(false);
+    }
+    let messages = words.plan().messages() as usize;
+    let mut firsts = vec![in alloc; false; messages]?;
+    let mut seconds = vec![in alloc; false; messages]?;
+    for pair in pairs {
+        let (x, y) = both_of(words.plan(), *pair);
+        mark(firsts.as_mut_slice(), words.message_of(x));
+        mark(seconds.as_mut_slice(), words.message_of(y));
+    }
+    Ok(
+        firsts
+            .iter()
+            .zip(seconds.iter())
+            .any(|(first, second)| *first && *second),
+    )
+}
+
+fn mark(marked: &mut [bool], message: Option<u32>) {
+    if let Some(m) = message {
+        if let Some(is_marked) = marked.get_mut(m as usize) {
+            *is_marked = true;
+        }
+    }
+}
+
+// What keeps these unsafe pairs apart.
+fn kept_in(
+    alloc: Global,
+    words: PlanWords<'_>,
+    sides: &keeping::Groups,
+    pairs: &[u32],
+) -> Result<Kept, AllocError> {
+    if let Some(kept) = kept_by(alloc, words, sides, pairs)? {
+        return Ok(kept);
+    }
+    let between = between_of(alloc, words.plan(), pairs)?;
+    by_controllers(alloc, words, between.as_slice())
+}
+
+// Each two controllers that have one of these pairs.
+fn between_of(alloc: Global, plan: &Plan, pairs: &[u32]) -> Result<Vec<(u32, u32)>, AllocError> {
+    let mut between: Vec<(u32, u32)> = Vec::new(alloc);
+    for pair in pairs {
+        let (x, y) = both_of(plan, *pair);
+        if let (Some(c), Some(d)) = (controller_of(plan, x), controller_of(plan, y)) {
+            if !is_named(between.as_slice(), c, d) {
+                between.push((c, d))?;
+            }
+        }
+    }
+    Ok(between)
+}
+
+// Whether these two are among them. Pairs come in the order of their controllers, so they are looked for from the end.
+fn is_named(between: &[(u32, u32)], c: u32, d: u32) -> bool {
+    between.iter().rev().any(|both| both.0 == c && both.1 == d)
 }
 
 // ---- what keeps the pairs apart

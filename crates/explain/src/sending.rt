@@ -99,15 +99,16 @@ pub(crate) struct Ranges {
 }
 
 impl Ranges {
-    fn new(alloc: Global) -> Ranges {
+    /// None.
+    pub(crate) fn new(alloc: Global) -> Ranges {
         Ranges {
             ranges: Vec::new(alloc),
             is_whole: true,
         }
     }
 
-    // Adds a slot after all others.
-    fn add(&mut self, slot: usize) {
+    /// Adds a slot after all others.
+    pub(crate) fn add(&mut self, slot: usize) {
         if let Some((_, last)) = self.ranges.last_mut() {
             if last.saturating_add(1) == slot {
                 *last = slot;

@@ -5,8 +5,8 @@ use crate::oddities::add_oddities;
 use causes::{Group, Place};
 use certificate::Fault;
 use explain::{
-    Detail, Grouped, Labels, Meeting, Mends, Reasons, Rule, Safety, labels_of, meeting_of,
-    unsent_in,
+    Detail, GroupMends, Grouped, Labels, Meeting, Mends, Never, Parting, Reasons, Rule, Safety,
+    labels_of, meeting_of, unsent_in,
 };
 use growing_text::Text;
 use lint::Oddity;
@@ -25,6 +25,17 @@ pub(crate) struct Met<'a> {
     bus: &'a str,
     bytes: [&'a str; 2],
     open: [&'a [(usize, usize)]; 2],
+}
+
+// What mends the pairs of a group.
+#[derive(Drop, Serialize)]
+struct MendedGroup<'a> {
+    #[serde(skip_serializing_if = "Option::is_none")]
+    parting: Option<&'a [(usize, usize)]>,
+    #[serde(skip_serializing_if = "Option::is_none")]
+    shape: Option<bool>,
+    never: &'a [[&'a str; 2]],
+    unchecked: u64,
 }
 
 // The verdict on a plan.
@@ -149,6 +160,9 @@ impl Told<'_> {
             if let Some(group) = groups.group(g) {
                 add_group(&mut lines.text, groups, g, group);
                 self.add_example(lines, group.example, g < most)?;
+                if let Some(mends) = groups.mends(g) {
+                    add_mends(lines, mends)?;
+                }
                 lines.text.push("}\n");
             }
             lines.write_block(out)?;
@@ -218,6 +232,33 @@ fn add_group(text: &mut Text, groups: &Grouped, g: usize, group: Group) {
     text.push("],\"frame\":");
     text.push_number(group.cause.frame as u64);
     add_part(text, group.cause.place);
+}
+
+// The field that says what mends the pairs of a group.
+fn add_mends(lines: &mut ObjectLines, mends: &GroupMends) -> Result<(), AllocError> {
+    let never = nevers_of(lines.alloc, mends.kept.nevers.as_slice())?;
+    lines.text.push(",\"explain\":");
+    lines.value(&MendedGroup {
+        parting: slots_of(&mends.parting),
+        shape: shape_of(&mends.parting),
+        never: never.as_slice(),
+        unchecked: mends.kept.unchecked,
+    });
+    Ok(())
+}
+
+fn slots_of(parting: &Option<Parting>) -> Option<&[(usize, usize)]> {
+    match parting {
+        Some(parting) => Some(parting.slots.as_slice()),
+        None => None,
+    }
+}
+
+fn shape_of(parting: &Option<Parting>) -> Option<bool> {
+    match parting {
+        Some(parting) => Some(parting.shape),
+        None => None,
+    }
 }
 
 // In which part of the frame the two meet, and in which byte of it where that counts.
@@ -379,13 +420,13 @@ fn add_unsafe(
     groups: usize,
     most: usize,
 ) -> Result<(), AllocError> {
-    let never = nevers_of(lines.alloc, mends)?;
+    let never = nevers_of(lines.alloc, mends.kept.nevers.as_slice())?;
     let unsent = unsent_of(lines.alloc, &checked.plan)?;
     let why = Mended {
         explained: groups.min(most),
         groups,
         never: never.as_slice(),
-        unchecked: mends.unchecked,
+        unchecked: mends.kept.unchecked,
         interrupts: mends.interrupted.as_slice(),
         unsent: unsent.as_slice(),
         kept_apart: mends.kept_apart,
@@ -394,9 +435,9 @@ fn add_unsafe(
     Ok(())
 }
 
-fn nevers_of<'a>(alloc: Global, mends: &'a Mends) -> Result<Vec<[&'a str; 2]>, AllocError> {
-    let mut nevers = Vec::with_capacity(alloc, mends.nevers.len())?;
-    for never in &mends.nevers {
+fn nevers_of<'a>(alloc: Global, items: &'a [Never]) -> Result<Vec<[&'a str; 2]>, AllocError> {
+    let mut nevers = Vec::with_capacity(alloc, items.len())?;
+    for never in items {
         nevers.push([never.first.as_str(), never.second.as_str()])?;
     }
     Ok(nevers)

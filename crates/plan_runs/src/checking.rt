@@ -178,7 +178,7 @@ fn tell_checked<O: Output>(
 {
     match explain {
         Some(detail) => {
-            let reasons = reasons_of(alloc, checked, words)?;
+            let reasons = reasons_of(alloc, checked, words, detail.groups)?;
             write_checked(
                 alloc,
                 checked,

@@ -20,6 +20,7 @@ pub mod learned;
 mod order;
 mod pairs;
 mod participants;
+pub mod partings;
 mod plans;
 #[cfg(test)]
 mod runs;

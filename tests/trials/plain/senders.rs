@@ -27,19 +27,39 @@ impl Part<'_> {
         matches!(self, Part::Byte(_))
     }
 
+    /// The bits of a header or a byte, as they stand in the text.
+    pub fn bits(&self) -> &str {
+        match self {
+            Part::Write(bits) | Part::Read(bits) | Part::Interrupt(bits) | Part::Byte(bits) => bits,
+            Part::Count { .. } | Part::Again | Part::Stop | Part::Else => "",
+        }
+    }
+
     /// Bit 0 to 7 of a header or a byte, where it is known. The last one of a header is its
     /// direction.
     pub fn bit(&self, k: usize) -> Option<bool> {
         let bits = match self {
             Part::Write(_) if k == 7 => "0",
             Part::Read(_) | Part::Interrupt(_) if k == 7 => "1",
-            Part::Write(bits) | Part::Read(bits) | Part::Interrupt(bits) | Part::Byte(bits) => bits.get(k..)?,
-            Part::Count { .. } | Part::Again | Part::Stop | Part::Else => "",
+            _ => self.bits().get(k..)?,
         };
         match bits.chars().next() {
             Some('0') => Some(false),
             Some('1') => Some(true),
             _ => None,
+        }
+    }
+}
+
+impl<'a> Part<'a> {
+    /// A header or a byte with other bits.
+    pub fn with_bits(self, bits: &'a str) -> Part<'a> {
+        match self {
+            Part::Write(_) => Part::Write(bits),
+            Part::Read(_) => Part::Read(bits),
+            Part::Interrupt(_) => Part::Interrupt(bits),
+            Part::Byte(_) => Part::Byte(bits),
+            Part::Count { .. } | Part::Again | Part::Stop | Part::Else => self,
         }
     }
 }
@@ -159,6 +179,14 @@ impl<'a> Sender<'a> {
             (Some(Part::Write(_) | Part::Read(_) | Part::Byte(_)), Item::Heard(true)) => Place::at(self.refused(part)),
             _ => next,
         }
+    }
+
+    /// Which bit of which part comes next after this wire, if that is one of a header or a byte and open.
+    pub fn open_bit(&self, wire: &[Item]) -> Option<(usize, usize)> {
+        let Place { part, slot, .. } = self.end_of(wire)?;
+        let next = self.part(part)?;
+        let is_open = slot < 8 && (next.is_header() || next.is_byte()) && next.bit(slot).is_none();
+        is_open.then_some((part, slot))
     }
 
     /// Where a sender stands that has put all of this wire, if it may put it.
