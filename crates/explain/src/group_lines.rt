@@ -45,7 +45,7 @@ fn tell_alike(alloc: Global, lines: &mut Lines, groups: &Grouped, g: usize, grou
     words.push(": ");
     push_pairs(&mut words, group.pairs);
     words.push(", ");
-    words.push(why(group.cause));
+    words.push(why_unsafe(group.cause));
     say_all(lines, words);
 }
 
@@ -71,8 +71,8 @@ fn push_pairs(words: &mut Text, count: usize) {
     words.push(if count == 1 { " pair" } else { " pairs" });
 }
 
-// Why those are unsafe that meet so.
-fn why(cause: Cause) -> &'static str {
+/// Why those are unsafe that meet so.
+pub fn why_unsafe(cause: Cause) -> &'static str {
     match (cause.first.kind, cause.second.kind) {
         (Kind::Claim, _) | (_, Kind::Claim) => "an interrupt has the same header",
         (Kind::Again, Kind::Stop) | (Kind::Stop, Kind::Again) => "one ends, one repeats START",

@@ -9,6 +9,7 @@
 
 mod data;
 mod drawings;
+mod groups;
 mod matrix;
 mod nodes;
 mod pages;

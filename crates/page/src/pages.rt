@@ -7,6 +7,7 @@ use crate::recording::Recording;
 use crate::senders::SENDERS;
 use crate::style::STYLE;
 use crate::times::TIMES;
+use explain::Grouped;
 use memchr::{memchr, memchr3};
 use order::Order;
 use plan_words::PlanWords;
@@ -24,6 +25,8 @@ pub struct Page<'a> {
     pub words: PlanWords<'a>,
     /// Who wins in each pair of that plan.
     pub order: &'a Order,
+    /// The groups of its unsafe pairs.
+    pub groups: &'a Grouped,
     /// A recorded bus.
     pub recording: Option<&'a Recording>,
     /// The same as texts.

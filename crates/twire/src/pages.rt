@@ -1,5 +1,8 @@
 // The run that writes a page. Each value and each text of it has a function that owns it, and the next one borrows it.
 
+ghost use Rattle.plan_core.specs.PlanContents.{plan_contents};
+ghost use Rattle.verdicts.specs.Faults.{AreFaults, fault_list};
+
 use crate::checking::status_of;
 use crate::endings::{Ended, Halt, Recorded, Remark};
 use crate::recordings::{halted, open};
@@ -7,7 +10,7 @@ use crate::sources::Sources;
 use capture_check::Transaction;
 use decoding::{ExplainedSink, Explaining};
 use dump_tokens::Bus;
-use explain::{CaptureLines, Layout, Paint, Selection};
+use explain::{CaptureLines, Grouped, Layout, Paint, Selection, grouped_of};
 use given_plans::GivenPlan;
 use order::{order_of, order_report};
 use page::{Page, Recording, Texts, page_of};
@@ -151,6 +154,21 @@ fn write_page<'a, O: Output>(
     words: PlanWords<'a>,
     capture: Option<Shown<'a>>,
     out: &mut O,
+) -> Result<(), RunError>
+    requires { AreFaults (plan_contents checked.now.plan) (fault_list checked.now.faults) }
+{
+    let groups = grouped_of(alloc, &checked.plan, words, &checked.faults)?;
+    write_grouped(alloc, title, checked, words, &groups, capture, out)
+}
+
+fn write_grouped<'a, O: Output>(
+    alloc: Global,
+    title: &'a str,
+    checked: &'a Checked,
+    words: PlanWords<'a>,
+    groups: &'a Grouped,
+    capture: Option<Shown<'a>>,
+    out: &mut O,
 ) -> Result<(), RunError> {
     let order = order_of(alloc, &checked.plan, &checked.faults)?;
     let plan = print_plan(alloc, &checked.plan)?;
@@ -169,6 +187,7 @@ fn write_page<'a, O: Output>(
         checked,
         words,
         order: &order,
+        groups,
         recording,
         texts,
     };
