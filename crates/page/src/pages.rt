@@ -2,6 +2,7 @@
 
 use crate::data::data_of;
 use crate::drawings::DRAWINGS;
+use crate::group_list::GROUP_LIST;
 use crate::matrix::MATRIX;
 use crate::recording::Recording;
 use crate::senders::SENDERS;
@@ -122,7 +123,7 @@ fn push_data(alloc: Global, page: &mut String, data: &str) -> Result<(), AllocEr
 
 fn push_script(page: &mut String) -> Result<(), AllocError> {
     page.push_str("<script>")?;
-    for part in [SENDERS, MATRIX, DRAWINGS, TIMES] {
+    for part in [SENDERS, MATRIX, DRAWINGS, GROUP_LIST, TIMES] {
         page.push_str(part)?;
     }
     page.push_str("</script>\n</body>\n</html>\n")
