@@ -149,7 +149,7 @@ function partsOf(symbols) {
 // ---- The drawing: the slots of the first byte, those before the end, and what comes after it. Of many bytes alike those in the
 // middle are folded. The names beside it stay where it is scrolled, and the end is scrolled into view.
 
-const WIDE = 28, TALL = 18, LEFT = 4, FOLD = 152, HEADER = 9, BEFORE = 18;
+const WIDE = 26, TALL = 18, LEFT = 4, FOLD = 146, HEADER = 9, BEFORE = 18;
 const ROWS = { first: 40, second: 86, sda: 132, scl: 178 };
 
 // Where slots stand: { parts, from, bytes, spans, x }. From the slot `from` on they stand after the fold, which has so many bytes.
@@ -157,7 +157,7 @@ const ROWS = { first: 40, second: 86, sda: 132, scl: 178 };
 function layOut(run) {
   const parts = partsOf(run.slots.map(slot => slot.wire));
   const begin = parts.find(part => part.bits && part.from >= run.end - BEFORE)?.from ?? 0;
-  const from = begin - HEADER >= 2 * HEADER ? begin : 0;
+  const from = begin > HEADER ? begin : 0;
   const bytes = parts.filter(part => part.bits && part.from >= HEADER && part.from < from).length;
   const last = run.slots.length;
   return {
@@ -216,9 +216,12 @@ function stretchesOf(puts, kinds) {
   return stretches;
 }
 
-// What was scrolled out of view, or was not yet shown, is scrolled so that its end is seen.
+// What is wider than its room is scrolled so that its end is seen, and in any case the slot of the fault.
 const scrolled = new ResizeObserver(entries => {
-  for (const { target } of entries) target.scrollLeft = Number(target.dataset.end) - target.clientWidth;
+  for (const { target } of entries) {
+    const { end, slot } = target.dataset;
+    target.scrollLeft = Math.min(Number(end) - target.clientWidth, Number(slot));
+  }
 });
 
 function drawingOf(pair) {
@@ -230,9 +233,10 @@ function drawingOf(pair) {
     'aria-hidden': 'true', style: '--part: ' + margin });
   const svg = element('svg:svg', { viewBox: '0 0 ' + width + ' 248', width, height: 248, role: 'img',
     'aria-label': saidOf(pair), style: '--part: ' + width });
+  const lines = svg.appendChild(element('svg:g', { 'aria-hidden': 'true' }));
   const put = (to, name, attributes, text) =>
     to.append(element('svg:' + name, attributes, ...(text === undefined ? [] : [text])));
-  const add = (name, attributes, text) => put(svg, name, attributes, text);
+  const add = (name, attributes, text) => put(lines, name, attributes, text);
   const write = (at, y, text, name) => add('text', { x: at, y, 'text-anchor': 'middle', class: name }, text);
   const call = (y, text, faint) => put(names, 'text', faint ? { x: LEFT, y, class: 'faint' } : { x: LEFT, y }, text);
   const mark = run.slots[run.end] || {};
@@ -241,7 +245,7 @@ function drawingOf(pair) {
   }
   if (laid.from > 0) {
     add('rect', { x: x(HEADER), y: 24, width: FOLD, height: 180, class: 'fold' });
-    write(x(HEADER) + FOLD / 2, 120, '.. ' + laid.bytes + ' bytes alike ..', 'faint');
+    write(x(HEADER) + FOLD / 2, 120, '.. ' + laid.bytes + (laid.bytes === 1 ? ' byte' : ' bytes') + ' alike ..', 'faint');
   }
   run.slots.forEach((slot, k) => {
     if (!isDrawn(laid, k)) return;
@@ -288,8 +292,8 @@ function drawingOf(pair) {
     [ROWS.first, ROWS.second].forEach((top, k) =>
       add('text', { x: x(run.end) + WIDE + 4, y: top + 14 }, deeds.get(pair.fault.kinds[k])));
   }
-  const drawn = element('div', { class: 'wide drawn', 'data-end': x(run.end + 2) + margin, style: '--all: ' + (margin + width) },
-    names, svg);
+  const drawn = element('div', { class: 'wide drawn', 'data-slot': x(run.end),
+    'data-end': margin + (pair.fault ? width : x(run.end + 2)), style: '--all: ' + (margin + width) }, names, svg);
   scrolled.observe(drawn);
   return { drawn, run };
 }
@@ -346,8 +350,8 @@ function shownPair(pair, id, heading) {
   const wire = run.slots.slice(0, run.end).map(slot => slot.wire);
   return element('div', { class: 'drawing', id },
     element(heading, {}, 'pair ' + pair.number + ': ' + namesText(pair) + ' ',
-      element('b', { class: pair.way }, '\u00a0' + WAYS[pair.way][0] + '\u00a0')),
-    element('p', {}, endText(pair) + '. ', pair.fault
+      element('b', { class: pair.way, 'aria-hidden': 'true' }, '\u00a0' + WAYS[pair.way][0] + '\u00a0')),
+    element('p', {}, endText(pair) + '. ', pair.fault && heading === 'h3'
       ? element('a', { href: '#group-' + pair.fault.group }, 'Group ' + pair.fault.group) : null),
     element('pre', { class: 'rows' }, bytesText(pair, wire)),
     drawn, legendOf(run),

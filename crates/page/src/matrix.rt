@@ -70,15 +70,21 @@ function element(name, attributes, ...children) {
 
 const MOST_PAIRS = 2000;
 
-// The rows, which are the columns too: { name, short, band, size, edge }. Those of one family stand together. The first of them
-// has the name of the band and its size, and an edge is drawn before each band of several and after it.
+// The rows, which are the columns too: { name, short, members, band, size, edge }. Where there are many pairs each is a family with
+// the number of its messages. Else those of one family stand together. The first of them has the size of that band, and an edge is
+// drawn before each band of several and after it.
 function linesOf(many) {
   const bands = new Map();
   for (const one of participants) {
     const band = many ? one.kin : one.party;
     bands.set(band, [...bands.get(band) ?? [], one]);
   }
-  if (many) return [...bands.keys()].map(name => ({ name, short: name, members: bands.get(name), size: 1 }));
+  if (many) {
+    return [...bands].map(([name, members]) => {
+      const count = new Set(members.map(one => one.message)).size;
+      return { name, short: count > 1 ? name + ' (' + count + ')' : name, members, size: 1, isFamily: count > 1 };
+    });
+  }
   const lines = [];
   for (const [band, members] of bands) {
     members.forEach((one, k) => {
@@ -138,7 +144,7 @@ function headOf(lines, banded) {
   const edge = line => line.edge ? ' edge' : '';
   const heads = lines.filter(line => line.size > 0).map(line => line.size > 1
     ? element('th', { role: 'columnheader', scope: 'colgroup', colspan: line.size, class: 'column band' + edge(line) }, turned(line.band))
-    : element('th', { role: 'columnheader', scope: 'col', class: 'column' + edge(line), ...banded ? { rowspan: 2 } : {} },
+    : element('th', { role: 'columnheader', scope: 'col', class: (line.isFamily ? 'column band' : 'column') + edge(line), ...banded ? { rowspan: 2 } : {} },
       turned(line.short)));
   const below = lines.filter(line => line.several).map(line => element('th', { role: 'columnheader', scope: 'col',
     class: 'column' + edge(line), 'aria-label': line.name }, turned(line.short)));
@@ -149,9 +155,9 @@ function headOf(lines, banded) {
 function rowOf(grid, line, x, banded) {
   const band = line.size > 1
     ? element('th', { role: 'rowheader', scope: 'rowgroup', rowspan: line.size, class: 'row band' }, line.band) : null;
-  const name = element('th', { role: 'rowheader', scope: 'row', class: 'row',
-    ...line.several ? { 'aria-label': line.name } : banded ? { colspan: 2 } : {} }, line.short);
-  return element('tr', { role: 'row', class: line.edge ? 'edge' : '' }, band, name, ...grid.lines.map((_, y) => cellOf(grid, x, y)));
+  const name = element('th', { role: 'rowheader', scope: 'row',
+    class: line.isFamily ? 'row band' : 'row', ...line.several ? { 'aria-label': line.name } : banded ? { colspan: 2 } : {} }, line.short);
+  return element('tr', { role: 'row', 'aria-label': line.name, class: line.edge ? 'edge' : '' }, band, name, ...grid.lines.map((_, y) => cellOf(grid, x, y)));
 }
 
 function matrixOf(grid) {

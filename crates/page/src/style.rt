@@ -33,10 +33,10 @@ th, td { padding: .15rem .5rem; text-align: left; vertical-align: top; font-weig
 .lines th { color: var(--faint); }
 .number { text-align: right; font-variant-numeric: tabular-nums; }
 .matrix th, .matrix td { padding: 0; border: 1px solid var(--rule); text-align: center; }
-.matrix th.row { text-align: right; padding: 0 .4rem; white-space: nowrap; }
+.matrix th.row { text-align: right; vertical-align: middle; padding: 0 .4rem; white-space: nowrap; }
 .matrix th.column { height: 1px; vertical-align: bottom; padding: .3rem .1rem; }
 .matrix th.column span { writing-mode: vertical-rl; transform: rotate(180deg); white-space: nowrap; }
-.matrix td { width: 1.9rem; height: 1.9rem; min-width: 1.9rem; }
+.matrix td { vertical-align: middle; width: 1.9rem; height: 1.9rem; min-width: 1.9rem; }
 .matrix.small td { width: 1.25rem; height: 1.25rem; min-width: 1.25rem; font-size: .75rem; }
 .matrix.small th { font-size: .8rem; line-height: 1.2; }
 .matrix.small a { line-height: 1.25rem; }
@@ -45,7 +45,7 @@ th, td { padding: .15rem .5rem; text-align: left; vertical-align: top; font-weig
 .matrix td.edge, .matrix th.edge { border-left: 3px solid var(--ink); }
 .matrix tr.edge > * { border-top: 3px solid var(--ink); }
 .matrix th.band { background: var(--soft); font-weight: 600; }
-.matrix th.row.band { vertical-align: top; padding: .2rem .5rem; }
+.matrix th.row.band[rowspan] { vertical-align: top; padding: .2rem .5rem; }
 .matrix .of-group { box-shadow: inset 0 0 0 3px var(--mark); }
 :focus-visible { outline: 3px solid var(--mark); outline-offset: 1px; }
 .matrix a:focus-visible, .matrix td:focus-visible { outline: 3px solid var(--mark); outline-offset: -1px; }
@@ -53,7 +53,7 @@ th, td { padding: .15rem .5rem; text-align: left; vertical-align: top; font-weig
 .groups { list-style: none; margin: 0; padding: 0; }
 .groups > li { border-left: 4px solid var(--strong); padding: .1rem 0 .1rem .8rem; margin: 1rem 0; }
 .groups h3 { margin: 0; overflow-wrap: anywhere; }
-.groups > li > p { float: right; margin: 0; }
+.groups > li > p { float: right; margin: .4rem 0 0; }
 h4 { font-size: 1rem; margin: 0 0 .3rem; }
 .unsafe { background: var(--unsafe); font-weight: 700; }
 .header { background: var(--header); }
