@@ -192,11 +192,7 @@ pub fn grouped_of(
     })
 }
 
-fn all_called(
-    alloc: Global,
-    plan: &Plan,
-    families: &[Family],
-) -> Result<Vec<String>, AllocError> {
+fn all_called(alloc: Global, plan: &Plan, families: &[Family]) -> Result<Vec<String>, AllocError> {
     let mut called = Vec::with_capacity(alloc, families.len())?;
     for m in 0..plan.messages() {
         called.push(called_of(alloc, plan, families, m)?)?;

@@ -152,8 +152,8 @@ function partsOf(symbols) {
 const WIDE = 26, TALL = 18, LEFT = 4, FOLD = 146, HEADER = 9, BEFORE = 18;
 const ROWS = { first: 40, second: 86, sda: 132, scl: 178 };
 
-// Where slots stand: { parts, from, bytes, spans, x }. From the slot `from` on they stand after the fold, which has so many bytes.
-// The spans are the slots that are drawn, as the first one of each and the one after its last.
+// Where slots stand: { parts, from, bytes, spans, x }. From the slot `from` on they stand after the fold, which has so many
+// bytes. The spans are the slots that are drawn, as the first one of each and the one after its last.
 function layOut(run) {
   const parts = partsOf(run.slots.map(slot => slot.wire));
   const begin = parts.find(part => part.bits && part.from >= run.end - BEFORE)?.from ?? 0;

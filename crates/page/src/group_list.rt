@@ -6,15 +6,19 @@ pub(crate) const GROUP_LIST: &str = r#"
 // How many of those who meet are named at once, and how many groups have a drawing.
 const NAMED = 4, MOST_DRAWN = 100;
 
+// The latest slot in which a pair of each group meets.
+const latest = [];
+for (const { group, wire } of data.faults) latest[group] = Math.max(latest[group] ?? 0, wire.length);
+
 const meetsText = between => between.map(two => two.join(' × ')).join(', ');
 
 // In what the pairs of a group are alike: the example is the one with the shortest wire.
 function groupText(number) {
   const { pairs, between, why, example } = data.groups[number];
   const fault = faults.get(example), more = between.length - NAMED;
-  const isLater = data.faults.some(other => other.group === number && other.wire.length > fault.wire.length);
-  return countText(pairs) + ': ' + meetsText(between.slice(0, NAMED)) + (more > 0 ? ' and ' + more + ' more' : '') + ', ' + why + ', '
-    + meetText(fault) + (isLater ? ' at the earliest' : '');
+  const meets = meetsText(between.slice(0, NAMED)) + (more > 0 ? ' and ' + more + ' more' : '');
+  return countText(pairs) + ': ' + meets + ', ' + why + ', ' + meetText(fault)
+    + (latest[number] > fault.wire.length ? ' at the earliest' : '');
 }
 
 // What is opened by a click, and in print.

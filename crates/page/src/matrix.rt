@@ -70,31 +70,38 @@ function element(name, attributes, ...children) {
 
 const MOST_PAIRS = 2000;
 
-// The rows, which are the columns too: { name, short, members, band, size, edge }. Where there are many pairs each is a family with
-// the number of its messages. Else those of one family stand together. The first of them has the size of that band, and an edge is
-// drawn before each band of several and after it.
+// The rows, which are the columns too: { name, short, members, band, size, edge }. Where there are many pairs each is a family,
+// with the number of its messages. Else it is a participant, and those of one family stand together: the first of them has the
+// size of this band, and an edge is drawn before each band of several and after it.
 function linesOf(many) {
   const bands = new Map();
   for (const one of participants) {
     const band = many ? one.kin : one.party;
-    bands.set(band, [...bands.get(band) ?? [], one]);
-  }
-  if (many) {
-    return [...bands].map(([name, members]) => {
-      const count = new Set(members.map(one => one.message)).size;
-      return { name, short: count > 1 ? name + ' (' + count + ')' : name, members, size: 1, isFamily: count > 1 };
-    });
+    if (!bands.has(band)) bands.set(band, []);
+    bands.get(band).push(one);
   }
   const lines = [];
-  for (const [band, members] of bands) {
-    members.forEach((one, k) => {
-      const short = members.length > 1 ? /\d+$/.exec(one.label)?.[0] ?? one.label : one.label;
-      const before = lines[lines.length - 1];
-      const edge = k === 0 && Boolean(before) && (members.length > 1 || before.several);
-      lines.push({ name: one.label, short, members: [one], band, size: k === 0 ? members.length : 0, several: members.length > 1, edge });
-    });
-  }
+  for (const [band, members] of bands) lines.push(...many ? [familyLine(band, members)] : bandLines(band, members));
+  lines.forEach((line, k) => { line.edge = k > 0 && line.size > 0 && Boolean(line.several || lines[k - 1].several); });
   return lines;
+}
+
+function familyLine(name, members) {
+  const count = new Set(members.map(one => one.message)).size, isFamily = count > 1;
+  return { name, short: isFamily ? name + ' (' + count + ')' : name, members, size: 1, isFamily };
+}
+
+// Beside the name of its band a participant is shown as the number in which it differs from the others.
+function bandLines(band, members) {
+  const several = members.length > 1;
+  return members.map((one, k) => ({
+    name: one.label,
+    short: several ? /\d+$/.exec(one.label)?.[0] ?? one.label : one.label,
+    members: [one],
+    band,
+    size: k === 0 ? members.length : 0,
+    several,
+  }));
 }
 
 // The lines, and for each two of them { pair, count, unsafe, groups }: of several pairs the worst, how many they are, how many of
@@ -115,10 +122,13 @@ function gridOf() {
   return { lines, cells, many };
 }
 
+// Whether a cell is of a participant with itself.
+const isItself = (grid, x, y) => x === y && grid.lines[x].members.length === 1;
+
 // What a cell is called: both, and how it ends.
 function cellText(grid, x, y) {
   const cell = grid.cells[x][y], [one, other] = [grid.lines[x].name, grid.lines[y].name];
-  if (!cell) return x === y && !grid.many ? one + ' itself' : one + ' and ' + other + ': ' + WAYS.apart[1];
+  if (!cell) return isItself(grid, x, y) ? one + ' itself' : one + ' and ' + other + ': ' + WAYS.apart[1];
   if (cell.count === 1) return saidOf(cell.pair);
   return one + ' and ' + other + ': ' + (cell.unsafe > 0 ? cell.unsafe + ' of ' + countText(cell.count) + ' unsafe'
     : countText(cell.count)) + ', such as ' + saidOf(cell.pair);
@@ -129,41 +139,41 @@ function cellOf(grid, x, y) {
   const edge = grid.lines[y].edge ? ' edge' : '';
   if (!cell) {
     return element('td', { role: 'gridcell', class: 'apart' + edge, 'aria-label': said, tabindex: '-1' },
-      x === y && !grid.many ? '' : WAYS.apart[0]);
+      isItself(grid, x, y) ? '' : WAYS.apart[0]);
   }
   const { number, way } = cell.pair;
-  const link = element('a', { href: '#pair-' + number, title: said, 'aria-label': said, 'data-pair': number, tabindex: '-1' },
+  const link = element('a', { href: '#pair-' + number, title: said, 'aria-label': said, tabindex: '-1', 'data-pair': number },
     WAYS[way][0]);
   return element('td', { role: 'gridcell', class: way + edge }, link);
 }
 
 // The names of the columns: above those of a band its own.
 function headOf(lines, banded) {
-  const corner = banded ? { colspan: 2, rowspan: 2 } : {};
-  const turned = text => element('span', {}, text);
-  const edge = line => line.edge ? ' edge' : '';
-  const heads = lines.filter(line => line.size > 0).map(line => line.size > 1
-    ? element('th', { role: 'columnheader', scope: 'colgroup', colspan: line.size, class: 'column band' + edge(line) }, turned(line.band))
-    : element('th', { role: 'columnheader', scope: 'col', class: (line.isFamily ? 'column band' : 'column') + edge(line), ...banded ? { rowspan: 2 } : {} },
-      turned(line.short)));
-  const below = lines.filter(line => line.several).map(line => element('th', { role: 'columnheader', scope: 'col',
-    class: 'column' + edge(line), 'aria-label': line.name }, turned(line.short)));
-  return element('thead', {}, element('tr', { role: 'row' }, element('td', corner), ...heads),
+  const head = (line, name, more, text) => element('th', { role: 'columnheader', class: line.edge ? name + ' edge' : name, ...more },
+    element('span', {}, text));
+  const tall = banded ? { rowspan: 2 } : {};
+  const above = lines.filter(line => line.size > 0).map(line => line.size > 1
+    ? head(line, 'column band', { scope: 'colgroup', colspan: line.size }, line.band)
+    : head(line, line.isFamily ? 'column band' : 'column', { scope: 'col', ...tall }, line.short));
+  const below = lines.filter(line => line.several)
+    .map(line => head(line, 'column', { scope: 'col', 'aria-label': line.name }, line.short));
+  return element('thead', {}, element('tr', { role: 'row' }, element('td', banded ? { colspan: 2, rowspan: 2 } : {}), ...above),
     banded ? element('tr', { role: 'row' }, ...below) : null);
 }
 
 function rowOf(grid, line, x, banded) {
-  const band = line.size > 1
-    ? element('th', { role: 'rowheader', scope: 'rowgroup', rowspan: line.size, class: 'row band' }, line.band) : null;
-  const name = element('th', { role: 'rowheader', scope: 'row',
-    class: line.isFamily ? 'row band' : 'row', ...line.several ? { 'aria-label': line.name } : banded ? { colspan: 2 } : {} }, line.short);
-  return element('tr', { role: 'row', 'aria-label': line.name, class: line.edge ? 'edge' : '' }, band, name, ...grid.lines.map((_, y) => cellOf(grid, x, y)));
+  const head = (name, more, text) => element('th', { role: 'rowheader', class: name, ...more }, text);
+  const band = line.size > 1 ? head('row band', { scope: 'rowgroup', rowspan: line.size }, line.band) : null;
+  const own = line.several ? { 'aria-label': line.name } : banded ? { colspan: 2 } : {};
+  return element('tr', { role: 'row', 'aria-label': line.name, class: line.edge ? 'edge' : '' }, band,
+    head(line.isFamily ? 'row band' : 'row', { scope: 'row', ...own }, line.short), ...grid.lines.map((_, y) => cellOf(grid, x, y)));
 }
 
 function matrixOf(grid) {
   const { lines } = grid, banded = lines.some(line => line.several);
   const table = element('table', { role: 'grid', 'aria-label': 'The pairs', 'aria-describedby': 'keys',
-    class: lines.length > 24 ? 'matrix small' : 'matrix', style: '--lines: ' + lines.length },
+    class: lines.length > 24 ? 'matrix small' : 'matrix',
+    style: '--lines: ' + lines.length + '; --head: ' + (4 + Math.max(...lines.map(line => line.name.length)) / 2) },
     headOf(lines, banded), element('tbody', {}, ...lines.map((line, x) => rowOf(grid, line, x, banded))));
   steer(table);
   return element('div', { class: 'wide', id: 'matrix' }, table,

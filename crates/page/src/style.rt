@@ -93,15 +93,14 @@ summary { cursor: pointer; }
 .notes { margin: .2rem 0 .6rem 1.5rem; white-space: pre-wrap; }
 @media print {
   @page { margin: 12mm; }
-  :root { color-scheme: light; --paper: #ffffff; --ink: #000000; --soft: #ffffff; }
-  body { max-width: none; padding: 0; font-size: .8rem; }
+  :root { color-scheme: light; --paper: #ffffff; --ink: #000000; --soft: #ffffff; font-size: 75%; }
+  body { max-width: none; padding: 0; }
   form, .hint, .groups > li > p, details:not(.printed):not([open]) { display: none; }
   details.printed > summary { list-style: none; }
-  details.printed::details-content { content-visibility: visible; display: block; height: auto; }
   pre, pre.rows { max-height: none; overflow: visible; white-space: pre-wrap; overflow-wrap: anywhere; }
   .wide { overflow: visible; }
   h2, h3, h4, summary { break-after: avoid; }
-  .matrix { --cell: min(1.25rem, 40rem / (var(--lines) + 8)); width: auto; }
+  .matrix { --cell: min(1.25rem, 53rem / (var(--lines) + var(--head))); }
   .matrix td, .matrix.small td { width: var(--cell); min-width: 0; height: var(--cell); font-size: calc(var(--cell) * .62); }
   .matrix th, .matrix.small th { font-size: calc(var(--cell) * .62); line-height: 1.1; }
   .matrix a, .matrix.small a { line-height: var(--cell); }

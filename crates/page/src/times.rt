@@ -160,6 +160,7 @@ function pairsOf() {
   const follow = () => {
     const found = /^#pair-(\d+)$/.exec(location.hash);
     if (found) show(Number(found[1]));
+    else document.getElementById(location.hash.slice(1))?.scrollIntoView();
   };
   const matrix = matrixOf(grid);
   matrix.addEventListener('click', event => {
