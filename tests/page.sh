@@ -310,7 +310,7 @@ want "a long run in a browser" ".. 29 bytes alike .." "$(grep -o '\.\. [0-9]* by
 
 # Without its texts the page is drawn alike.
 drawn() {
-    sed -n '/<main id="main">/,/<\/main>/p' dom | sed -e 's/.*<main/<main/' -e 's/<\/main>.*//'
+    tr '\n' ' ' <dom | grep -o '<main id="main">.*</main>'
 }
 for plan in examples/{stop_meets_data,interrupts,never_repairs}.plan; do
     "$twire" page "$plan" -o page.html
