@@ -1,8 +1,8 @@
 #!/usr/bin/env bash
 # The page that twire writes of a plan: that it has the exact texts, loads nothing, and takes no text for markup; and, where the
 # machine has a browser (chromium), that it opens there without an error, that its data says what its texts say, that a cell of
-# the matrix leads to its drawing, and that its groups are those of check. With python3 too: what a screen reader is told of it, what
-# keys do, and that print cuts nothing off.
+# the matrix leads to its drawing, and that its groups are those of check. With python3 too: what a screen reader is told of it,
+# what keys do, and that print cuts nothing off.
 # The last line is 'N passed, M failed', and the exit status is 1 where a case fails.
 #
 # It runs the launcher at the top of the repository, or the program that TWIRE names.
@@ -85,7 +85,7 @@ for vcd in examples/{write_ghdl,probe_icarus,two_buses}.vcd; do
     want "${vcd##*/}: its explained report" "$("$twire" capture examples/stop_meets_data.plan "$vcd" --explain)" "$(text capture page.html)"
 done
 
-# The groups are those of check: how many pairs each has, its example, and between whom it is. So is the group of each unsafe pair.
+# The groups are those of check: how many pairs each has, its example, and between whom it is; and the group of each unsafe pair.
 cat >lock.brief <<'BRIEF'
 brief 1
 device eeprom 0x50 ;  device sensor 0x48 ;
@@ -302,8 +302,8 @@ get" "$(grep -oE '<th role="rowheader"[^>]*>[^<]*' dom | sed 's/.*>//')"
 want "many pairs in a browser: the two families" "page_* and page_*: 650 of 676 pairs unsafe
 data_* and data_*: 650 of 676 pairs unsafe" "$(grep -o 'aria-label="[^"]* unsafe, such as' dom | sed -e 's/aria-label="//' -e 's/, such as//')"
 
-# Of a long run the bytes between the header and the last two are folded: 31 bytes and the acknowledge of each lie before slot 288,
-# where page_30 ends and page_31 goes on.
+# Of a long run the bytes between the header and the last two are folded: 31 bytes, each with its acknowledge, lie between slots
+# 9 and 288, where page_30 ends and page_31 goes on.
 "$twire" page groups.brief -o page.html
 opened page.html
 want "a long run in a browser" ".. 29 bytes alike .." "$(grep -o '\.\. [0-9]* bytes\? alike \.\.' dom | sort -u)"

@@ -47,8 +47,7 @@ th, td { padding: .15rem .5rem; text-align: left; vertical-align: top; font-weig
 .matrix th.band { background: var(--soft); font-weight: 600; }
 .matrix th.row.band[rowspan] { vertical-align: top; padding: .2rem .5rem; }
 .matrix .of-group { box-shadow: inset 0 0 0 3px var(--mark); }
-:focus-visible { outline: 3px solid var(--mark); outline-offset: 1px; }
-.matrix a:focus-visible, .matrix td:focus-visible { outline: 3px solid var(--mark); outline-offset: -1px; }
+:focus-visible, .matrix a:focus-visible { outline: 3px solid var(--ink); outline-offset: 1px; }
 .hint { color: var(--faint); font-size: .88rem; }
 .groups { list-style: none; margin: 0; padding: 0; }
 .groups > li { border-left: 4px solid var(--strong); padding: .1rem 0 .1rem .8rem; margin: 1rem 0; }
