@@ -224,10 +224,15 @@ const scrolled = new ResizeObserver(entries => {
   }
 });
 
+// How many characters of a label stand beside a drawing, so that a narrow window has room for the end.
+const LABEL = 24;
+
+const beside = ({ label }) => label.length > LABEL ? label.slice(0, LABEL / 2 - 1) + '..' + label.slice(1 - LABEL / 2) : label;
+
 function drawingOf(pair) {
   const run = pair.fault ? metRun(pair) : partedRun(pair);
   const laid = layOut(run), { x, spans } = laid;
-  const margin = LEFT + 8 + 7.4 * Math.max(pair.first.label.length, pair.second.label.length, 4);
+  const margin = LEFT + 8 + 7.4 * Math.max(beside(pair.first).length, beside(pair.second).length, 4);
   const width = x(run.slots.length) + (pair.fault ? 130 : 70);
   const names = element('svg:svg', { viewBox: '0 0 ' + margin + ' 248', width: margin, height: 248, class: 'names',
     'aria-hidden': 'true', style: '--part: ' + margin });
@@ -260,7 +265,7 @@ function drawingOf(pair) {
   call(222, 'wire', true);
   call(241, 'byte', true);
   [[pair.first, ROWS.first, 0], [pair.second, ROWS.second, 1]].forEach(([participant, top, k]) => {
-    call(top + 14, participant.label);
+    call(top + 14, beside(participant));
     run.slots.forEach((slot, j) => {
       if (!slot.open[k] || !isDrawn(laid, j)) return;
       add('rect', { x: x(j) + 1, y: top - 1, width: WIDE - 2, height: TALL + 2, class: 'either' });
