@@ -107,6 +107,11 @@ function putsAlong(participant, wire) {
   return puts;
 }
 
+// How many characters of a label stand beside bytes and a drawing, so that a narrow window has room for these.
+const LABEL = 24;
+
+const beside = ({ label }) => label.length > LABEL ? label.slice(0, LABEL / 2 - 1) + '..' + label.slice(1 - LABEL / 2) : label;
+
 // Of many words the first four, and the last ones.
 const HEAD_WORDS = 4, LAST_WORDS = 9;
 
@@ -117,7 +122,7 @@ function bytesText(pair, wire) {
   const from = Math.max(HEAD_WORDS, ...all.map(words => words.length - LAST_WORDS));
   const texts = all.map(words => (from <= HEAD_WORDS + 2 ? words
     : [...words.slice(0, HEAD_WORDS), '..', ...words.slice(from)]).join(' '));
-  const titles = ['bus', pair.first.label, pair.second.label];
+  const titles = ['bus', beside(pair.first), beside(pair.second)];
   const widest = list => Math.max(...list.map(text => text.length));
   return titles.map((title, k) => title.padEnd(widest(titles) + 2) + (k > 0 && pair.fault
     ? texts[k].padEnd(widest(texts) + 2) + 'next: ' + deeds.get(pair.fault.kinds[k - 1]) : texts[k])).join('\n');
@@ -223,11 +228,6 @@ const scrolled = new ResizeObserver(entries => {
     target.scrollLeft = Math.min(Number(end) - target.clientWidth, Number(slot));
   }
 });
-
-// How many characters of a label stand beside a drawing, so that a narrow window has room for the end.
-const LABEL = 24;
-
-const beside = ({ label }) => label.length > LABEL ? label.slice(0, LABEL / 2 - 1) + '..' + label.slice(1 - LABEL / 2) : label;
 
 function drawingOf(pair) {
   const run = pair.fault ? metRun(pair) : partedRun(pair);

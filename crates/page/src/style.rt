@@ -21,6 +21,7 @@ h1 { font-size: 1.6rem; margin: 0; overflow-wrap: anywhere; }
 h2 { font-size: 1.2rem; margin: 2.2rem 0 .6rem; border-bottom: 1px solid var(--rule); }
 h3 { font-size: 1rem; margin: 1.2rem 0 .3rem; }
 p { margin: .4rem 0; max-width: 60rem; }
+h3, h4, p, li { overflow-wrap: anywhere; }
 a { color: inherit; }
 code, pre, .mono { font-family: ui-monospace, 'DejaVu Sans Mono', Consolas, monospace; font-size: .88rem; }
 pre { overflow: auto; max-height: 30rem; padding: .6rem; background: var(--soft); border: 1px solid var(--rule); }
@@ -51,7 +52,7 @@ th, td { padding: .15rem .5rem; text-align: left; vertical-align: top; font-weig
 .hint { color: var(--faint); font-size: .88rem; }
 .groups { list-style: none; margin: 0; padding: 0; }
 .groups > li { border-left: 4px solid var(--strong); padding: .1rem 0 .1rem .8rem; margin: 1rem 0; }
-.groups h3 { margin: 0; overflow-wrap: anywhere; }
+.groups h3 { margin: 0; }
 .groups > li > p { float: right; margin: .4rem 0 0; }
 h4 { font-size: 1rem; margin: 0 0 .3rem; }
 .unsafe { background: var(--unsafe); font-weight: 700; }
