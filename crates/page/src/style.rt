@@ -67,6 +67,7 @@ h4 { font-size: 1rem; margin: 0 0 .3rem; }
 .key .idle { color: var(--faint); }
 .key b { display: inline-block; width: 1.7rem; text-align: center; border: 1px solid var(--rule); }
 form { display: flex; flex-wrap: wrap; gap: .5rem; align-items: center; margin: .6rem 0; }
+select { max-width: 100%; }
 select, button { font: inherit; color: inherit; background: var(--soft); border: 1px solid var(--rule); padding: .15rem .4rem; }
 .drawing { border: 1px solid var(--rule); padding: .8rem; margin: .8rem 0; break-inside: avoid; }
 .drawing h3 { margin-top: 0; }
