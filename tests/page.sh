@@ -323,8 +323,9 @@ for plan in examples/{stop_meets_data,interrupts,never_repairs}.plan; do
     want "${plan##*/} without its texts" "$(<drawn.html)" "$(drawn)"
 done
 
-# A narrow window: the slot of the fault, after 45 others, is seen beside the names, and open bits and bytes stand there. (It is
-# looked at more than once: beside other work the page may take longer than a second.)
+# A narrow window: the slot of the fault, after 45 others, is seen beside the names, and open bits and bytes stand there. So are
+# those of groups that are opened, and of long names; and the page itself need not be scrolled sideways. (It is looked at more than
+# once: beside other work the page may take longer than a second.)
 cat >long.plan <<'PLAN'
 plan 1
 message two write 1010000 00000000 00000000 xxxxxxxx xxxxxxxx stop else stop else stop else stop else stop else stop ;
@@ -333,21 +334,30 @@ message four write 1010000 00000000 00000000 xxxxxxxx xxxxxxxx xxxxxxxx xxxxxxxx
 controller a two ;
 controller b four ;
 PLAN
-"$twire" page long.plan -o page.html
+sed -e 's/two/write_second_power_supply_config/' -e 's/four/write_first_power_supply_config/' \
+    -e 's/ a / baseboard_management_control /' -e 's/ b / platform_controller_hub /' long.plan >names.plan
 cat >seen.js <<'SCRIPT'
 <script>
+for (const one of document.querySelectorAll('details.printed')) one.open = true;
+const isSeen = drawn => {
+  const slot = drawn.querySelector('.meeting').getBoundingClientRect();
+  const names = drawn.querySelector('.names').getBoundingClientRect();
+  const room = drawn.getBoundingClientRect();
+  return names.left >= room.left && slot.left >= names.right && slot.right <= room.right;
+};
 setInterval(() => {
-  const slot = document.querySelector('.meeting').getBoundingClientRect();
-  const names = document.querySelector('.names').getBoundingClientRect();
-  const room = document.querySelector('.drawn').getBoundingClientRect();
-  document.body.dataset.seen = names.left >= room.left && slot.left >= names.right && slot.right <= room.right;
+  document.body.dataset.seen = [...document.querySelectorAll('.drawn')].every(isSeen)
+    && document.documentElement.scrollWidth <= innerWidth;
 }, 500);
 </script>
 SCRIPT
-sed '/^<\/body>/e cat seen.js' page.html >followed.html
-opened followed.html --window-size=500,900
-want "a fault in a narrow window: errors" "" "$(<errors)"
-want "a fault in a narrow window is seen" 1 "$(grep -c '<body data-seen="true">' dom)"
+for plan in {groups.brief,names.plan,long.plan}; do
+    "$twire" page "$plan" -o page.html
+    sed '/^<\/body>/e cat seen.js' page.html >followed.html
+    opened followed.html --window-size=500,900
+    want "$plan in a narrow window: errors" "" "$(<errors)"
+    want "$plan in a narrow window: the slots of its faults are seen" 1 "$(grep -c '<body data-seen="true">' dom)"
+done
 want "its open bits, sixteen of each and one that meets the STOP" 33 "$(grep -o 'class="open">x<' dom | wc -l)"
 want "its bytes and acknowledges" 5 "$(grep -oE 'class="faint">(00|A)<' dom | wc -l)"
 

@@ -221,13 +221,17 @@ function stretchesOf(puts, kinds) {
   return stretches;
 }
 
-// What is wider than its room is scrolled so that its end is seen, and in any case the slot of the fault.
-const scrolled = new ResizeObserver(entries => {
-  for (const { target } of entries) {
-    const { end, slot } = target.dataset;
-    target.scrollLeft = Math.min(Number(end) - target.clientWidth, Number(slot));
+// Drawings that are wider than their room are scrolled so that their ends are seen, and in any case the slot of the fault: once
+// they stand in the page, and when they are opened or have another room.
+function scrollToEnds(within) {
+  for (const drawn of within.querySelectorAll('.drawn')) {
+    const { end, slot } = drawn.dataset;
+    drawn.scrollLeft = Math.min(Number(end) - drawn.clientWidth, Number(slot));
   }
-});
+}
+
+document.addEventListener('toggle', event => scrollToEnds(event.target), true);
+window.addEventListener('resize', () => scrollToEnds(document));
 
 function drawingOf(pair) {
   const run = pair.fault ? metRun(pair) : partedRun(pair);
@@ -299,7 +303,6 @@ function drawingOf(pair) {
   }
   const drawn = element('div', { class: 'wide drawn', 'data-slot': x(run.end),
     'data-end': margin + (pair.fault ? width : x(run.end + 2)), style: '--all: ' + (margin + width) }, names, svg);
-  scrolled.observe(drawn);
   return { drawn, run };
 }
 

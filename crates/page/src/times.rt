@@ -142,6 +142,7 @@ function pairsOf() {
     const pair = pairs[number];
     if (!pair) return;
     chosen.replaceChildren(shownPair(pair, 'pair-' + number, 'h3'));
+    scrollToEnds(chosen);
     for (const link of document.querySelectorAll('a[aria-current]')) link.removeAttribute('aria-current');
     for (const link of document.querySelectorAll('a[data-pair="' + number + '"]')) link.setAttribute('aria-current', 'true');
     tell('Drawn below: pair ' + number + ', ' + saidOf(pair) + '.');
@@ -194,6 +195,7 @@ function page() {
   }
   main.append(...sendersOf());
   if (data.capture) main.append(...captureOf(data.capture));
+  scrollToEnds(main);
   follow();
 }
 
