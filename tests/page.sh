@@ -222,7 +222,7 @@ followed() {
 for plan in examples/*.plan; do
     name=${plan##*/}
     pairs=$("$twire" order "$plan" | grep -c '^pair ')
-    # (above 2,000 pairs cells are of messages; so is the largest plan, below)
+    # (above 2,000 pairs cells are of families; so is the largest plan, below)
     ((pairs <= 2000)) || continue
     "$twire" page "$plan" -o page.html
     followed
@@ -288,7 +288,7 @@ opened page.html
 want "no group in a browser" 1 "$(grep -c 'No pair of 59 is unsafe, so there are no groups of unsafe pairs.' dom)"
 want "no band in a browser" "" "$(grep -oE '(colspan|rowspan)="' dom)"
 
-# Above 2,000 pairs rows are families: of 54 messages here, which two controllers send, they are three.
+# Above 2,000 pairs rows are families: of 53 messages here, which two controllers send, they are three.
 {
     printf '%s\n' 'brief 1' 'device eeprom 0x50 ;' 'message page write eeprom any any*1..26 ;' 'message data write 0x51 any*1..26 ;'
     printf '%s\n' 'message get read eeprom 1 ;' 'controller a page data get ;' 'controller b page data get ;'
