@@ -103,8 +103,9 @@ message entry write eeprom any read eeprom 1 ;
 message put   write ten 0xA5 any ;
 message get   write ten 0xA5 read ten 2 ;
 message fixed write ten 0xA5 ;
+message peek read eeprom 1 ;
 controller bmc  page entry put ;
-controller host page entry get fixed ;
+controller host page entry get fixed peek ;
 interrupt al 0x50 ;
 BRIEF
 for plan in examples/{restart_meets_data,stop_meets_data}.plan {lock,groups}.brief; do
@@ -351,7 +352,7 @@ setInterval(() => {
 }, 500);
 </script>
 SCRIPT
-for plan in {groups.brief,names.plan,long.plan}; do
+for plan in groups.brief names.plan long.plan; do
     "$twire" page "$plan" -o page.html
     sed '/^<\/body>/e cat seen.js' page.html >followed.html
     opened followed.html --window-size=500,900

@@ -134,6 +134,7 @@ function partsOf(symbols) {
   let header = true;
   symbols.forEach((symbol, k) => {
     const last = parts[parts.length - 1];
+    if (symbol === 'c' || symbol === '?') return;
     if (symbol === 'r' || symbol === 's') {
       parts.push({ from: k, size: 1, text: SIGNS[symbol] });
       header = true;
@@ -143,7 +144,7 @@ function partsOf(symbols) {
     } else if (last && last.bits) {
       parts.push({ from: k, size: 1, text: isLow(symbol) ? 'A' : 'NA' });
       header = false;
-    } else if (symbol !== 'c' && symbol !== '?') {
+    } else {
       parts.push({ from: k, size: 1, bits: isLow(symbol) ? '0' : '1', header });
     }
   });
@@ -237,7 +238,8 @@ function drawingOf(pair) {
   const run = pair.fault ? metRun(pair) : partedRun(pair);
   const laid = layOut(run), { x, spans } = laid;
   const margin = LEFT + 8 + 7.4 * Math.max(beside(pair.first).length, beside(pair.second).length, 4);
-  const width = x(run.slots.length) + (pair.fault ? 130 : 70);
+  const after = pair.fault ? Math.max(...pair.fault.kinds.map(kind => deeds.get(kind).length)) : 8;
+  const width = x(run.slots.length) + 12 + 7.4 * after;
   const names = element('svg:svg', { viewBox: '0 0 ' + margin + ' 248', width: margin, height: 248, class: 'names',
     'aria-hidden': 'true', style: '--part: ' + margin });
   const svg = element('svg:svg', { viewBox: '0 0 ' + width + ' 248', width, height: 248, role: 'img',
