@@ -31,7 +31,7 @@ function groupOf(number, mark) {
   show.addEventListener('click', event => { event.preventDefault(); mark(number); });
   return element('li', { id: 'group-' + number, tabindex: '-1' },
     element('h3', {}, 'Group ' + number + ', ' + groupText(number)),
-    element('p', {}, show),
+    element('p', { class: 'mark' }, show),
     between.length > NAMED ? opened('All who meet', element('p', {}, meetsText(between))) : null,
     number < MOST_DRAWN ? opened('As pair ' + example, shownPair(pairs[example], 'example-' + number, 'h4'), number === 0)
       : element('p', {}, element('a', { href: '#pair-' + example }, 'As pair ' + example)));

@@ -53,7 +53,7 @@ th, td { padding: .15rem .5rem; text-align: left; vertical-align: top; font-weig
 .groups { list-style: none; margin: 0; padding: 0; }
 .groups > li { border-left: 4px solid var(--strong); padding: .1rem 0 .1rem .8rem; margin: 1rem 0; }
 .groups h3 { margin: 0; }
-.groups > li > p { float: right; margin: .4rem 0 0; }
+.groups .mark { float: right; margin: .4rem 0 0; }
 h4 { font-size: 1rem; margin: 0 0 .3rem; }
 .unsafe { background: var(--unsafe); font-weight: 700; }
 .header { background: var(--header); }
@@ -96,7 +96,7 @@ summary { cursor: pointer; }
   @page { margin: 12mm; }
   :root { color-scheme: light; --paper: #ffffff; --ink: #000000; --soft: #ffffff; font-size: 75%; }
   body { max-width: none; padding: 0; }
-  form, .hint, .groups > li > p, details:not(.printed):not([open]) { display: none; }
+  form, .hint, .mark, details:not(.printed):not([open]) { display: none; }
   details.printed > summary { list-style: none; }
   pre, pre.rows { max-height: none; overflow: visible; white-space: pre-wrap; overflow-wrap: anywhere; }
   .wide { overflow: visible; }
