@@ -1,7 +1,8 @@
 #!/usr/bin/env bash
 # The page that twire writes of a plan: that it has the exact texts, loads nothing, and takes no text for markup; and, where the
-# machine has a browser (chromium), that it opens there without an error, that its data says what its texts say, and that a cell of
-# the matrix leads to its drawing.
+# machine has a browser (chromium), that it opens there without an error, that its data says what its texts say, that a cell of
+# the matrix leads to its drawing, and that its groups are those of check. With python3 too: what a screen reader is told of it,
+# what keys do, and that print cuts nothing off.
 # The last line is 'N passed, M failed', and the exit status is 1 where a case fails.
 #
 # It runs the launcher at the top of the repository, or the program that TWIRE names.
@@ -82,6 +83,42 @@ want "no capture: no data of one" "" "$(grep -o '"capture":.*' page.html)"
 for vcd in examples/{write_ghdl,probe_icarus,two_buses}.vcd; do
     "$twire" page examples/stop_meets_data.plan --capture "$vcd" -o page.html
     want "${vcd##*/}: its explained report" "$("$twire" capture examples/stop_meets_data.plan "$vcd" --explain)" "$(text capture page.html)"
+done
+
+# The groups are those of check: how many pairs each has, its example, and between whom it is; and the group of each unsafe pair.
+cat >lock.brief <<'BRIEF'
+brief 1
+device eeprom 0x50 ;  device sensor 0x48 ;
+message page  write eeprom any any*1..32 ;
+message entry write eeprom any read eeprom 1 ;         # sets the pointer, then reads
+message get   write sensor 0x01 read sensor 2 ;
+controller bmc  page get ;
+controller host entry get ;
+BRIEF
+cat >groups.brief <<'BRIEF'
+brief 1
+device eeprom 0x50 ;  device ten 0b1111010 ;
+message page  write eeprom any any*30..31 ;
+message entry write eeprom any read eeprom 1 ;
+message put   write ten 0xA5 any ;
+message get   write ten 0xA5 read ten 2 ;
+message fixed write ten 0xA5 ;
+message peek read eeprom 1 ;
+controller bmc  page entry put ;
+controller host page entry get fixed peek ;
+interrupt al 0x50 ;
+BRIEF
+for plan in examples/{restart_meets_data,stop_meets_data}.plan {lock,groups}.brief; do
+    "$twire" page "$plan" -o page.html
+    "$twire" check "$plan" --explain --most 1000 --format json >check.json
+    name=${plan##*/}
+    want "$name: its groups" \
+        "$(sed -nE 's/^\{"kind":"group","group":[0-9]+,"pairs":([0-9]+),"between":(\[.*\]),"frame".*"example":\{"pair":([0-9]+),.*/\1 \3 \2/p' check.json)" \
+        "$(grep -oE '\{"pairs":[0-9]+,"example":[0-9]+,"meets":\[[^]]*\],"why":"[^"]*","between":\[(\[[^]]*\],?)*\]' page.html |
+            sed -E 's/.*"pairs":([0-9]+),"example":([0-9]+),.*"between":(.*)/\1 \2 \3/')"
+    want "$name: the group of each unsafe pair" \
+        "$(sed -nE 's/^\{"kind":"pair","pair":([0-9]+),.*,"group":([0-9]+)\}$/\1 \2/p' check.json)" \
+        "$(grep -oE '\{"pair":[0-9]+,"kinds":[^}]*"group":[0-9]+\}' page.html | sed -E 's/.*"pair":([0-9]+),.*"group":([0-9]+)\}/\1 \2/')"
 done
 
 # ---- refusals: nothing is written, and the old file stays
@@ -186,7 +223,7 @@ followed() {
 for plan in examples/*.plan; do
     name=${plan##*/}
     pairs=$("$twire" order "$plan" | grep -c '^pair ')
-    # (above 2,000 pairs cells are of messages; so is the largest plan, below)
+    # (above 2,000 pairs cells are of families; so is the largest plan, below)
     ((pairs <= 2000)) || continue
     "$twire" page "$plan" -o page.html
     followed
@@ -201,9 +238,80 @@ for plan in examples/*.plan; do
         "$(sed -n 's/.*<p id="verdict" class="[a-z -]*">\([^<]*\)<.*/\1/p' dom)"
 done
 
+# The groups, the bytes of their examples and their open bits, as check has them; and what is drawn of them.
+cat >explains.js <<'SCRIPT'
+<script>
+{
+  const wanted = document.getElementById('wanted').textContent.trim().split('\n').map(line => JSON.parse(line))
+    .filter(one => one.kind === 'group');
+  const rangesOf = slots => slots.reduce((ranges, isOpen, k) => {
+    const last = ranges[ranges.length - 1];
+    if (isOpen && last && last[1] === k - 1) last[1] = k;
+    else if (isOpen) ranges.push([k, k]);
+    return ranges;
+  }, []);
+  document.body.dataset.explains = wanted.length === data.groups.length && wanted.every(({ example }) => {
+    const pair = pairs[example.pair], { bus, bytes, open } = example.explain;
+    const slots = metRun(pair).slots.slice(0, example.after.length);
+    return wordsOf(example.after).join(' ') === bus
+      && [pair.first, pair.second].every((one, k) => wordsOf(putsAlong(one, example.after)).join(' ') === bytes[k]
+        && JSON.stringify(rangesOf(slots.map(slot => slot.open[k]))) === JSON.stringify(open[k]));
+  });
+  document.body.dataset.first = document.querySelector('.rows').textContent;
+}
+</script>
+SCRIPT
+for plan in examples/{restart_meets_data,restart_meets_stop,stop_meets_data}.plan {lock,groups}.brief; do
+    "$twire" page "$plan" -o page.html
+    { echo '<script type="application/json" id="wanted">'; "$twire" check "$plan" --explain --most 1000 --format json; echo '</script>'; cat explains.js; } >added
+    sed '/^<\/body>/e cat added' page.html >followed.html
+    opened followed.html
+    want "${plan##*/} explained in a browser: errors" "" "$(<errors)"
+    want "${plan##*/}: bytes and open bits of the examples" 1 "$(grep -c '<body data-explains="true"' dom)"
+done
+
+# headings LEVEL: those of the page in the file dom.
+headings() {
+    grep -o "<h$1>[^<]*" dom | sed 's/^<h[0-9]>//'
+}
+"$twire" page lock.brief -o page.html
+opened page.html
+want "a group in a browser" "Group 0, 32 pairs: bmc/page_* × host/entry, one goes on, one repeats START, a data bit meets a repeated START in slot 18" \
+    "$(headings 3)"
+want "the bytes of its example" "bus         S 50 Wr A 00 A
+bmc/page_1  S 50 Wr A xxxxxxxx A xxxxxxxx  next: a data bit
+host/entry  S 50 Wr A xxxxxxxx A Sr        next: a repeated START" "$(sed -n '/<pre class="rows">/,/<\/pre>/p' dom | sed -e 's/.*<pre class="rows">//' -e 's/<\/pre>.*//')"
+want "its open bits: eight of each, and one that meets the repeated START" 17 "$(grep -o 'class="open">x<' dom | wc -l)"
+want "the rows and columns of a family stand in a band" "colspan=\"32\"
+rowspan=\"32\"" "$(grep -oE '(colspan|rowspan)="32"' dom | sort -u)"
+"$twire" page examples/shared_board.plan -o page.html
+opened page.html
+want "no group in a browser" 1 "$(grep -c 'No pair of 59 is unsafe, so there are no groups of unsafe pairs.' dom)"
+want "no band in a browser" "" "$(grep -oE '(colspan|rowspan)="' dom)"
+
+# Above 2,000 pairs rows are families: of 53 messages here, which two controllers send, they are three.
+{
+    printf '%s\n' 'brief 1' 'device eeprom 0x50 ;' 'message page write eeprom any any*1..26 ;' 'message data write 0x51 any*1..26 ;'
+    printf '%s\n' 'message get read eeprom 1 ;' 'controller a page data get ;' 'controller b page data get ;'
+} >many.brief
+"$twire" page many.brief -o page.html
+opened page.html
+want "many pairs in a browser: errors" "" "$(<errors)"
+want "many pairs in a browser: the rows" "page_* (26)
+data_* (26)
+get" "$(grep -oE '<th role="rowheader"[^>]*>[^<]*' dom | sed 's/.*>//')"
+want "many pairs in a browser: the two families" "page_* and page_*: 650 of 676 pairs unsafe
+data_* and data_*: 650 of 676 pairs unsafe" "$(grep -o 'aria-label="[^"]* unsafe, such as' dom | sed -e 's/aria-label="//' -e 's/, such as//')"
+
+# Of a long run the bytes between the header and the last two are folded: 31 bytes, each with its acknowledge, lie between slots
+# 9 and 288, where page_30 ends and page_31 goes on.
+"$twire" page groups.brief -o page.html
+opened page.html
+want "a long run in a browser" ".. 29 bytes alike .." "$(grep -o '\.\. [0-9]* bytes\? alike \.\.' dom | sort -u)"
+
 # Without its texts the page is drawn alike.
 drawn() {
-    grep -o '<main id="main">.*</main>' dom
+    tr '\n' ' ' <dom | grep -o '<main id="main">.*</main>'
 }
 for plan in examples/{stop_meets_data,interrupts,never_repairs}.plan; do
     "$twire" page "$plan" -o page.html
@@ -216,8 +324,9 @@ for plan in examples/{stop_meets_data,interrupts,never_repairs}.plan; do
     want "${plan##*/} without its texts" "$(<drawn.html)" "$(drawn)"
 done
 
-# A narrow window: the slot of the fault, after 45 others, is seen beside the names, and open bits and bytes stand there. (It is
-# looked at more than once: beside other work the page may take longer than a second.)
+# A narrow window: the slot of the fault, after 45 others, is seen beside the names, and open bits and bytes stand there. So are
+# those of groups that are opened, and of long names; and the page itself need not be scrolled sideways. (It is looked at more than
+# once: beside other work the page may take longer than a second.)
 cat >long.plan <<'PLAN'
 plan 1
 message two write 1010000 00000000 00000000 xxxxxxxx xxxxxxxx stop else stop else stop else stop else stop else stop ;
@@ -226,23 +335,110 @@ message four write 1010000 00000000 00000000 xxxxxxxx xxxxxxxx xxxxxxxx xxxxxxxx
 controller a two ;
 controller b four ;
 PLAN
-"$twire" page long.plan -o page.html
+sed -e 's/two/write_second_power_supply_config/' -e 's/four/write_first_power_supply_config/' \
+    -e 's/ a / baseboard_management_control /' -e 's/ b / platform_controller_hub /' long.plan >names.plan
 cat >seen.js <<'SCRIPT'
 <script>
+for (const one of document.querySelectorAll('details.printed')) one.open = true;
+const isSeen = drawn => {
+  const slot = drawn.querySelector('.meeting').getBoundingClientRect();
+  const names = drawn.querySelector('.names').getBoundingClientRect();
+  const room = drawn.getBoundingClientRect();
+  return names.left >= room.left && slot.left >= names.right && slot.right <= room.right;
+};
 setInterval(() => {
-  const slot = document.querySelector('.meeting').getBoundingClientRect();
-  const names = document.querySelector('.names').getBoundingClientRect();
-  const room = document.querySelector('.drawn').getBoundingClientRect();
-  document.body.dataset.seen = names.left >= room.left && slot.left >= names.right && slot.right <= room.right;
+  document.body.dataset.seen = [...document.querySelectorAll('.drawn')].every(isSeen)
+    && document.documentElement.scrollWidth <= innerWidth;
 }, 500);
 </script>
 SCRIPT
-sed '/^<\/body>/e cat seen.js' page.html >followed.html
-opened followed.html --window-size=500,900
-want "a fault in a narrow window: errors" "" "$(<errors)"
-want "a fault in a narrow window is seen" 1 "$(grep -c '<body data-seen="true">' dom)"
+for plan in groups.brief names.plan long.plan; do
+    "$twire" page "$plan" -o page.html
+    sed '/^<\/body>/e cat seen.js' page.html >followed.html
+    opened followed.html --window-size=500,900
+    want "$plan in a narrow window: errors" "" "$(<errors)"
+    want "$plan in a narrow window: the slots of its faults are seen" 1 "$(grep -c '<body data-seen="true">' dom)"
+done
 want "its open bits, sixteen of each and one that meets the STOP" 33 "$(grep -o 'class="open">x<' dom | wc -l)"
 want "its bytes and acknowledges" 5 "$(grep -oE 'class="faint">(00|A)<' dom | wc -l)"
+
+# ---- what a screen reader is told, keys, and print
+
+told() {
+    "$tests/browser" tree "$browser" "$@" >tree 2>&1
+}
+if type -P python3 >python; then
+    # A probe of service meets the data of main; they never part. The other probe has another address.
+    "$twire" page examples/stop_meets_data.plan -o page.html
+    told page.html
+    want "what is told of the matrix" 'grid "The pairs"
+columnheader "main/write_output"
+columnheader "service/probe_*"
+columnheader "service/probe_10"
+columnheader "service/probe_11"
+rowheader "main/write_output"
+gridcell "main/write_output itself"
+gridcell "main/write_output and service/probe_10: unsafe, a data bit meets a STOP in slot 9"
+gridcell "main/write_output and service/probe_11: main/write_output wins in slot 6"
+rowheader "service/probe_*"
+rowheader "service/probe_10"
+gridcell "main/write_output and service/probe_10: unsafe, a data bit meets a STOP in slot 9"
+gridcell "service/probe_10 itself"
+gridcell "service/probe_10 and service/probe_11: never together: one controller, or kept apart by never"
+rowheader "service/probe_11"
+gridcell "main/write_output and service/probe_11: main/write_output wins in slot 6"
+gridcell "service/probe_11 and service/probe_10: never together: one controller, or kept apart by never"
+gridcell "service/probe_11 itself"' "$(sed -n '/grid "/,/paragraph/p' tree | grep -oE '(grid|columnheader|rowheader|gridcell) ".+"')"
+    want "what is told of the groups" 'heading "Why it is unsafe" level=2
+list "Groups of unsafe pairs"
+heading "Group 0, 1 pair: main/write_output × service/probe_10, lengths differ, a data bit meets a STOP in slot 9" level=3
+DisclosureTriangle "As pair 0" expanded=True
+heading "pair 0: main/write_output and service/probe_10 " level=4
+image "main/write_output and service/probe_10: unsafe, a data bit meets a STOP in slot 9"' \
+        "$(sed -n '/heading "Why/,/heading "The pairs"/p' tree | grep -oE '(heading|list|DisclosureTriangle|image) ".+"( .*)?' | grep -v '"The pairs"')"
+    want "no sign of a drawing is told by itself" "" "$(sed -n '/image "/,/list ""/p' tree | grep StaticText)"
+
+    told page.html Tab Tab Enter
+    want "the cells of a group are marked, and the first of them has the focus" \
+        'link "main/write_output and service/probe_10: unsafe, a data bit meets a STOP in slot 9" focused=True
+status "" live=polite
+StaticText "Marked: group 0, 1 pair in 2 cells of the matrix."' "$(grep -E '(link|cell) .*focused=True|status|Marked' tree | sed 's/^ *//')"
+
+    # One stop of tabs, from which keys go on.
+    "$twire" page examples/two_writers.plan -o page.html
+    at() {
+        told page.html "${@:3}"
+        want "keys: $1" "$2" "$(grep 'focused=True' tree | grep -oE '(link|gridcell|combobox) ".*"')"
+    }
+    # Both stop after a byte that is not acknowledged: in slot 9, and while they send the same in 18, and at the end in 27. Their
+    # last bytes are 0110xxxx and 0x1xxxxx, from slot 18 on. What write_limit sends from slot 9 on is 03, and not 01.
+    alarm='main/write_limit and guard/write_alarm: both may end together in slot 9; guard/write_alarm wins in slot 15'
+    at "the first pair" 'link "main/write_settings and guard/write_alarm: both may end together in slots 9..27; main/write_settings may win in slots 21..25; guard/write_alarm may win in slots 19..25"' Tab
+    at "down" "link \"$alarm\"" Tab ArrowDown
+    at "down and left" 'gridcell "main/write_limit itself"' Tab ArrowDown ArrowLeft
+    at "over the edge" 'gridcell "guard/write_alarm itself"' Tab ArrowDown ArrowDown ArrowDown ArrowRight
+    at "Home" 'gridcell "main/write_settings itself"' Tab Home
+    at "End" "link \"$alarm\"" Tab ArrowDown Home End
+    at "the last cell" 'gridcell "guard/write_alarm itself"' Tab Control+End
+    at "the first cell" 'gridcell "main/write_settings itself"' Tab Control+End Control+Home
+    at "the next stop" 'combobox "one participant"' Tab Tab
+    at "back to where it was" "link \"$alarm\"" Tab ArrowDown Tab Shift+Tab
+    at "Enter" "link \"$alarm\"" Tab ArrowDown Enter
+    want "keys: what is told of the drawing" "status \"\" live=polite
+StaticText \"Drawn below: pair 1, $alarm.\"
+region \"The drawing of a pair\"
+heading \"pair 1: main/write_limit and guard/write_alarm \" level=3" "$(sed -n '/status "/,/heading "pair/p' tree | sed 's/^ *//' | grep -vE '^(paragraph|generic) ""')"
+
+    # In print each group has its drawing, and nothing is cut off.
+    for plan in {lock,groups,many}.brief examples/{stop_meets_data,shared_board,server_board}.plan; do
+        "$twire" page "$plan" -o page.html
+        groups=$("$twire" check "$plan" --summary --format json | grep -c '^{"kind":"group"')
+        want "${plan##*/} in print" "$(for ((g = 0; g < groups; g++)); do echo "drawing example-$g"; done)" \
+            "$("$tests/browser" print "$browser" page.html 2>&1)"
+    done
+else
+    echo "left out: what a screen reader is told, keys and print (no command 'python3')"
+fi
 
 "$twire" page "$odd" -o page.html
 opened page.html

@@ -127,10 +127,12 @@ pub const AFTER_PAGE_HELP: &str = "\
 The page is one HTML file for a browser. It opens from disk, and loads nothing
 from elsewhere. It shows
 
-  the pairs        a matrix of the participants: which pairs are unsafe, which
-                   part in the header or later, which end alike, and where
-                   either may win. A cell leads to its drawing, with the data
-                   of both, SDA and SCL; above 2,000 pairs by messages
+  the groups       unsafe pairs of one cause each, between whom, and one of
+                   them drawn: the data of both, SDA and SCL
+  the pairs        a matrix of the participants by families: which pairs are
+                   unsafe, which part in the header or later, which end alike,
+                   and where either may win. A cell leads to its drawing; above
+                   2,000 pairs there is one for each two families
   who wins         how often each participant can win, or always loses
   what is sent     each message in bytes, as 'S 48 Wr A 01 A P'
   the capture      its transactions on a line of time, and those that nobody in

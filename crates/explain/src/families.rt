@@ -117,6 +117,18 @@ pub(crate) fn name_of(plan: &Plan, m: u32) -> &str {
     }
 }
 
+/// What the family of a message is called: `page_*`, or the name of the message where it is alone in it.
+pub(crate) fn called_of(
+    alloc: Global,
+    plan: &Plan,
+    families: &[Family],
+    m: u32,
+) -> Result<String, AllocError> {
+    let mut text = Text::new(alloc);
+    push_family(&mut text, plan, families.get(m as usize));
+    text.finish()
+}
+
 /// What a participant is called with all of its family: `bmc/page_*`, or its label where the family has it alone.
 pub(crate) fn party_of(
     alloc: Global,

@@ -26,7 +26,13 @@ pub(crate) fn tell_alone(
     lines.end();
     let meeting = meeting_of(alloc, words.plan(), both, fault.wire.as_slice())?;
     tell_pair(alloc, lines, words, both, &meeting)?;
-    tell_two(alloc, lines, words, both, why(fault.first, fault.second));
+    tell_two(
+        alloc,
+        lines,
+        words,
+        both,
+        why_unsafe(fault.first, fault.second),
+    );
     Ok(())
 }
 
@@ -89,7 +95,7 @@ fn tell_alike(alloc: Global, lines: &mut Lines, groups: &Grouped, g: usize, grou
     words.push(": ");
     push_pairs(&mut words, group.pairs);
     words.push(", ");
-    words.push(why(group.cause.first.kind, group.cause.second.kind));
+    words.push(why_unsafe(group.cause.first.kind, group.cause.second.kind));
     say_all(lines, words);
 }
 
@@ -115,8 +121,8 @@ fn push_pairs(words: &mut Text, count: usize) {
     words.push(if count == 1 { " pair" } else { " pairs" });
 }
 
-// Why those are unsafe that meet so.
-fn why(first: Kind, second: Kind) -> &'static str {
+/// Why those are unsafe of whom one does this next, and the other that.
+pub fn why_unsafe(first: Kind, second: Kind) -> &'static str {
     match (first, second) {
         (Kind::Claim, _) | (_, Kind::Claim) => "an interrupt has the same header",
         (Kind::Again, Kind::Stop) | (Kind::Stop, Kind::Again) => "one ends, one repeats START",

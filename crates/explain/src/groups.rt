@@ -3,7 +3,7 @@
 ghost use Rattle.plan_core.specs.PlanContents.{plan_contents};
 ghost use Rattle.verdicts.specs.Faults.{AreFaults, fault_list};
 
-use crate::families::{families_of, party_of};
+use crate::families::{called_of, families_of, party_of};
 use crate::labels::{Labels, called_by};
 use crate::mends::{GroupMends, both_of, mends_of_groups};
 use causes::{Family, Group, Groups, groups_of};
@@ -71,6 +71,8 @@ impl Called {
 pub struct Grouped {
     groups: Groups,
     labels: Labels,
+    /// What the family of each message is called.
+    families: Vec<String>,
     /// What each participant is called with all of its family.
     parties: Vec<String>,
     /// Who meets in the groups, group by group, and no two twice.
@@ -125,6 +127,16 @@ impl Grouped {
         self.mends.get(g)
     }
 
+    /// What the family of a message is called, which is the name of the message where it is alone in it.
+    pub fn family(&self, m: u32) -> &str {
+        text_at(self.families.as_slice(), m)
+    }
+
+    /// What a participant is called with all of its family.
+    pub fn party(&self, p: u32) -> &str {
+        text_at(self.parties.as_slice(), p)
+    }
+
     // Where those who meet in this group begin, and where they end.
     fn range(&self, g: usize) -> (usize, usize) {
         let end = self.meets.len();
@@ -135,10 +147,18 @@ impl Grouped {
     }
 
     fn name(&self, called: Called) -> &str {
-        match self.parties.get(called.participant as usize) {
-            Some(party) if called.has_others => party.as_str(),
-            _ => self.labels.of(called.participant),
+        if called.has_others {
+            self.party(called.participant)
+        } else {
+            self.labels.of(called.participant)
         }
+    }
+}
+
+fn text_at(texts: &[String], k: u32) -> &str {
+    match texts.get(k as usize) {
+        Some(text) => text.as_str(),
+        None => "",
     }
 }
 
@@ -149,12 +169,13 @@ fn at(starts: &[usize], g: usize, end: usize) -> usize {
     }
 }
 
-/// The groups of the plan, which has these faults, in these words of it, and what mends the first so many.
+/// The groups of the unsafe pairs of the plan, which has these faults, in these words of it, and what mends the first so many: none
+/// of a safe one.
 ///
 /// # Errors
 ///
 /// Where an allocation fails.
-pub(crate) fn grouped_of(
+pub fn grouped_of(
     alloc: Global,
     plan: &Plan,
     words: PlanWords<'_>,
@@ -170,14 +191,24 @@ pub(crate) fn grouped_of(
     let meets = meets_of(alloc, plan, faults, &groups, parties.as_slice())?;
     let starts = starts_of(alloc, meets.as_slice())?;
     let mends = mends_of_groups(alloc, words, faults, &groups, most)?;
+    let families = all_called(alloc, plan, families.as_slice())?;
     Ok(Grouped {
         groups,
         labels,
+        families,
         parties,
         meets,
         starts,
         mends,
     })
+}
+
+fn all_called(alloc: Global, plan: &Plan, families: &[Family]) -> Result<Vec<String>, AllocError> {
+    let mut called = Vec::with_capacity(alloc, families.len())?;
+    for m in 0..plan.messages() {
+        called.push(called_of(alloc, plan, families, m)?)?;
+    }
+    Ok(called)
 }
 
 fn parties_of(

@@ -131,7 +131,7 @@ impl Ranges {
 }
 
 /// What a participant does that offers this.
-pub(crate) fn deed(offered: Offered) -> &'static str {
+pub fn deed(offered: Offered) -> &'static str {
     match offered {
         Offered::Bit(_) => "a data bit",
         Offered::Listen => "a target's bit",

@@ -1,5 +1,6 @@
 // What a page shows, as JSON.
 
+use crate::groups::Groups;
 use crate::pages::Page;
 use crate::pairs::{Pairs, Unsafe};
 use crate::parties::{Controllers, Interrupts, Messages, Nevers, Participants};
@@ -21,6 +22,7 @@ struct Data<'a> {
     ways: &'a [Way],
     pairs: Pairs<'a>,
     faults: Unsafe<'a>,
+    groups: Groups<'a>,
     #[serde(skip_serializing_if = "Option::is_none")]
     capture: Option<Recorded<'a>>,
 }
@@ -52,14 +54,18 @@ pub(crate) fn data_of(alloc: Global, page: &Page<'_>) -> Result<String, AllocErr
 
 fn all_of<'a>(alloc: Global, page: &'a Page<'a>, ways: &'a Ways) -> Data<'a> {
     let Checked { plan, faults } = page.checked;
-    let (words, order) = (page.words, page.order);
+    let (words, order, groups) = (page.words, page.order, page.groups);
     Data {
         verdict: Verdict {
             safe: faults.is_safe(),
             pairs: plan.pair_count(),
             unsafe_pairs: faults.len(),
         },
-        messages: Messages { alloc, plan },
+        messages: Messages {
+            alloc,
+            plan,
+            groups,
+        },
         controllers: Controllers { alloc, words },
         interrupts: Interrupts { alloc, plan },
         nevers: Nevers(words),
@@ -67,10 +73,20 @@ fn all_of<'a>(alloc: Global, page: &'a Page<'a>, ways: &'a Ways) -> Data<'a> {
             alloc,
             words,
             order,
+            groups,
         },
         ways: ways.different.as_slice(),
         pairs: Pairs(ways.runs.as_slice()),
-        faults: Unsafe { alloc, faults },
+        faults: Unsafe {
+            alloc,
+            faults,
+            groups,
+        },
+        groups: Groups {
+            alloc,
+            checked: page.checked,
+            groups,
+        },
         capture: None,
     }
 }

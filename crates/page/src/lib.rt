@@ -1,14 +1,17 @@
 //! A plan as a page for a browser: one file, with nothing that it loads from elsewhere.
 //!
-//! The page has what was found of the plan as JSON, and a script that draws it: a matrix of the pairs, the drawing of
-//! each, who wins, what is sent, and a capture on a line of time. The script decides nothing. `pages` joins the parts.
-//! `data` has the JSON, with `parties` for who takes part, `nodes` for the messages, `pairs` for the pairs, `ways` for
-//! who wins in them, and `recording` for a capture. `style` has how the page looks. The script stands in `senders`, `matrix`, `drawings` and `times`.
-//! Without a script the exact reports are there to be read.
+//! The page has what was found of the plan as JSON, and a script that draws it: the groups of unsafe pairs, a matrix of the
+//! pairs, the drawing of each, who wins, what is sent, and a capture on a line of time. The script decides nothing. `pages`
+//! joins the parts. `data` has the JSON, with `parties` for who takes part, `nodes` for the messages, `pairs` for the pairs,
+//! `ways` for who wins in them, `groups` for the unsafe ones by their causes, and `recording` for a capture. `style` has how
+//! the page looks. The script stands in `senders`, `matrix`, `drawings`, `group_list` and `times`. Without a script the exact
+//! reports are there to be read.
 #![tactic(auto)]
 
 mod data;
 mod drawings;
+mod group_list;
+mod groups;
 mod matrix;
 mod nodes;
 mod pages;

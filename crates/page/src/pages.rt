@@ -2,11 +2,13 @@
 
 use crate::data::data_of;
 use crate::drawings::DRAWINGS;
+use crate::group_list::GROUP_LIST;
 use crate::matrix::MATRIX;
 use crate::recording::Recording;
 use crate::senders::SENDERS;
 use crate::style::STYLE;
 use crate::times::TIMES;
+use explain::Grouped;
 use memchr::{memchr, memchr3};
 use order::Order;
 use plan_words::PlanWords;
@@ -24,6 +26,8 @@ pub struct Page<'a> {
     pub words: PlanWords<'a>,
     /// Who wins in each pair of that plan.
     pub order: &'a Order,
+    /// The groups of its unsafe pairs.
+    pub groups: &'a Grouped,
     /// A recorded bus.
     pub recording: Option<&'a Recording>,
     /// The same as texts.
@@ -119,7 +123,7 @@ fn push_data(alloc: Global, page: &mut String, data: &str) -> Result<(), AllocEr
 
 fn push_script(page: &mut String) -> Result<(), AllocError> {
     page.push_str("<script>")?;
-    for part in [SENDERS, MATRIX, DRAWINGS, TIMES] {
+    for part in [SENDERS, MATRIX, DRAWINGS, GROUP_LIST, TIMES] {
         page.push_str(part)?;
     }
     page.push_str("</script>\n</body>\n</html>\n")

@@ -2,6 +2,7 @@
 
 use crate::ways::Run;
 use certificate::{Fault, push_wire};
+use explain::Grouped;
 use serde::{Described, Serialize, Serializer};
 use std::alloc::{AllocError, Global};
 use verdicts::Faults;
@@ -17,14 +18,16 @@ pub(crate) struct Pairs<'a>(pub(crate) &'a [Run]);
 pub(crate) struct Unsafe<'a> {
     pub(crate) alloc: Global,
     pub(crate) faults: &'a Faults,
+    pub(crate) groups: &'a Grouped,
 }
 
-// The pair with this number: which kinds of item meet, and after which wire.
+// The pair with this number: which kinds of item meet, after which wire, and the number of the group in which it stands.
 #[derive(Clone, Copy, Serialize)]
 struct Met<'a> {
     pair: u32,
     kinds: (&'a str, &'a str),
     wire: &'a str,
+    group: Option<usize>,
 }
 
 impl Described for Pairs<'_> {}
@@ -51,19 +54,17 @@ impl Serialize for Unsafe<'_> {
         for k in 0..self.faults.len() {
             let (pair, fault) = self.faults.get(k);
             match wire_of(self.alloc, fault) {
-                Ok(wire) => met_in(pair, fault, wire.as_str()).serialize(out)?,
+                Ok(wire) => Met {
+                    pair,
+                    kinds: (fault.first.word(), fault.second.word()),
+                    wire: wire.as_str(),
+                    group: self.groups.number_of(k),
+                }
+                .serialize(out)?,
                 Err(_) => return Err(out.custom("out of memory")),
             }
         }
         out.end_seq()
-    }
-}
-
-fn met_in<'a>(pair: u32, fault: &Fault, wire: &'a str) -> Met<'a> {
-    Met {
-        pair,
-        kinds: (fault.first.word(), fault.second.word()),
-        wire,
     }
 }
 

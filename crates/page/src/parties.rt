@@ -1,6 +1,7 @@
 // Who takes part, as the page has it: all names, and what each participant sends.
 
 use crate::nodes::{Node, address, nodes_of};
+use explain::Grouped;
 use growing_text::Text;
 use message_tree::Address;
 use order::{Order, Total};
@@ -14,6 +15,7 @@ use std::alloc::{AllocError, Global};
 pub(crate) struct Messages<'a> {
     pub(crate) alloc: Global,
     pub(crate) plan: &'a Plan,
+    pub(crate) groups: &'a Grouped,
 }
 
 /// The names of the controllers, as people write them in a `never`.
@@ -40,11 +42,15 @@ pub(crate) struct Participants<'a> {
     pub(crate) alloc: Global,
     pub(crate) words: PlanWords<'a>,
     pub(crate) order: &'a Order,
+    pub(crate) groups: &'a Grouped,
 }
 
 #[derive(Drop, Serialize)]
 struct Message<'a> {
     name: &'a str,
+    // what its family is called, where there are others in it
+    #[serde(skip_serializing_if = "Option::is_none")]
+    family: Option<&'a str>,
     nodes: Vec<Node>,
 }
 
@@ -55,8 +61,11 @@ struct Interrupt<'a> {
 }
 
 #[derive(Drop, Serialize)]
-struct Party {
+struct Party<'a> {
     label: String,
+    // what it is called with its family, where there are others in it
+    #[serde(skip_serializing_if = "Option::is_none")]
+    family: Option<&'a str>,
     // where its message, or the interrupt itself, stands in a brief
     #[serde(skip_serializing_if = "Option::is_none")]
     place: Option<String>,
@@ -84,16 +93,36 @@ impl Serialize for Messages<'_> {
         out.begin_seq(None)?;
         for k in 0..self.plan.messages() {
             match nodes_of(self.alloc, self.plan.message(k)) {
-                Ok(nodes) => Message {
-                    name: self.plan.message_name(k).as_str(),
-                    nodes,
-                }
-                .serialize(out)?,
+                Ok(nodes) => self.message(k, nodes).serialize(out)?,
                 Err(_) => return Err(out.custom("out of memory")),
             }
         }
         out.end_seq()
     }
+}
+
+impl<'a> Messages<'a> {
+    fn message(&self, k: u32, nodes: Vec<Node>) -> Message<'a> {
+        let name = name_of(self.plan, k);
+        Message {
+            name,
+            family: other_than(name, self.groups.family(k)),
+            nodes,
+        }
+    }
+}
+
+fn name_of(plan: &Plan, k: u32) -> &str {
+    if k < plan.messages() {
+        plan.message_name(k).as_str()
+    } else {
+        ""
+    }
+}
+
+// What a family is called, where that is not what its member is called.
+fn other_than<'a>(own: &str, family: &'a str) -> Option<&'a str> {
+    if family == own { None } else { Some(family) }
 }
 
 impl Described for Controllers<'_> {}
@@ -163,11 +192,16 @@ impl Serialize for Participants<'_> {
     }
 }
 
-impl Participants<'_> {
-    fn party(&self, p: u32, participant: Participant) -> Result<Party, AllocError> {
+impl<'a> Participants<'a> {
+    fn party(&self, p: u32, participant: Participant) -> Result<Party<'a>, AllocError> {
         let label = self.words.label(self.alloc, p)?;
+        let family = other_than(label.as_str(), self.groups.party(p));
         let place = place_of(self.alloc, self.words, p)?;
-        Ok(taking_part(label, place, participant, self.total(p)))
+        Ok(Party {
+            family,
+            total: self.total(p),
+            ..taking_part(label, place, participant)
+        })
     }
 
     // How often the participant wins, where it can win or lose.
@@ -199,12 +233,7 @@ fn place_of(alloc: Global, words: PlanWords<'_>, p: u32) -> Result<Option<String
     Ok(Some(text.finish()?))
 }
 
-fn taking_part(
-    label: String,
-    place: Option<String>,
-    participant: Participant,
-    total: Option<Counts>,
-) -> Party {
+fn taking_part<'a>(label: String, place: Option<String>, participant: Participant) -> Party<'a> {
     let (controller, message, interrupt) = match participant {
         Participant::Sending {
             controller,
@@ -214,10 +243,11 @@ fn taking_part(
     };
     Party {
         label,
+        family: None,
         place,
         controller,
         message,
         interrupt,
-        total,
+        total: None,
     }
 }

@@ -20,16 +20,18 @@ function treeOf(nodes) {
 
 for (const message of data.messages) Object.assign(message, { frame: treeOf(message.nodes), controllers: [] });
 
-// The participants: { label, sender, start }, and what the data says of each.
+// The participants: { label, party, kin, start }, and what the data says of each. The party is what it is called with its family,
+// and the kin what that family is called without its controller.
 const participants = data.participants.map(one => {
+  const party = one.family ?? one.label;
   if (one.interrupt !== undefined) {
-    const { name, address } = data.interrupts[one.interrupt];
+    const { address } = data.interrupts[one.interrupt];
     const waits = () => ({ kind: 'claim', after: () => null });
-    return { ...one, sender: '!' + name, start: () => bitsAt(address + '1', 0, waits) };
+    return { ...one, party, kin: one.label, start: () => bitsAt(address + '1', 0, waits) };
   }
   const message = data.messages[one.message];
   message.controllers.push(data.controllers[one.controller]);
-  return { ...one, sender: message.name, start: () => frameAt(message.frame) };
+  return { ...one, party, kin: message.family ?? message.name, start: () => frameAt(message.frame) };
 });
 
 // ---- Places: what is put next, and what is left after each symbol of the wire.

@@ -108,9 +108,7 @@ function sendersOf() {
 
 // ---- The page.
 
-const MOST_DRAWN = 20;
-
-function choiceOf(show) {
+function choiceOf(draw, tell) {
   const byNames = new Map(pairs.flatMap(pair => {
     const [one, other] = [pair.first.label, pair.second.label];
     return [[one + ' ' + other, pair], [other + ' ' + one, pair]];
@@ -119,13 +117,12 @@ function choiceOf(show) {
   const one = select('one participant'), other = select('the other participant');
   one.value = pairs[0].first.label;
   other.value = pairs[0].second.label;
-  const said = element('span', { role: 'status' });
-  const form = element('form', {}, 'Draw ', one, ' and ', other, element('button', {}, 'Draw'), said);
+  const form = element('form', {}, 'Draw ', one, ' and ', other, element('button', {}, 'Draw'));
   form.addEventListener('submit', event => {
     event.preventDefault();
     const pair = byNames.get(one.value + ' ' + other.value);
-    said.textContent = pair ? '' : WAYS.apart[1];
-    if (pair) { location.hash = 'pair-' + pair.number; show(pair.number); }
+    if (pair) draw(pair.number);
+    else tell(one.value + ' and ' + other.value + ': ' + WAYS.apart[1] + '.');
   });
   return form;
 }
@@ -135,48 +132,70 @@ function verdictText() {
   return safe ? 'safe: ' + pairs + ' pairs' : 'unsafe: ' + unsafe_pairs + ' of ' + pairs + ' pairs';
 }
 
+// The groups, the matrix and the drawing of one pair.
+function pairsOf() {
+  const grid = gridOf();
+  const chosen = element('section', { id: 'chosen', 'aria-label': 'The drawing of a pair' });
+  const note = element('p', { id: 'note', role: 'status', class: 'hint' });
+  const tell = said => { note.textContent = said; };
+  const show = number => {
+    const pair = pairs[number];
+    if (!pair) return;
+    chosen.replaceChildren(shownPair(pair, 'pair-' + number, 'h3'));
+    scrollToEnds(chosen);
+    for (const link of document.querySelectorAll('a[aria-current]')) link.removeAttribute('aria-current');
+    for (const link of document.querySelectorAll('a[data-pair="' + number + '"]')) link.setAttribute('aria-current', 'true');
+    tell('Drawn below: pair ' + number + ', ' + saidOf(pair) + '.');
+    chosen.scrollIntoView({ block: 'nearest' });
+  };
+  // (so the focus stays where it is, and the address leads to the drawing)
+  const draw = number => {
+    if (location.hash !== '#pair-' + number) history.pushState(null, '', '#pair-' + number);
+    show(number);
+  };
+  const mark = number => {
+    const cells = markGroup(grid, number);
+    tell('Marked: group ' + number + ', ' + countText(data.groups[number].pairs) + ' in '
+      + (cells === 1 ? '1 cell' : cells + ' cells') + ' of the matrix.');
+  };
+  const follow = () => {
+    const found = /^#pair-(\d+)$/.exec(location.hash);
+    if (found) show(Number(found[1]));
+    else document.getElementById(location.hash.slice(1))?.scrollIntoView();
+  };
+  const matrix = matrixOf(grid);
+  matrix.addEventListener('click', event => {
+    const link = event.target.closest('a[data-pair]');
+    if (!link || event.ctrlKey || event.metaKey || event.shiftKey) return;
+    event.preventDefault();
+    draw(Number(link.dataset.pair));
+  });
+  window.addEventListener('hashchange', follow);
+  const many = pairs.length + ' pairs, shown by what is sent: messages of one family stand together, whoever sends them. Of '
+    + 'several pairs a cell has the worst one.';
+  return {
+    parts: [...groupsOf(mark), element('h2', {}, 'The pairs'), keyOf(), grid.many ? element('p', {}, many) : null, matrix,
+      choiceOf(draw, tell), note, chosen],
+    follow,
+  };
+}
+
 function page() {
   const main = document.getElementById('main');
   const verdict = document.getElementById('verdict');
   verdict.textContent = verdictText();
   if (!data.verdict.safe) verdict.classList.add('is-unsafe');
-  const chosen = element('div', { id: 'chosen', tabindex: '-1', 'aria-live': 'polite' });
-  const show = number => {
-    const pair = pairs[number];
-    if (!pair) return;
-    chosen.replaceChildren(shownPair(pair));
-    for (const link of document.querySelectorAll('a[aria-current]')) link.removeAttribute('aria-current');
-    for (const link of document.querySelectorAll('a[data-pair="' + number + '"]')) link.setAttribute('aria-current', 'true');
-    chosen.scrollIntoView({ block: 'nearest' });
-  };
+  let follow = () => {};
   if (pairs.length === 0) {
     main.append(element('p', {}, 'No two participants may start together, so nothing was checked.'));
   } else {
-    const grid = gridOf();
-    main.append(element('h2', {}, 'The pairs'), keyOf());
-    if (grid.many) {
-      main.append(element('p', {}, pairs.length + ' pairs, shown by what is sent: of the pairs with the same two messages the '
-        + 'worst one.'));
-    }
-    main.append(matrixOf(grid), choiceOf(show), chosen);
-    const faulty = pairs.filter(pair => pair.fault);
-    if (faulty.length > 0) {
-      main.append(element('h2', {}, 'Unsafe pairs'), ...faulty.slice(0, MOST_DRAWN).map(pair => {
-        const drawn = shownPair(pair);
-        drawn.id = 'unsafe-' + pair.number;
-        return drawn;
-      }));
-      if (faulty.length > MOST_DRAWN) main.append(element('p', {}, 'and ' + (faulty.length - MOST_DRAWN) + ' more'));
-    }
-    main.append(...totalsOf());
+    const shown = pairsOf();
+    follow = shown.follow;
+    main.append(...shown.parts.filter(part => part !== null), ...totalsOf());
   }
   main.append(...sendersOf());
   if (data.capture) main.append(...captureOf(data.capture));
-  const follow = () => {
-    const found = /^#pair-(\d+)$/.exec(location.hash);
-    if (found) show(Number(found[1]));
-  };
-  window.addEventListener('hashchange', follow);
+  scrollToEnds(main);
   follow();
 }
 

@@ -1,10 +1,13 @@
 // The run that writes a page. Each value and each text of it has a function that owns it, and the next one borrows it.
 
+ghost use Rattle.plan_core.specs.PlanContents.{plan_contents};
+ghost use Rattle.verdicts.specs.Faults.{AreFaults, fault_list};
+
 use capture_check::Transaction;
 use decoding::{ExplainedSink, Explaining};
 use dump_runs::{halted, open};
 use dump_tokens::Bus;
-use explain::{CaptureLines, Layout, Paint, Selection};
+use explain::{CaptureLines, Grouped, Layout, Paint, Selection, grouped_of};
 use given_plans::GivenPlan;
 use order::{order_of, order_report};
 use page::{Page, Recording, Texts, page_of};
@@ -150,6 +153,21 @@ fn write_page<'a, O: Output>(
     words: PlanWords<'a>,
     capture: Option<Shown<'a>>,
     out: &mut O,
+) -> Result<(), RunError>
+    requires { AreFaults (plan_contents checked.now.plan) (fault_list checked.now.faults) }
+{
+    let groups = grouped_of(alloc, &checked.plan, words, &checked.faults, 0)?;
+    write_grouped(alloc, title, checked, words, &groups, capture, out)
+}
+
+fn write_grouped<'a, O: Output>(
+    alloc: Global,
+    title: &'a str,
+    checked: &'a Checked,
+    words: PlanWords<'a>,
+    groups: &'a Grouped,
+    capture: Option<Shown<'a>>,
+    out: &mut O,
 ) -> Result<(), RunError> {
     let order = order_of(alloc, &checked.plan, &checked.faults)?;
     let plan = print_plan(alloc, &checked.plan)?;
@@ -168,6 +186,7 @@ fn write_page<'a, O: Output>(
         checked,
         words,
         order: &order,
+        groups,
         recording,
         texts,
     };
