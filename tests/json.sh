@@ -191,15 +191,11 @@ run "a proof too few, explained" 2 '{"kind":"certificate","accepted":false,"code
 sed 's/P6/P5/' "${two%.plan}.cert" >wrong.cert
 run "a proof that names another bit" 2 '{"kind":"certificate","accepted":false,"code":"C5","pair":1}' "" \
     verify --format json "$two" wrong.cert
-run "a proof that names another bit, explained" 2 '{"kind":"certificate","accepted":false,"code":"C5","pair":1,"explain":{"participants":["main/write_limit","guard/write_alarm"],"word":2,"slot":9,"why":"no_split","bytes":["S 48 Wr A 03","S 48 Wr A 01"]}}' \
+run "a proof that names another bit, explained" 2 '{"kind":"certificate","accepted":false,"code":"C5","pair":1,"explain":{"participants":["main/write_limit","guard/write_alarm"],"word":2,"slot":9,"why":"no_split"}}' \
     "" verify --format json --explain "$two" wrong.cert
 printf 'cert 1\nfault 1 10010000l data stop\n' >wrong.cert
 run "a fault that there is not, explained" 2 '{"kind":"certificate","accepted":false,"code":"C5","pair":1,"explain":{"participants":["main/write_limit","guard/write_alarm"]}}' \
     "" verify --format json --explain "$two" wrong.cert
-printf 'cert 1\nfault 0 00100000l data stop\n' >fault.cert
-fault='{"kind":"certificate","accepted":true,"safe":false,"explain":{"example":{"pair":0,"participants":["main/write_output","service/probe_10"],"meet":["data","stop"],"after":"00100000l","explain":{"slot":9,"rule":"UM10204 3.1.8","bus":"S 10 Wr A","bytes":["S 10 Wr A xxxxxxxx","S 10 Wr A P"],"open":[[],[]]}}}}'
-run "a certificate of a fault, explained" 1 "$fault" "" verify --format json --explain "$stop" fault.cert
-run "a rehearsal of a plan that is not safe, explained" 1 "$fault" "" bench --format json --explain "$stop" fault.cert service/probe_10
 printf 'cert 1\nfault 2 10010000l data stop\n' >wrong.cert
 run "a fault of a pair that there is not, explained" 2 '{"kind":"certificate","accepted":false,"code":"C5","pair":2}' "" \
     verify --format json --explain "$two" wrong.cert

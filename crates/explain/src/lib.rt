@@ -5,10 +5,10 @@
 //! labels of a brief, `rewritten` by those of families that a brief could have, and `partings` by bits), `safety` how the
 //! pairs of a safe one are kept apart, `reasons` which of the two a plan has, `unchecked` what a check did not look at,
 //! `mistakes` and `breaks` what is wrong with a certificate (`broken` what is sent up to there), `tracks` what starters put
-//! along a wire. `rows` has the rows of a bus and of participants, and folds them. `reports` writes a report with lines for
-//! people between its own, made of these values by `faults`, `group_lines`,
-//! `plans`, `certificates` and `benches`; each of these lines begins with four spaces and has at most 80 columns, however
-//! long the names are. The exact lines are those of the crates below.
+//! along a wire. `rows` has the rows of a bus and of participants, the same for all reports, and folds them. `reports` writes
+//! a report with lines for people between its own, made of these values by `faults`, `group_lines`, `plans`, `certificates`
+//! and `benches`; each of these lines begins with four spaces and has at most 80 columns, however long the names are. The
+//! exact lines are those of the crates below.
 //!
 //! What a dump shows goes to sinks: `capture_lines` writes its transactions with who explains each, and `decode_lines` without
 //! a plan, as they end. `selecting` has which of them are told, `moments` their times, `captures` what people read below them

@@ -1,11 +1,9 @@
 // Objects of the answer to a certificate.
 
-use crate::checks::{Met, met_of};
 use crate::file_lines::{BothAt, both_at};
 use cert_check::Answer;
-use certificate::{CertFault, Expected, Fault, Refusal};
-use explain::{Break, Mistake, Reason, Side, label_of, meeting_of};
-use growing_text::Text;
+use certificate::{CertFault, Expected, Refusal};
+use explain::{Break, Mistake, Reason, label_of};
 use object_lines::ObjectLines;
 use plan_words::PlanWords;
 use report::{Output, RunError};
@@ -36,9 +34,6 @@ struct Certificate<'a> {
 #[derive(Drop, Serialize)]
 #[serde(untagged)]
 enum Why<'a> {
-    Unsafe {
-        example: Example<'a>,
-    },
     Pair(Misproved<'a>),
     Count {
         pairs: u32,
@@ -46,18 +41,6 @@ enum Why<'a> {
         #[serde(skip_serializing_if = "Option::is_none")]
         says: Option<u32>,
     },
-}
-
-// The unsafe pair that a certificate names, as the example of a group.
-#[derive(Drop, Serialize)]
-struct Example<'a> {
-    pair: u32,
-    participants: (&'a str, &'a str),
-    meet: (&'static str, &'static str),
-    after: &'a str,
-    #[serde(skip_serializing_if = "Option::is_none")]
-    places: Option<BothAt>,
-    explain: Met<'a>,
 }
 
 // A pair of which what the certificate says is not so.
@@ -72,9 +55,6 @@ struct Misproved<'a> {
     slot: Option<u32>,
     #[serde(skip_serializing_if = "Option::is_none")]
     why: Option<&'static str>,
-    // what each of the two sends up to there
-    #[serde(skip_serializing_if = "Option::is_none")]
-    bytes: Option<(&'a str, &'a str)>,
 }
 
 /// Writes the object of the answer to a certificate of the plan of these words, which may be refused there, and what is
@@ -98,24 +78,9 @@ pub fn write_answer<O: Output>(
             Mistake::Pair {
                 participants,
                 found,
-                sides,
                 ..
             },
-        ) => add_misproved(
-            &mut lines,
-            words,
-            answer,
-            participants,
-            found,
-            sides.as_ref(),
-        )?,
-        Some(
-            Mistake::Unsafe {
-                pair,
-                participants,
-                fault,
-            },
-        ) => add_unsafe(&mut lines, words, answer, (pair, participants), &fault)?,
+        ) => add_misproved(&mut lines, words, answer, participants, found)?,
         Some(
             Mistake::Count {
                 pairs,
@@ -130,7 +95,7 @@ pub fn write_answer<O: Output>(
             };
             lines.add(&object_of(answer, Some(why)));
         }
-        Some(Mistake::Text) | None => lines.add(&object_of(answer, None)),
+        Some(Mistake::Text | Mistake::Unsafe { .. }) | None => lines.add(&object_of(answer, None)),
     }
     lines.write_rest(out)
 }
@@ -197,51 +162,17 @@ fn place(object: &mut Certificate<'_>, fault: CertFault) {
     }
 }
 
-fn add_unsafe(
-    lines: &mut ObjectLines,
-    words: PlanWords<'_>,
-    answer: Answered<'_>,
-    pair: (u32, (u32, u32)),
-    fault: &Fault,
-) -> Result<(), AllocError> {
-    let (number, both) = pair;
-    let first = label_of(lines.alloc, words.plan(), both.0)?;
-    let second = label_of(lines.alloc, words.plan(), both.1)?;
-    let after = wire_of(lines.alloc, fault)?;
-    let places = both_at(lines.alloc, words, both)?;
-    let meeting = meeting_of(lines.alloc, words.plan(), both, fault.wire.as_slice())?;
-    let example = Example {
-        pair: number,
-        participants: (first.as_str(), second.as_str()),
-        meet: (fault.first.word(), fault.second.word()),
-        after: after.as_str(),
-        places,
-        explain: met_of(&meeting),
-    };
-    lines.add(&object_of(answer, Some(Why::Unsafe { example })));
-    Ok(())
-}
-
-fn wire_of(alloc: Global, fault: &Fault) -> Result<String, AllocError> {
-    let mut text = Text::new(alloc);
-    for item in &fault.wire {
-        text.push_char(item.symbol());
-    }
-    text.finish()
-}
-
 fn add_misproved(
     lines: &mut ObjectLines,
     words: PlanWords<'_>,
     answer: Answered<'_>,
     participants: (u32, u32),
     found: Option<Break>,
-    sides: Option<&(Side, Side)>,
 ) -> Result<(), AllocError> {
     let first = label_of(lines.alloc, words.plan(), participants.0)?;
     let second = label_of(lines.alloc, words.plan(), participants.1)?;
     let places = both_at(lines.alloc, words, participants)?;
-    let why = misproved_of((first.as_str(), second.as_str()), places, found, sides);
+    let why = misproved_of((first.as_str(), second.as_str()), places, found);
     lines.add(&object_of(answer, Some(Why::Pair(why))));
     Ok(())
 }
@@ -250,7 +181,6 @@ fn misproved_of<'a>(
     participants: (&'a str, &'a str),
     places: Option<BothAt>,
     found: Option<Break>,
-    sides: Option<&'a (Side, Side)>,
 ) -> Misproved<'a> {
     let (word, slot, why) = match found {
         Some(found) => (
@@ -260,17 +190,12 @@ fn misproved_of<'a>(
         ),
         None => (None, None, None),
     };
-    let bytes = match sides {
-        Some((first, second)) => Some((first.bytes.as_str(), second.bytes.as_str())),
-        None => None,
-    };
     Misproved {
         participants,
         places,
         word,
         slot,
         why,
-        bytes,
     }
 }
 

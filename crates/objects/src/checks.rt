@@ -17,9 +17,9 @@ use report::{Checked, Output, RunError};
 use serde::Serialize;
 use std::alloc::{AllocError, Global};
 
-/// Where the two of an unsafe pair meet.
+// Where the two of an unsafe pair meet.
 #[derive(Drop, Serialize)]
-pub(crate) struct Met<'a> {
+struct Met<'a> {
     slot: usize,
     rule: &'static str,
     bus: &'a str,
@@ -326,8 +326,7 @@ fn add_met(
     Ok(())
 }
 
-/// The same of a meeting.
-pub(crate) fn met_of(meeting: &Meeting) -> Met<'_> {
+fn met_of(meeting: &Meeting) -> Met<'_> {
     let Meeting {
         slot,
         bus,
