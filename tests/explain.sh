@@ -1154,6 +1154,8 @@ told "the longest that clash, by check" "    group 0, as pair 0:
 $meets
     $right/$other: 1 pair,
     lengths differ
+    to mend it: a bit in slot 9..16, 18..25, 27..34, 36..43, 45..52, 54..61 and
+    248 more, known in both and different
     to mend it: a bit before that slot, known in both and different; or the same
     shape from there on; or:
     never $left $right ;

@@ -501,15 +501,15 @@ expect "pulses in one of two scopes" 0 "$first" "" capture plan glitch --min-pul
 expect "pulses and times" 0 $'5 us-160 us a/m\n1 transactions, 0 unexplained' "" \
     capture plan glitch --min-pulse 2us --times si
 expect "a decimal number is told in the greatest unit" 0 '5-160 a/m
-    S 48 Wr A P
+    bus  S 48 Wr A P
     1 pulse shorter than 1.5 us was left out
 1 transactions, 0 unexplained' "" capture plan glitch --min-pulse 0.0015ms --explain
 expect "a pulse is counted" 0 '5-160 a/m
-    S 48 Wr A P
+    bus  S 48 Wr A P
     1 pulse shorter than 2 us was left out
 1 transactions, 0 unexplained' "" capture plan glitch --min-pulse 2us --explain
 expect "pulses are counted" 0 '5-160 a/m
-    S 48 Wr A P
+    bus  S 48 Wr A P
     3 pulses shorter than 2 were left out
 1 transactions, 0 unexplained' "" capture plan chatter --min-pulse 2 --explain
 # SCL is HIGH before the first START, and for 5 in each bit.
