@@ -1,6 +1,7 @@
 // Lines of unsafe pairs, and below the count of them.
 
 use crate::below::{begin, say, say_all};
+use crate::groups::Grouped;
 use crate::keeping::Kept;
 use crate::meetings::{Meeting, Rule, Side};
 use crate::mends::{GroupMends, Mends, Never};
@@ -219,23 +220,32 @@ pub(crate) fn below_unsafe(
     words: PlanWords<'_>,
     faults: &Faults,
     mends: &Mends,
+    groups: &Grouped,
 ) -> Result<String, AllocError> {
     let mut lines = Lines::new(alloc);
-    tell_mends(alloc, &mut lines, words.plan().pair_count(), mends);
+    tell_mends(
+        alloc,
+        &mut lines,
+        words.plan().pair_count(),
+        mends,
+        groups.have_shapes(),
+    );
     tell_families(alloc, &mut lines, words, faults)?;
     tell_interrupted(&mut lines, mends.interrupted.as_slice());
     lines.finish()
 }
 
-fn tell_mends(alloc: Global, lines: &mut Lines, pairs: u32, mends: &Mends) {
+// Where other wires lead to faults too, a bit before the slot of one of them is not enough.
+fn tell_mends(alloc: Global, lines: &mut Lines, pairs: u32, mends: &Mends, have_shapes: bool) {
     let mut words = Text::new(alloc);
-    words.push(if mends.pairs == 1 {
-        "to mend it: a bit before that slot,"
-    } else {
-        "to mend each: a bit before its slot,"
+    words.push(match (mends.pairs == 1, have_shapes) {
+        (true, true) => "to mend it: a bit before that slot,",
+        (true, false) => "to mend it: a bit of the first header,",
+        (false, true) => "to mend each: a bit before its slot,",
+        (false, false) => "to mend each: a bit of its first header,",
     });
     words.push(" known in both and different");
-    if mends.interrupted.len() < mends.pairs {
+    if have_shapes && mends.interrupted.len() < mends.pairs {
         words.push("; or the same shape from there on");
     }
     push_or(&mut words, &mends.kept, "; or:", "; or all of:");

@@ -6,6 +6,7 @@ ghost use Rattle.verdicts.specs.Faults.{AreFaults, fault_list};
 use crate::families::{called_of, families_of, party_of};
 use crate::labels::{Labels, called_by};
 use crate::mends::{GroupMends, both_of, mends_of_groups};
+use crate::partings::has_claim;
 use causes::{Family, Group, Groups, groups_of};
 use plan_core::Plan;
 use plan_words::PlanWords;
@@ -127,6 +128,17 @@ impl Grouped {
         self.mends.get(g)
     }
 
+    /// Whether it was tried of all groups without an interrupt that the same shape from the slot of its fault on mends each pair.
+    /// Then each known bit before that slot does too, since all faults of a pair lie behind it.
+    pub(crate) fn have_shapes(&self) -> bool {
+        for g in 0..self.groups.len() {
+            if !has_claim(self.groups.get(g)) && !is_shape(self.mends.get(g)) {
+                return false;
+            }
+        }
+        true
+    }
+
     /// What the family of a message is called, which is the name of the message where it is alone in it.
     pub fn family(&self, m: u32) -> &str {
         text_at(self.families.as_slice(), m)
@@ -159,6 +171,16 @@ fn text_at(texts: &[String], k: u32) -> &str {
     match texts.get(k as usize) {
         Some(text) => text.as_str(),
         None => "",
+    }
+}
+
+fn is_shape(mends: Option<&GroupMends>) -> bool {
+    match mends {
+        Some(mends) => match &mends.parting {
+            Some(parting) => parting.shape,
+            None => false,
+        },
+        None => false,
     }
 }
 

@@ -175,7 +175,8 @@ fn slots_of(faults: &Faults, group: Group) -> usize {
     }
 }
 
-fn has_claim(group: Group) -> bool {
+/// Whether an interrupt waits there for the answer to its header.
+pub(crate) fn has_claim(group: Group) -> bool {
     group.cause.first.kind == Kind::Claim || group.cause.second.kind == Kind::Claim
 }
 

@@ -116,8 +116,8 @@ fn push_end(
     paint.push_verdict(text, last_line(alloc, plan, faults.len()), word, is_safe);
     match reasons {
         Some(Reasons::Safe(safety)) => text.push_made(below_safe(alloc, safety)),
-        Some(Reasons::Unsafe(mends, _)) => {
-            text.push_made(below_unsafe(alloc, words, faults, mends))
+        Some(Reasons::Unsafe(mends, groups)) => {
+            text.push_made(below_unsafe(alloc, words, faults, mends, groups))
         }
         None => return,
     }
