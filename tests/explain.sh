@@ -186,8 +186,8 @@ pair 1 a/w c/p: data against stop after 10010000l
     not explained (--most 1 explains all groups):
     a/w × b/p, a/w × c/p: 2 pairs, lengths differ
 unsafe: 2 of 3 pairs
-    to mend each: a bit before its slot, known in both and different; or the
-    same shape from there on; or all of:
+    to mend each: a bit of its first header, known in both and different; or all
+    of:
     never a b ;
     never a c ;
     (leaves 2 of 3 pairs unchecked)" ""
@@ -216,8 +216,8 @@ want 1 "$six
     a/w × b/p, a/w × c/p, b/p × c/w: 3 pairs, lengths differ
     a/v × b/p, a/v × c/p: 2 pairs, lengths differ
 unsafe: 6 of 18 pairs
-    to mend each: a bit before its slot, known in both and different; or the
-    same shape from there on; or all of:
+    to mend each: a bit of its first header, known in both and different; or all
+    of:
     never a b ;
     never a c ;
     never b c ;
@@ -246,8 +246,8 @@ want 1 "$six
     not explained (--most 3 explains all groups):
     a/v × b/p, a/v × c/p: 2 pairs, lengths differ
 unsafe: 6 of 18 pairs
-    to mend each: a bit before its slot, known in both and different; or the
-    same shape from there on; or all of:
+    to mend each: a bit of its first header, known in both and different; or all
+    of:
     never a b ;
     never a c ;
     never b c ;
@@ -264,8 +264,8 @@ pair 11 b/q !al: answer against claim after 00100001
     a/w × c/p, b/p × c/w: 2 pairs, lengths differ
     a/v × c/p: 1 pair, lengths differ
 unsafe: 4 of 14 pairs
-    to mend each: a bit before its slot, known in both and different; or the
-    same shape from there on; or all of:
+    to mend each: a bit of its first header, known in both and different; or all
+    of:
     never a c ;
     never b c ;
     (leaves 8 of 14 pairs unchecked)
@@ -358,8 +358,7 @@ want 1 "    group 0, as pair 0:
     not explained (--most 2 explains all groups):
     a/page_* × b/page_*: 6 pairs, lengths differ
 unsafe: 7 of 16 pairs
-    to mend each: a bit before its slot, known in both and different; or the
-    same shape from there on; or:
+    to mend each: a bit of its first header, known in both and different; or:
     never a b ;
     (leaves 16 of 16 pairs unchecked)" ""
 run "a line of each group that is not explained" check --summary --most 1 p.plan
@@ -730,8 +729,8 @@ brief 'brief 1' 'message page write 0x50 any*1..3 ;' 'message get write 0x50 any
 echo "$?" >status
 sed -i '/^pair/d; /^    not explained/,/^unsafe/{/^unsafe/!d}' out
 want 1 "unsafe: 14 of 18 pairs
-    to mend each: a bit before its slot, known in both and different; or the
-    same shape from there on; or all of:
+    to mend each: a bit of its first header, known in both and different; or all
+    of:
     never bmc/page pch/page ;
     never bmc/page seq ;
     never bmc/get pch/page ;
@@ -742,11 +741,10 @@ compare "many pairs of a brief"
 
 # advice NAME UNSAFE LINE..: what is said below the report on the brief, without its pairs, from the first item on.
 advice() {
-    local name=$1 all="or all of:" said line
+    local name=$1 all=$'or all\n    of:' said line
     [[ $4 == never* ]] || all="or:"
     said="unsafe: $2 pairs
-    to mend each: a bit before its slot, known in both and different; or the
-    same shape from there on; $all"
+    to mend each: a bit of its first header, known in both and different; $all"
     for line in "${@:3}"; do
         said+=$'\n'"    $line"
     done

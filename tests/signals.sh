@@ -430,7 +430,7 @@ expect "a unit without a scale, and a refused dump" 2 "" "refused V1 scl" captur
 expect "a hint on it" 2 "" "refused timescale
 hint: the capture does not say what its times count: it has no \$timescale
 hint: give times as plain numbers, as they stand in the file" capture plan no_scale --from 5us --hints always
-expect "explained, from a time on" 0 $'165-320 a/m\n    S 48 Wr A P\n1 transactions, 0 unexplained' "" \
+expect "explained, from a time on" 0 $'165-320 a/m\n    bus  S 48 Wr A P\n1 transactions, 0 unexplained' "" \
     capture plan twice --from 6 --explain
 printf '#400 0" #405 x!\n#500 1! 1" #505 0"\n' | cat twice - >ends
 expect "cut and unfinished" 0 $'5-160 a/m\n165-320 a/m\n400-405 cut\n505- unfinished\n2 transactions, 0 unexplained' "" \
