@@ -61,34 +61,89 @@ pub fn check<R: Files + Print + Eprint + Clock + AllocGlobal + Threads + Sync, I
     if !(1..=MOST_WORKERS).contains(&look.workers) {
         return Err(Halt::Run(RunError::Workers));
     }
-    let gate = Comparing::new(rt, extras.watcher);
     let GivenPlan { plan, origins } = plans.find(rt.alloc())?;
+    check_plan(rt, plan, &origins, plans, out, look, extras, canvas)
+}
+
+// Each of the plan's values has a function that owns it, and the next one borrows it.
+fn check_plan<
+    R: Files + Print + Eprint + Clock + AllocGlobal + Threads + Sync,
+    I: Input,
+    O: Output,
+>(
+    rt: &R,
+    plan: Plan,
+    origins: &Option<Origins>,
+    plans: &Sources<'_, I>,
+    out: &mut O,
+    look: Look<'_>,
+    extras: Extras,
+    canvas: Option<Canvas<'_, '_>>,
+) -> Result<Ended, Halt> {
+    let gate = Comparing::new(rt, extras.watcher);
     let checked = check_found(rt, rt.alloc(), plan, look.workers, &gate)?;
-    let words = plans.words(&checked.plan, &origins);
-    let odd = odd_in(rt.alloc(), &checked.plan, &origins, plans.texts.as_slice())?;
-    let status = tell_checked(
-        rt.alloc(),
-        &checked,
+    let words = plans.words(&checked.plan, origins);
+    let texts = plans.texts.as_slice();
+    tell_found(
+        rt, &checked, words, origins, texts, out, look, extras, canvas,
+    )
+}
+
+fn tell_found<R: Files + Print + Eprint + Clock + AllocGlobal, O: Output>(
+    rt: &R,
+    checked: &Checked,
+    words: PlanWords<'_>,
+    origins: &Option<Origins>,
+    texts: &[Vec<u8>],
+    out: &mut O,
+    look: Look<'_>,
+    extras: Extras,
+    canvas: Option<Canvas<'_, '_>>,
+) -> Result<Ended, Halt>
+    requires { AreFaults (plan_contents checked.now.plan) (fault_list checked.now.faults) }
+{
+    let odd = odd_in(rt.alloc(), &checked.plan, origins, texts)?;
+    tell_all(
+        rt,
+        checked,
         words,
         odd.as_slice(),
+        out,
+        look,
+        extras,
+        canvas,
+    )
+}
+
+fn tell_all<R: Files + Print + Eprint + Clock + AllocGlobal, O: Output>(
+    rt: &R,
+    checked: &Checked,
+    words: PlanWords<'_>,
+    odd: &[Oddity<'_>],
+    out: &mut O,
+    look: Look<'_>,
+    extras: Extras,
+    canvas: Option<Canvas<'_, '_>>,
+) -> Result<Ended, Halt>
+    requires { AreFaults (plan_contents checked.now.plan) (fault_list checked.now.faults) }
+{
+    let alloc = rt.alloc();
+    let status = tell_checked(
+        alloc,
+        checked,
+        words,
+        odd,
         out,
         look.explain,
         extras.style(),
     )?;
     if let Some(canvas) = canvas {
-        draw_fault(rt, &checked, look.pair, status, canvas)?;
+        draw_fault(rt, checked, look.pair, status, canvas)?;
     }
     let is_explained = look.explain.is_some();
     Ok(Ended {
         status: judged(status, &checked.plan, look.strict),
-        remark: remark_on(
-            rt.alloc(),
-            &checked,
-            words,
-            odd.as_slice(),
-            is_explained,
-            extras,
-        ),
+        remark: remark_on(alloc, checked, words, odd, is_explained, extras),
     })
 }
 
@@ -329,16 +384,38 @@ pub fn order<R: AllocGlobal + Threads + Sync, I: Input, O: Output>(
     explain: bool,
     style: Style,
 ) -> Result<Ended, Halt> {
-    let alloc = rt.alloc();
-    let GivenPlan { plan, origins } = plans.find(alloc)?;
-    let checked = check_found(rt, alloc, plan, 1, &NoGate)?;
+    let GivenPlan { plan, origins } = plans.find(rt.alloc())?;
+    order_plan(rt, plan, &origins, plans, out, explain, style)
+}
+
+fn order_plan<R: AllocGlobal + Threads + Sync, I: Input, O: Output>(
+    rt: &R,
+    plan: Plan,
+    origins: &Option<Origins>,
+    plans: &Sources<'_, I>,
+    out: &mut O,
+    explain: bool,
+    style: Style,
+) -> Result<Ended, Halt> {
+    let checked = check_found(rt, rt.alloc(), plan, 1, &NoGate)?;
+    let words = plans.words(&checked.plan, origins);
+    write_orders(rt.alloc(), words, &checked, out, explain, style)?;
+    Ok(Ended::quietly(status_of(&checked)))
+}
+
+fn write_orders<O: Output>(
+    alloc: Global,
+    words: PlanWords<'_>,
+    checked: &Checked,
+    out: &mut O,
+    explain: bool,
+    style: Style,
+) -> Result<(), RunError> {
     let order = order_of(alloc, &checked.plan, &checked.faults)?;
-    let words = plans.words(&checked.plan, &origins);
     if explain {
         write_summary(alloc, words, &order, out, style)?;
     }
-    write_ordered(alloc, words, &order, out, style)?;
-    Ok(Ended::quietly(status_of(&checked)))
+    write_ordered(alloc, words, &order, out, style)
 }
 
 // How the pairs of each two controllers end, in the words of people.
