@@ -6,6 +6,7 @@ ghost use Rattle.bench_run.specs.Outcomes.{HasWinners};
 use crate::checking::{remark_on_answer, tell_answer};
 use crate::drawings::{Canvas, draw_outcome};
 use bench_run::{NoGate, Outcome, Rehearsal, outcome_report, rehearse, status_of_outcome};
+use brief_text::Origins;
 use bus_bench::opening::MOST_SLOTS;
 use explain::{Paint, explain_answer, explain_rehearsal, mistake_of};
 use given_plans::GivenPlan;
@@ -52,19 +53,8 @@ pub fn bench_alone<
 ) -> Result<Ended, Halt> {
     let GivenPlan { plan, origins } = plans.find(rt.alloc())?;
     let cert = certificate_of(rt.alloc(), &plan)?;
-    let said = said_of(rt.alloc(), plans.words(&plan, &origins), play, extras)?;
-    let outcome = outcome_of(rt, plan, cert.as_slice(), play, said)?;
-    let words = plans.words(plan_of(&outcome), &origins);
-    tell_outcome(
-        rt,
-        &outcome,
-        words,
-        cert.as_slice(),
-        out,
-        play,
-        extras,
-        canvas,
-    )
+    let cert = cert.as_slice();
+    rehearse_by(rt, plan, &origins, cert, plans, out, play, extras, canvas)
 }
 
 // The certificate of a plan.
@@ -90,19 +80,30 @@ pub fn bench<
 ) -> Result<Ended, Halt> {
     let GivenPlan { plan, origins } = plans.find(rt.alloc())?;
     let cert = read_within(rt.alloc(), cert, READS)?;
-    let said = said_of(rt.alloc(), plans.words(&plan, &origins), play, extras)?;
-    let outcome = outcome_of(rt, plan, cert.as_slice(), play, said)?;
-    let words = plans.words(plan_of(&outcome), &origins);
-    tell_outcome(
-        rt,
-        &outcome,
-        words,
-        cert.as_slice(),
-        out,
-        play,
-        extras,
-        canvas,
-    )
+    let cert = cert.as_slice();
+    rehearse_by(rt, plan, &origins, cert, plans, out, play, extras, canvas)
+}
+
+// Rehearses a plan with this certificate.
+fn rehearse_by<
+    R: Files + Print + Eprint + AllocGlobal + Threads + Wait + Clock + Sync,
+    I: Input,
+    O: Output,
+>(
+    rt: &R,
+    plan: Plan,
+    origins: &Option<Origins>,
+    cert: &[u8],
+    plans: &Sources<'_, I>,
+    out: &mut O,
+    play: Play<'_>,
+    extras: Extras,
+    canvas: Option<Canvas<'_, '_>>,
+) -> Result<Ended, Halt> {
+    let said = said_of(rt.alloc(), plans.words(&plan, origins), play, extras)?;
+    let outcome = outcome_of(rt, plan, cert, play, said)?;
+    let words = plans.words(plan_of(&outcome), origins);
+    tell_outcome(rt, &outcome, words, cert, out, play, extras, canvas)
 }
 
 // The plan of which this is the outcome.

@@ -1,6 +1,6 @@
 // Runs that write a text in another form.
 
-use given_plans::{NoPlan, RefusedText};
+use given_plans::{GivenPlan, NoPlan, RefusedText};
 use hints::on_no_brief;
 use plan_core::Plan;
 use plan_text::{Language, NoBrief, Refused, read_plan_at};
@@ -34,10 +34,10 @@ impl Rewriting {
         out: &mut O,
     ) -> Result<Ended, Halt> {
         let status = match self {
-            Rewriting::Certify => certify_found(alloc, &sources.find(alloc)?.plan, out)?,
-            Rewriting::Print => print_found(alloc, &sources.find(alloc)?.plan, out)?,
+            Rewriting::Certify => certify(alloc, sources.find(alloc)?, out)?,
+            Rewriting::Print => print(alloc, sources.find(alloc)?, out)?,
             Rewriting::Brief => write_brief(alloc, &mut sources.first, out)?,
-            Rewriting::Expand => print_found(alloc, &sources.find_in_briefs(alloc)?.plan, out)?,
+            Rewriting::Expand => print(alloc, sources.find_in_briefs(alloc)?, out)?,
         };
         Ok(Ended {
             status,
@@ -51,6 +51,14 @@ impl Rewriting {
             _ => Remark::Nothing,
         }
     }
+}
+
+fn certify<O: Output>(alloc: Global, given: GivenPlan, out: &mut O) -> Result<Status, RunError> {
+    certify_found(alloc, &given.plan, out)
+}
+
+fn print<O: Output>(alloc: Global, given: GivenPlan, out: &mut O) -> Result<Status, RunError> {
+    print_found(alloc, &given.plan, out)
 }
 
 // Writes a brief of the plan that the reader gives.
