@@ -82,19 +82,19 @@ expect "a refused plan, and a directory as the dump" 2 "" "refused P3 line 1" ba
 expect "an example" 0 $'5-160 service/probe_10\n1 transactions, 0 unexplained' "" \
     "$tests/../examples/stop_meets_data.plan" "$tests/../examples/stop_meets_data.vcd"
 
-# Examples in the forms of three programs. The times are those of the START and of the STOP in the file.
+# Examples of three programs. The times are those of the START and of the STOP in the file.
 example=$tests/../examples/stop_meets_data.plan
-expect "an example in sigrok's form" 0 $'10-115 service/probe_10\n1 transactions, 0 unexplained' "" \
+expect "an example of sigrok" 0 $'10-115 service/probe_10\n1 transactions, 0 unexplained' "" \
     "$example" "$tests/../examples/probe_sigrok.vcd" --scl D0 --sda D1
-expect "an example in sigrok's form, without its names" 2 "" "refused V1 scl" "$example" "$tests/../examples/probe_sigrok.vcd"
-expect "an example in the form of Icarus Verilog" 0 $'10-115 service/probe_11\n1 transactions, 0 unexplained' "" \
+expect "an example of sigrok, without its names" 2 "" "refused V1 scl" "$example" "$tests/../examples/probe_sigrok.vcd"
+expect "an example of Icarus Verilog" 0 $'10-115 service/probe_11\n1 transactions, 0 unexplained' "" \
     "$example" "$tests/../examples/probe_icarus.vcd"
-expect "an example in GHDL's form" 0 \
+expect "an example of GHDL" 0 \
     $'15000000000-210000000000 main/write_output\n220000000000-250000000000 cut\n1 transactions, 0 unexplained' "" \
     "$example" "$tests/../examples/write_ghdl.vcd"
-# Without its option for four states GHDL has 'U' where this has 'x' at first, on line 26.
-sed '26s/x/U/' "$tests/../examples/write_ghdl.vcd" >nine_states
-expect "nine states" 2 "" "refused V2 line 26" "$example" nine_states
+# Without its option for four states GHDL has 'U' where this has 'x' at first, on line 21.
+sed '21s/x/U/' "$tests/../examples/write_ghdl.vcd" >nine_states
+expect "nine states" 2 "" "refused V2 line 21" "$example" nine_states
 
 # Hints are further lines on standard error. The report, the line of the refusal and the status stay.
 hint() {
@@ -105,17 +105,17 @@ dump quiet '#0 1! 1" #5 0! #9 1!'
 
 expect "hints on a missing signal" 2 "" "refused V1 scl
 $(hint "no signal of one bit has the name 'scl', and none has the name 'sda'" \
-    "these signals have one bit, the nearest names first:" "  D0" "  D1" \
+    "these signals have one bit, the nearest names first:" "  libsigrok.D0" "  libsigrok.D1" \
     "give the names that the lines have in the file with --scl NAME --sda NAME" "two signals look like a bus; try" \
     "  twire capture $example $tests/../examples/probe_sigrok.vcd --scl D0 --sda D1")" \
     "$example" "$tests/../examples/probe_sigrok.vcd" --hints always
 expect "hints on the other missing signal" 2 "" "refused V1 sda
 $(hint "no signal of one bit has the name 'sda'" "these signals have one bit, the nearest names first:" \
-    "  clk" "  data_line" "  clock_line" "give the name that the line has in the file with --sda NAME" \
+    "  top.clk" "  top.data_line" "  top.clock_line" "give the name that the line has in the file with --sda NAME" \
     "two signals look like a bus; try" "  twire capture plan named --scl clock_line --sda data_line")" \
     plan named --scl clock_line --hints always
-expect "hints on a token" 2 "" "refused V2 line 26
-$(hint "line 26 of the capture:" "  U!" "  ^^" \
+expect "hints on a token" 2 "" "refused V2 line 21
+$(hint "line 21 of the capture:" "  U!" "  ^^" \
     "this is one of VHDL's nine states, and only '0', '1', 'x' and 'z' are" \
     "read: have the dump written with four states (GHDL: --vcd-4states)")" \
     "$example" nine_states --hints always
@@ -178,25 +178,25 @@ $(hint "line 1 of the capture:" "  plan 1" "  ^^^^" \
 zip_head=$'PK\003\004'
 printf '%s' "$zip_head" >session.sr
 expect "hints on a session of sigrok" 2 "" "refused V2 line 1
-$(hint "this is a ZIP archive, as a session of sigrok is (.sr): for a dump of one," \
-    "'sigrok-cli -i FILE -O vcd -o OUT'")" plan session.sr --hints always
+$(hint "this is a ZIP archive, as a session of sigrok is (.sr); a dump of one is" "written by" \
+    "  sigrok-cli -i session.sr -O vcd > session.vcd")" plan session.sr --hints always
 
 for when in never auto; do
-    expect "hints $when: a token" 2 "" "refused V2 line 26" "$example" nine_states --hints "$when"
+    expect "hints $when: a token" 2 "" "refused V2 line 21" "$example" nine_states --hints "$when"
     expect "hints $when: a report without a transaction" 0 "$silent" "" plan quiet --hints "$when"
 done
 expect "no hints where nothing is said" 0 "$silent" "" plan quiet
 
 # The reader knows the place of what it refuses, so a pipe has it too.
-expect "hints on a pipe" 2 "" "refused V2 line 26
-$(hint "line 26 of the capture:" "  U!" "  ^^" \
+expect "hints on a pipe" 2 "" "refused V2 line 21
+$(hint "line 21 of the capture:" "  U!" "  ^^" \
     "this is one of VHDL's nine states, and only '0', '1', 'x' and 'z' are" \
     "read: have the dump written with four states (GHDL: --vcd-4states)")" \
     "$example" /dev/stdin --hints always < <(cat nine_states)
 mkfifo nine_states.fifo
 cat nine_states >nine_states.fifo &
-expect "hints on a FIFO" 2 "" "refused V2 line 26
-$(hint "line 26 of the capture:" "  U!" "  ^^" \
+expect "hints on a FIFO" 2 "" "refused V2 line 21
+$(hint "line 21 of the capture:" "  U!" "  ^^" \
     "this is one of VHDL's nine states, and only '0', '1', 'x' and 'z' are" \
     "read: have the dump written with four states (GHDL: --vcd-4states)")" \
     "$example" nine_states.fifo --hints always
@@ -204,16 +204,27 @@ $(hint "line 26 of the capture:" "  U!" "  ^^" \
 # What has no end began further above, where a pipe cannot be read once more.
 expect "hints on what has no end in a pipe" 2 "" "refused V4 line 9
 $(hint "what begins on line 9 of the capture has no end: an '\$end' is missing, or" "the capture was cut short")" \
-    plan /dev/stdin --hints always < <(cat open)
-expect "hints on a missing signal of a pipe" 2 "" "refused V1 sda
-$(hint "no signal of one bit has the name 'sda'" "give the name that the line has in the file with --sda NAME")" \
-    plan /dev/stdin --scl clock_line --hints always < <(cat named)
+    plan <(cat open) --hints always
+mkfifo named.fifo
+cat named >named.fifo &
+expect "hints on a missing signal of a FIFO" 2 "" "refused V1 sda
+$(hint "no signal of one bit has the name 'sda'" "give the name that the line has in the file with --sda NAME" \
+    "this lists the signals: twire signals named.fifo")" plan named.fifo --scl clock_line --hints always
 expect "hints on a pipe without a transaction" 0 "$silent" \
     "$(hint "no START on a free bus was seen in the capture. The usual causes:" \
         "  the names are those of other signals: of several with one name the first" "  counts" \
         "  the two names are exchanged" \
         "  the two lines are never HIGH together, so the bus is never known to be" "  free" \
-        "  a level is 'x' all the time")" plan /dev/stdin --hints always < <(cat quiet)
+        "  a level is 'x' all the time")" plan <(cat quiet) --hints always
+
+# What little was read of standard input can be read once more.
+expect "hints on a missing signal of standard input" 2 "" "refused V1 sda
+$(hint "no signal of one bit has the name 'sda'" "these signals have one bit, the nearest names first:" \
+    "  top.clk" "  top.data_line" "  top.clock_line" "give the name that the line has in the file with --sda NAME" \
+    "two signals look like a bus; try" "  twire capture plan - --scl clock_line --sda data_line")" \
+    plan - --scl clock_line --hints always < <(cat named)
+expect "hints on standard input without a transaction" 0 "$silent" \
+    "$("$twire" capture plan quiet --hints always 2>&1 >/dev/null)" plan /dev/stdin --hints always < <(cat quiet)
 
 # On a terminal hints are given where nothing is said, and standard output has the report alone.
 if command -v script >/dev/null; then

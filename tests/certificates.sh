@@ -2,11 +2,15 @@
 # Generated plans, certified and verified from the command line; and certificates in which one byte was changed. The last
 # line is 'N passed, M failed', and the exit status is 1 where a case fails.
 #
-# It runs the launcher at the top of the repository, or the program that TWIRE names.
+# Every certificate is also given to twire-verify, which has to write the same bytes and end with the same status.
+#
+# It runs the launcher at the top of the repository, or the program that TWIRE names; and tools/twire-verify, or the program
+# that TWIRE_VERIFY names.
 set -u
 
 tests=$(dirname -- "$(readlink -f -- "${BASH_SOURCE[0]}")")
 twire=$(readlink -f -- "${TWIRE:-$tests/../twire}")
+verifier=$(readlink -f -- "${TWIRE_VERIFY:-$tests/../tools/twire-verify}")
 work=$(mktemp -d)
 trap 'rm -rf -- "$work"' EXIT
 cd -- "$work" || exit 1
@@ -31,7 +35,33 @@ answer() {
     echo "$text, status $?"
 }
 
+# verify PLAN CERT: what 'twire verify' writes, with its status, where twire-verify does the same, and else both. What they
+# are to read as standard input stands in the file that `input` names.
+input=/dev/null
+verify() {
+    local at=answers.$BASHPID status same
+    "$twire" verify "$@" <"$input" >"$at.out" 2>"$at.err"
+    status=$?
+    "$verifier" "$@" <"$input" >"$at.same_out" 2>"$at.same_err"
+    same=$?
+    cat "$at.out" "$at.err"
+    if ((same != status)) || ! cmp -s "$at.out" "$at.same_out" || ! cmp -s "$at.err" "$at.same_err"; then
+        echo "twire-verify differs, with status $same:"
+        cat "$at.same_out" "$at.same_err"
+    fi
+    rm -f "$at".*
+    return "$status"
+}
+
+# verified PLAN CERT: the same, and the status.
+verified() {
+    local text
+    text=$(verify "$@")
+    echo "$text, status $?"
+}
+
 "$twire" --version >/dev/null 2>&1
+"$verifier" --version >/dev/null 2>&1
 
 # Plans of two controllers with one or two messages each, and an interrupt, from a list of parts. A plan that is safe by
 # 'check' has a certificate that is accepted as safe, and any other one that is accepted as unsafe.
@@ -71,8 +101,8 @@ for n in {1..120}; do
     last=$("$twire" check plan | tail -n 1)
     "$twire" certify plan >cert
     case $last in
-        safe:*) expect "generated plan $n" "accepted safe" "$("$twire" verify plan cert)" ;;
-        unsafe:*) expect "generated plan $n" "accepted unsafe" "$("$twire" verify plan cert)" ;;
+        safe:*) expect "generated plan $n" "accepted safe" "$(verify plan cert)" ;;
+        unsafe:*) expect "generated plan $n" "accepted unsafe" "$(verify plan cert)" ;;
         *) expect "generated plan $n" "safe: or unsafe:" "$last" ;;
     esac
 done
@@ -81,8 +111,8 @@ done
 for plan in "$tests"/../examples/*.plan; do
     "$twire" certify "$plan" >cert
     case $("$twire" check "$plan" | tail -n 1) in
-        safe:*) expect "example $(basename "$plan")" "accepted safe" "$("$twire" verify "$plan" cert)" ;;
-        *) expect "example $(basename "$plan")" "accepted unsafe" "$("$twire" verify "$plan" cert)" ;;
+        safe:*) expect "example $(basename "$plan")" "accepted safe" "$(verify "$plan" cert)" ;;
+        *) expect "example $(basename "$plan")" "accepted unsafe" "$(verify "$plan" cert)" ;;
     esac
 done
 
@@ -96,8 +126,10 @@ changed() {
         for by in 0 3 7 8 B D P R S . ' ' $'\n'; do
             { head -c "$at" cert && printf '%s' "$by" && tail -c "+$((at + 2))" cert; } >other
             cmp -s cert other && continue
-            text=$("$twire" verify plan other)
-            if [[ $text == accepted* ]]; then
+            text=$(verify plan other)
+            if [[ $text == *differs* ]]; then
+                expect "$1 with '$by' at $at" "the same of both" "$text"
+            elif [[ $text == accepted* ]]; then
                 expect "$1 with '$by' at $at" "$2" "$text at $(tail -n 1 other)"
             else
                 expect "$1 with '$by' at $at" "wrong" "${text%% *}"
@@ -130,7 +162,7 @@ expect "certify: the fullest plan" "0, lines 143858, last P6" "$?, lines $(wc -l
 sed '$s/.*/P5/' cert >wrong
 sed '$d' cert >short
 for name in cert wrong short; do
-    answer verify plan "$name" >"$name.answer" &
+    verified plan "$name" >"$name.answer" &
 done
 wait
 expect "verify: the fullest plan" "accepted safe, status 0" "$(cat cert.answer)"
@@ -156,9 +188,73 @@ expect "check: the longest wire" "pair 0 a/m b/n: stop against restart after $wi
 unsafe: 1 of 1 pairs, status 1" "$(answer check plan)"
 expect "certify: the longest wire" "cert 1
 fault 0 $wire stop restart" "$(cat cert)"
-expect "verify: the longest wire" "accepted unsafe, status 1" "$(answer verify plan cert)"
+expect "verify: the longest wire" "accepted unsafe, status 1" "$(verified plan cert)"
 sed "2s/ stop/r10010000l stop/" cert >other
-expect "verify: a wire with one header more" "wrong C5 pair 0, status 2" "$(answer verify plan other)"
+expect "verify: a wire with one header more" "wrong C5 pair 0, status 2" "$(verified plan other)"
+
+# ---- what twire-verify refuses, and its arguments
+
+# small ARG..: what one call of twire-verify writes, and its status.
+small() {
+    local text
+    text=$("$verifier" "$@" 2>&1)
+    echo "$text, status $?"
+}
+
+small_full() {
+    local text
+    text=$("$verifier" plan cert 2>&1 >/dev/full)
+    echo "$text, status $?"
+}
+
+# (in a command substitution a closed standard input would become the pipe of that)
+small_closed() {
+    local status
+    "$verifier" "$@" <&- >closed 2>&1
+    status=$?
+    echo "$(cat closed), status $status"
+}
+
+usage="usage: twire-verify PLAN CERT"
+write "write 1001000 stop else stop" "write 1001001 stop else stop"
+mkdir folder
+: >empty
+sed 's/$/\r/' cert >crlf
+sed 's/$/\r/' plan >crlf_plan
+printf 'brief 1\ndevice sensor 0x48 ;\nmessage m write sensor ;\ncontroller a m ;\n' >brief
+expect "verify: a safe plan" "accepted safe, status 0" "$(verified plan cert)"
+expect "verify: no such plan" "refused read, status 2" "$(verified missing cert)"
+expect "verify: no such certificate" "refused read, status 2" "$(verified plan missing)"
+expect "verify: a refused plan and no such certificate" "refused read, status 2" "$(verified empty missing)"
+expect "verify: a folder as a plan" "refused read, status 2" "$(verified folder cert)"
+expect "verify: a folder as a certificate" "refused read, status 2" "$(verified plan folder)"
+expect "verify: an empty plan" "refused P2 line 1, status 2" "$(verified empty cert)"
+expect "verify: an empty certificate" "wrong C1 line 1, status 2" "$(verified plan empty)"
+expect "verify: a certificate with other ends of lines" "wrong C1 line 1, status 2" "$(verified plan crlf)"
+expect "verify: the files the wrong way round" "refused P2 line 1, status 2" "$(verified cert plan)"
+expect "twire-verify: a brief" "refused P2 line 1, status 2" "$(small brief cert)"
+for name in - /dev/stdin /dev/fd/0 /proc/self/fd/0; do
+    input=plan
+    expect "verify: the plan by $name" "accepted safe, status 0" "$(verified "$name" cert)"
+    input=cert
+    expect "verify: the certificate by $name" "accepted safe, status 0" "$(verified plan "$name")"
+    expect "twire-verify: standard input twice, as $name" "$usage, status 2" "$(small - "$name" <plan)"
+    expect "twire-verify: the plan by $name, closed" "refused read, status 2" "$(small_closed "$name" cert)"
+    expect "twire-verify: the certificate by $name, closed" "refused read, status 2" "$(small_closed plan "$name")"
+done
+input=/dev/null
+for words in "" plan "plan cert cert" "--explain plan cert" "--" -V --hints; do
+    expect "twire-verify: the words '$words'" "$usage, status 2" "$(small $words)"
+done
+expect "twire-verify: a word that is not UTF-8" "$usage, status 2" "$(small plan $'\xff')"
+for word in -h --help; do
+    expect "twire-verify $word" "$usage, status 0" "$(small "$word")"
+    expect "twire-verify $word, on standard error" "" "$("$verifier" "$word" 2>&1 >/dev/null)"
+done
+version=$("$twire" --version)
+expect "twire-verify --version" "twire-verify ${version:6:5}, status 0" "$(small --version)"
+expect "twire-verify: usage, on standard output" "" "$("$verifier" plan 2>/dev/null)"
+expect "twire-verify: a full device" "refused write, status 2" "$(small_full)"
 
 # A certificate is judged as it comes: one that is larger than the memory there is. A trial build cannot run below any limit.
 if { (ulimit -v 32768 && exec "$twire" --version); } >/dev/null 2>&1; then
@@ -166,6 +262,7 @@ if { (ulimit -v 32768 && exec "$twire" --version); } >/dev/null 2>&1; then
     "$twire" certify plan >cert
     expect "a certificate of more than 32 MiB" yes "$( (($(stat -c %s cert) > 33554432)) && echo yes)"
     expect "verify: that certificate with 32 MiB of memory" "accepted safe, status 0" "$(ulimit -v 32768 && answer verify plan cert)"
+    expect "twire-verify: the same" "accepted safe, status 0" "$(ulimit -v 32768 && small plan cert)"
 else
     echo "left out: a certificate of more than 32 MiB with 32 MiB of memory (not the proved build)"
 fi

@@ -1,6 +1,6 @@
 #!/usr/bin/env bash
-# Captures in bytes, without a plan; captures that are told while they are read (--live); and captures that end at what nobody
-# explains. The last line is 'N passed, M failed', and the exit status is 1 where a case fails.
+# Captures in bytes, without a plan, also as waves; captures that are told while they are read (--live); and captures that end at
+# what nobody explains. The last line is 'N passed, M failed', and the exit status is 1 where a case fails.
 #
 # It runs the launcher at the top of the repository, or the program that TWIRE names.
 set -u
@@ -238,8 +238,8 @@ refuses "a plan and a dump" "unexpected argument 'header' found" decode plan hea
 expect "a hint on names that are not there" 2 "" "refused V1 scl
 hint: no signal of one bit has the name 'scl', and none has the name 'sda'
 hint: these signals have one bit, the nearest names first:
-hint:   D0
-hint:   D1
+hint:   libsigrok.D0
+hint:   libsigrok.D1
 hint: give the names that the lines have in the file with --scl NAME --sda NAME
 hint: two signals look like a bus; try
 hint:   twire decode $examples/probe_sigrok.vcd --scl D0 --sda D1" decode "$examples/probe_sigrok.vcd" --hints always
@@ -440,6 +440,158 @@ if [[ -z ${TWIRE_OF_OBJECTS:-} ]]; then
     wait_for 4 out
     status=0
     judge "a producer that Ctrl-C ends" 0 "$("$twire" decode three)" ""
+fi
+
+# ---- waves
+
+# stamps FILE: a line for each time of a dump, after its definitions.
+stamps() {
+    sed '1,/enddefinitions/d' "$1" | awk '/^#/ { printf "%s%s", gap, $0; gap = "\n"; next } { printf " %s", $0 } END { print "" }'
+}
+
+# words FILE: its bytes, each with its time.
+words() {
+    stamps "$1" | sed -nE 's/^#([0-9]+).* s(.*) %$/\1 \2/p'
+}
+
+# drawn NAME WORDS: the words of the dump in the file wave.
+drawn() {
+    status=$?
+    words wave >out
+    : >err
+    judge "$1" 0 "$2" ""
+}
+
+# The example of docs/CAPTURES.md. SCL falls at 15, where the first bit begins, and ten later for each further one; the eighth
+# ends at 95, where the acknowledge begins.
+{
+    printf '%s\n' '$timescale 1 us $end' '$var wire 1 ! scl $end' '$var wire 1 " sda $end' '$enddefinitions $end' '#0 1! 1"'
+    printf '%s\n' '#10 0"' '#15 0!' '#20 1!' '#25 0!' '#30 1!' '#35 0!' '#36 1"' '#40 1!' '#45 0!' '#46 0"' '#50 1!' '#55 0!' \
+        '#60 1!' '#65 0!' '#70 1!' '#75 0!' '#80 1!' '#85 0!' '#90 1!' '#95 0!' '#100 1!' '#105 0!' '#110 1!' '#115 1"'
+} >example
+expect "a report with waves" 0 $'10-115  S 10 Wr A P\n1 transactions' "" decode example --wave wave
+status=0
+sed '/^#/,$d' wave >out
+judge "the definitions of waves" 0 '$version twire $end
+$timescale 1 us $end
+$scope module bus $end
+$var wire 1 ! scl $end
+$var wire 1 " sda $end
+$var string 1 % bytes $end
+$upscope $end
+$enddefinitions $end' ""
+stamps wave >out
+judge "the waves of the example" 0 '#0 1! 1"
+#10 0" sS %
+#15 0! s10_Wr %
+#20 1!
+#25 0!
+#30 1!
+#35 0!
+#36 1"
+#40 1!
+#45 0!
+#46 0"
+#50 1!
+#55 0!
+#60 1!
+#65 0!
+#70 1!
+#75 0!
+#80 1!
+#85 0!
+#90 1!
+#95 0! sA %
+#100 1!
+#105 0!
+#110 1!
+#115 1" sP %
+#120' ""
+"$twire" decode wave >out
+judge "waves are a capture of the same bytes" 0 $'10-115  S 10 Wr A P\n1 transactions' ""
+
+# A read that is not acknowledged, a repeated START, a byte that is cut by a STOP; then a transaction that is cut, and one that goes
+# on. START is SDA falling at 10, and SCL falls 2 later. A bit takes 10: SDA is set at 2, SCL rises at 5 and falls at 10.
+awk '
+function at(time, changes) { print "#" time " " changes }
+function bits(from, levels,  k) {
+    for (k = 1; k <= length(levels); k++) {
+        at(from + 10 * k - 8, substr(levels, k, 1) "b"); at(from + 10 * k - 5, "1a"); at(from + 10 * k, "0a")
+    }
+}
+BEGIN {
+    print "$timescale\n 10 ns\n$end\n$scope module m $end\n$var wire 1 a SCL $end\n$var wire 1 b SDA $end\n$enddefinitions $end"
+    at(0, "1a 1b"); at(10, "0b"); at(12, "0a"); bits(12, "100100011")
+    at(104, "1b"); at(107, "1a"); at(109, "0b"); at(112, "0a"); bits(112, "10010000010")
+    at(224, "0b"); at(227, "1a"); at(229, "1b")
+    at(240, "0b"); at(242, "0a"); bits(242, "1"); at(255, "xa xb")
+    at(260, "1a 1b"); at(270, "0b"); at(272, "0a"); bits(272, "0")
+}' >several
+"$twire" decode several --scl SCL --sda SDA --wave wave >told
+drawn "the bytes of waves" '10 S
+12 48_Rd
+92 NA
+109 Sr
+112 48_Wr
+192 A
+202 0b10(cut)
+229 P
+240 S
+242 0b1(cut)
+255 cut
+270 S
+272 0b0(cut)'
+grep -A 1 timescale wave >out
+status=0
+judge "their time" 0 $'$timescale 10 ns $end\n$scope module bus $end' ""
+"$twire" decode several --scl SCL --sda SDA --from 11 --to 2500ns --scope m --wave wave >told
+drawn "of the transactions that are told" '240 S
+242 0b1(cut)
+255 cut'
+"$twire" decode several --scl SCL --sda SDA --format json --wave wave >told
+drawn "beside objects" "$("$twire" decode several --scl SCL --sda SDA --wave other >told; words other)"
+
+# A short pulse of SDA while SCL is HIGH stands in the waves, and does not count.
+sed 's/^#50 1!$/&\n#52 1"\n#53 0"/' example >spike
+"$twire" decode spike --min-pulse 2 --wave wave >told
+drawn "levels that are too short" '10 S
+15 10_Wr
+95 A
+115 P'
+stamps wave | grep -E '^#5[0-9]' >out
+judge "they are in the waves" 0 $'#50 1!\n#52 1"\n#53 0"\n#55 0!' ""
+
+sed '/timescale/d' example >timeless
+"$twire" decode timeless --wave wave >told
+status=$?
+grep -c timescale wave >out
+judge "waves without a unit" 0 0 ""
+expect "waves over what is read" 2 $'10-115  S 10 Wr A P\n1 transactions' "refused write" decode example --wave example --hints never
+echo old >wave
+expect "no waves of what is refused" 2 "" "refused V1 scl" decode example --scl none --wave wave --hints never
+cp wave out
+status=0
+: >err
+judge "the old file stays" 0 old ""
+refuses "waves on standard output" "'--wave' wants a file, since the report goes to standard output" decode example --wave -
+
+# What sigrok decodes of the waves is what it decodes of the capture.
+if command -v sigrok-cli >/dev/null; then
+    for capture in "probe_sigrok D0 D1"; do
+        read -r capture scl sda <<<"$capture"
+        "$twire" decode "$examples/$capture.vcd" --scl "$scl" --sda "$sda" --wave wave.vcd >told
+        # (it does not see the last change of a dump that has no later time)
+        sigrok-cli -I vcd -i wave.vcd -P i2c:scl=scl:sda=sda 2>/dev/null | grep -v Stop >out
+        sigrok-cli -I vcd -i "$examples/$capture.vcd" -P "i2c:scl=$scl:sda=$sda" 2>/dev/null | grep -v Stop >due
+        status=0
+        : >err
+        judge "$capture as sigrok decodes it" 0 "$(cat due)" ""
+        grep -c 'Address write: 10' out >found
+        cp found out
+        judge "$capture has bytes" 0 1 ""
+    done
+else
+    echo "left out: waves as sigrok decodes them (no command 'sigrok-cli')"
 fi
 
 # ---- an end at what nobody explains

@@ -75,9 +75,16 @@ printf '%s\n' 'plan 1' 'message m write 1001000 stop else stop ;' 'controller a 
 part=(part.vcd --min-pulse 2us --from 6us --to 165 --times si)
 "$twire" page part.plan --capture "${part[@]}" -o page.html
 want "a part of a capture: its explained report" "$("$twire" capture part.plan "${part[@]}" --explain)" "$(text capture page.html)"
+# Its wire is that from tools/dump: after START SCL falls, and each bit has a sample where SDA changes, where SCL rises and where it
+# falls, five steps apart; where SDA stays as it is, SCL rises ten steps after it fell.
+bits=DA5BEBADADaA5BEBADADaA5DaA5DaA5DaA5DaE5
 want "a part of a capture: its data" \
-    '"capture":{"stopped":1,"unexplained":0,"transactions":[{"from":"165","to":"320","times":["165 us","320 us"],"end":"stop","by":[0],"bytes":"S 48 Wr A P"}]}}' \
+    '"capture":{"stopped":1,"unexplained":0,"step":[1,"us"],"transactions":[{"from":"165","to":"320","times":["165 us","320 us"],"end":"stop","by":[0],"bytes":"S 48 Wr A P","wire":"'$bits'"}]}}' \
     "$(grep -o '"capture":{.*}' page.html | sed 's/<.*//')"
+"$twire" page part.plan --capture part.vcd --min-pulse 2us --to 100 -o page.html
+want "a level that is too short: the wire as it was recorded, and as it lasts" \
+    '"wire":"DA5BED1EB3A5DADaA5BEBADADaA5DaA5DaA5DaA5DaE5","lasting":"'$bits'"' \
+    "$(grep -o '"wire":"[^"]*","lasting":"[^"]*"' page.html)"
 "$twire" page examples/two_writers.plan -o page.html
 want "no capture: no data of one" "" "$(grep -o '"capture":.*' page.html)"
 for vcd in examples/{write_ghdl,probe_icarus,two_buses}.vcd; do
@@ -448,7 +455,125 @@ want "its title" 'twire: a&lt;b&gt;&amp;"c".plan' "$(sed -n 's/.*<title>\(.*\)<\
 "$twire" page examples/two_writers.plan --capture examples/two_buses.vcd --scope board.i2c1 -o page.html
 opened page.html
 want "a capture in a browser: errors" "" "$(<errors)"
-want "a capture in a browser: the bar of what nobody explains" 1 "$(grep -o '<rect [^>]*class="odd"' dom | wc -l)"
+want "a capture in a browser: the block of what nobody explains" 1 "$(grep -o '<rect [^>]*class="odd"' dom | wc -l)"
+
+# What is drawn of each wire are its bytes; also of one with a level that is too short.
+cat >wires.js <<'SCRIPT'
+<script>
+document.body.dataset.wires = data.capture.transactions.length > 0 && data.capture.transactions.every(one =>
+  callsOf(slotsOf(samplesOf(one.lasting ?? one.wire))).map(call => call.text).join(' ') === one.bytes);
+</script>
+SCRIPT
+wires() {
+    "$twire" page "$@" -o page.html
+    sed '/^<\/body>/e cat wires.js' page.html >followed.html
+    opened followed.html
+    want "the wires of $3: errors" "" "$(<errors)"
+    want "the wires of $3 are their bytes" 1 "$(grep -c '<body data-wires="true"' dom)"
+}
+
+# A board on which five transactions are seen: two readings, which two controllers may send; 250 ms later a write that one sends,
+# one that nobody sends, in which SCL is held LOW for 900 us, and one that is cut.
+awk '
+function put(c, d, passed,  line) {
+    line = ""
+    if (c != scl) line = line " " c "!"
+    if (d != sda) line = line " " d "\""
+    if (line != "") print "#" time line
+    scl = c; sda = d; time += passed
+}
+function start() { put(1, 1, 5); put(1, 0, 5); put(0, 0, 2) }
+function bit(level) { put(0, level, 3); put(1, level, 5); put(0, level, 2) }
+function stop() { put(0, 0, 3); put(1, 0, 5); put(1, 1, 5) }
+function send(levels,  k) { for (k = 1; k <= length(levels); k++) bit(substr(levels, k, 1)) }
+BEGIN {
+    time = 0
+    print "$timescale 1 us $end\n$var wire 1 ! scl $end\n$var wire 1 \" sda $end\n$enddefinitions $end"
+    put(1, 1, 40)
+    for (k = 0; k < 2; k++) {
+        start(); send("100100000000000010")
+        put(0, 1, 3); put(1, 1, 5); put(1, 0, 5); put(0, 0, 2)
+        send("100100010000100101"); stop(); time += 30
+    }
+    time += 250000
+    start(); send("101000000000000010010101010"); stop(); time += 30
+    start(); send("1"); time += 900; send("00100000000001110"); stop(); time += 30
+    start(); send("10010000010"); put("x", "x", 10)
+}' >board.vcd
+cat >board.brief <<'BRIEF'
+brief 1
+device sensor 0x48 ;  device eeprom 0x50 ;
+message get write sensor 0x01 read sensor 1 ;
+message put write eeprom any any ;
+controller main get ;
+controller guard get put ;
+BRIEF
+wires board.brief --capture board.vcd
+wires part.plan --capture part.vcd --min-pulse 2us
+for vcd in examples/{probe_icarus,probe_verilator,write_ghdl}.vcd; do
+    wires examples/stop_meets_data.plan --capture "$vcd"
+done
+
+# said SCRIPT..: what scripts come to, and what keys and clicks do, on the page of the board.
+said() {
+    "$tests/browser" tree "$browser" page.html "$@" >tree 2>&1
+    sed '/^RootWebArea/,$d' tree
+}
+if type -P python3 >python; then
+    "$twire" page board.brief --capture board.vcd -o page.html
+    lanes='say:[...document.querySelectorAll(".times svg > g text title")].map(one => one.textContent).join(" ")'
+    want "the lanes" "main/get guard/get guard/put unexplained cut/unfinished" "$(said "$lanes")"
+    # Two readings are blocks in two lanes; the other three have one block each.
+    blocks='say:["seen", "odd", "cut"].map(one => document.querySelectorAll(".times ." + one).length).join(" ")'
+    want "the blocks" "5 1 1" "$(said "$blocks")"
+    # The second STOP comes with the last put before time += 30: from its time to the next START 5 + 30 + 250000 + 5 us pass.
+    idle='say:[...document.querySelectorAll(".times .folded")].map(one => one.dataset.idle).join(" ")'
+    want "the idle stretch is folded" "250.04 ms" "$(said "$idle")"
+    want "it is not, in true time" "" "$(said 'click:.bar input' "$idle")"
+    title='say:document.querySelector("#wire h3").textContent'
+    at='say:document.querySelector(".times").getAttribute("aria-activedescendant")'
+    want "a key goes to the next transaction" "option-1" "$(said 'say:document.querySelector(".times").focus()' ArrowRight "$at" | tail -n 1)"
+    want "the last one, and no further" "option-4" "$(said 'say:document.querySelector(".times").focus()' End ArrowRight "$at" | tail -n 1)"
+    span='say:Math.round(100 * [...document.querySelectorAll(".times .seen")].reduce((most, one) => Math.max(most, one.getAttribute("width")), 0))'
+    sizes=($(said 'say:document.querySelector(".times").focus()' "$span" + "$span" - "$span" | grep -E '^[0-9]+$'))
+    want "keys zoom: twice as wide, and back again" "yes" \
+        "$( ((sizes[0] > 100 && sizes[1] >= 2 * sizes[0] - 2 && sizes[1] <= 2 * sizes[0] + 2 && sizes[2] == sizes[0])) && echo yes || echo "${sizes[*]}")"
+    # It has the byte 00000111 from slot 9 on, where the readings have 00000001: they differ in slot 14. The other header is
+    # 1010000, which differs from 1001000 in slot 2.
+    want "a click shows a wire, and where the nearest leave it" "250
+slot 14, main/get: it sends 0, the bus has 1
+slot 14, guard/get: it sends 0, the bus has 1
+slot 2, guard/put: it sends 1, the bus has 0" "$(said 'click:.times .odd' 'say:document.querySelectorAll("#wire path.level").length === 2 ? 250 : "no lines"' \
+        'say:[...document.querySelectorAll("#wire .leaves li")].map(one => one.textContent).join("\n")')"
+    want "what is told of a wire" 'status "" live=polite
+region "The wire of a transaction"
+image "SCL and SDA as recorded: S 48 Wr A 01 A Sr 48 Rd A 12 NA P"' \
+        "$(said 'say:document.querySelector(".times").focus()' Enter >/dev/null; sed -n '/status "" live/,$p' tree | grep -oE '(status|region|image) .*' | tail -n 3)"
+    # (START falls 5 us after 40; a bit takes 10 us, and START, a repeated START and STOP take 7, 15 and 8 until the bus moves on)
+    want "what is told of the lanes" 'listbox "Transactions of the capture" focused=True
+option "45-435 main/get guard/get: S 48 Wr A 01 A Sr 48 Rd A 12 NA P"' \
+        "$(sed -n '/listbox "T/,$p' tree | grep -oE '(listbox|option) .*' | head -n 2)"
+    want "the capture in print" "" "$("$tests/browser" print "$browser" page.html 2>&1 | grep 'cut off')"
+fi
+
+# Of 20,000 transactions what is in view is drawn, and no more.
+"$tests/../tools/dump" 100100000000000010,101000000,100100000 20000 alone >many.vcd
+cat >many.brief <<'BRIEF'
+brief 1
+message one write 0x48 0x01 ;
+message two write 0x48 ;
+message three write 0x50 ;
+controller a one two ;
+controller b three ;
+BRIEF
+"$twire" page many.brief --capture many.vcd -o page.html
+want "20,000 transactions: the status" 0 $?
+sed 's|^</body>|<script>document.body.dataset.shapes = document.querySelectorAll(".times rect").length < 4000;</script>\n</body>|' page.html >followed.html
+opened followed.html
+want "20,000 transactions in a browser: errors" "" "$(<errors)"
+want "20,000 transactions in a browser: few shapes" 1 "$(grep -c '<body data-shapes="true"' dom)"
+want "20,000 transactions in a browser: drawn within ten seconds" yes \
+    "$( (($(sed -n 's/.*<html [^>]*data-drawn="\([0-9]*\)".*/\1/p' dom) < 10000)) && echo yes)"
 
 # The largest plan: as many pairs as there may be, shown by what is sent. A trial build takes many times as long.
 if [[ $(<version) != *"trial"* ]]; then

@@ -173,7 +173,7 @@ hint: no signal of one bit has the name 'sda'
 hint: the file ends, or breaks off, among its definitions: it has no
 hint: '\$enddefinitions \$end'
 hint: these signals have one bit, the nearest names first:
-hint:   scl
+hint:   top.i2c0.scl
 hint: give the name that the line has in the file with --sda NAME
 hint: this lists the signals: twire signals cut_definitions" capture plan cut_definitions --hints always
 
@@ -181,8 +181,8 @@ hint: this lists the signals: twire signals cut_definitions" capture plan cut_de
 expect "a hint on a name with a blank" 2 "" "refused V1 scl
 hint: no signal of one bit has the name 'I2C SCK'
 hint: these signals have one bit, the nearest names first:
-hint:   I2C SCL
-hint:   I2C SDA
+hint:   libsigrok.I2C SCL
+hint:   libsigrok.I2C SDA
 hint: give the name that the line has in the file with --scl NAME
 hint: two signals look like a bus; try
 hint:   twire capture plan blanks --scl-code '!' --sda-code '\"'" \
@@ -208,8 +208,8 @@ hint: 'twire signals named_twice' shows what each does" capture plan named_twice
 expect "a hint on an empty code" 2 "" "refused V1 scl
 hint: no signal of one bit has the code ''
 hint: these signals have one bit, the nearest names first:
-hint:   I2C SCL
-hint:   I2C SDA
+hint:   libsigrok.I2C SCL
+hint:   libsigrok.I2C SDA
 hint: give the name that the line has in the file with --scl NAME
 hint: two signals look like a bus; try
 hint:   twire capture plan blanks --scl-code '!' --sda-code '\"'" \
@@ -595,8 +595,10 @@ expect "times, and a token of no kind" 2 "" "refused V2 line $(wc -l <stray_no_s
 expect "a bus that shows without short pulses, in a hint" 2 "" "refused V1 scl
 hint: no signal of one bit has the name 'sck'
 hint: these signals have one bit, the nearest names first:
-hint:   scl
-hint:   sda
+hint:   top.i2c0.scl
+hint:   top.i2c1.scl
+hint:   top.i2c0.sda
+hint:   top.i2c1.sda
 hint: give the name that the line has in the file with --scl NAME
 hint: two signals look like a bus; try
 hint:   twire decode glitch --scl-code '!' --sda-code '\"'" decode glitch --scl sck --min-pulse 2 --hints always
@@ -640,6 +642,19 @@ refuses "a summary that is explained" "'--summary' leaves no transactions for '-
 
 # ---- what is learned
 
+# same NAME WANTED FOUND: parts of what was learned.
+same() {
+    if [[ $3 == "$2" ]]; then
+        passed=$((passed + 1))
+    else
+        failed=$((failed + 1))
+        printf 'FAILED: %s: wanted %s, found %s\n' "$1" "$2" "$3"
+    fi
+}
+
+# words_of WORD FILE: the first two words of the lines that begin with this word.
+words_of() { sed -n "s/^\($1 [^ ]*\) .*/\1/p" "$2"; }
+
 expect "one message" 0 'brief 1
 # seen: 2 transactions, 1 messages
 
@@ -670,17 +685,17 @@ expect "messages with answers" 1 'brief 1
 # 1 times, first at 1000: S 48 Wr A 01 A Sr 48 Rd A (2 bytes) P
 # 1 times, first at 2000: S 48 Wr NA Sr 50 Wr A 00 A P
 # never seen: 0x01 NA, 48 Rd NA, 50 Wr NA, 0x00 NA,
-message write_48_read_48 write 0x48 else ( write 0x50 0x00 ) 0x01 read 0x48 2 ;
+message read_48_r01 write 0x48 else ( write 0x50 0x00 ) 0x01 read 0x48 2 ;
 
 # 2 times, first at 3000: S 48 Wr A 01 A P
 # never seen: 48 Wr NA, 0x01 NA,
-message write_48 write 0x48 0x01 ;
+message write_48_r01 write 0x48 0x01 ;
 
 # 1 times, first at 4000: S 48 Wr A 02 A P
 # never seen: 48 Wr NA, 0x02 NA,
-message write_48_2 write 0x48 0x02 ;
+message write_48_r02 write 0x48 0x02 ;
 
-controller seen write_48_read_48 write_48 write_48_2 ;' "" learn lesson
+controller seen read_48_r01 write_48_r01 write_48_r02 ;' "" learn lesson
 expect "registers are not put together" 1 "$("$twire" learn lesson)" "" learn lesson --merge
 expect "registers are not widened" 1 "$("$twire" learn lesson)" "" learn lesson --widen
 
@@ -724,17 +739,62 @@ expect "data put together" 0 'brief 1
 # 1 times, first at 1000: S 48 Wr A 01 A 10 A 25 A P
 # 1 times, first at 2000: S 48 Wr A 01 A 1f A 27 A P
 # never seen: 48 Wr NA, 0x01 NA, 0x1X NA, 0b001001x1 NA,
-message write_48 write 0x48 0x01 0x1X 0b001001x1 ;
+# seen 2 times, always these bits: 0x1X 0b001001x1
+message write_48_r01 write 0x48 0x01 0x1X 0b001001x1 ;
 
 # 1 times, first at 3000: S 48 Wr A 02 A 10 A 25 A P
 # never seen: 48 Wr NA, 0x02 NA, 0x10 NA, 0x25 NA,
-message write_48_2 write 0x48 0x02 0x10 0x25 ;
+# seen once: 0x10 0x25
+message write_48_r02 write 0x48 0x02 0x10 0x25 ;
 
 # 1 times, first at 4000: S 48 Wr A 01 A 15 A P
 # never seen: 48 Wr NA, 0x01 NA, 0x15 NA,
-message write_48_3 write 0x48 0x01 0x15 ;
+# seen once: 0x15
+message write_48_r01_2 write 0x48 0x01 0x15 ;
 
-controller seen write_48 write_48_2 write_48_3 ;' "" learn registers --merge
+controller seen write_48_r01 write_48_r02 write_48_r01_2 ;' "" learn registers --merge
+
+# Data that was the same each time: a byte that was not acknowledged once was sent more often than the one after it.
+seen_in 2000 >alike <<'BYTES'
+48w 01 10 25
+48w 01 10 25
+48w 01 10!
+48w 02 00 01 02 03 04 05 06 07 08
+BYTES
+expect "data that was alike" 0 'brief 1
+# seen: 4 transactions, 2 messages
+
+# 2 times, first at 1000: S 48 Wr A 01 A 10 A 25 A P
+# 1 times, first at 5000: S 48 Wr A 01 A 10 NA P
+# never seen: 48 Wr NA, 0x01 NA, 0x25 NA,
+# seen 3 times, always this value: 0x10
+# seen 2 times, always this value: 0x25
+message write_48_r01 write 0x48 0x01 0x10 0x25 ;
+
+# 1 times, first at 7000: S 48 Wr A 02 A 00 A 01 A 02 A 03 A 04 A 05 A 06 A 07 A
+#     08 A P
+# never seen: 48 Wr NA, 0x02 NA, 0x00 NA, 0x01 NA, 0x02 NA, 0x03 NA, 0x04 NA,
+#     0x05 NA, ..
+# seen once: 0x00 0x01 0x02 0x03 0x04 0x05 0x06 0x07 ..
+message write_48_r02 write 0x48 0x02 0x00 0x01 0x02 0x03 0x04 0x05 0x06 0x07
+    0x08 ;
+
+controller seen write_48_r01 write_48_r02 ;' "" learn alike
+expect "data that was alike, put together" 0 "$("$twire" learn alike)" "" learn alike --merge
+
+# Names of one header and of two, with a register and without.
+seen_in 2000 >named <<'BYTES'
+48w sr 48r aa!
+48w 01 02 sr 48r aa!
+48w 01 sr 50r aa!
+50r aa! sr 50w 03 04
+50w 05 sr 50w 06
+50w sr 50w 07
+48r aa! sr 49r aa! sr 48w 08
+BYTES
+"$twire" learn named >learned
+same "names" "$(printf "message %s\n" write_48_read_48 read_48_r01 write_48_r01_read_50 read_50_write_50_r03 \
+    write_50_r05_write_50 write_50_write_50 read_48_read_49)" "$(words_of message learned)"
 
 # The example of docs/CAPTURES.md.
 seen_in 1000 >lengths <<'BYTES'
@@ -751,25 +811,25 @@ expect "a family" 0 'brief 1
 # 1 times, first at 2000: S 50 Wr A 00 A 11 A P
 # 1 times, first at 3000: S 50 Wr A 00 A 22 A 33 A P
 # never seen: 50 Wr NA, 0x00 NA, any NA,
-message write_50_any write 0x50 0x00 any*0..2 ;
+message write_50_r00_any write 0x50 0x00 any*0..2 ;
 
 # 1 times, first at 4000: S 50 Wr A 10 A 44 A 55 A 66 A 77 A P
 # never seen: 50 Wr NA, 0x10 NA, any NA,
-message write_50_2 write 0x50 0x10 any*4 ;
+message write_50_r10 write 0x50 0x10 any*4 ;
 
 # 1 times, first at 5000: S 50 Wr A 00 A Sr 50 Rd A (1 bytes) P
 # never seen: 50 Wr NA, 0x00 NA, 50 Rd NA,
-message write_50_read_50 write 0x50 0x00 read 0x50 1 ;
+message read_50_r00 write 0x50 0x00 read 0x50 1 ;
 
-controller seen write_50_any write_50_2 write_50_read_50 ;' "" learn lengths --widen
+controller seen write_50_r00_any write_50_r10 read_50_r00 ;' "" learn lengths --widen
 "$twire" learn lengths --widen -o learned
 expect "its messages" 0 "plan 1
-message write_50_any_0 write 1010000 00000000 stop else stop else stop ;
-message write_50_any_1 write 1010000 00000000 xxxxxxxx stop else stop else stop else stop ;
-message write_50_any_2 write 1010000 00000000 xxxxxxxx xxxxxxxx stop else stop else stop else stop else stop ;
-message write_50_2 write 1010000 00010000 xxxxxxxx xxxxxxxx xxxxxxxx xxxxxxxx stop$(printf ' else stop%.0s' 1 2 3 4 5 6) ;
-message write_50_read_50 write 1010000 00000000 again read 1010000 1 stop else stop else stop else stop ;
-controller seen write_50_any_0 write_50_any_1 write_50_any_2 write_50_2 write_50_read_50 ;" "" expand learned
+message write_50_r00_any_0 write 1010000 00000000 stop else stop else stop ;
+message write_50_r00_any_1 write 1010000 00000000 xxxxxxxx stop else stop else stop else stop ;
+message write_50_r00_any_2 write 1010000 00000000 xxxxxxxx xxxxxxxx stop else stop else stop else stop else stop ;
+message write_50_r10 write 1010000 00010000 xxxxxxxx xxxxxxxx xxxxxxxx xxxxxxxx stop$(printf ' else stop%.0s' 1 2 3 4 5 6) ;
+message read_50_r00 write 1010000 00000000 again read 1010000 1 stop else stop else stop else stop ;
+controller seen write_50_r00_any_0 write_50_r00_any_1 write_50_r00_any_2 write_50_r10 read_50_r00 ;" "" expand learned
 expect "a family, and data put together" 0 "$("$twire" learn lengths --widen)" "" learn lengths --merge --widen
 
 # Lengths with gaps, one of which does something else after a NACK, and one whose second data byte was not acknowledged.
@@ -790,22 +850,22 @@ expect "families with gaps" 0 'brief 1
 # 1 times, first at 7000: S 50 Wr A 00 A b1 A b2 NA P
 # 1 times, first at 13000: S 50 Wr NA Sr 51 Wr A 00 A P
 # never seen: 0x00 NA, 51 Wr NA,
-message write_50 write 0x50 else ( write 0x51 0x00 ) 0x00 any*4 ;
+message write_50_r00 write 0x50 else ( write 0x51 0x00 ) 0x00 any*4 ;
 
 # 2 times, first at 3000: S 50 Wr A 00 A a1 A P
 # 1 times, first at 9000: S 50 Wr A 00 A c1 A c2 A P
 # never seen: 50 Wr NA, 0x00 NA, any NA,
-message write_50_2_any write 0x50 0x00 any*1..2 ;
+message write_50_r00_2_any write 0x50 0x00 any*1..2 ;
 
 # 1 times, first at 5000: S 50 Wr A 00 A b1 A b2 A b3 A b4 A b5 A P
 # never seen: 50 Wr NA, 0x00 NA, any NA,
-message write_50_3 write 0x50 0x00 any*5 ;
+message write_50_r00_3 write 0x50 0x00 any*5 ;
 
 # 1 times, first at 11000: S 50 Wr A 00 A d1 A d2 A d3 A d4 A d5 A d6 A d7 A P
 # never seen: 50 Wr NA, 0x00 NA, any NA,
-message write_50_4 write 0x50 0x00 any*7 ;
+message write_50_r00_4 write 0x50 0x00 any*7 ;
 
-controller seen write_50 write_50_2_any write_50_3 write_50_4 ;' "" learn gaps --widen
+controller seen write_50_r00 write_50_r00_2_any write_50_r00_3 write_50_r00_4 ;' "" learn gaps --widen
 
 # A run ends where something is done after a NACK. What is done there has runs too, and is no family.
 seen_in 1000 >refusals <<'BYTES'
@@ -821,18 +881,18 @@ expect "runs beside refusals" 0 'brief 1
 # 1 times, first at 1000: S 50 Wr A 00 A a1 NA Sr 51 Wr A 10 A b1 A b2 A P
 # 1 times, first at 2000: S 50 Wr A 00 A a1 A a2 A a3 A a4 A P
 # never seen: 50 Wr NA, 0x00 NA, 51 Wr NA, 0x10 NA,
-message write_50 write 0x50 0x00 any else ( write 0x51 0x10 any*2 ) any*3 ;
+message write_50_r00 write 0x50 0x00 any else ( write 0x51 0x10 any*2 ) any*3 ;
 
 # 1 times, first at 3000: S 50 Wr A 00 A a1 A P
 # 1 times, first at 4000: S 50 Wr A 00 A a1 NA Sr 51 Wr A 10 A b1 A P
 # never seen: 50 Wr NA, 0x00 NA, 51 Wr NA, 0x10 NA,
-message write_50_2 write 0x50 0x00 any else ( write 0x51 0x10 any ) ;
+message write_50_r00_2 write 0x50 0x00 any else ( write 0x51 0x10 any ) ;
 
 # 1 times, first at 5000: S 50 Wr A 00 A a1 A a2 A a3 A P
 # never seen: 50 Wr NA, 0x00 NA, any NA,
-message write_50_3 write 0x50 0x00 any*3 ;
+message write_50_r00_3 write 0x50 0x00 any*3 ;
 
-controller seen write_50 write_50_2 write_50_3 ;' "" learn refusals --widen
+controller seen write_50_r00 write_50_r00_2 write_50_r00_3 ;' "" learn refusals --widen
 
 # More paths than are told.
 for value in 1 2 3 4 5; do
@@ -853,27 +913,96 @@ expect "a family of many paths" 0 'brief 1
 # 1 times, first at 8000: S 50 Wr A 00 A 04 A 00 A P
 # and 2 others
 # never seen: 50 Wr NA, 0x00 NA, any NA,
-message write_50_any write 0x50 0x00 any*1..2 ;
+message write_50_r00_any write 0x50 0x00 any*1..2 ;
 
-controller seen write_50_any ;' "" learn more --widen
+controller seen write_50_r00_any ;' "" learn more --widen
+
+# A family of two writes has no register in its name.
+seen_in 2000 >two_writes <<'BYTES'
+50w 00 sr 50w 01 02
+50w 00 sr 50w 01 02 03
+BYTES
+expect "a family of two writes" 0 'brief 1
+# seen: 2 transactions, 2 messages
+
+# 1 times, first at 1000: S 50 Wr A 00 A Sr 50 Wr A 01 A 02 A P
+# 1 times, first at 3000: S 50 Wr A 00 A Sr 50 Wr A 01 A 02 A 03 A P
+# never seen: 50 Wr NA, 0x00 NA, 0x01 NA, any NA,
+message write_50_write_50_any write 0x50 0x00 write 0x50 0x01 any*1..2 ;
+
+controller seen write_50_write_50_any ;' "" learn two_writes --widen
+
+# Reads of several counts, one of which has no neighbour.
+seen_in 2000 >counts <<'BYTES'
+48r 11!
+48w 02 sr 48r 11 12 13!
+48w 02 sr 48r 11!
+48r 11 12!
+48w 02 sr 48r 11 12!
+48w 02 sr 48r 11 12 13 14 15!
+48r!
+BYTES
+expect "counts of reads" 0 'brief 1
+# seen: 7 transactions, 3 messages
+
+# 1 times, first at 1000: S 48 Rd A (1 bytes) P
+# 1 times, first at 7000: S 48 Rd A (2 bytes) P
+# 1 times, first at 13000: S 48 Rd NA P
+# never seen:
+message read_48 read 0x48 1..2 ;
+
+# 1 times, first at 3000: S 48 Wr A 02 A Sr 48 Rd A (3 bytes) P
+# 1 times, first at 5000: S 48 Wr A 02 A Sr 48 Rd A (1 bytes) P
+# 1 times, first at 9000: S 48 Wr A 02 A Sr 48 Rd A (2 bytes) P
+# never seen: 48 Wr NA, 0x02 NA, 48 Rd NA,
+message read_48_r02 write 0x48 0x02 read 0x48 1..3 ;
+
+# 1 times, first at 11000: S 48 Wr A 02 A Sr 48 Rd A (5 bytes) P
+# never seen: 48 Wr NA, 0x02 NA, 48 Rd NA,
+message read_48_r02_2 write 0x48 0x02 read 0x48 5 ;
+
+controller seen read_48 read_48_r02 read_48_r02_2 ;' "" learn counts --widen
+"$twire" learn counts --widen -o learned
+expect "their plan" 0 "plan 2
+message read_48 read 1001000 1..2 stop else stop ;
+message read_48_r02 write 1001000 00000010 again read 1001000 1..3 stop else stop else stop else stop ;
+message read_48_r02_2 write 1001000 00000010 again read 1001000 5 stop else stop else stop else stop ;
+controller seen read_48 read_48_r02 read_48_r02_2 ;" "" expand learned
+"$twire" learn counts >learned
+same "counts without an option" "$(printf "message %s\n" read_48 read_48_r02 read_48_r02_2 read_48_2 read_48_r02_3 read_48_r02_4)" \
+    "$(words_of message learned)"
+
+# Messages that differ in two counts are none: of each the first can have a range.
+seen_in 2000 >two_counts <<'BYTES'
+48r 11! sr 49r 11!
+48r 11 12! sr 49r 11!
+48r 11! sr 49r 11 12!
+48r 11 12! sr 49r 11 12!
+48r 11 12! sr 49r 11 12! sr 48w 00
+BYTES
+"$twire" learn two_counts --widen >learned
+same "counts of two reads" 'message read_48_read_49 read 0x48 1..2 read 0x49 1 ;
+message read_48_read_49_2 read 0x48 1..2 read 0x49 2 ;
+message read_48_read_49_3 read 0x48 2 read 0x49 2 write 0x48 0x00 ;' "$(grep ^message learned)"
 refuses "a summary that is widened" "unexpected argument '--widen' found" decode more --widen
 # Lines are not broken within a header, its count and its answer: here column 80 is in the midst of those of the read.
 {
     printf '%s\n' '$var wire 1 ! scl $end' '$var wire 1 " sda $end' '$enddefinitions $end' '#0 1! 1"'
-    bytes=000000010000000100000000110000001000000001010000001100000001110
+    bytes=000000010000000100000000110000001000000001010000001100000001110000010000
     transaction ! '"' "100100000${bytes}r100100010110101000010101011" 1000
 } >wide_lesson
 expect "a message of more than one line" 0 'brief 1
 # seen: 1 transactions, 1 messages
 
-# 1 times, first at 1000: S 48 Wr A 01 A 02 A 03 A 04 A 05 A 06 A 07 A
+# 1 times, first at 1000: S 48 Wr A 01 A 02 A 03 A 04 A 05 A 06 A 07 A 08 A
 #     Sr 48 Rd A (2 bytes) P
 # never seen: 48 Wr NA, 0x01 NA, 0x02 NA, 0x03 NA, 0x04 NA, 0x05 NA, 0x06 NA,
 #     0x07 NA, ..
-message write_48_read_48 write 0x48 0x01 0x02 0x03 0x04 0x05 0x06 0x07
+# seen once: 0x02 0x03 0x04 0x05 0x06 0x07 0x08
+message read_48_r01 write 0x48 0x01 0x02 0x03 0x04 0x05 0x06 0x07 0x08
     read 0x48 2 ;
 
-controller seen write_48_read_48 ;' "" learn wide_lesson
+controller seen read_48_r01 ;' "" learn wide_lesson
 expect "into a file" 0 "" "" learn twice -o learned
 expect "from the file" 0 "plan 1
 message write_48 write 1001000 stop else stop ;
@@ -958,6 +1087,26 @@ again() {
         fi
     done
 }
+# again_beside NAME DUMP TIME: the same of what is learned beside a brief of what was seen up to this time: one with its controller,
+# and one without.
+again_beside() {
+    local name=$1 dump=$2 merge lists
+    for merge in "" --merge --widen; do
+        for lists in yes no; do
+            "$twire" learn "$dump" --to "$3" $merge >first
+            if [[ $lists == no ]]; then sed -i '/^controller/,$d' first; fi
+            if "$twire" learn "$dump" $merge --names first >brief &&
+                grep -q '^# [1-9][0-9]* transactions are those of messages in first$' brief &&
+                "$twire" capture first "$dump" --with brief >report && grep -q ' transactions, 0 unexplained$' report; then
+                passed=$((passed + 1))
+            else
+                failed=$((failed + 1))
+                echo "FAILED: learned beside a brief: $name $merge $lists"
+                cat first brief report
+            fi
+        done
+    done
+}
 again "an example" "$tests/../examples/stop_meets_data.vcd"
 again "an example of sigrok" "$tests/../examples/probe_sigrok.vcd" --scl D0 --sda D1
 again "an example of Icarus Verilog" "$tests/../examples/probe_icarus.vcd"
@@ -969,6 +1118,14 @@ again "names with blanks" blanks --scl "I2C SCL" --sda "I2C SDA"
 again "neighbouring lengths" lengths
 again "lengths with gaps" gaps
 again "runs beside refusals" refusals
+again "data that was alike" alike
+again "counts of reads" counts
+again "counts of two reads" two_counts
+again_beside "neighbouring lengths" lengths 2500
+again_beside "lengths with gaps" gaps 6000
+again_beside "runs beside refusals" refusals 2500
+again_beside "counts of reads" counts 4000
+again_beside "names" named 8000
 
 # page LENGTH..: writes of so many data bytes to one register.
 page() {
@@ -983,10 +1140,10 @@ page 254 253 | seen_in 100000 >long_pages
 again "the longest pages" long_pages
 expect "a family of the longest pages" 0 "$(
     for length in 253 254; do
-        echo "message write_50_any_$length write 1010000 00000000$(printf ' xxxxxxxx%.0s' $(seq $length))" \
+        echo "message write_50_r00_any_$length write 1010000 00000000$(printf ' xxxxxxxx%.0s' $(seq $length))" \
             "stop$(printf ' else stop%.0s' $(seq $((length + 2)))) ;"
     done | sed '1i plan 1'
-    echo "controller seen write_50_any_253 write_50_any_254 ;"
+    echo "controller seen write_50_r00_any_253 write_50_r00_any_254 ;"
 )" "" expand brief
 
 # 256 registers, of the first of which 1 and 2 data bytes are written: with 0 it is a family of 3, which is 258 messages.
@@ -1053,7 +1210,115 @@ for seed in 1 2 3 4 5 6 7 8; do
         }')
     } >generated
     again "generated $seed" generated
+    if ((seed <= 2)); then again_beside "generated $seed" generated 100000; fi
 done
+
+# ---- beside a brief
+
+cat >board.brief <<'BRIEF'
+brief 1
+device sensor 0x48 ; device eeprom 0x50 ; device twin 0x51 ; device other 0x51 ; device some 0b100101x ;
+byte config 0x01 ; byte low 0x10 ; byte low2 0x10 ; byte high 0x1X ; byte all 0xXX ;
+message get write sensor 0x02 read sensor 1..2 ;
+message ping write eeprom ;
+message again_ping write eeprom ;
+message write_48_r01 read sensor 200 ;
+message write_49_r01_any_2 read sensor 201 ;
+controller seen get ;
+BRIEF
+seen_in 2000 >board_dump <<'BYTES'
+48w 01 10 25
+48w 02 sr 48r aa!
+48w 02 sr 48r aa bb!
+50w
+50w
+48w 01 10 25
+51w 10
+4aw 11
+BYTES
+expect "what is new" 0 'brief 1
+# seen: 8 transactions, 3 messages
+# 4 transactions are those of messages in board.brief
+
+# 2 times, first at 1000: S 48 Wr A 01 A 10 A 25 A P
+# never seen: 48 Wr NA, 0x01 NA, 0x10 NA, 0x25 NA,
+# seen 2 times, always this value: 0x10 0x25
+message write_48_r01_2 write sensor config 0x10 0x25 ;
+
+# 1 times, first at 13000: S 51 Wr A 10 A P
+# never seen: 51 Wr NA, 0x10 NA,
+message write_51_r10 write 0x51 0x10 ;
+
+# 1 times, first at 15000: S 4a Wr A 11 A P
+# never seen: 4a Wr NA, 0x11 NA,
+message write_4a_r11 write 0x4a 0x11 ;
+
+# before a check, put these into the controllers of board.brief
+controller seen_2 ping write_48_r01_2 write_51_r10 write_4a_r11 ;' "" learn board_dump --names board.brief
+"$twire" learn board_dump --names board.brief -o learned
+expect "both files explain it" 0 "1000-1560 seen_2/write_48_r01_2
+3000-3580 seen/get
+5000-5715 seen/get
+7000-7155 seen_2/ping
+9000-9155 seen_2/ping
+11000-11560 seen_2/write_48_r01_2
+13000-13290 seen_2/write_51_r10
+15000-15290 seen_2/write_4a_r11
+8 transactions, 0 unexplained" "" capture board.brief board_dump --with learned
+seen_in 2000 >merged <<'BYTES'
+48w 01 10
+48w 01 1f
+49w 01 02
+49w 01 02 03
+BYTES
+"$twire" learn merged --names board.brief --merge >learned
+same "data has no name" 'message write_48_r01_2 write sensor config 0x1X ;
+message write_49_r01 write 0x49 config 0x02 ;
+message write_49_r01_2 write 0x49 config 0x02 0x03 ;' "$(grep ^message learned)"
+"$twire" learn merged --names board.brief --widen >learned
+same "names of families" 'message write_48_r01_2 write sensor config any ;
+message write_49_r01_2_any write 0x49 config any*1..2 ;' "$(grep ^message learned)"
+seen_in 2000 >nothing_new <<<"48w 02 sr 48r aa!"
+expect "nothing new" 0 'brief 1
+# seen: 1 transactions, 0 messages
+# 1 transactions are those of messages in board.brief' "" learn nothing_new --names board.brief
+"$twire" learn nothing_new --names - <board.brief >learned
+same "a brief from standard input" '# 1 transactions are those of messages in <stdin>' "$(grep '^# 1' learned)"
+cp board.brief $'bo\nard é.brief'
+"$twire" learn nothing_new --names $'bo\nard é.brief' >learned
+same "a name of a file that no comment can have" '# 1 transactions are those of messages in bo?ard ?.brief' "$(grep '^# 1' learned)"
+
+# What leaves no room: 32 controllers, and 512 messages that are listed.
+{
+    echo 'brief 1 message ping write 0x50 ; message get write 0x48 0x02 read 0x48 1..2 ;'
+    for k in {1..31}; do echo "controller c$k ;"; done
+    echo "controller c32 get ;"
+} >crowd.brief
+expect "no room for a controller" 1 'brief 1
+# seen: 8 transactions, 0 messages
+# 2 transactions are those of messages in crowd.brief
+# in no message: 6, first at 1000: a plan has at most 32 controllers' "" learn board_dump --names crowd.brief
+{
+    echo 'brief 1'
+    c=0
+    for k in {1..200}; do echo "message m$k read 0x20 $k ;"; done
+    for list in 200 200 111; do echo "controller c$((c += 1))$(printf ' m%s' $(seq $list)) ;"; done
+} >long.brief
+"$twire" learn board_dump --names long.brief >learned
+same "room for one message" '# seen: 8 transactions, 1 messages
+# 0 transactions are those of messages in long.brief
+# in no message: 6, first at 3000: the controllers of a plan list at most 512
+#   messages' "$(sed -n 2,5p learned)"
+expect "a full plan" 0 "" "" expand long.brief learned -o expanded
+
+echo 'brief 1 message m write eeprm ;' >wrong.brief
+expect "a brief that is refused" 2 "" "refused P8 line 1" learn board_dump --names wrong.brief
+expect "a brief that is refused before the dump is" 2 "" "refused P8 line 1" learn stray --names wrong.brief
+expect "a dump that is refused" 2 "" "refused V2 line $(wc -l <stray)" learn stray --names board.brief
+expect "a plan in the place of a brief" 2 "" "refused P2 line 1" learn board_dump --names plan
+expect "no brief" 2 "" "refused read" learn board_dump --names none.brief
+refuses "standard input as both" "standard input can be one of the files, and not two" learn - --names -
+refuses "two briefs" "the argument '--names <BRIEF>' cannot be used multiple times" learn board_dump --names plan --names plan
 
 # ---- hostile dumps: each is answered, in a minute and within 2 GB. A trial build, which checks each access, has dumps of a
 # fiftieth of the size, and no bound on memory.

@@ -21,11 +21,12 @@ pub enum Command {
         sda: String,
         summary: bool,
     },
-    /// Its dump is the first file too.
+    /// Its dump is the first file too. Where it takes the names of a brief, that is the second one.
     Learn {
         scl: String,
         sda: String,
         data: Data,
+        names: bool,
     },
     Bench {
         starters: String,

@@ -7,7 +7,7 @@ use crate::crew::Crew;
 use crate::deeds::Deed;
 use crate::desks::Desk;
 use crate::disagreements::{Disagreement, Score};
-use crate::plain::learned::Data;
+use crate::plain::{self, learned::Data};
 use crate::plainly::said_plainly;
 use crate::runs::{judge, Due, Run};
 use crate::setups::Setup;
@@ -29,8 +29,15 @@ pub fn decoding_fault(desk: &mut Desk, name: &str, asked: &Asked) -> io::Result<
         tried.extend([in_lines(), in_objects(false)].map(|run| (decode(summary), run)));
     }
     for data in Data::ALL {
-        let command = Command::Learn { scl: scl.clone(), sda: sda.clone(), data };
-        tried.push((Asked::of_one(command, asked.second.clone(), Vec::new()), in_lines()));
+        let learn = |brief: Option<String>| {
+            let command = Command::Learn { scl: scl.clone(), sda: sda.clone(), data, names: brief.is_some() };
+            Asked::of_one(command, asked.second.clone(), brief.unwrap_or_default().into_bytes())
+        };
+        let alone = learn(None);
+        let learned = said_plainly(&alone).out;
+        let briefs = briefs_of(asked, &learned);
+        tried.push((alone, in_lines()));
+        tried.extend(briefs.into_iter().map(|brief| (learn(Some(brief)), in_lines())));
     }
     for objects in [false, true] {
         tried.extend(live_runs(objects).map(|run| (decode(false), run)));
@@ -43,6 +50,35 @@ pub fn decoding_fault(desk: &mut Desk, name: &str, asked: &Asked) -> io::Result<
         }
     }
     Ok(None)
+}
+
+// Briefs to be given before what is learned: one of the plan; and one of every second message that is learned alone,
+// without a controller, with names that others have, and with names for all addresses and bytes, of which some are not the only
+// ones.
+fn briefs_of(asked: &Asked, learned: &str) -> Vec<String> {
+    let plan = asked.plan().unwrap_or_default();
+    let of_plan = plain::brief(&plain::spelling(&plan).into_bytes());
+    let mut briefs = Vec::from_iter((of_plan.status == 0).then_some(of_plan.out));
+    let mut brief = String::from("brief 1\n");
+    for address in 0..128 {
+        brief += &format!("device d{address} 0x{address:02x} ;\n");
+    }
+    for byte in (0..256).chain((0..256).step_by(3)) {
+        brief += &format!("byte b{}{byte} 0x{byte:02x} ;\n", brief.len());
+    }
+    brief += "device open 0b100100x ; device twin 0x48 ; byte low 0x0X ; byte all 0xXX ;\n";
+    // (what is no message is a comment, or the controller)
+    let words: Vec<&str> = learned.lines().filter(|line| !line.starts_with('#')).flat_map(str::split_whitespace).collect();
+    for (k, item) in words.split(|word| *word == ";").filter(|item| item.contains(&"message")).enumerate() {
+        let from = item.iter().position(|word| *word == "message").unwrap_or(0);
+        brief += &match k % 3 {
+            0 => format!("{} ;\n", item[from..].join(" ")),
+            1 => format!("message {} read 0x7f 254 ;\n", item[from + 1]),
+            _ => String::new(),
+        };
+    }
+    briefs.push(brief);
+    briefs
 }
 
 fn in_lines() -> Run {

@@ -145,13 +145,14 @@ fn command_line(command: &Command) -> Line {
             options.extend(summary.then(|| "--summary".to_owned()));
             twire_line("decode", options, 1)
         }
-        Command::Learn { scl, sda, data } => {
+        Command::Learn { scl, sda, data, names } => {
             let mut options = vec![format!("--scl={scl}"), format!("--sda={sda}")];
             options.extend(match data {
                 Data::AsSeen => None,
                 Data::Merged => Some("--merge".to_owned()),
                 Data::Widened => Some("--widen".to_owned()),
             });
+            options.extend(names.then(|| format!("--names={}", NAMES[1])));
             twire_line("learn", options, 1)
         }
         Command::Bench { starters, fill, answers } => {

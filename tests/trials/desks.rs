@@ -87,6 +87,20 @@ impl Desk {
         Ok((said.answer, fs::read(&wave).unwrap_or_default()))
     }
 
+    /// What is said of a command line over these files.
+    pub fn say(
+        &mut self,
+        first: &[u8],
+        second: &[u8],
+        before: Vec<String>,
+        files: Vec<&'static str>,
+    ) -> io::Result<Answer> {
+        self.first.hold(first)?;
+        self.second.hold(second)?;
+        let line = Line { program: Program::Twire, before, files, after: Vec::new() };
+        Ok(self.run_line(&line, &Setup::WHOLE)?.answer)
+    }
+
     /// What is said over such devices.
     pub fn run(&mut self, deed: Deed, asked: &Asked, setup: &Setup) -> io::Result<Said> {
         match deed {

@@ -247,8 +247,8 @@ fn of_capture(plan: &Participants, decoded: &Decoded, explain: bool) -> Vec<Valu
     objects
 }
 
-// With `--explain` so many bits follow the STOP of the transaction before.
-fn of_explained(plan: &Participants, transaction: &Transaction, idle: Option<usize>) -> Value {
+/// The object of a transaction. With `--explain` so many bits follow the STOP of the transaction before.
+pub fn of_explained(plan: &Participants, transaction: &Transaction, idle: Option<usize>) -> Value {
     let who = explainers(plan, transaction);
     let mut fields = times_of(transaction);
     fields.push(("participants", Value::list(who.iter().map(|one| one.label.as_str()))));
@@ -304,7 +304,8 @@ fn both(x: &Participant, y: &Participant) -> Value {
     Value::list([x.label.as_str(), y.label.as_str()])
 }
 
-fn of_kind(kind: &str, fields: Vec<(&str, Value)>) -> Value {
+/// An object of this kind.
+pub fn of_kind(kind: &str, fields: Vec<(&str, Value)>) -> Value {
     let mut all = vec![("kind", Value::text(kind))];
     all.extend(fields);
     object(all)

@@ -1,10 +1,10 @@
 //! What the plain programs say of a case, and what twire says as they can say it.
 
-use crate::cases::{Asked, Case};
+use crate::cases::{Asked, Case, NAMES};
 use crate::commands::Command;
 use crate::desks::Desk;
 use crate::disagreements::Disagreement;
-use crate::plain::{self, Answer};
+use crate::plain::{self, Answer, File};
 use std::io;
 
 /// Tries the plain programs, which know no workers, on a case, and how twire spells its plan.
@@ -31,7 +31,10 @@ pub fn said_plainly(asked: &Asked) -> Answer {
         Command::Capture { scl, sda } => plain::capture(first, second, scl, sda),
         Command::Decode { scl, sda, summary: false } => plain::decode(first, scl, sda),
         Command::Decode { scl, sda, summary: true } => plain::decode_summary(first, scl, sda),
-        Command::Learn { scl, sda, data } => plain::learn(first, scl, sda, *data),
+        Command::Learn { scl, sda, data, names } => {
+            let before = names.then_some(File { name: NAMES[1], text: second });
+            plain::learn(first, scl, sda, *data, before)
+        }
         Command::Bench { starters, fill, answers } => plain::bench(first, second, starters, *fill, answers),
         Command::Order => plain::order(first),
         Command::Print => spelt_plainly(first),

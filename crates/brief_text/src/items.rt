@@ -176,7 +176,7 @@ fn byte(source: &mut Source<'_>, board: &mut Board) -> Result<(), PlanError>
     once(&board.bytes, &named)?;
     let bits = source.pattern()?;
     source.semicolon()?;
-    board.uses.byte(&named, board.file)?;
+    board.uses.byte(&named, board.file, bits.value)?;
     board.bytes.add(named.name, bits.value)?;
     Ok(())
 }

@@ -5,7 +5,7 @@ use crate::naming::copied;
 use crate::origins::Spot;
 use crate::syntax::{DataSyntax, FrameSyntax, NameFound, TailSyntax, Value};
 use indexmap::IndexMap;
-use message_tree::Address;
+use message_tree::{Address, Pattern};
 use plan_core::Name;
 use std::alloc::{AllocError, Global};
 
@@ -24,6 +24,7 @@ pub struct Device {
 #[derive(Drop)]
 pub struct NamedByte {
     pub name: Name,
+    pub bits: Pattern,
     /// Where it stands.
     pub spot: Spot,
     /// Whether a message names it.
@@ -67,9 +68,15 @@ impl Uses {
     }
 
     /// A further data byte of this name in this file.
-    pub(crate) fn byte(&mut self, named: &NameFound, file: u32) -> Result<(), AllocError> {
+    pub(crate) fn byte(
+        &mut self,
+        named: &NameFound,
+        file: u32,
+        bits: Pattern,
+    ) -> Result<(), AllocError> {
         let byte = NamedByte {
             name: copied(self.alloc, &named.name)?,
+            bits,
             spot: spot_of(named, file),
             is_used: false,
         };
@@ -157,6 +164,7 @@ impl Uses {
         for byte in self.bytes.values() {
             bytes.push(NamedByte {
                 name: copied(self.alloc, &byte.name)?,
+                bits: byte.bits,
                 spot: byte.spot,
                 is_used: byte.is_used,
             })?;

@@ -5,7 +5,7 @@ ghost use Rattle.capture_check.specs.Transactions.{before};
 ghost use Rattle.capture_check.specs.Views.{recorded, recorded_option};
 
 use crate::listening::{Listener, Transaction};
-use crate::watching::Watch;
+use crate::watching::{Rises, Watch};
 use std::alloc::{AllocError, Global};
 use vcd_read::Sample;
 
@@ -82,6 +82,11 @@ impl Follower {
     /// How many bits have followed the STOP of the last transaction, as long as both levels were known.
     pub fn idle(&self) -> u64 {
         self.listener.idle()
+    }
+
+    /// How often SCL has risen.
+    pub fn rises(&self) -> Rises {
+        self.watch.rises()
     }
 }
 

@@ -19,5 +19,5 @@ pub mod workers;
 pub use explaining::explain;
 pub use following::Follower;
 pub use listening::{Listener, Mark, Transaction, Until, transactions};
-pub use watching::{Event, Watch, What, events};
+pub use watching::{Event, Rises, Watch, What, events};
 pub use workers::explain_all;

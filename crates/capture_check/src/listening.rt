@@ -131,6 +131,11 @@ impl Listener {
         self.finish(Heard::Unknown, Until::Unfinished)
     }
 
+    /// Whether a transaction goes on.
+    pub fn is_busy(&self) -> bool {
+        matches!(self.heard, Heard::Busy(..))
+    }
+
     /// How many bits have followed the STOP of the last transaction, as long as both levels were known.
     pub fn idle(&self) -> u64 {
         self.idle

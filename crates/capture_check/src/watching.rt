@@ -35,12 +35,40 @@ pub(crate) struct Lines {
     pub(crate) sda: bool,
 }
 
+/// How often SCL rises while both levels are known, and in how many of these samples SDA changes too. A target may change SDA
+/// as SCL falls, with no hold time. As SCL rises SDA has to stand, so where it does not, the samples are too far apart.
+#[derive(Clone, Copy, Debug)]
+pub struct Rises {
+    pub all: u64,
+    pub with_sda: u64,
+}
+
+impl Rises {
+    /// Before the first sample.
+    pub const NONE: Rises = Rises {
+        all: 0,
+        with_sda: 0,
+    };
+
+    // With this step from one sample to the next.
+    fn after(self, old: Option<Lines>, new: Option<Lines>) -> Rises {
+        match (old, new) {
+            (Some(old), Some(new)) if !old.scl && new.scl => Rises {
+                all: self.all.saturating_add(1),
+                with_sda: self.with_sda.saturating_add(u64::from(old.sda != new.sda)),
+            },
+            _ => self,
+        }
+    }
+}
+
 /// The two lines, watched from sample to sample.
 #[derive(Clone, Copy, Debug)]
 pub struct Watch {
     pub(crate) lines: Option<Lines>,
     // SDA has changed in the HIGH period of SCL that goes on.
     pub(crate) moved: bool,
+    rises: Rises,
 }
 
 impl Watch {
@@ -55,6 +83,7 @@ impl Watch {
         Watch {
             lines: None,
             moved: false,
+            rises: Rises::NONE,
         }
     }
 
@@ -66,6 +95,7 @@ impl Watch {
         let old = self.lines;
         let new = lines_of(sample.scl, sample.sda);
         let what = what_between(old, self.moved, new);
+        self.rises = self.rises.after(old, new);
         self.lines = new;
         self.moved = moved_between(old, self.moved, new);
         match what {
@@ -75,6 +105,11 @@ impl Watch {
             }),
             None => None,
         }
+    }
+
+    /// How often SCL has risen.
+    pub fn rises(&self) -> Rises {
+        self.rises
     }
 }
 

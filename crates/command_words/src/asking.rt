@@ -1,11 +1,11 @@
 // What a command line asks for.
 
 use crate::building::program;
-use crate::capturing::Options;
+use crate::capturing::{Options, drive_of};
 use crate::table::COMMANDS;
 use clap::error::ErrorKind;
 use clap::{ArgMatches, Error};
-use dump_tokens::{Bus, Limits};
+use dump_tokens::{Bus, Drive, Limits, Pulling};
 use std::alloc::{AllocError, Global};
 
 /// What a command line comes to.
@@ -15,6 +15,8 @@ pub enum Asked<'a> {
     Run {
         request: Request<'a>,
         further: Vec<&'a str>,
+        /// The lines of controllers in a dump.
+        drives: Vec<Drive<'a>>,
         manner: Manner,
     },
     /// The help, for standard output.
@@ -76,12 +78,15 @@ pub enum Request<'a> {
         live: bool,
         /// Whether the first transaction that nobody explains ends the run.
         stops: bool,
+        pulling: Pulling,
     },
     /// The transactions of a recorded bus, in bytes.
     Decode {
         vcd: &'a str,
         bus: Bus<'a>,
         live: bool,
+        /// The file for the waves of the bus.
+        wave: Option<&'a str>,
     },
     /// The signals of a dump.
     Signals {
@@ -89,12 +94,14 @@ pub enum Request<'a> {
         limits: Limits,
     },
     /// A brief of what was recorded, in which data after registers is put together if `merge` says so, and is any if `widen`
-    /// does.
+    /// does. It is a further file of the brief `names`, where there is one.
     Learn {
         vcd: &'a str,
         bus: Bus<'a>,
         merge: bool,
         widen: bool,
+        names: Option<&'a str>,
+        pulling: Pulling,
         output: Option<&'a str>,
     },
     /// What these starters of an accepted plan do on a bus. Without a certificate one is to be made. The answers are bits, 0
@@ -224,6 +231,7 @@ fn parse<'a>(alloc: Global, words: &'a [String]) -> Result<Asked<'a>, Error> {
         Ok((request, manner)) => Ok(Asked::Run {
             request,
             further: further_of(alloc, &matches)?,
+            drives: drives_of(alloc, &matches)?,
             manner,
         }),
         Err(fault) => Err(error_of(alloc, fault)?),
@@ -368,12 +376,16 @@ fn recorded_of<'a>(name: &str, matches: &ArgMatches<'a>) -> Result<Request<'a>, 
     if let Some(fault) = options.fault() {
         return Err(fault);
     }
+    if let Some(fault) = options.drives_fault(matches) {
+        return Err(fault);
+    }
     match name {
         "capture" => Ok(capture_of(matches, options.bus())),
         "decode" => Ok(Request::Decode {
             vcd: word(matches, "VCD"),
             bus: options.bus(),
             live: matches.get_flag("live"),
+            wave: wave_of(matches)?,
         }),
         "signals" => Ok(Request::Signals {
             vcd: word(matches, "VCD"),
@@ -381,6 +393,28 @@ fn recorded_of<'a>(name: &str, matches: &ArgMatches<'a>) -> Result<Request<'a>, 
         }),
         "learn" => Ok(learn_of(matches, options.bus())),
         _ => Ok(page_of(matches, options.bus())),
+    }
+}
+
+// The lines of controllers, which were found to be right.
+fn drives_of<'a>(alloc: Global, matches: &ArgMatches<'a>) -> Result<Vec<Drive<'a>>, AllocError> {
+    let mut drives = Vec::new(alloc);
+    if let Some((_, matches)) = matches.subcommand()
+        && let Some(given) = matches.get_strs("drives")
+    {
+        for word in given.iter() {
+            if let Some(drive) = drive_of(word) {
+                drives.push(drive)?;
+            }
+        }
+    }
+    Ok(drives)
+}
+
+fn pulling_of(matches: &ArgMatches<'_>) -> Pulling {
+    match matches.get_str("pulls") {
+        Some("1") => Pulling::AtOne,
+        _ => Pulling::AtZero,
     }
 }
 
@@ -392,6 +426,7 @@ fn capture_of<'a>(matches: &ArgMatches<'a>, bus: Bus<'a>) -> Request<'a> {
         explain: matches.get_flag("explain"),
         live: matches.get_flag("live"),
         stops: matches.get_flag("stop-at-unexplained"),
+        pulling: pulling_of(matches),
     }
 }
 
@@ -401,6 +436,8 @@ fn learn_of<'a>(matches: &ArgMatches<'a>, bus: Bus<'a>) -> Request<'a> {
         bus,
         merge: matches.get_flag("merge"),
         widen: matches.get_flag("widen"),
+        names: matches.get_str("names"),
+        pulling: pulling_of(matches),
         output: output_of(matches),
     }
 }
@@ -457,7 +494,7 @@ fn are_bits(answers: &str) -> bool {
 }
 
 // The arguments that name files to be read.
-const READ: [&str; 6] = ["PLAN", "BRIEF", "with", "CERT", "VCD", "capture"];
+const READ: [&str; 7] = ["PLAN", "BRIEF", "with", "CERT", "VCD", "capture", "names"];
 
 // Among all files that a run reads. Starters may stand in the place of a certificate.
 fn refuse_input_twice(matches: &ArgMatches<'_>) -> Result<(), Fault> {

@@ -102,6 +102,11 @@ fn argument<'a>(alloc: Global, argument: Argument) -> Result<Arg<'a>, AllocError
         } => number(alloc, id, value_name, default, help),
         Argument::File { id, short, help } => file(alloc, id, short, help),
         Argument::Files { id, help } => option(alloc, id, "FILE", help).action(ArgAction::Append),
+        Argument::Pairs {
+            id,
+            value_name,
+            help,
+        } => option(alloc, id, value_name, help).action(ArgAction::Append),
         Argument::Choice {
             id,
             value_name,

@@ -1,7 +1,7 @@
 // What the options of a capture ask for.
 
 use clap::ArgMatches;
-use dump_tokens::{Bus, BusLines, Limits, Time, View, Window};
+use dump_tokens::{Bus, BusLines, Drive, Limits, Time, View, Window};
 use vcd_read::Probe;
 
 /// The options of a capture, as they were given.
@@ -106,6 +106,59 @@ impl<'a> Options<'a> {
         }
         None
     }
+
+    /// Why the lines of controllers are wrong, or do not go with other options.
+    pub(crate) fn drives_fault(&self, matches: &ArgMatches<'a>) -> Option<&'static str> {
+        let given = matches.get_strs("drives")?;
+        if given.iter().any(is_no_drive) {
+            return Some("'--drives' takes NAME=WHERE, as bmc=top.bmc.sda_o");
+        }
+        if names_one_twice(given) {
+            return Some("'--drives' names a controller twice: it has one line");
+        }
+        if given.len() > MOST_CONTROLLERS {
+            return Some(
+                "'--drives' is given more than 32 times: a plan has 32 controllers at most",
+            );
+        }
+        if self.min_pulse.is_some() {
+            return Some("'--min-pulse' leaves out levels, and '--drives' looks at all of them");
+        }
+        if self.summary {
+            return Some("'--summary' leaves no transactions for '--drives'");
+        }
+        None
+    }
+}
+
+// How many controllers a plan has at most.
+const MOST_CONTROLLERS: usize = 32;
+
+/// A controller and its line, where the word is these two with `=` between them.
+pub(crate) fn drive_of(word: &str) -> Option<Drive<'_>> {
+    let (controller, line) = word.split_once("=")?;
+    if controller.is_empty() || line.is_empty() {
+        return None;
+    }
+    Some(Drive { controller, line })
+}
+
+fn names_one_twice(given: &[&str]) -> bool {
+    for (number, word) in given.iter().enumerate() {
+        for other in given.iter().take(number) {
+            if controller_of(word) == controller_of(other) {
+                return true;
+            }
+        }
+    }
+    false
+}
+
+fn controller_of(word: &str) -> &str {
+    match drive_of(word) {
+        Some(drive) => drive.controller,
+        None => "",
+    }
 }
 
 fn probe_of<'a>(name: Option<&'a str>, code: Option<&'a str>, usual: &'a str) -> Probe<'a> {
@@ -118,6 +171,10 @@ fn probe_of<'a>(name: Option<&'a str>, code: Option<&'a str>, usual: &'a str) ->
 
 fn time_of(text: Option<&str>) -> Option<Time> {
     Time::read(text?)
+}
+
+fn is_no_drive(word: &&str) -> bool {
+    drive_of(word).is_none()
 }
 
 fn is_no_time(text: Option<&str>) -> bool {

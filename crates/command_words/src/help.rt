@@ -135,8 +135,9 @@ from elsewhere. It shows
                    2,000 pairs there is one for each two families
   who wins         how often each participant can win, or always loses
   what is sent     each message in bytes, as 'S 48 Wr A 01 A P'
-  the capture      its transactions on a line of time, and those that nobody in
-                   the plan explains, with '--capture VCD'
+  the capture      its transactions on a line of time, in a lane for each
+                   participant that explains one, with '--capture VCD'; each
+                   leads to its wire as it was recorded
 
 and the reports of 'check', 'order' and 'capture --explain', of which all this
 is made.
@@ -161,7 +162,13 @@ and then 'N transactions, U unexplained', of those that ended with a STOP. A
 report of '0 transactions' with a capture that has some usually means that the
 names are those of other signals, or that the levels are 'x' all the time:
 'twire signals VCD' lists them, and shows which look like a bus. A name that has
-blanks in the capture has them here too, as --scl 'I2C SCL'.
+blanks in the capture has them here too, as --scl 'I2C SCL'. It may also be a
+path, as --scl top.m3.scl, or one bit of a vector, as --scl 'bus[2]'.
+
+With '--drives' a dump of RTL says who started, who lost and in which slot, and
+whether the rules of the plan give that. Each is what a controller pulls itself:
+
+  --drives bmc=top.bmc.sda_o --drives pch=top.pch.sda_o
 
 With '--min-pulse' a level that a line has for less than T is ignored: a pulse
 on SDA while SCL is HIGH is then no START and no STOP.
@@ -184,6 +191,7 @@ A refused capture is named on standard error with a code, as 'refused V1 scl' or
   V3  a time below the last one
   V4  the capture ends inside of something
   timescale  a time has a unit, and the capture does not say what it counts
+  drives NAME  the line of this controller is not there, or is SDA itself
 
 What makes such dumps:
 
@@ -223,6 +231,11 @@ of one that is refused later:
 
   PRODUCER | twire decode --live -
 
+With '--wave FILE' both lines are written as they were recorded, and the bytes
+beside them as texts, as 'S', '48_Wr' and 'A', for programs that show waves:
+
+  twire decode board.vcd --scl D0 --sda D1 --wave bytes.vcd
+
 Refusals are those of 'twire capture'.
 Exit status: 0 written, 2 refused.";
 
@@ -250,23 +263,36 @@ Exit status: 0 listed, 2 refused.";
 pub const AFTER_LEARN_HELP: &str = "\
 The brief has a message for each different sequence of bytes that was seen, and
 one controller, 'seen', that lists them all. Above each message stand comments:
-how often and when first each was seen, and which answers of targets never were.
+how often and when first each was seen, which answers of targets never were, and
+which data was always the same, so that nobody takes it for a rule.
 
-  # 3 times, first at 5: S 48 Wr A 01 A P
+  # 3 times, first at 5: S 48 Wr A 01 A 3c A P
   # 1 times, first at 400: S 48 Wr NA P
-  # never seen: 0x01 NA,
-  message write_48 write 0x48 0x01 ;
+  # never seen: 0x01 NA, 0x3c NA,
+  # seen 3 times, always this value: 0x3c
+  message write_48_r01 write 0x48 0x01 0x3c ;
 
 What was done after a refusal stands in the message, as 'else ( .. )'; where
 nothing was seen it is a STOP. The first data byte of a write is a register.
 With '--merge' messages that differ in data after registers alone are one, and
 the bits that differ are open, as 0x0X. With '--widen' data after registers is
-any, and messages of neighbouring lengths are one family:
+any, messages of neighbouring lengths are one family, and reads of neighbouring
+counts one message:
 
-  message write_50_any write 0x50 0x00 any*1..16 ;
+  message write_50_r00_any write 0x50 0x00 any*1..16 ;
+  message read_50_r02 write 0x50 0x02 read 0x50 1..4 ;
+
+With '--names BRIEF' devices and bytes have the names of that brief, and what
+its messages explain is not written again. What is written is a further file:
+
+  twire learn bus.vcd --names board.brief -o learned.brief
+  twire check board.brief --with learned.brief
 
 A brief is a draft: give names to devices and bytes, and share the messages out
-among controllers.
+among controllers. Where a dump has what each controller pulls itself, this
+shares them out:
+
+  --drives bmc=top.bmc.sda_o --drives pch=top.pch.sda_o
 
 Expanded by 'twire expand', it explains the capture that it was learned from,
 except for transactions that no message can have, which comments count.

@@ -53,6 +53,12 @@ pub enum Argument {
         id: &'static str,
         help: &'static str,
     },
+    /// An option that may be given several times, each with two words.
+    Pairs {
+        id: &'static str,
+        value_name: &'static str,
+        help: &'static str,
+    },
     /// An option that takes any text.
     Text {
         id: &'static str,
@@ -179,8 +185,8 @@ const CAPTURE: Entry = Entry {
     usage: None,
     after_help: AFTER_CAPTURE_HELP,
     arguments: &[
-        PLAN, VCD, WITH, SCL, SDA, SCOPE, SCL_CODE, SDA_CODE, MIN_PULSE, FROM, TO, AT_LEAST, TIMES,
-        SUMMARY, EXPLAIN, LIVE, STOPS,
+        PLAN, VCD, WITH, SCL, SDA, SCOPE, SCL_CODE, SDA_CODE, DRIVES, PULLS, MIN_PULSE, FROM, TO,
+        AT_LEAST, TIMES, SUMMARY, EXPLAIN, LIVE, STOPS,
     ],
 };
 
@@ -190,7 +196,7 @@ const DECODE: Entry = Entry {
     usage: None,
     after_help: AFTER_DECODE_HELP,
     arguments: &[
-        VCD, SCL, SDA, SCOPE, SCL_CODE, SDA_CODE, MIN_PULSE, FROM, TO, TIMES, ADDRESSES, LIVE,
+        VCD, SCL, SDA, SCOPE, SCL_CODE, SDA_CODE, MIN_PULSE, FROM, TO, TIMES, ADDRESSES, LIVE, WAVE,
     ],
 };
 
@@ -208,7 +214,8 @@ const LEARN: Entry = Entry {
     usage: None,
     after_help: AFTER_LEARN_HELP,
     arguments: &[
-        VCD, SCL, SDA, SCOPE, SCL_CODE, SDA_CODE, MIN_PULSE, FROM, TO, TIMES, MERGE, WIDEN, OUTPUT,
+        VCD, SCL, SDA, SCOPE, SCL_CODE, SDA_CODE, DRIVES, PULLS, MIN_PULSE, FROM, TO, TIMES, MERGE,
+        WIDEN, NAMES, OUTPUT,
     ],
 };
 
@@ -402,12 +409,32 @@ const SDA_CODE: Argument = Argument::Name {
 
 const MERGE: Argument = Argument::Flag {
     id: "merge",
-    help: "Merge data after registers: bits that differ are open",
+    help: "Merge data after registers: differing bits are open",
 };
 
 const WIDEN: Argument = Argument::Flag {
     id: "widen",
     help: "Make data after registers any, and lengths families",
+};
+
+const NAMES: Argument = Argument::Option {
+    id: "names",
+    value_name: "BRIEF",
+    help: "A brief whose names are taken: write what is new",
+};
+
+const DRIVES: Argument = Argument::Pairs {
+    id: "drives",
+    value_name: "NAME=WHERE",
+    help: "What a controller pulls: bmc=top.bmc.sda_o (repeat)",
+};
+
+const PULLS: Argument = Argument::Choice {
+    id: "pulls",
+    value_name: "LEVEL",
+    default: "0",
+    values: &["0", "1"],
+    help: "The level at which these pull SDA LOW [default: 0]",
 };
 
 const MIN_PULSE: Argument = Argument::Option {

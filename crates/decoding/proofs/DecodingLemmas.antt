@@ -1,7 +1,6 @@
 -- What the loop over a dump keeps.
-use Rattle.std.proofs.Common.{◌≡◌, ◌⊎◌, inl, inr, sym, ℕ, ◌+◌, ◌<◌, ◌≤◌, false, List, [], ◌++◌, length, take, Some, Result, Ok, Err, IfOk, IfErr, suc, ap, ◌∙◌, subst, append-nil, length-take, refl, arith}
-use Rattle.std.proofs.KnownBytes.{Consumes-trans}
-use Rattle.std.specs.Io.KnownBytes.{Consumes, IsAtEnd}
+use Rattle.std.proofs.Common.{◌≡◌, ◌⊎◌, inl, inr, sym, ℕ, ◌+◌, ◌<◌, ◌≤◌, false, List, [], ◌++◌, length, take, Some, Result, Ok, Err, IfOk, IfErr, suc, subst, length-take, refl, arith}
+use Rattle.std.specs.Io.KnownBytes.{Consumes}
 use Rattle.decoding.specs.Decoding.{DecodesDump, DecodesAll, HaltsAtDecoding, at_dump, at_both, at_sink}
 use Rattle.decoding.specs.Decoding.{at_end as sink_stops_at_end}
 use Rattle.decoding.specs.DecoderViews.{IsNew, Follows, StopsAtPiece, StopsAtEnd, refused, both, within, at_end}
@@ -24,23 +23,6 @@ pub record ReadsOn {D S : Type 0} (reader : Reader D) (start : D) (sink : Sink S
   pub passes : (least : ℕ) (scl sda : Finder) → IsNew least scl sda begun → PassesSoFar scl sda text
 
 module _ {D : Type 0} (reader : Reader D) (start : D) where
-  -- the read that gave no bytes
-  pub all_read : (limit reads n : ℕ) (text buf : List ℕ) (last now : D) → Reading reader start reads text last → reads < limit → n ≡ 0 → 0 < length buf → reader.gives last (length buf) (Some (take n buf)) now → reader.has_failed now ≡ false → Consumes (reader.remaining last) (reader.remaining now) (take n buf) → (n ≡ 0 → 0 < length buf → IsAtEnd (reader.remaining now)) → ReadsAll reader limit start text now
-  all_read limit reads n text buf last now so_far few none room call sound lost end =
-      let empty : take n buf ≡ [] = ap (λ m. take m buf) none in
-      record {
-        reads = reads;
-        few = few;
-        last = last;
-        read = so_far.read;
-        room = length buf;
-        has_room = room;
-        end = subst (λ (piece : List ℕ). reader.gives last (length buf) (Some piece) now) empty call;
-        sound = sound;
-        consumed = subst (λ (t : List ℕ). Consumes (reader.remaining start) (reader.remaining now) t) (ap (λ (p : List ℕ). text ++ p) empty ∙ append-nil text) (Consumes-trans _ _ _ _ _ so_far.consumed lost);
-        at_end = end none room;
-      }
-
   module _ {S : Type 0} (sink : Sink S) (silent : S) (begun : Decoder) where
     pub begin : ReadsOn reader start sink silent begun 0 start begun silent
     begin = record {

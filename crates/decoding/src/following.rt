@@ -113,6 +113,7 @@ impl Decoder {
         Ok(Ending {
             short: follower.short(),
             idle: follower.idle(),
+            rises: follower.rises(),
         })
     }
 }

@@ -1,6 +1,10 @@
-//! The runs over dumps: `capture`, `decode`, `learn` and `signals`. Each finds a value, and writes it in the form that is wanted.
+//! The runs over dumps: `capture`, `decode`, `learn` and `signals`. Each finds a value, and writes it in the form that is wanted,
+//! `decode` as waves too.
 #![tactic(auto)]
 
+mod driven;
 mod recordings;
 
-pub use recordings::{Capture, decode, explain_capture, halted, learn, list_signals, open};
+pub use recordings::{
+    Capture, Lesson, decode, explain_capture, halted, learn, learn_with_names, list_signals, open,
+};

@@ -1,7 +1,13 @@
 // Runs over the dump of a recorded bus: each hands what the dump shows to the form that is wanted.
 
+use crate::driven::{
+    decode_driven, driving_of, judging_of, open_driven, refuse_no_names, refuse_others,
+    refuse_unknown,
+};
+use capture_check::Rises;
 use decoding::Explaining;
-use dump_tokens::{Bus, BusLines, Limits, Quiet};
+use drives::Driving;
+use dump_tokens::{Bus, BusLines, Drives, Limits, Quiet, Window};
 use explain::{CaptureLines, DecodeLines, Layout, Paint, Seen, Selection};
 use given_plans::GivenPlan;
 use objects::{CaptureObjects, DecodeObjects, write_signals};
@@ -10,11 +16,17 @@ use plan_words::PlanWords;
 use report::{
     CaptureCounts, CaptureReport, Input, Output, RunError, Status, Telling, live_capture,
 };
-use run_ends::{Ended, Halt, Recorded, Remark, Sources, Style};
+use run_ends::{Canvas, Ended, Halt, Recorded, Remark, Sources, Style, write_wave};
 use run_parts::write_lines;
-use signals::{Dump, Learned, Likeness, Listed, Sights, SignalDump, brief_of, needs_picking};
+use signals::{
+    BriefBefore, Dump, Learned, Likeness, Listed, Recorder, Sights, SignalDump, brief_of,
+    needs_picking,
+};
 use std::alloc::Global;
+use std::rt::Files;
 use std::thread::Threads;
+use std::time::Clock;
+use waves::wave_of_recording;
 
 /// A capture that is asked for.
 #[derive(Clone, Copy)]
@@ -24,12 +36,22 @@ pub struct Capture<'a> {
     pub live: bool,
     /// Whether the first transaction that nobody explains ends the run.
     pub stops: bool,
+    /// The lines of controllers that are followed.
+    pub drives: Drives<'a>,
+}
+
+// What a capture has come to: its status, what it tells, and how often SCL rises.
+#[derive(Clone, Copy)]
+struct Told {
+    status: Status,
+    seen: Seen,
+    rises: Rises,
 }
 
 impl Capture<'_> {
     // Whether its lines are the exact ones, and no others.
     fn is_exact(self) -> bool {
-        self.bus.view.is_whole() && !self.explain && !self.stops
+        self.bus.view.is_whole() && !self.explain && !self.stops && self.drives.is_empty()
     }
 
     // Whether the definitions of the dump have to be known first.
@@ -86,10 +108,16 @@ pub fn explain_capture<R: AllocGlobal + Threads + Sync, I: Input, J: Input, O: O
 ) -> Result<Ended, Halt> {
     let GivenPlan { plan, origins } = plans.find(rt.alloc())?;
     let words = plans.words(&plan, &origins);
-    let (status, seen) = capture_by(rt, words, vcd, out, capture, style)?;
+    refuse_unknown(rt.alloc(), words, capture.drives)?;
+    let Told {
+        status,
+        seen,
+        rises,
+    } = capture_by(rt, words, vcd, out, capture, style)?;
+    let recorded = Recorded::Bus(capture.bus.view.window, seen);
     Ok(Ended {
         status,
-        remark: Remark::Recording(Recorded::Bus(capture.bus.view.window, seen)),
+        remark: Remark::Recording(recorded, rises),
     })
 }
 
@@ -100,7 +128,7 @@ fn capture_by<R: AllocGlobal + Threads + Sync, J: Input, O: Output>(
     out: &mut O,
     capture: Capture<'_>,
     style: Style,
-) -> Result<(Status, Seen), Halt> {
+) -> Result<Told, Halt> {
     let plan = words.plan();
     let is_exact = capture.is_exact() && matches!(style, Style::Lines(Paint::Plain));
     if is_exact && !capture.reads_ahead() {
@@ -110,12 +138,14 @@ fn capture_by<R: AllocGlobal + Threads + Sync, J: Input, O: Output>(
             exact_capture(rt, plan, vcd, out, capture.bus.lines)
         };
     }
-    let mut dump = open(rt.alloc(), vcd, capture.bus)?;
+    let mut dump = open_driven(rt.alloc(), vcd, capture.bus, capture.drives)?;
+    let driving = driving_of(rt.alloc(), &dump, capture.drives)?;
     let told = if is_exact && !capture.live {
         exact_dump(rt, plan, &mut dump, out)
     } else {
-        capture_dump(rt, words, &mut dump, out, capture, style)
+        capture_dump(rt, words, &mut dump, out, capture, style, driving.as_ref())
     };
+    refuse_others(rt.alloc(), driving.as_ref())?;
     match told {
         Ok(told) => Ok(told),
         Err(error) => Err(halted(dump, error)),
@@ -129,7 +159,7 @@ fn live_lines<R: AllocGlobal + Threads + Sync, J: Input, O: Output>(
     vcd: &mut J,
     out: &mut O,
     lines: BusLines<'_>,
-) -> Result<(Status, Seen), Halt> {
+) -> Result<Told, Halt> {
     let least = Quiet::of(lines.min_pulse, None).least;
     let mut wrong = None;
     let told = live_capture(
@@ -144,16 +174,21 @@ fn live_lines<R: AllocGlobal + Threads + Sync, J: Input, O: Output>(
         &mut wrong,
     );
     match told {
-        Ok(counts) => Ok((counts.status, seen_by(counts))),
+        Ok(counts) => Ok(told_by(counts)),
         Err(error) => Err(Halt::Dump(error, wrong)),
     }
 }
 
-fn seen_by(counts: CaptureCounts) -> Seen {
-    Seen {
+fn told_by(counts: CaptureCounts) -> Told {
+    let seen = Seen {
         transactions: counts.transactions,
         stopped: counts.stopped,
         unexplained: counts.unexplained,
+    };
+    Told {
+        status: counts.status,
+        seen,
+        rises: counts.rises,
     }
 }
 
@@ -164,7 +199,7 @@ fn exact_capture<R: AllocGlobal + Threads + Sync, J: Input, O: Output>(
     vcd: &mut J,
     out: &mut O,
     lines: BusLines<'_>,
-) -> Result<(Status, Seen), Halt> {
+) -> Result<Told, Halt> {
     let alloc = rt.alloc();
     let least = Quiet::of(lines.min_pulse, None).least;
     let mut wrong = None;
@@ -183,11 +218,12 @@ fn exact_capture<R: AllocGlobal + Threads + Sync, J: Input, O: Output>(
         &mut explaining,
         &mut wrong,
     );
-    if let Err(error) = ended {
-        return Err(Halt::Dump(error, wrong));
-    }
+    let ending = match ended {
+        Ok(ending) => ending,
+        Err(error) => return Err(Halt::Dump(error, wrong)),
+    };
     let Explaining { sink, .. } = explaining;
-    Ok(write_exactly(sink, out)?)
+    Ok(write_exactly(sink, ending.rises, out)?)
 }
 
 // The same of a dump whose definitions were read ahead.
@@ -196,7 +232,7 @@ fn exact_dump<R: AllocGlobal + Threads + Sync, J: Input, O: Output>(
     plan: &Plan,
     dump: &mut Dump<'_, '_, J>,
     out: &mut O,
-) -> Result<(Status, Seen), RunError> {
+) -> Result<Told, RunError> {
     let alloc = rt.alloc();
     let mut explaining = Explaining {
         rt,
@@ -204,18 +240,19 @@ fn exact_dump<R: AllocGlobal + Threads + Sync, J: Input, O: Output>(
         plan,
         sink: Telling::new(alloc),
     };
-    dump.decode(alloc, &mut explaining)?;
+    let ending = dump.decode(alloc, &mut explaining)?;
     let Explaining { sink, .. } = explaining;
-    write_exactly(sink, out)
+    write_exactly(sink, ending.rises, out)
 }
 
-fn write_exactly<O: Output>(telling: Telling, out: &mut O) -> Result<(Status, Seen), RunError> {
+fn write_exactly<O: Output>(telling: Telling, rises: Rises, out: &mut O) -> Result<Told, RunError> {
     let CaptureReport {
         report,
         status,
         transactions,
         stopped,
         unexplained,
+        ..
     } = telling.finish()?;
     write_lines(out, report.as_bytes(), status)?;
     let seen = Seen {
@@ -223,7 +260,11 @@ fn write_exactly<O: Output>(telling: Telling, out: &mut O) -> Result<(Status, Se
         stopped,
         unexplained,
     };
-    Ok((status, seen))
+    Ok(Told {
+        status,
+        seen,
+        rises,
+    })
 }
 
 // The report in another form.
@@ -234,12 +275,17 @@ fn capture_dump<R: AllocGlobal + Threads + Sync, J: Input, O: Output>(
     out: &mut O,
     capture: Capture<'_>,
     style: Style,
-) -> Result<(Status, Seen), RunError> {
-    let selection = match style {
-        Style::Objects => capture_objects(rt, words, dump, out, capture)?,
-        Style::Lines(paint) => capture_lines(rt, words, dump, out, capture, paint)?,
+    driving: Option<&Driving<'_>>,
+) -> Result<Told, RunError> {
+    let (selection, rises) = match style {
+        Style::Objects => capture_objects(rt, words, dump, out, capture, driving)?,
+        Style::Lines(paint) => capture_lines(rt, words, dump, out, capture, paint, driving)?,
     };
-    Ok((selection.status(), selection.seen))
+    Ok(Told {
+        status: selection.status(),
+        seen: selection.seen,
+        rises,
+    })
 }
 
 fn capture_lines<R: AllocGlobal + Threads + Sync, J: Input, O: Output>(
@@ -249,21 +295,23 @@ fn capture_lines<R: AllocGlobal + Threads + Sync, J: Input, O: Output>(
     out: &mut O,
     capture: Capture<'_>,
     paint: Paint,
-) -> Result<Selection, RunError> {
+    driving: Option<&Driving<'_>>,
+) -> Result<(Selection, Rises), RunError> {
     let alloc = rt.alloc();
     let selection = Selection::new(capture.bus.view, dump.scale());
     let lines = CaptureLines::new(alloc, words, selection, capture.layout(paint), out)?;
+    let judging = judging_of(alloc, driving, words.plan(), words)?;
     let mut explaining = Explaining {
         rt,
         alloc,
         plan: words.plan(),
-        sink: lines,
+        sink: lines.with_drives(judging),
     };
-    let ended = dump.decode(alloc, &mut explaining);
+    let ended = decode_driven(alloc, dump, &mut explaining, driving);
     let Explaining { sink, .. } = explaining;
     match ended {
-        Ok(ending) => sink.finish(dump.quiet(), ending),
-        Err(error) => sink.stop(error),
+        Ok(ending) => Ok((sink.finish(dump.quiet(), ending)?, ending.rises)),
+        Err(error) => Ok((sink.stop(error)?, Rises::NONE)),
     }
 }
 
@@ -273,48 +321,82 @@ fn capture_objects<R: AllocGlobal + Threads + Sync, J: Input, O: Output>(
     dump: &mut Dump<'_, '_, J>,
     out: &mut O,
     capture: Capture<'_>,
-) -> Result<Selection, RunError> {
+    driving: Option<&Driving<'_>>,
+) -> Result<(Selection, Rises), RunError> {
     let alloc = rt.alloc();
     let selection = Selection::new(capture.bus.view, dump.scale());
     let objects = CaptureObjects::new(alloc, words, selection, capture.layout(Paint::Plain), out)?;
+    let judging = judging_of(alloc, driving, words.plan(), words)?;
     let mut explaining = Explaining {
         rt,
         alloc,
         plan: words.plan(),
-        sink: objects,
+        sink: objects.with_drives(judging),
     };
-    let ended = dump.decode(alloc, &mut explaining);
+    let ended = decode_driven(alloc, dump, &mut explaining, driving);
     let Explaining { sink, .. } = explaining;
     match ended {
-        Ok(ending) => sink.finish(ending),
-        Err(error) => sink.stop(error),
+        Ok(ending) => Ok((sink.finish(ending)?, ending.rises)),
+        Err(error) => Ok((sink.stop(error)?, Rises::NONE)),
     }
 }
 
 // ---- decode
 
-/// Writes the transactions of the dump that the reader gives, in bytes.
-pub fn decode<J: Input, O: Output>(
-    alloc: Global,
+/// Writes the transactions of the dump that the reader gives, in bytes; and the bus as waves into a file, where there is one
+/// for them.
+pub fn decode<R: Files + Print + Eprint + Clock + AllocGlobal, J: Input, O: Output>(
+    rt: &R,
     vcd: &mut J,
     out: &mut O,
     bus: Bus<'_>,
     live: bool,
     style: Style,
+    canvas: Option<Canvas<'_, '_>>,
 ) -> Result<Ended, Halt> {
+    let alloc = rt.alloc();
     let mut dump = open(alloc, vcd, bus)?;
     let selection = Selection::new(bus.view, dump.scale());
-    let told = match style {
-        Style::Objects => decode_objects(alloc, &mut dump, out, selection, live),
-        Style::Lines(_) => decode_lines(alloc, &mut dump, out, selection, live),
+    let mut tap = match canvas {
+        Some(_) => Some(Recorder::new(alloc, dump.scl(), dump.sda())?),
+        None => None,
     };
-    match told {
-        Ok(selection) => Ok(Ended {
-            status: selection.status(),
-            remark: Remark::Recording(Recorded::Bytes(bus.view.window, selection.seen)),
-        }),
-        Err(error) => Err(halted(dump, error)),
+    let told = match style {
+        Style::Objects => decode_objects(alloc, &mut dump, out, selection, live, &mut tap),
+        Style::Lines(_) => decode_lines(alloc, &mut dump, out, selection, live, &mut tap),
+    };
+    let (selection, rises) = match told {
+        Ok(told) => told,
+        Err(error) => return Err(halted(dump, error)),
+    };
+    let status = selection.status();
+    if let (Some(canvas), Some(recorder)) = (canvas, tap) {
+        let least = dump.quiet().least;
+        draw_recording(rt, recorder, least, bus.view.window, status, canvas)?;
     }
+    Ok(Ended {
+        status,
+        remark: Remark::Recording(Recorded::Bytes(bus.view.window, selection.seen), rises),
+    })
+}
+
+// Draws what was recorded, with the bytes of the levels that last for so long.
+fn draw_recording<R: Files + Print + Eprint + Clock + AllocGlobal>(
+    rt: &R,
+    recorder: Recorder,
+    least: u64,
+    window: Window,
+    status: Status,
+    canvas: Canvas<'_, '_>,
+) -> Result<(), Halt> {
+    let recorded = recorder.finish()?;
+    let wave = if least == 0 {
+        wave_of_recording(rt.alloc(), &recorded, &recorded, window)?
+    } else {
+        let lasting = recorded.lasting(rt.alloc(), least)?;
+        wave_of_recording(rt.alloc(), &recorded, &lasting, window)?
+    };
+    write_wave(rt, wave.as_str(), status, canvas)
 }
 
 fn decode_lines<J: Input, O: Output>(
@@ -323,10 +405,14 @@ fn decode_lines<J: Input, O: Output>(
     out: &mut O,
     selection: Selection,
     live: bool,
-) -> Result<Selection, RunError> {
+    tap: &mut Option<Recorder>,
+) -> Result<(Selection, Rises), RunError> {
     let mut lines = DecodeLines::new(alloc, selection, live, out)?;
-    dump.decode(alloc, &mut lines)?;
-    lines.finish()
+    let ending = match tap {
+        Some(tap) => dump.decode_with(alloc, &mut lines, tap)?,
+        None => dump.decode(alloc, &mut lines)?,
+    };
+    Ok((lines.finish()?, ending.rises))
 }
 
 fn decode_objects<J: Input, O: Output>(
@@ -335,32 +421,82 @@ fn decode_objects<J: Input, O: Output>(
     out: &mut O,
     selection: Selection,
     live: bool,
-) -> Result<Selection, RunError> {
+    tap: &mut Option<Recorder>,
+) -> Result<(Selection, Rises), RunError> {
     let mut lines = DecodeObjects::new(alloc, selection, live, out)?;
-    dump.decode(alloc, &mut lines)?;
-    lines.finish()
+    let ending = match tap {
+        Some(tap) => dump.decode_with(alloc, &mut lines, tap)?,
+        None => dump.decode(alloc, &mut lines)?,
+    };
+    Ok((lines.finish()?, ending.rises))
 }
 
 // ---- learn and signals
+
+/// A brief that is asked for.
+#[derive(Clone, Copy)]
+pub struct Lesson<'a> {
+    pub bus: Bus<'a>,
+    pub likeness: Likeness,
+    /// The lines of controllers, which share the messages out.
+    pub drives: Drives<'a>,
+}
 
 /// Writes a brief of what the dump that the reader gives has shown.
 pub fn learn<J: Input, O: Output>(
     alloc: Global,
     vcd: &mut J,
     out: &mut O,
-    bus: Bus<'_>,
-    likeness: Likeness,
+    lesson: Lesson<'_>,
 ) -> Result<Ended, Halt> {
-    let mut dump = open(alloc, vcd, bus)?;
-    let mut seen = Sights::new(alloc, bus.view, dump.scale());
-    if let Err(error) = dump.decode(alloc, &mut seen) {
-        return Err(halted(dump, error));
-    }
+    learn_after(alloc, vcd, out, lesson, None)
+}
+
+/// The same as a further file of the brief that the first reader gives, which is read to its end and judged before the second
+/// reader is called.
+pub fn learn_with_names<I: Input, J: Input, O: Output>(
+    alloc: Global,
+    briefs: &mut Sources<'_, I>,
+    vcd: &mut J,
+    out: &mut O,
+    lesson: Lesson<'_>,
+) -> Result<Ended, Halt> {
+    let GivenPlan { plan, origins } = briefs.find_in_briefs(alloc)?;
+    let Some(origins) = origins else {
+        return learn(alloc, vcd, out, lesson);
+    };
+    let file = briefs.files.of(0).unwrap_or("");
+    let before = BriefBefore::new(alloc, file, &plan, &origins)?;
+    learn_after(alloc, vcd, out, lesson, Some(&before))
+}
+
+fn learn_after<J: Input, O: Output>(
+    alloc: Global,
+    vcd: &mut J,
+    out: &mut O,
+    lesson: Lesson<'_>,
+    before: Option<&BriefBefore<'_>>,
+) -> Result<Ended, Halt> {
+    let Lesson {
+        bus,
+        likeness,
+        drives,
+    } = lesson;
+    refuse_no_names(alloc, drives)?;
+    let mut dump = open_driven(alloc, vcd, bus, drives)?;
+    let driving = driving_of(alloc, &dump, drives)?;
+    let driving = driving.as_ref();
+    let mut seen = Sights::new(alloc, bus.view, dump.scale(), before).with_drives(driving);
+    let ending = match decode_driven(alloc, &mut dump, &mut seen, driving) {
+        Ok(ending) => ending,
+        Err(error) => return Err(halted(dump, error)),
+    };
+    refuse_others(alloc, driving)?;
     let Learned { brief, status } = brief_of(alloc, seen, likeness)?;
     write_lines(out, brief.as_bytes(), status)?;
     Ok(Ended {
         status,
-        remark: Remark::Recording(Recorded::Other),
+        remark: Remark::Recording(Recorded::Other, ending.rises),
     })
 }
 
@@ -385,7 +521,7 @@ pub fn list_signals<J: Input, O: Output>(
     write_listed(alloc, &listed, out, style)?;
     Ok(Ended {
         status: Status::Good,
-        remark: Remark::Recording(Recorded::Signals),
+        remark: Remark::Recording(Recorded::Signals, Rises::NONE),
     })
 }
 

@@ -2,7 +2,7 @@
 
 use crate::times::Time;
 use crate::windows::{View, has_unit};
-use vcd_read::Probe;
+use vcd_read::{Level, Probe};
 
 /// Which two signals of a dump are the lines of the bus, and how long a level has to last.
 #[derive(Clone, Copy)]
@@ -31,5 +31,43 @@ impl Bus<'_> {
     /// Whether it matters what the numbers of the dump count.
     pub fn needs_scale(self) -> bool {
         self.view.si || self.has_unit()
+    }
+}
+
+/// The level at which a line says that its controller pulls SDA LOW.
+#[derive(Clone, Copy, PartialEq, Eq)]
+pub enum Pulling {
+    AtZero,
+    AtOne,
+}
+
+impl Pulling {
+    /// Whether a line at this level pulls. One that is unknown does not.
+    pub fn is_at(self, level: Level) -> bool {
+        match self {
+            Pulling::AtZero => level == Level::Low,
+            Pulling::AtOne => level == Level::High,
+        }
+    }
+}
+
+/// A controller, and the line of a dump that has what it pulls itself: a name, a path or a code.
+#[derive(Clone, Copy)]
+pub struct Drive<'a> {
+    pub controller: &'a str,
+    pub line: &'a str,
+}
+
+/// The lines of controllers, in the order in which they were given.
+#[derive(Clone, Copy)]
+pub struct Drives<'a> {
+    pub all: &'a [Drive<'a>],
+    pub pulling: Pulling,
+}
+
+impl Drives<'_> {
+    /// Whether there is none.
+    pub fn is_empty(self) -> bool {
+        self.all.is_empty()
     }
 }

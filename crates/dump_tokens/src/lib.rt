@@ -17,7 +17,7 @@ pub mod tokens;
 mod units;
 mod windows;
 
-pub use buses::{Bus, BusLines};
+pub use buses::{Bus, BusLines, Drive, Drives, Pulling};
 pub use parts::{Part, Parts};
 pub use quiet::Quiet;
 pub use scales::Scale;

@@ -23,6 +23,16 @@ impl Scale {
         None
     }
 
+    /// How many of its unit a step is.
+    pub fn number(self) -> u8 {
+        self.number
+    }
+
+    /// Its unit.
+    pub fn unit(self) -> Unit {
+        self.unit
+    }
+
     // So many steps, in femtoseconds: below 2 to the power 121.
     fn femtoseconds(self, time: u64) -> u128 {
         u128::from(time)

@@ -1,6 +1,7 @@
 // The lines of a capture, as its transactions end.
 
 use crate::captures::{after_transaction, below_transaction};
+use crate::drove::{below_drives, drives_line};
 use crate::labels::{Labels, called_by, labels_of};
 use crate::moments::push_times;
 use crate::paints::Paint;
@@ -10,6 +11,7 @@ use crate::tallies::{Tallies, push_stopped};
 use crate::written::Written;
 use capture_check::{Transaction, Until};
 use decoding::{Ending, ExplainedSink};
+use drives::Judging;
 use dump_tokens::Quiet;
 use growing_text::Text;
 use plan_core::Plan;
@@ -41,6 +43,8 @@ pub struct CaptureLines<'a, 'w, O> {
     called: Labels,
     // where transactions are counted, and not told
     tallies: Option<Tallies>,
+    // where lines of controllers are followed
+    judging: Option<Judging<'w, 'w>>,
     // whether the last transaction was told
     was_told: bool,
     has_stopped: bool,
@@ -70,14 +74,21 @@ impl<'a, 'w, O: Output> CaptureLines<'a, 'w, O> {
             labels,
             called,
             tallies,
+            judging: None,
             was_told: false,
             has_stopped: false,
         })
     }
 
+    /// The same where lines of controllers are followed.
+    pub fn with_drives(self, judging: Option<Judging<'w, 'w>>) -> CaptureLines<'a, 'w, O> {
+        CaptureLines { judging, ..self }
+    }
+
     fn transaction(&mut self, transaction: &Transaction, participants: &[u32]) {
         self.follow(transaction.idle);
         self.was_told = self.selection.takes(transaction, !participants.is_empty());
+        let drove = self.drove(transaction, participants);
         if !self.was_told {
             return;
         }
@@ -95,6 +106,23 @@ impl<'a, 'w, O: Output> CaptureLines<'a, 'w, O> {
             );
             self.written.text.push_made(below);
         }
+        self.written.text.push_made(drove);
+    }
+
+    // Who drove the bus in the next transaction, where that is known.
+    fn drove(
+        &mut self,
+        transaction: &Transaction,
+        participants: &[u32],
+    ) -> Result<String, AllocError> {
+        let alloc = self.written.alloc;
+        let Some(judging) = &mut self.judging else {
+            return Ok(String::new(alloc));
+        };
+        let plan = self.words.plan();
+        let told = self.was_told;
+        let verdict = judging.judge_next(alloc, plan, transaction, participants, told)?;
+        below_drives(alloc, judging, &verdict)
     }
 
     // So many bits came on the free bus after the last transaction.
@@ -163,13 +191,19 @@ impl<'a, 'w, O: Output> CaptureLines<'a, 'w, O> {
     fn end(self) -> Result<Selection, RunError> {
         let CaptureLines {
             mut written,
-            selection,
+            mut selection,
             labels,
             tallies,
+            judging,
             ..
         } = self;
         if let Some(tallies) = &tallies {
             tallies.push_to(&mut written.text, &labels);
+        }
+        if let Some(judging) = &judging {
+            selection.departed = judging.wrong;
+            let line = drives_line(written.alloc, judging);
+            written.text.push_made(line);
         }
         push_last(&mut written.text, selection);
         written.write()?;
@@ -184,11 +218,14 @@ impl<O: Output> ExplainedSink for CaptureLines<'_, '_, O> {
 
     fn take(
         &mut self,
-        _alloc: Global,
+        alloc: Global,
         _plan: &Plan,
         transactions: &[Transaction],
         explainers: &[Vec<u32>],
     ) -> Result<(), RunError> {
+        if let Some(judging) = &mut self.judging {
+            judging.go_on(alloc);
+        }
         for (transaction, participants) in transactions.iter().zip(explainers) {
             self.transaction(transaction, participants.as_slice());
             if self.layout.stops && self.selection.seen.unexplained != 0 {

@@ -29,6 +29,7 @@ mod captures;
 mod cells;
 mod certificates;
 mod decode_lines;
+mod drove;
 mod families;
 mod faults;
 mod glitches;

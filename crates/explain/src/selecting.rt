@@ -34,6 +34,8 @@ pub struct Selection {
     scale: Option<Scale>,
     /// What those that are told come to.
     pub seen: Seen,
+    /// In how many of them a controller did what the rules of the plan do not give, where that is known.
+    pub departed: u64,
 }
 
 impl Selection {
@@ -47,6 +49,7 @@ impl Selection {
                 stopped: 0,
                 unexplained: 0,
             },
+            departed: 0,
         }
     }
 
@@ -81,7 +84,7 @@ impl Selection {
 
     /// The status of a run that has told of these.
     pub fn status(&self) -> Status {
-        if self.seen.unexplained == 0 && self.missed().is_none() {
+        if self.seen.unexplained == 0 && self.departed == 0 && self.missed().is_none() {
             Status::Good
         } else {
             Status::Bad

@@ -1,16 +1,17 @@
 // What is read: a file that a path names, or standard input.
 
+use crate::keeping::{Keeping, Reread};
 use crate::progress::{Count, Told, Watcher};
 use run_parts::{Opened, Watched};
 use std::fs::{self, Metadata, OpenFile};
-use std::io;
+use std::io::{self, Cursor};
 use std::os::unix::fs::{FileTypeExt, MetadataExt};
 use std::rt::Files;
 
 const STANDARD_INPUT: &str = "/dev/stdin";
 
 /// What a path of the command line names: a file, or standard input.
-pub type Source<'a, R, F, S> = Opened<Watched<Told<'a, R, F>>, Watched<Told<'a, R, S>>>;
+pub type Source<'a, R, F, S> = Opened<Watched<Told<'a, R, F>>, Watched<Keeping<Told<'a, R, S>>>>;
 
 /// Opens what a path names for reading, and adds which file it is, where the system says that. `what` it is is told while it is
 /// read. Standard input itself needs no leave to open the file that its path names.
@@ -18,7 +19,7 @@ pub type Source<'a, R, F, S> = Opened<Watched<Told<'a, R, F>>, Watched<Told<'a, 
 /// # Errors
 ///
 /// Those of the system, and where an allocation fails.
-pub fn open_file<'a, R: Files + Input>(
+pub fn open_file<'a, R: Files + Input + AllocGlobal>(
     rt: &'a R,
     path: &str,
     what: &'static str,
@@ -37,8 +38,17 @@ pub fn open_file<'a, R: Files + Input>(
             push_id(ids, fs::metadata(rt, STANDARD_INPUT))?;
             let count = Count::new(watcher, what, None);
             let input = Told::new(rt, rt.reader(), count);
+            let input = Keeping::new(rt.alloc(), input);
             Ok(Opened::Standard(Watched::new(input)))
         }
+    }
+}
+
+/// What was read of it, where that can be read once more: a file, or what was kept of standard input.
+pub fn reread<R, F: Drop, S: Drop>(source: Source<'_, R, F, S>) -> Option<Reread<F>> {
+    match source {
+        Opened::File(file) => Some(Reread::File(file.into_inner().into_inner())),
+        Opened::Standard(input) => Some(Reread::Kept(Cursor::new(input.into_inner().into_kept()?))),
     }
 }
 

@@ -18,6 +18,7 @@ pub enum Kind {
     Dump,
     Gzip,
     Zip,
+    Fst,
     Archive,
     Utf16,
     ByteOrderMark,
@@ -37,6 +38,9 @@ impl Kind {
             Kind::Gzip => "this file is compressed by gzip: unpack it first with 'gunzip'",
             Kind::Zip => {
                 "this is a ZIP archive, as a session of sigrok is (.sr): for a dump of one, 'sigrok-cli -i FILE -O vcd -o OUT'"
+            }
+            Kind::Fst => {
+                "this is an FST file, as GTKWave has it: 'fst2vcd FILE' writes the dump that it holds"
             }
             Kind::Archive => "this is an archive or a compressed file: unpack it first",
             Kind::Utf16 => {
@@ -65,13 +69,10 @@ pub fn push_kind(lines: &mut Lines, found: Option<Kind>, expected: Kind) {
     }
 }
 
-/// What a file is, where it can be read once more and its first bytes tell.
-pub fn kind_of_file<F: Read + Seek>(alloc: Global, file: &mut Option<F>) -> Option<Kind> {
+/// The first bytes of a file, where it can be read once more.
+pub fn head_of_file<F: Read + Seek>(alloc: Global, file: &mut Option<F>) -> Option<Vec<u8>> {
     let file = file.as_mut()?;
-    match part(alloc, file, 0, LOOKED_AT) {
-        Ok(head) => kind_of(head.as_slice()),
-        Err(_) => None,
-    }
+    part(alloc, file, 0, LOOKED_AT).ok()
 }
 
 // What files begin with that are packed by several programs: bzip2, xz, zstd and 7-Zip.
@@ -81,6 +82,9 @@ const ARCHIVES: [&[u8]; 4] = [
     b"\x28\xb5\x2f\xfd",
     b"7z\xbc\xaf\x27\x1c",
 ];
+
+// What an FST file begins with: a block of the kind 0, with the length of every header.
+const FST: &[u8] = b"\x00\x00\x00\x00\x00\x00\x00\x01\x49";
 
 const UTF_16: [&[u8]; 2] = [b"\xff\xfe", b"\xfe\xff"];
 
@@ -101,6 +105,8 @@ pub fn kind_of(head: &[u8]) -> Option<Kind> {
         Some(Kind::Gzip)
     } else if head.starts_with(b"PK\x03\x04") {
         Some(Kind::Zip)
+    } else if head.starts_with(FST) {
+        Some(Kind::Fst)
     } else if has_mark(head, &ARCHIVES) || is_tar(head) {
         Some(Kind::Archive)
     } else if head.starts_with(b"\xef\xbb\xbf") {

@@ -36,7 +36,8 @@ mod wording;
 mod words;
 
 pub use captures::{
-    Names, on_bytes, on_choice, on_dump, on_recording, on_signals, on_silence, on_unexplained,
+    Names, on_bytes, on_choice, on_denied_line, on_dump, on_no_controller, on_no_line, on_no_name,
+    on_recording, on_rises, on_same_line, on_signals, on_silence, on_unexplained,
 };
 pub use certs::on_certificate;
 pub use devices::{

@@ -41,13 +41,18 @@ impl<'a> Nearest<'a> {
 
     /// One more name. One that is there already is not kept twice.
     pub fn add(&mut self, alloc: Global, name: &[u8]) -> Result<(), AllocError> {
-        if self.has(name) {
+        self.add_as(alloc, name, name)
+    }
+
+    /// The same of a name that is told in other words.
+    pub fn add_as(&mut self, alloc: Global, name: &[u8], told: &[u8]) -> Result<(), AllocError> {
+        if self.has(told) {
             return Ok(());
         }
         let far = distance(alloc, self.wanted, name)?;
         let at = self.place_of(far);
         if at < MOST && at <= self.found.len() {
-            let name = name.to_vec(alloc)?;
+            let name = told.to_vec(alloc)?;
             self.found.insert(at, Near { name, far })?;
             if self.found.len() <= MOST {
                 return Ok(());

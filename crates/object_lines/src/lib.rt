@@ -6,5 +6,7 @@
 mod refusals;
 mod writing;
 
-pub use refusals::{Detail, EarlierAt, TextDetail, hint_objects, refusal_object, timescale_object};
+pub use refusals::{
+    Detail, EarlierAt, TextDetail, drive_object, hint_objects, refusal_object, timescale_object,
+};
 pub use writing::ObjectLines;

@@ -55,6 +55,8 @@ struct Refusal<'a> {
     #[serde(skip_serializing_if = "Option::is_none")]
     label: Option<&'a str>,
     #[serde(skip_serializing_if = "Option::is_none")]
+    controller: Option<&'a str>,
+    #[serde(skip_serializing_if = "Option::is_none")]
     signal: Option<&'static str>,
     // of a token: how many bytes stand before it, and in its line and one, and what could stand there
     #[serde(skip_serializing_if = "Option::is_none")]
@@ -201,6 +203,19 @@ pub fn timescale_object(alloc: Global) -> Result<String, AllocError> {
     object_of(alloc, coded("timescale"))
 }
 
+/// The object of the refusal of a line that was to be what this controller pulls.
+///
+/// # Errors
+///
+/// Where an allocation fails.
+pub fn drive_object(alloc: Global, controller: &str) -> Result<String, AllocError> {
+    let refusal = Refusal {
+        controller: Some(controller),
+        ..coded("drives")
+    };
+    object_of(alloc, refusal)
+}
+
 fn object_of(alloc: Global, refusal: Refusal<'_>) -> Result<String, AllocError> {
     let mut lines = ObjectLines::new(alloc);
     lines.add(&refusal);
@@ -266,6 +281,7 @@ fn coded(code: &'static str) -> Refusal<'static> {
         line: None,
         file: None,
         label: None,
+        controller: None,
         signal: None,
         byte: None,
         column: None,

@@ -5,6 +5,7 @@ use crate::transactions::{Moment, Seen, Times, seen_of, times_of, too_few_of};
 use crate::written::Written;
 use capture_check::Transaction;
 use decoding::{Ending, ExplainedSink};
+use drives::{Does, Judged, Judging};
 use dump_tokens::Scale;
 use explain::{Explains, Labels, Layout, Others, Selection, Tallies, labels_of};
 use plan_core::Plan;
@@ -23,7 +24,28 @@ struct Explained<'a> {
     end: &'static str,
     participants: Vec<&'a str>,
     #[serde(skip_serializing_if = "Option::is_none")]
+    drives: Option<Vec<Drove<'a>>>,
+    #[serde(skip_serializing_if = "Option::is_none")]
     explain: Option<Seen<'a>>,
+}
+
+// What a controller did in a transaction, and in which slots.
+#[derive(Clone, Copy, Serialize)]
+struct Drove<'a> {
+    controller: &'a str,
+    does: &'static str,
+    #[serde(skip_serializing_if = "Option::is_none")]
+    slot: Option<usize>,
+    #[serde(skip_serializing_if = "Option::is_none")]
+    again: Option<usize>,
+}
+
+// In how many transactions all that are followed did what the rules of the plan give, and in how many one did not.
+#[derive(Clone, Copy, Serialize)]
+struct Rules {
+    right: u64,
+    wrong: u64,
+    others: u64,
 }
 
 // What those come to that a STOP ended.
@@ -32,6 +54,8 @@ struct Transactions {
     kind: &'static str,
     transactions: u64,
     unexplained: u64,
+    #[serde(skip_serializing_if = "Option::is_none")]
+    drives: Option<Rules>,
     #[serde(skip_serializing_if = "Option::is_none")]
     explain: Option<Rest>,
 }
@@ -83,6 +107,8 @@ pub struct CaptureObjects<'a, 'w, O> {
     labels: Labels,
     // where transactions are counted, and not told
     tallies: Option<Tallies>,
+    // where lines of controllers are followed
+    judging: Option<Judging<'w, 'w>>,
     has_stopped: bool,
 }
 
@@ -108,12 +134,20 @@ impl<'a, 'w, O: Output> CaptureObjects<'a, 'w, O> {
             selection,
             labels,
             tallies,
+            judging: None,
             has_stopped: false,
         })
     }
 
+    /// The same where lines of controllers are followed.
+    pub fn with_drives(self, judging: Option<Judging<'w, 'w>>) -> CaptureObjects<'a, 'w, O> {
+        CaptureObjects { judging, ..self }
+    }
+
     fn transaction(&mut self, transaction: &Transaction, participants: &[u32]) {
-        if !self.selection.takes(transaction, !participants.is_empty()) {
+        let is_told = self.selection.takes(transaction, !participants.is_empty());
+        let drives = self.drove(transaction, participants, is_told);
+        if !is_told {
             return;
         }
         if let Some(tallies) = &mut self.tallies {
@@ -128,7 +162,27 @@ impl<'a, 'w, O: Output> CaptureObjects<'a, 'w, O> {
             self.selection.told_scale(),
             self.layout.explain,
         );
-        self.written.add_made(object);
+        self.written.add_made(with_drives(object, drives));
+    }
+
+    // Who drove the bus in the next transaction, where that is known.
+    fn drove(
+        &mut self,
+        transaction: &Transaction,
+        participants: &[u32],
+        is_told: bool,
+    ) -> Result<Option<Vec<Drove<'w>>>, AllocError> {
+        let alloc = self.written.alloc;
+        let Some(judging) = &mut self.judging else {
+            return Ok(None);
+        };
+        let plan = self.words.plan();
+        let verdict = judging.judge_next(alloc, plan, transaction, participants, is_told)?;
+        let mut drove = Vec::new(alloc);
+        for judged in verdict.all.iter() {
+            drove.push(drove_of(judging.controller(judged.number), *judged))?;
+        }
+        Ok(Some(drove))
     }
 
     /// Writes the last objects of a capture that ended so, and answers what those that were told come to.
@@ -165,11 +219,23 @@ impl<'a, 'w, O: Output> CaptureObjects<'a, 'w, O> {
         let CaptureObjects {
             mut written,
             words,
-            selection,
+            mut selection,
             labels,
             tallies,
+            judging,
             ..
         } = self;
+        let drives = match &judging {
+            Some(judging) => {
+                selection.departed = judging.wrong;
+                Some(Rules {
+                    right: judging.right,
+                    wrong: judging.wrong,
+                    others: judging.others,
+                })
+            }
+            None => None,
+        };
         if let Some(tallies) = &tallies {
             add_tallies(&mut written, words, tallies, &labels);
         }
@@ -177,6 +243,7 @@ impl<'a, 'w, O: Output> CaptureObjects<'a, 'w, O> {
             kind: "transactions",
             transactions: selection.seen.stopped,
             unexplained: selection.seen.unexplained,
+            drives,
             explain,
         });
         if let Some(too_few) = too_few_of(&selection) {
@@ -194,11 +261,14 @@ impl<O: Output> ExplainedSink for CaptureObjects<'_, '_, O> {
 
     fn take(
         &mut self,
-        _alloc: Global,
+        alloc: Global,
         _plan: &Plan,
         transactions: &[Transaction],
         explainers: &[Vec<u32>],
     ) -> Result<(), RunError> {
+        if let Some(judging) = &mut self.judging {
+            judging.go_on(alloc);
+        }
         for (transaction, participants) in transactions.iter().zip(explainers) {
             self.transaction(transaction, participants.as_slice());
             if self.layout.stops && self.selection.seen.unexplained != 0 {
@@ -233,6 +303,33 @@ fn add_tallies<O: Output>(
     written.add(&Count::new("unfinished", unfinished));
 }
 
+fn with_drives<'a>(
+    object: Result<Explained<'a>, AllocError>,
+    drives: Result<Option<Vec<Drove<'a>>>, AllocError>,
+) -> Result<Explained<'a>, AllocError> {
+    let object = object?;
+    Ok(Explained {
+        drives: drives?,
+        ..object
+    })
+}
+
+fn drove_of(controller: &str, judged: Judged) -> Drove<'_> {
+    let (does, slot, again) = match judged.does {
+        Does::GoesOn => ("goes on", None, None),
+        Does::Loses { slot } => ("loses", Some(slot), None),
+        Does::PullsOn { slot, again } => ("pulls on", Some(slot), Some(again)),
+        Does::Departs { slot, .. } => ("departs", Some(slot), None),
+        Does::JoinsLate { slot } => ("joins late", Some(slot), None),
+    };
+    Drove {
+        controller,
+        does,
+        slot,
+        again,
+    }
+}
+
 // A transaction, which is explained where that is wanted.
 fn explained_of<'a>(
     alloc: Global,
@@ -254,6 +351,7 @@ fn explained_of<'a>(
         to,
         end,
         participants: names,
+        drives: None,
         explain: None,
     };
     if is_wanted {

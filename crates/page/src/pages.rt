@@ -3,6 +3,8 @@
 use crate::data::data_of;
 use crate::drawings::DRAWINGS;
 use crate::group_list::GROUP_LIST;
+use crate::lanes::LANES;
+use crate::levels::LEVELS;
 use crate::matrix::MATRIX;
 use crate::recording::Recording;
 use crate::senders::SENDERS;
@@ -123,7 +125,7 @@ fn push_data(alloc: Global, page: &mut String, data: &str) -> Result<(), AllocEr
 
 fn push_script(page: &mut String) -> Result<(), AllocError> {
     page.push_str("<script>")?;
-    for part in [SENDERS, MATRIX, DRAWINGS, GROUP_LIST, TIMES] {
+    for part in [SENDERS, MATRIX, DRAWINGS, GROUP_LIST, LEVELS, LANES, TIMES] {
         page.push_str(part)?;
     }
     page.push_str("</script>\n</body>\n</html>\n")

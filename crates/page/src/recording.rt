@@ -1,5 +1,6 @@
 // A recorded bus, as the page has it.
 
+use crate::wires::{Span, Wired};
 use capture_check::{Mark, Transaction, Until};
 use decoding::ExplainedSink;
 use dump_tokens::Scale;
@@ -7,6 +8,7 @@ use explain::{Leaves, Seen, Selection, bytes_of, mark_words, nearest, offer_word
 use plan_core::Plan;
 use run_parts::RunError;
 use serde::Serialize;
+use signals::RecordedLines;
 use std::alloc::{AllocError, Global};
 
 /// The transactions that are told, in the order in which they ended.
@@ -15,11 +17,15 @@ pub struct Recording {
     alloc: Global,
     selection: Selection,
     transactions: Vec<Shown>,
+    // what the numbers of the dump count
+    scale: Option<Scale>,
 }
 
 /// A transaction. Its times are whole numbers, which may be too great for a number of a script.
 #[derive(Drop, Serialize)]
 pub(crate) struct Shown {
+    #[serde(skip)]
+    span: Span,
     from: String,
     #[serde(skip_serializing_if = "Option::is_none")]
     to: Option<String>,
@@ -31,6 +37,10 @@ pub(crate) struct Shown {
     bytes: String,
     #[serde(skip_serializing_if = "Vec::is_empty")]
     nearest: Vec<Near>,
+    // the two lines as they were recorded, and without what was too short, where that differs
+    wire: String,
+    #[serde(skip_serializing_if = "Option::is_none")]
+    lasting: Option<String>,
 }
 
 // Where a participant leaves a transaction that nobody explains.
@@ -47,6 +57,9 @@ struct Near {
 pub(crate) struct Recorded<'a> {
     stopped: u64,
     unexplained: u64,
+    // so many of this unit are a step of time, where the dump says so
+    #[serde(skip_serializing_if = "Option::is_none")]
+    step: Option<(u8, &'static str)>,
     transactions: &'a [Shown],
 }
 
@@ -57,7 +70,40 @@ impl Recording {
             alloc,
             selection,
             transactions: Vec::new(alloc),
+            scale: None,
         }
+    }
+
+    /// Puts the two lines beside the transactions, as they were recorded, and as they last where some levels were too short.
+    ///
+    /// # Errors
+    ///
+    /// Where an allocation fails.
+    pub fn put_lines(
+        &mut self,
+        recorded: &RecordedLines,
+        lasting: Option<&RecordedLines>,
+    ) -> Result<(), AllocError> {
+        self.scale = recorded.scale;
+        let mut lines = Wired::new(recorded);
+        for shown in self.transactions.iter_mut() {
+            shown.wire = lines.within(self.alloc, shown.span)?;
+        }
+        match lasting {
+            Some(lasting) => self.put_lasting(lasting),
+            None => Ok(()),
+        }
+    }
+
+    fn put_lasting(&mut self, lasting: &RecordedLines) -> Result<(), AllocError> {
+        let mut lines = Wired::new(lasting);
+        for shown in self.transactions.iter_mut() {
+            let wire = lines.within(self.alloc, shown.span)?;
+            if wire.as_str() != shown.wire.as_str() {
+                shown.lasting = Some(wire);
+            }
+        }
+        Ok(())
     }
 
     /// What the page has of it.
@@ -70,6 +116,10 @@ impl Recording {
         Recorded {
             stopped,
             unexplained,
+            step: match self.scale {
+                Some(scale) => Some((scale.number(), scale.unit().symbol())),
+                None => None,
+            },
             transactions: self.transactions.as_slice(),
         }
     }
@@ -123,6 +173,7 @@ fn shown_of(
     let marks = transaction.marks.as_slice();
     let from = transaction.from;
     Ok(Shown {
+        span: Span { from, to },
         from: format!(in alloc; "{from}")?,
         to: number_of(alloc, to)?,
         times: told_times(alloc, from, to, scale)?,
@@ -134,6 +185,8 @@ fn shown_of(
         } else {
             Vec::new(alloc)
         },
+        wire: String::new(alloc),
+        lasting: None,
     })
 }
 

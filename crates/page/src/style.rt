@@ -76,7 +76,13 @@ select, button { font: inherit; color: inherit; background: var(--soft); border:
 .drawn svg { flex: none; }
 .drawn .names { position: sticky; left: 0; background: var(--paper); }
 pre.rows { border: 0; background: none; padding: 0; margin: .4rem 0; max-height: none; }
-.times svg { max-width: 100%; height: auto; }
+.times { overflow: auto; max-height: 32rem; border: 1px solid var(--rule); touch-action: pan-y; cursor: grab; user-select: none; }
+.times > svg { max-width: 100%; }
+.only-told { position: absolute; width: 1px; height: 1px; overflow: hidden; clip-path: inset(50%); }
+.bar { display: flex; flex-wrap: wrap; gap: .4rem; align-items: center; margin: .6rem 0; }
+.bar button { min-width: 2rem; }
+.leaves { margin: .2rem 0 .6rem; padding-left: 1.5rem; list-style: none; }
+.odd-list { padding: 0; list-style: none; }
 svg text { fill: var(--ink); font: 12px ui-monospace, 'DejaVu Sans Mono', Consolas, monospace; }
 svg .faint, svg .open { fill: var(--faint); }
 svg .level { fill: none; stroke: var(--ink); stroke-width: 2; }
@@ -88,18 +94,22 @@ svg .meeting { fill: var(--unsafe); stroke: var(--strong); stroke-width: 1.5; }
 svg .parting { fill: var(--header); stroke: none; }
 svg .seen { fill: var(--later); stroke: var(--ink); }
 svg .odd { fill: var(--unsafe); stroke: var(--ink); stroke-width: 1.5; }
+svg .call { fill: var(--soft); stroke: var(--rule); }
+svg .break { fill: none; stroke: var(--paper); stroke-width: 3; }
+svg .active { fill: none; stroke: var(--mark); stroke-width: 2; }
+svg .inside { pointer-events: none; }
 svg .cut { fill: var(--apart); stroke: var(--faint); stroke-dasharray: 3 2; }
 details { margin: .4rem 0; }
 summary { cursor: pointer; }
-.notes { margin: .2rem 0 .6rem 1.5rem; white-space: pre-wrap; }
 @media print {
   @page { margin: 12mm; }
   :root { color-scheme: light; --paper: #ffffff; --ink: #000000; --soft: #ffffff; font-size: 75%; }
   body { max-width: none; padding: 0; }
-  form, .hint, .mark, details:not(.printed):not([open]) { display: none; }
+  form, .bar, .only-told, .hint, .mark, details:not(.printed):not([open]) { display: none; }
   details.printed > summary { list-style: none; }
   pre, pre.rows { max-height: none; overflow: visible; white-space: pre-wrap; overflow-wrap: anywhere; }
-  .wide { overflow: visible; }
+  .wide, .times { overflow: visible; max-height: none; }
+  .times > svg { height: auto; }
   h2, h3, h4, summary { break-after: avoid; }
   .matrix { --cell: min(1.25rem, 53rem / (var(--lines) + var(--head))); }
   .matrix td, .matrix.small td { width: var(--cell); min-width: 0; height: var(--cell); font-size: calc(var(--cell) * .62); }

@@ -1,72 +1,6 @@
-// The last part of the script: a capture on a line of time, who wins, and the page itself.
+// The last part of the script: who wins, what is sent, and the page itself.
 
 pub(crate) const TIMES: &str = r#"
-// ---- A capture.
-
-const shownTransactions = list => list.map(one => ({ ...one, from: BigInt(one.from), to: one.to === undefined ? null : BigInt(one.to) }));
-
-const fateOf = one => one.end !== 'stop' ? 'cut' : one.by.length === 0 ? 'odd' : 'seen';
-
-const timesOf = one => (one.times ?? [one.from, one.to]).map(time => time ?? '').join('-');
-
-const whoOf = one => one.end !== 'stop' ? one.end : one.by.length === 0 ? 'unexplained'
-  : one.by.map(number => participants[number].label).join(' ');
-
-const notesOf = one => [one.bytes, ...(one.nearest ?? []).map(near => participants[near.participant].label + ' leaves at slot '
-  + near.slot + ': ' + near.does + ' there, the wire has ' + near.wire)];
-
-const MOST_BARS = 1000, MOST_ROWS = 200;
-
-// Of many transactions neighbours share a bar, which is odd where one of them is.
-function timeLineOf(list) {
-  const width = 1100, first = list[0].from;
-  const last = list.reduce((late, one) => one.to !== null && one.to > late ? one.to : one.from > late ? one.from : late, first);
-  const span = last > first ? last - first : 1n;
-  const place = time => 20 + Number((time - first) * 100000n / span) / 100000 * (width - 40);
-  const svg = element('svg:svg', { viewBox: '0 0 ' + width + ' 84', width, height: 84, role: 'img',
-    'aria-label': list.length + ' transactions from ' + first + ' to ' + last });
-  const step = Math.max(1, Math.ceil(list.length / MOST_BARS));
-  for (let k = 0; k < list.length; k += step) {
-    const some = list.slice(k, k + step);
-    const fates = some.map(fateOf);
-    const fate = fates.includes('odd') ? 'odd' : fates.includes('cut') ? 'cut' : 'seen';
-    const left = place(some[0].from), end = some[some.length - 1];
-    const right = Math.max(left + 3, place(end.to === null ? last : end.to));
-    const bar = element('svg:rect', { x: left, y: fate === 'odd' ? 14 : 22, width: right - left, height: fate === 'odd' ? 38 : 22,
-      class: fate }, element('svg:title', {}, (step === 1 ? timesOf(end) : some[0].from + '-' + (end.to ?? '')) + ' ' + whoOf(some[0])));
-    svg.append(bar);
-    if (fate === 'odd' && list.length <= 60) {
-      svg.append(element('svg:text', { x: (left + right) / 2, y: 11, 'text-anchor': 'middle' }, '!'));
-    }
-  }
-  svg.append(element('svg:line', { x1: 20, x2: width - 20, y1: 58, y2: 58, class: 'grid' }),
-    element('svg:text', { x: 20, y: 74, class: 'faint' }, list[0].times?.[0] ?? String(first)),
-    element('svg:text', { x: width - 20, y: 74, 'text-anchor': 'end', class: 'faint' },
-      list.find(one => one.to === last)?.times?.[1] ?? String(last)));
-  return element('div', { class: 'times wide' }, svg);
-}
-
-function captureOf({ stopped, unexplained, transactions }) {
-  const list = shownTransactions(transactions);
-  const parts = [element('h2', { id: 'capture-seen' }, 'The capture'),
-    element('p', {}, stopped + ' transactions, ' + unexplained + ' unexplained')];
-  if (list.length === 0) return parts;
-  parts.push(timeLineOf(list), element('ul', { class: 'key' },
-    element('li', {}, 'low bar: explained by the plan'), element('li', {}, 'tall bar, !: nobody of the plan explains it'),
-    element('li', {}, 'dashed bar: cut, or unfinished')));
-  const odd = list.filter(one => fateOf(one) === 'odd');
-  const told = odd.length > 0 ? odd : list;
-  parts.push(element('h3', {}, odd.length > 0 ? 'Unexplained' : 'Transactions'));
-  for (const one of told.slice(0, MOST_ROWS)) {
-    parts.push(element('p', { class: 'mono' }, timesOf(one) + ' ' + whoOf(one)),
-      element('div', { class: 'notes mono' }, notesOf(one).join('\n')));
-  }
-  if (told.length > MOST_ROWS) {
-    parts.push(element('p', {}, 'and ' + (told.length - MOST_ROWS) + ' more, which stand in the report below'));
-  }
-  return parts;
-}
-
 // ---- Who wins.
 
 function totalsOf() {
@@ -194,8 +128,10 @@ function page() {
     main.append(...shown.parts.filter(part => part !== null), ...totalsOf());
   }
   main.append(...sendersOf());
-  if (data.capture) main.append(...captureOf(data.capture));
+  const capture = data.capture ? captureOf(data.capture) : null;
+  if (capture) main.append(...capture.parts);
   scrollToEnds(main);
+  if (capture) capture.draw();
   follow();
 }
 

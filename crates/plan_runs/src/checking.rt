@@ -4,7 +4,7 @@
 ghost use Rattle.plan_core.specs.PlanContents.{plan_contents};
 ghost use Rattle.verdicts.specs.Faults.{AreFaults, fault_list};
 
-use crate::drawings::{Canvas, draw_fault};
+use crate::drawings::draw_fault;
 use brief_text::Origins;
 use cert_check::{Answer, Judged, check_certificate_at};
 use certificate::Refusal;
@@ -24,7 +24,7 @@ use report::{
     Answered, Checked, Input, NoGate, Output, RunError, Status, answer_line, check_found,
     check_report, read_within, status_of_answer, verify_found,
 };
-use run_ends::{Ended, Extras, Halt, Remark, Sources, Style};
+use run_ends::{Canvas, Ended, Extras, Halt, Remark, Sources, Style};
 use run_parts::devices::reading::READS;
 use run_parts::write_lines;
 use std::alloc::{AllocError, Global};

@@ -1,7 +1,7 @@
 //! The runs over plans: each finds a value, and writes it in the form that is wanted.
 //!
 //! `checking` has `check`, `verify` and `order`, `rehearsals` has `bench`, and `rewriting` the runs that write a plan or a
-//! certificate. `drawings` writes the file for waves.
+//! certificate. `drawings` has what goes into the file for waves.
 #![tactic(auto)]
 
 mod checking;
@@ -10,6 +10,5 @@ mod rehearsals;
 mod rewriting;
 
 pub use checking::{Look, check, order, status_of, verify};
-pub use drawings::Canvas;
 pub use rehearsals::{Play, bench, bench_alone};
 pub use rewriting::Rewriting;

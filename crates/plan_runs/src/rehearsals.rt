@@ -4,7 +4,7 @@ ghost use Rattle.std.specs.Prelude.{IfOk};
 ghost use Rattle.bench_run.specs.Outcomes.{HasWinners};
 
 use crate::checking::{remark_on_answer, tell_answer};
-use crate::drawings::{Canvas, draw_outcome};
+use crate::drawings::draw_outcome;
 use bench_run::{NoGate, Outcome, Rehearsal, outcome_report, rehearse, status_of_outcome};
 use brief_text::Origins;
 use bus_bench::opening::MOST_SLOTS;
@@ -16,7 +16,7 @@ use objects::write_rehearsal;
 use plan_core::Plan;
 use plan_words::PlanWords;
 use report::{Input, Output, RunError, read_within};
-use run_ends::{Ended, Extras, Halt, Remark, Sources, Style};
+use run_ends::{Canvas, Ended, Extras, Halt, Remark, Sources, Style};
 use run_parts::devices::reading::READS;
 use run_parts::write_lines;
 use std::alloc::{AllocError, Global};

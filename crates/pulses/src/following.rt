@@ -1,7 +1,7 @@
 // A capture that comes in parts, from its samples to its transactions, without short pulses.
 
 use crate::filtering::Filter;
-use capture_check::{Follower, Transaction};
+use capture_check::{Follower, Rises, Transaction};
 use std::alloc::{AllocError, Global};
 use vcd_read::Sample;
 
@@ -87,5 +87,10 @@ impl QuietFollower {
     /// How many bits have followed the STOP of the last transaction, as long as both levels were known.
     pub fn idle(&self) -> u64 {
         self.follower.idle()
+    }
+
+    /// How often SCL has risen.
+    pub fn rises(&self) -> Rises {
+        self.follower.rises()
     }
 }

@@ -2,7 +2,6 @@ pub mod AcceptedLemmas
 pub mod BlockLemmas
 pub mod PrintableLemmas
 pub mod CertificateLemmas
-pub mod AnswerReading
 pub mod LineLemmas
 pub mod CheckLemmas
 pub mod CaptureLemmas

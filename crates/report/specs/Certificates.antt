@@ -1,8 +1,6 @@
--- What certify says of a plan text, and verify of a plan text and a certificate text.
+-- What certify says of a plan text; and what verify says of a plan text and a certificate text, by its own crate.
 use Rattle.std.specs.Prelude.{◌≡◌, ℕ, List}
 use Rattle.certificate.specs.Texts.{cert_text}
-use Rattle.cert_check.specs.Accepts.{AnswersBytes}
-use Rattle.cert_check.specs.declared.answers.Answer.{Answer}
 use Rattle.pair_walk.specs.declared.walk_pair.Verdict.{Verdict}
 use Rattle.plan_core.specs.Contents.{Contents}
 use Rattle.plan_core.specs.Limits.{IsWithinLimits}
@@ -14,7 +12,7 @@ use Rattle.run_parts.specs.Devices.{Writer, by_parts}
 use Rattle.run_parts.specs.Writing.{WritesAll, WritingStops}
 use Rattle.run_parts.specs.declared.errors.RunError.{RunError}
 use Rattle.run_parts.specs.declared.runs.Status.{Status}
-use Rattle.report.specs.Answers.{answer_status, verify_line}
+pub use Rattle.verifying.specs.Verified.{Verified}
 
 -- the text spells a plan, within the limits as every plan is; the report is the text of the certificate for its verdicts, and
 -- the status judges of the plan
@@ -40,10 +38,3 @@ module _ {D : Type 0} (plan : Contents) (writer : Writer D) (before : D) where
     pub verdicts : List Verdict
     pub right : AreVerdicts plan verdicts
     pub stopped : WritingStops (by_parts writer) before (cert_text (certificate_for verdicts)) error now
-
--- the report is the line of the answer that the texts of the plan and of the certificate have, and the status is its own
-pub record Verified (texts : List ℕ × List ℕ) (report : List ℕ) (status : Status) : Type 0 where
-  pub answer : Answer
-  pub right : AnswersBytes texts.0 texts.1 answer
-  pub line : report ≡ verify_line answer
-  pub ended : status ≡ answer_status answer

@@ -3,16 +3,10 @@ use Rattle.std.specs.Prelude.{ℕ, List}
 use Rattle.plan_core.specs.PlanContents.{plan_contents}
 use Rattle.plan_text.specs.Grammar.{Spells}
 use Rattle.report.specs.declared.found.Checked as value
-use Rattle.cert_check.specs.Accepts.{AnswersBytes}
-use Rattle.cert_check.specs.declared.answers.Answered.{Answered}
 use Rattle.verdicts.specs.Faults.{AreFaults, fault_list}
+pub use Rattle.verifying.specs.Verified.{AnswerOf}
 
 -- the text spells the plan, and these are its faults
 pub record CheckOf (text : List ℕ) (checked : value.Checked) : Type 0 where
   pub spelled : Spells text (plan_contents checked.plan)
   pub right : AreFaults (plan_contents checked.plan) (fault_list checked.faults)
-
--- the first text spells the plan, and this is the answer for both
-pub record AnswerOf (texts : List ℕ × List ℕ) (it : Answered) : Type 0 where
-  pub spelled : Spells texts.0 (plan_contents it.plan)
-  pub right : AnswersBytes texts.0 texts.1 it.answer

@@ -4,9 +4,9 @@ pub mod Lines
 pub mod FaultLines
 pub mod Checks
 pub mod FaultyStreams
-pub mod Answers
+pub use Rattle.verifying.specs.Answers
 pub mod Certificates
-pub mod Answering
+pub use Rattle.verifying.specs.Answering
 pub mod CaptureLines
 pub mod CaptureViews
 pub mod Captures

@@ -1,29 +1,23 @@
 //! The reports of the program over any readers and writers.
 #![tactic(auto)]
 
-mod answering;
-pub mod answers;
 mod blocks;
 pub mod captures;
 pub mod certificates;
 pub mod checked;
 pub mod checks;
 pub mod faulty;
-pub mod finding;
 pub mod found;
 pub mod laws;
 pub mod lines;
 pub mod live;
 pub mod telling;
 
-pub use answers::{answer_line, status_of_answer};
 pub use captures::{run_capture, run_capture_of};
-pub use cert_check::{Answer, Answered};
-pub use certificates::{certify_found, run_certify, run_verify, verify_found, verify_plan};
+pub use certificates::{certify_found, run_certify};
 pub use checked::{check_found, check_plan};
 pub use checks::{run_check, run_check_with};
 pub use faulty::{FaultyReader, FaultyWriter};
-pub use finding::find_plan;
 pub use found::Checked;
 pub use lines::{check_report, push_count, push_fault};
 pub use live::live_capture;
@@ -31,3 +25,7 @@ pub use run_parts::{Input, Opened, Output, RunError, Status, Watched, read_withi
 pub use telling::{CaptureCounts, CaptureReport, Telling};
 pub use vcd_read::{Probe, Wrong};
 pub use verdicts::{Gate, NoGate};
+pub use verifying::{
+    Answer, Answered, answer_line, find_plan, run_verify, status_of_answer, verify_found,
+    verify_plan,
+};

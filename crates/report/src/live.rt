@@ -87,6 +87,7 @@ pub fn live_capture<J: Input, O: Output>(
         transactions: last.transactions,
         stopped: last.stopped,
         unexplained: last.unexplained,
+        rises: last.rises,
     })
 }
 
@@ -120,11 +121,12 @@ fn tell<J: Input, O: Output>(
             unexplained: 0,
         },
     };
-    decode(alloc, vcd, scl, sda, least, &mut explaining, wrong)?;
+    let ending = decode(alloc, vcd, scl, sda, least, &mut explaining, wrong)?;
     Ok(Telling {
         lines: String::new(alloc),
         transactions: explaining.sink.transactions,
         stopped: explaining.sink.stopped,
         unexplained: explaining.sink.unexplained,
+        rises: ending.rises,
     })
 }

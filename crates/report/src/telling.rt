@@ -6,7 +6,7 @@ ghost use Rattle.plan_core.specs.PlanContents.{plan_contents};
 ghost use Rattle.report.specs.CaptureLines.{capture_line, ending_text, who};
 ghost use Rattle.run_parts.specs.Lines.{labels};
 
-use capture_check::{Transaction, Until};
+use capture_check::{Rises, Transaction, Until};
 use decoding::ExplainedSink;
 use plan_core::Plan;
 use run_parts::{RunError, Status, push_labels};
@@ -25,6 +25,8 @@ pub struct CaptureReport {
     pub stopped: u64,
     /// How many of these nobody explains.
     pub unexplained: u64,
+    /// How often SCL has risen.
+    pub rises: Rises,
 }
 
 /// What a run says of a capture, beside its lines.
@@ -38,6 +40,8 @@ pub struct CaptureCounts {
     pub stopped: u64,
     /// How many of these nobody explains.
     pub unexplained: u64,
+    /// How often SCL has risen.
+    pub rises: Rises,
 }
 
 /// The lines of the transactions so far, how many of them a STOP ended, and how many of these nobody explains.
@@ -47,6 +51,8 @@ pub struct Telling {
     pub(crate) transactions: u64,
     pub(crate) stopped: u64,
     pub(crate) unexplained: u64,
+    // how often SCL has risen, where that is known
+    pub(crate) rises: Rises,
 }
 
 impl Telling {
@@ -68,6 +74,7 @@ impl Telling {
             transactions: 0,
             stopped: 0,
             unexplained: 0,
+            rises: Rises::NONE,
         }
     }
 
@@ -122,6 +129,7 @@ impl Telling {
             transactions,
             stopped,
             unexplained,
+            rises,
         } = self;
         writeln!(lines, "{stopped} transactions, {unexplained} unexplained")?;
         Ok(CaptureReport {
@@ -130,6 +138,7 @@ impl Telling {
             transactions,
             stopped,
             unexplained,
+            rises,
         })
     }
 }

@@ -3,14 +3,14 @@
 use crate::endings::{Recorded, Remark};
 use crate::extras::Extras;
 use crate::inputs::{Inputs, NamedSources};
-use crate::voices::{Voice, refused_timescale, say};
+use crate::voices::{Voice, refused_drive, refused_timescale, say};
 use dump_tokens::BusLines;
 use explain::Seen;
 use growing_text::Text;
 use hints::{
     Hints, Named, Names, file_word, on_bytes, on_choice, on_closed_input, on_dump, on_fault,
-    on_memory, on_no_timescale, on_opening, on_reading, on_recording, on_signals, on_silence,
-    on_text, on_unexplained, on_workers, on_writing,
+    on_memory, on_no_timescale, on_opening, on_reading, on_recording, on_rises, on_signals,
+    on_silence, on_text, on_unexplained, on_workers, on_writing,
 };
 use plan_text::PlanError;
 use report::{Probe, RunError, Status};
@@ -127,11 +127,13 @@ pub fn advise<R: Eprint + AllocGlobal, F: Read + Seek + Drop>(
     };
     let voice = closing.voice;
     match closing.ended {
-        Ok(status) => say(
-            rt,
-            on_report(rt.alloc(), read, names, status, closing),
-            voice,
-        ),
+        Ok(status) => {
+            if let Remark::Recording(_, rises) = &closing.remark {
+                say(rt, on_rises(rt.alloc(), names, *rises), voice);
+            }
+            let hints = on_report(rt.alloc(), read, names, status, closing);
+            say(rt, hints, voice);
+        }
         Err(error) => {
             let hints = on_refusal(rt.alloc(), read, names, error, closing);
             say(rt, hints, voice_of(error, voice));
@@ -145,6 +147,21 @@ pub fn no_timescale<R: Clock + Eprint + AllocGlobal>(rt: &R, extras: Extras) -> 
     refused_timescale(rt, extras.voice());
     if extras.hints {
         say(rt, on_no_timescale(rt.alloc()), extras.voice().uncolored());
+    }
+    2
+}
+
+/// The refusal of a line that was to be what this controller pulls, and its status.
+pub fn no_drive<R: Clock + Eprint + AllocGlobal>(
+    rt: &R,
+    controller: &str,
+    hints: Hints,
+    extras: Extras,
+) -> u8 {
+    extras.watcher.clear(rt);
+    refused_drive(rt, controller, extras.voice());
+    if extras.hints {
+        say(rt, Ok(hints), extras.voice().uncolored());
     }
     2
 }
@@ -256,7 +273,7 @@ fn on_report<F: Read + Seek + Drop>(
         Remark::Hints(hints) => Ok(hints),
         Remark::Starters(_label, hints) => Ok(hints),
         Remark::Fault => on_fault(alloc, output),
-        Remark::Recording(recorded) => on_recorded(alloc, read.other, names, status, recorded),
+        Remark::Recording(recorded, _) => on_recorded(alloc, read.other, names, status, recorded),
     }
 }
 

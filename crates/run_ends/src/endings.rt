@@ -1,6 +1,7 @@
 // How runs end.
 
 use crate::inputs::NamedSources;
+use capture_check::Rises;
 use dump_tokens::Window;
 use explain::Seen;
 use given_plans::{NoPlan, RefusedText};
@@ -36,8 +37,8 @@ pub enum Remark {
     Hints(Hints),
     /// That what was written is the certificate of a fault.
     Fault,
-    /// What can be said of a dump.
-    Recording(Recorded),
+    /// What can be said of a dump, and how often SCL rises in it.
+    Recording(Recorded, Rises),
     /// What is wrong with a dump that is refused.
     Refused(Wrong),
     /// The text of a plan or of a brief that is refused.
@@ -219,6 +220,8 @@ pub enum Halt {
     Said(RunError, Hints),
     /// A time was given with a unit, and the dump does not say what its numbers count.
     NoTimescale,
+    /// The line of this controller is none that can be followed, and this is to be said to people.
+    NoDrive(String, Hints),
     /// The report was written, and the file for waves was not, for this reason of the system.
     Undrawn(RunError, Option<io::Error>),
 }

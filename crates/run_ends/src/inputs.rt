@@ -4,11 +4,11 @@ use crate::advice::{advise_on_closed_input, advise_on_opening};
 use crate::extras::Extras;
 use crate::sources::Sources;
 use crate::voices::refused;
-use files::{FileId, Source, is_standard_input, missing, open_file};
+use files::{FileId, Reread, Source, is_standard_input, missing, open_file, reread};
 use hints::Named;
 use object_lines::Detail;
 use plan_words::BriefFiles;
-use report::{Input as _, Opened, RunError};
+use report::{Input as _, RunError};
 use std::io;
 use std::rt::Files;
 use std::time::Clock;
@@ -169,12 +169,12 @@ fn unopened<R: Eprint + AllocGlobal>(rt: &R, file: Named<'_>, error: &io::Error,
 }
 
 /// What a run has read: the file that it read last, and the words of the system where that failed. A file can be read once
-/// more; standard input may be a pipe, and is not.
+/// more, and so can standard input where little was read of it.
 #[derive(Drop)]
 pub struct Inputs<'a, F> {
     pub last: Named<'a>,
     pub error: Option<io::Error>,
-    /// The file of the second text, or of the only one, where that can be read once more.
+    /// The second text, or the only one, where that can be read once more.
     pub other: Option<F>,
 }
 
@@ -182,7 +182,7 @@ pub struct Inputs<'a, F> {
 pub fn one_read<'a, R: Files + Clock + Eprint, S: io::Read + Drop>(
     named: NamedSources<'a>,
     sources: Sources<'_, Source<'_, R, R::File, S>>,
-) -> Inputs<'a, R::File> {
+) -> Inputs<'a, Reread<R::File>> {
     let Sources {
         mut first,
         mut further,
@@ -192,7 +192,7 @@ pub fn one_read<'a, R: Files + Clock + Eprint, S: io::Read + Drop>(
     Inputs {
         last,
         error,
-        other: file_of(first),
+        other: reread(first),
     }
 }
 
@@ -202,7 +202,7 @@ pub fn both_read<'a, R: Files + Clock + Eprint, S: io::Read + Drop>(
     sources: Sources<'_, Source<'_, R, R::File, S>>,
     second: Named<'a>,
     mut source: Source<'_, R, R::File, S>,
-) -> Inputs<'a, R::File> {
+) -> Inputs<'a, Reread<R::File>> {
     let Sources {
         mut first,
         mut further,
@@ -217,7 +217,7 @@ pub fn both_read<'a, R: Files + Clock + Eprint, S: io::Read + Drop>(
     Inputs {
         last,
         error,
-        other: file_of(source),
+        other: reread(source),
     }
 }
 
@@ -234,13 +234,6 @@ fn last_read<'a, R: Clock + Eprint, F: io::Read, S: io::Read>(
         }
     }
     (last, error)
-}
-
-fn file_of<R, F: Drop, S: Drop>(source: Source<'_, R, F, S>) -> Option<F> {
-    match source {
-        Opened::File(file) => Some(file.into_inner().into_inner()),
-        Opened::Standard(_) => None,
-    }
 }
 
 // The words of the system for why this cannot be read, if it failed and fails again.

@@ -2,10 +2,12 @@
 //!
 //! `inputs` opens the files of a run, each once, and says which cannot be opened. `sources` has what gives a plan: one text, or
 //! several briefs. `endings` says how a run has ended, and what is to be said of it; `advice` says that, and `voices` how it
-//! sounds: as lines, or as JSON. `extras` has what people get beside the exact report, and `styles` how a report is written.
+//! sounds: as lines, or as JSON. `extras` has what people get beside the exact report, `styles` how a report is written, and
+//! `canvases` the file for waves.
 #![tactic(auto)]
 
 mod advice;
+mod canvases;
 mod endings;
 mod extras;
 mod inputs;
@@ -13,7 +15,8 @@ mod sources;
 mod styles;
 mod voices;
 
-pub use advice::{About, Closing, advise, names_of, no_lines, no_timescale};
+pub use advice::{About, Closing, advise, names_of, no_drive, no_lines, no_timescale};
+pub use canvases::{Canvas, write_wave};
 pub use endings::{Ended, Halt, Recorded, RefusedSource, Remark, Takes};
 pub use extras::Extras;
 pub use inputs::{Inputs, NamedSources, both_read, one_read, open_both, open_sources};

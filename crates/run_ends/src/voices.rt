@@ -1,7 +1,9 @@
 // What goes to standard error: refusals, and hints for people.
 
-use hints::{Hints, shown};
-use object_lines::{Detail, TextDetail, hint_objects, refusal_object, timescale_object};
+use hints::{Hints, shown, visible};
+use object_lines::{
+    Detail, TextDetail, drive_object, hint_objects, refusal_object, timescale_object,
+};
 use report::RunError;
 use std::alloc::{AllocError, Global};
 
@@ -78,6 +80,22 @@ pub fn refused_timescale<R: Eprint + AllocGlobal>(rt: &R, voice: Voice) {
         Voice::Objects => say_refusal(rt, timescale_object(rt.alloc())),
         _ => {
             let _ = eprintln!(rt; "refused timescale");
+        }
+    }
+}
+
+/// Writes the line of the refusal of a line that was to be what this controller pulls.
+pub fn refused_drive<R: Eprint + AllocGlobal>(rt: &R, controller: &str, voice: Voice) {
+    if let Voice::Objects = voice {
+        return say_refusal(rt, drive_object(rt.alloc(), controller));
+    }
+    match visible(rt.alloc(), controller) {
+        Ok(controller) => {
+            let controller = controller.as_str();
+            let _ = eprintln!(rt; "refused drives {controller}");
+        }
+        Err(_) => {
+            let _ = eprintln!(rt; "refused drives");
         }
     }
 }

@@ -1,8 +1,9 @@
 -- One more read or write of a loop.
-use Rattle.std.proofs.Common.{◌≡◌, ◌<◌, ◌≤◌, ℕ, ◌+◌, false, List, [], ◌++◌, length, take, drop, Some, refl, sym, ap, ◌∙◌, append_assoc, take-append-drop, length-take, add-one, arith}
+use Rattle.std.proofs.Common.{◌≡◌, ◌<◌, ◌≤◌, ℕ, ◌+◌, false, List, [], ◌++◌, length, take, drop, Some, refl, sym, ap, ◌∙◌, subst, append-nil, append_assoc, take-append-drop, length-take, add-one, arith}
 use Rattle.std.proofs.KnownBytes.{Appends-nil, Appends-trans, Consumes-nil, Consumes-trans}
-use Rattle.std.specs.Io.KnownBytes.{Appends, Consumes}
+use Rattle.std.specs.Io.KnownBytes.{Appends, Consumes, IsAtEnd}
 use Rattle.run_parts.specs.Devices.{Reader, Writer, HasGiven, no_read, next_read, HasTaken, no_write, next_write}
+use Rattle.run_parts.specs.Reading.{ReadsAll}
 
 module _ {D : Type 0} (reader : Reader D) (start : D) where
   -- what the reading loop keeps
@@ -19,6 +20,23 @@ module _ {D : Type 0} (reader : Reader D) (start : D) where
   one_more_read reads room n text buf new before after so_far call some within sound lost grown =
       let long : 0 < length (take n buf) = omega (arith, length-take n buf) in
       rw (add-one, grown) (record { read = next_read so_far.read call long sound; consumed = Consumes-trans _ _ _ _ _ so_far.consumed lost })
+
+  -- the read that gave no bytes
+  pub all_read : (limit reads n : ℕ) (text buf : List ℕ) (last now : D) → Reading reads text last → reads < limit → n ≡ 0 → 0 < length buf → reader.gives last (length buf) (Some (take n buf)) now → reader.has_failed now ≡ false → Consumes (reader.remaining last) (reader.remaining now) (take n buf) → (n ≡ 0 → 0 < length buf → IsAtEnd (reader.remaining now)) → ReadsAll reader limit start text now
+  all_read limit reads n text buf last now so_far few none room call sound lost end =
+      let empty : take n buf ≡ [] = ap (λ m. take m buf) none in
+      record {
+        reads = reads;
+        few = few;
+        last = last;
+        read = so_far.read;
+        room = length buf;
+        has_room = room;
+        end = subst (λ (piece : List ℕ). reader.gives last (length buf) (Some piece) now) empty call;
+        sound = sound;
+        consumed = subst (λ (t : List ℕ). Consumes (reader.remaining start) (reader.remaining now) t) (ap (λ (p : List ℕ). text ++ p) empty ∙ append-nil text) (Consumes-trans _ _ _ _ _ so_far.consumed lost);
+        at_end = end none room;
+      }
 
 module _ {D : Type 0} (writer : Writer D) (start : D) (report : List ℕ) where
   -- what the writing loop keeps

@@ -1,5 +1,6 @@
 // The signals that the definitions of a dump declare, in their scopes (IEEE 1364-2005, 18.2.3).
 
+use crate::fits::Range;
 use dump_tokens::tokens::{KEPT, Place, Sink};
 use dump_tokens::{Part, Parts, Scale};
 use std::alloc::{AllocError, Global};
@@ -16,6 +17,8 @@ pub struct Found<'a> {
     pub reference: &'a [u8],
     /// Its name as it stands: all tokens from the reference to the `$end`, joined by blanks.
     pub name: &'a [u8],
+    /// How many bits it has, where that is a number.
+    pub size: Option<u32>,
     /// Whether it has one bit.
     pub one_bit: bool,
     /// Whether of its code or name more stands there than is kept.
@@ -28,11 +31,70 @@ impl Found<'_> {
         self.one_bit && !self.is_cut
     }
 
+    /// Whether this is its name without the range of its bits, as `bus` of `bus [7:0]` or of `bus[7:0]`.
+    pub fn is_bare(&self, name: &str) -> bool {
+        let (bare, _) = self.parts();
+        is_spelled(bare, name)
+    }
+
+    /// How many places to the left of the rightmost bit the one of this index stands, where it has that bit: within its range, or
+    /// counted from 0 where it names none.
+    pub(crate) fn place_of(&self, index: i64) -> Option<u32> {
+        let (_, range) = self.parts();
+        let size = self.size?;
+        let range = match range {
+            Some(range) => range,
+            None => Range {
+                left: i64::from(size).saturating_sub(1),
+                right: 0,
+            },
+        };
+        let place = range.place_of(index)?;
+        (place < size).then_some(place)
+    }
+
+    /// The index of its rightmost bit.
+    pub fn rightmost(&self) -> i64 {
+        match self.parts() {
+            (_, Some(range)) => range.right,
+            (_, None) => 0,
+        }
+    }
+
+    // Its name without the range of its bits, and that.
+    fn parts(&self) -> (&[u8], Option<Range>) {
+        let Some(inner) = self.name.strip_suffix(b"]".as_slice()) else {
+            return (self.name, None);
+        };
+        let Some(at) = last_bracket(inner) else {
+            return (self.name, None);
+        };
+        match Range::read(inner.get(at.saturating_add(1)..).unwrap_or(&[])) {
+            Some(range) => (without_blank(inner.get(..at).unwrap_or(&[])), Some(range)),
+            None => (self.name, None),
+        }
+    }
+
     /// Whether this is its reference, or the whole of its name. White space in what is given counts as one blank, and at its
     /// ends not at all.
     pub fn is_called(&self, name: &str) -> bool {
         is_spelled(self.reference, name) || is_spelled(self.name, name)
     }
+}
+
+// Where the last opening bracket stands.
+fn last_bracket(name: &[u8]) -> Option<usize> {
+    let mut last = None;
+    for (at, byte) in name.iter().enumerate() {
+        if *byte == b'[' {
+            last = Some(at);
+        }
+    }
+    last
+}
+
+fn without_blank(name: &[u8]) -> &[u8] {
+    name.strip_suffix(b" ".as_slice()).unwrap_or(name)
 }
 
 // Whether a name in a dump has these words, with one blank between two.
@@ -90,6 +152,7 @@ pub(crate) struct Definitions<L> {
     code: Vec<u8>,
     name: Vec<u8>,
     reference: usize,
+    size: Option<u32>,
     one_bit: bool,
     is_cut: bool,
     timescale: Vec<u8>,
@@ -108,6 +171,7 @@ impl<L: Listing> Definitions<L> {
             code: Vec::new(alloc),
             name: Vec::new(alloc),
             reference: 0,
+            size: None,
             one_bit: false,
             is_cut: false,
             timescale: Vec::new(alloc),
@@ -143,6 +207,7 @@ impl<L: Listing> Definitions<L> {
             0 => Ok(()),
             1 => {
                 self.one_bit = token == b"1".as_slice();
+                self.size = size_of(token);
                 Ok(())
             }
             2 => {
@@ -177,10 +242,15 @@ impl<L: Listing> Definitions<L> {
             code: self.code.as_slice(),
             reference: name.get(..self.reference).unwrap_or(name),
             name,
+            size: self.size,
             one_bit: self.one_bit,
             is_cut: self.is_cut,
         })
     }
+}
+
+fn size_of(token: &[u8]) -> Option<u32> {
+    str::from_utf8(token).ok()?.parse::<u32>().ok()
 }
 
 fn scale_of(timescale: &[u8]) -> Option<Scale> {

@@ -1,12 +1,13 @@
 // A dump with the two lines of a bus.
 
 use crate::beginning::Again;
-use crate::picking::{Picked, needs_picking, pick};
+use crate::picking::{Line, Picked, Sought, needs_picking, pick, pick_with};
+use crate::taps::{Tap, Tapped};
 use decoding::{Ending, TransactionSink, decode};
 use dump_tokens::{Bus, BusLines, Quiet, Scale};
 use run_parts::{Input, RunError, Watched};
 use std::alloc::Global;
-use vcd_read::Wrong;
+use vcd_read::{Probe, Wrong};
 
 /// A dump, and what its definitions say, where that has to be known ahead.
 #[derive(Drop)]
@@ -42,12 +43,48 @@ impl<'a, 'l, J: Input> Dump<'a, 'l, J> {
             });
         }
         let (again, picked) = pick(alloc, vcd, scl, sda, scope)?;
-        Ok(Dump {
+        Ok(Dump::picked(again, lines, picked))
+    }
+
+    /// The same with further lines, which are given by names, paths or codes.
+    ///
+    /// # Errors
+    ///
+    /// `Read` where the reader fails, and `NoMemory`.
+    pub fn open_with(
+        alloc: Global,
+        vcd: &'a mut J,
+        bus: Bus<'l>,
+        others: Vec<Sought<'l>>,
+    ) -> Result<Dump<'a, 'l, J>, RunError> {
+        let lines = bus.lines;
+        let (again, picked) = pick_with(alloc, vcd, lines.scl, lines.sda, lines.scope, others)?;
+        Ok(Dump::picked(again, lines, picked))
+    }
+
+    fn picked(again: Again<'a, J>, lines: BusLines<'l>, picked: Picked) -> Dump<'a, 'l, J> {
+        Dump {
             again: Watched::new(again),
             lines,
             picked: Some(picked),
             wrong: None,
-        })
+        }
+    }
+
+    /// Whether the definitions were read, and have both lines.
+    pub fn has_both(&self) -> bool {
+        match &self.picked {
+            Some(picked) => picked.has_both(),
+            None => false,
+        }
+    }
+
+    /// The further lines that were asked for, in that order, where they were found.
+    pub fn others(&self) -> &[Option<Line>] {
+        match &self.picked {
+            Some(picked) => picked.others(),
+            None => &[],
+        }
     }
 
     /// What the numbers of the dump count, where that was read and stands there.
@@ -74,6 +111,22 @@ impl<'a, 'l, J: Input> Dump<'a, 'l, J> {
     /// What is wrong with the dump, where it was refused: the first time that it is asked for.
     pub fn take_wrong(&mut self) -> Option<Wrong> {
         self.wrong.take()
+    }
+
+    /// How SCL is found in the dump.
+    pub fn scl(&self) -> Probe<'_> {
+        match &self.picked {
+            Some(picked) => picked.scl(),
+            None => self.lines.scl,
+        }
+    }
+
+    /// The same of SDA.
+    pub fn sda(&self) -> Probe<'_> {
+        match &self.picked {
+            Some(picked) => picked.sda(),
+            None => self.lines.sda,
+        }
     }
 
     /// Hands the transactions of the dump on.
@@ -108,6 +161,47 @@ impl<'a, 'l, J: Input> Dump<'a, 'l, J> {
                 sink,
                 &mut self.wrong,
             ),
+        }
+    }
+
+    /// The same, where a tap is given each block of the dump before the transactions that end in it are handed on.
+    ///
+    /// # Errors
+    ///
+    /// That of the tap where it fails, and else those of `decode`, in the same order.
+    pub fn decode_with<S: TransactionSink, T: Tap>(
+        &mut self,
+        alloc: Global,
+        sink: &mut S,
+        tap: &mut T,
+    ) -> Result<Ending, RunError>
+        requires { S.needs }
+    {
+        let least = self.quiet().least;
+        let mut tapped = Watched::new(Tapped::new(&mut self.again, tap));
+        let ended = match &self.picked {
+            Some(picked) => decode(
+                alloc,
+                &mut tapped,
+                picked.scl(),
+                picked.sda(),
+                least,
+                sink,
+                &mut self.wrong,
+            ),
+            None => decode(
+                alloc,
+                &mut tapped,
+                self.lines.scl,
+                self.lines.sda,
+                least,
+                sink,
+                &mut self.wrong,
+            ),
+        };
+        match tapped.into_inner().failure() {
+            Some(error) => Err(error),
+            None => ended,
         }
     }
 }

@@ -1,10 +1,12 @@
 //! The signals of a dump, as people see them: in their scopes, by the whole of their names, with what they show.
 //!
 //! `blocks` reads a dump block by block. `definitions` finds the signals that its definitions declare, and `beginning` reads
-//! these ahead of the dump and gives them back before the rest. `picking` finds the codes of the two lines of a bus there, by
-//! names and a scope. `listing` has what `twire signals` finds: the signals (`codes` finds them again by their codes), their
-//! levels by time stamps (`levels`), what these show that last (`lasting`, with `waiting` for those that have still to), and the
-//! pairs that are the two lines of a bus (`buses`, among `candidates`, with `masks` for sets of signals). What a dump says, and why it is refused, is decided by the reader of `vcd_read` alone. `lessons` is what `twire
+//! these ahead of the dump and gives them back before the rest. `picking` finds the two lines of a bus there, by names and a
+//! scope, with `fits`, which tells how a name fits a signal. `taps` gives what is read of a dump to somebody else as well, as to
+//! who keeps the two lines as they are `recorded`. `listing` has what `twire signals` finds: the signals (`codes` finds them
+//! again by their codes), their levels by time stamps (`levels`), what these show that last (`lasting`, with `waiting` for those
+//! that have still to), and the pairs that are the two lines of a bus (`buses`, among `candidates`, with `masks` for sets of
+//! signals). What a dump says, and why it is refused, is decided by the reader of `vcd_read` alone. `lessons` is what `twire
 //! learn` makes of the transactions of a dump: a brief.
 #![tactic(auto)]
 
@@ -15,18 +17,24 @@ mod candidates;
 mod codes;
 mod definitions;
 mod dumps;
+mod fits;
 mod lasting;
 mod lessons;
 mod levels;
 mod listing;
 mod masks;
 mod picking;
+mod recorded;
+mod taps;
 mod waiting;
 
 pub use beginning::{Again, read_beginning};
 pub use definitions::{Found, Header, Listing};
 pub use dumps::Dump;
-pub use lessons::{Learned, Likeness, Sights, brief_of};
+pub use fits::{Fit, base_of, fit_of};
+pub use lessons::{BriefBefore, Learned, Likeness, Sights, brief_of};
 pub use listing::{Listed, Pair, Signal, SignalDump, bus_options};
 pub use masks::MOST as CANDIDATES;
-pub use picking::{Picked, needs_picking, pick};
+pub use picking::{Line, Picked, Sought, needs_picking, pick, pick_with};
+pub use recorded::{RecordedLines, Recorder, Samples};
+pub use taps::{Tap, Tapped};

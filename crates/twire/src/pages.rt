@@ -3,7 +3,7 @@
 ghost use Rattle.plan_core.specs.PlanContents.{plan_contents};
 ghost use Rattle.verdicts.specs.Faults.{AreFaults, fault_list};
 
-use capture_check::Transaction;
+use capture_check::{Rises, Transaction};
 use decoding::{ExplainedSink, Explaining};
 use dump_runs::{halted, open};
 use dump_tokens::Bus;
@@ -20,7 +20,7 @@ use report::{
 };
 use run_ends::{Ended, Halt, Recorded, Remark, Sources};
 use run_parts::write_lines;
-use signals::Dump;
+use signals::{Dump, Recorder};
 use std::alloc::Global;
 use std::str;
 use std::thread::Threads;
@@ -52,7 +52,7 @@ pub fn write_page_with<R: AllocGlobal + Threads + Sync, I: Input, J: Input, O: O
     let checked = check_found(rt, rt.alloc(), plan, 1, &NoGate)?;
     let words = plans.words(&checked.plan, &origins);
     let mut written = Watched::new(Vec::new(rt.alloc()));
-    let (recording, seen) = recording_of(rt, words, vcd, &mut written, bus)?;
+    let (recording, seen, rises) = recording_of(rt, words, vcd, &mut written, bus)?;
     let capture = written.into_inner();
     let capture = Shown {
         recording: &recording,
@@ -61,7 +61,7 @@ pub fn write_page_with<R: AllocGlobal + Threads + Sync, I: Input, J: Input, O: O
     write_page(rt.alloc(), title, &checked, words, Some(capture), out)?;
     Ok(Ended {
         status: worse(status_of(&checked), seen),
-        remark: Remark::Recording(Recorded::Other),
+        remark: Remark::Recording(Recorded::Other, rises),
     })
 }
 
@@ -72,17 +72,18 @@ struct Shown<'a> {
     report: &'a str,
 }
 
-// What a dump shows, with its explained report, and the status of a run with that.
+// What a dump shows, with its explained report, the status of a run with that, and how often SCL rises.
 fn recording_of<R: AllocGlobal + Threads + Sync, J: Input, O: Output>(
     rt: &R,
     words: PlanWords<'_>,
     vcd: &mut J,
     report: &mut O,
     bus: Bus<'_>,
-) -> Result<(Recording, Status), Halt> {
+) -> Result<(Recording, Status, Rises), Halt> {
     let mut dump = open(rt.alloc(), vcd, bus)?;
     let selection = Selection::new(bus.view, dump.scale());
-    match record(rt, words, &mut dump, report, selection) {
+    let recorder = Recorder::new(rt.alloc(), dump.scl(), dump.sda())?;
+    match record(rt, words, &mut dump, report, selection, recorder) {
         Ok(recorded) => Ok(recorded),
         Err(error) => Err(halted(dump, error)),
     }
@@ -94,7 +95,8 @@ fn record<R: AllocGlobal + Threads + Sync, J: Input, O: Output>(
     dump: &mut Dump<'_, '_, J>,
     report: &mut O,
     selection: Selection,
-) -> Result<(Recording, Status), RunError> {
+    mut recorder: Recorder,
+) -> Result<(Recording, Status, Rises), RunError> {
     let alloc = rt.alloc();
     let lines = CaptureLines::new(alloc, words, selection, LAYOUT, report)?;
     let both = Both {
@@ -107,11 +109,33 @@ fn record<R: AllocGlobal + Threads + Sync, J: Input, O: Output>(
         plan: words.plan(),
         sink: both,
     };
-    let ended = dump.decode(alloc, &mut explaining);
+    let ended = dump.decode_with(alloc, &mut explaining, &mut recorder);
     let Explaining { sink, .. } = explaining;
-    let Both { lines, recording } = sink;
-    let selection = lines.finish(dump.quiet(), ended?)?;
-    Ok((recording, selection.status()))
+    let Both {
+        lines,
+        mut recording,
+    } = sink;
+    let ending = ended?;
+    let selection = lines.finish(dump.quiet(), ending)?;
+    put_lines(alloc, &mut recording, recorder, dump.quiet().least)?;
+    Ok((recording, selection.status(), ending.rises))
+}
+
+// Puts the two lines beside the transactions, also without what is shorter than this.
+fn put_lines(
+    alloc: Global,
+    recording: &mut Recording,
+    recorder: Recorder,
+    least: u64,
+) -> Result<(), RunError> {
+    let recorded = recorder.finish()?;
+    if least == 0 {
+        recording.put_lines(&recorded, None)?;
+    } else {
+        let lasting = recorded.lasting(alloc, least)?;
+        recording.put_lines(&recorded, Some(&lasting))?;
+    }
+    Ok(())
 }
 
 // How the explained report is written.

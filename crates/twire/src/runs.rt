@@ -3,13 +3,13 @@
 use crate::tasks::{Over, OverBoth, Task, task_of};
 use crate::versions::version_of;
 use command_words::{Asked, Manner, Request, When, read_words};
-use files::{FilesRead, Form, Sheet, Watcher, is_standard_input};
+use files::{FilesRead, Form, Reread, Sheet, Watcher, is_standard_input};
 use hints::{Named, visible};
 use object_lines::Detail;
 use report::{RunError, Status, Watched};
 use run_ends::{
     About, Closing, Ended, Extras, Halt, Inputs, NamedSources, Remark, Voice, advise, both_read,
-    no_timescale, one_read, open_both, open_sources, refused,
+    no_drive, no_timescale, one_read, open_both, open_sources, refused,
 };
 use std::env::{self, VarError};
 use std::io;
@@ -52,12 +52,14 @@ fn run_words<R: Files + Env + Input + Print + Eprint + AllocGlobal + Threads + W
             Asked::Run {
                 request,
                 further,
+                drives,
                 manner,
             },
         ) => {
             let watcher = watcher_of(rt, request, further.as_slice(), terminals);
             let extras = extras_of(rt, manner, terminals, watcher);
-            Ok(do_request(rt, request, further.as_slice(), extras))
+            let task = task_of(request, drives.as_slice());
+            Ok(do_task(rt, task, further.as_slice(), extras))
         }
         Ok(Asked::Show(text)) => show(rt, text.as_str()),
         Ok(Asked::Version(text)) => show(rt, version_of(rt, text.as_str())?.as_str()),
@@ -110,9 +112,8 @@ fn files_of(request: Request<'_>) -> Option<(&str, &str)> {
         Request::Check { plan, .. } | Request::Certify { plan, .. } => Some((plan, plan)),
         Request::Verify { plan, cert, .. } => Some((plan, cert)),
         Request::Capture { plan, vcd, .. } => Some((plan, vcd)),
-        Request::Decode { vcd, .. } | Request::Signals { vcd, .. } | Request::Learn { vcd, .. } => {
-            Some((vcd, vcd))
-        }
+        Request::Decode { vcd, .. } | Request::Signals { vcd, .. } => Some((vcd, vcd)),
+        Request::Learn { vcd, names, .. } => Some((vcd, names.unwrap_or(vcd))),
         Request::Page { plan, capture, .. } => Some((plan, capture.unwrap_or(plan))),
         _ => None,
     }
@@ -135,13 +136,13 @@ fn are_wanted(when: When, on_terminal: bool) -> bool {
     }
 }
 
-fn do_request<R: Files + Input + Print + Eprint + AllocGlobal + Threads + Wait + Clock + Sync>(
+fn do_task<R: Files + Input + Print + Eprint + AllocGlobal + Threads + Wait + Clock + Sync>(
     rt: &R,
-    request: Request<'_>,
+    task: Task<'_>,
     further: &[&str],
     extras: Extras,
 ) -> u8 {
-    match task_of(request) {
+    match task {
         Task::One(text, over, form) => run_over(rt, sources_of(text, further), over, form, extras),
         Task::Two(plan, other, over, form) => {
             run_over_both(rt, sources_of(plan, further), other, over, form, extras)
@@ -261,7 +262,7 @@ struct FilesWritten<'a> {
 // where they are wanted.
 fn finish<'a, R: Files + Print + Eprint + Clock + AllocGlobal>(
     rt: &R,
-    read: Inputs<'_, R::File>,
+    read: Inputs<'_, Reread<R::File>>,
     mut out: Sheet<'_, '_, R>,
     ended: Result<Ended, Halt>,
     named: NamedSources<'a>,
@@ -287,6 +288,9 @@ fn finish<'a, R: Files + Print + Eprint + Clock + AllocGlobal>(
         }
         Err(Halt::Undrawn(error, reason)) => (Err(error), Remark::Nothing, files.wave, reason),
         Err(Halt::NoTimescale) => return no_timescale(rt, extras),
+        Err(Halt::NoDrive(controller, hints)) => {
+            return no_drive(rt, controller.as_str(), hints, extras);
+        }
     };
     let ended = out.settle(ended);
     let status = exit_code_of(rt, ended, &remark, named, read.last.path, extras);

@@ -2,14 +2,14 @@
 
 use crate::pages::{write_page_alone, write_page_with};
 use command_words::Request;
-use dump_runs::{Capture, decode, explain_capture, learn, list_signals};
-use dump_tokens::{Bus, BusLines, Limits};
+use dump_runs::{Capture, Lesson, decode, explain_capture, learn, learn_with_names, list_signals};
+use dump_tokens::{Bus, BusLines, Drive, Drives, Limits};
 use explain::Detail;
 use files::{FilesRead, Form};
 use hints::Named;
-use plan_runs::{Canvas, Look, Play, Rewriting, bench, bench_alone, check, order, verify};
+use plan_runs::{Look, Play, Rewriting, bench, bench_alone, check, order, verify};
 use report::{Input, Output};
-use run_ends::{About, Ended, Extras, Halt, NamedSources, Sources, names_of, no_lines};
+use run_ends::{About, Canvas, Ended, Extras, Halt, NamedSources, Sources, names_of, no_lines};
 use signals::Likeness;
 use std::rt::Files;
 use std::sync::Wait;
@@ -27,13 +27,19 @@ pub enum Task<'a> {
 #[derive(Clone, Copy)]
 pub enum Over<'a> {
     Check(Look<'a>),
-    Order { explain: bool },
+    Order {
+        explain: bool,
+    },
     Page,
     Rewrite(Rewriting),
     Bench(Play<'a>),
-    Decode { bus: Bus<'a>, live: bool },
+    Decode {
+        bus: Bus<'a>,
+        live: bool,
+        wave: Option<&'a str>,
+    },
     Signals(Limits),
-    Learn { bus: Bus<'a>, likeness: Likeness },
+    Learn(Lesson<'a>),
 }
 
 /// A run over what gives a plan, and a second text.
@@ -43,12 +49,13 @@ pub enum OverBoth<'a> {
     Capture(Capture<'a>),
     Page(Bus<'a>),
     Bench(Play<'a>),
+    Learn(Lesson<'a>),
 }
 
 // ---- from the request
 
 /// What is run for a request.
-pub fn task_of<'a>(request: Request<'a>) -> Task<'a> {
+pub fn task_of<'a>(request: Request<'a>, drives: &'a [Drive<'a>]) -> Task<'a> {
     match request {
         Request::Check {
             plan,
@@ -83,18 +90,29 @@ pub fn task_of<'a>(request: Request<'a>) -> Task<'a> {
             explain,
             live,
             stops,
+            pulling,
         } => {
             let capture = Capture {
                 bus,
                 explain,
                 live,
                 stops,
+                drives: Drives {
+                    all: drives,
+                    pulling,
+                },
             };
             let capture = OverBoth::Capture(capture);
             Task::Two(the_plan(plan), the_capture(vcd), capture, Form::Plain)
         }
-        Request::Decode { vcd, bus, live } => {
-            Task::One(the_capture(vcd), Over::Decode { bus, live }, Form::Plain)
+        Request::Decode {
+            vcd,
+            bus,
+            live,
+            wave,
+        } => {
+            let decode = Over::Decode { bus, live, wave };
+            Task::One(the_capture(vcd), decode, Form::Plain)
         }
         Request::Page {
             plan,
@@ -133,13 +151,19 @@ pub fn task_of<'a>(request: Request<'a>) -> Task<'a> {
             bus,
             merge,
             widen,
+            names,
+            pulling,
             output,
         } => {
-            let learn = Over::Learn {
+            let lesson = Lesson {
                 bus,
                 likeness: Likeness::of(merge, widen),
+                drives: Drives {
+                    all: drives,
+                    pulling,
+                },
             };
-            Task::One(the_capture(vcd), learn, Form::of(output))
+            learn_of(vcd, names, lesson, Form::of(output))
         }
         Request::Certify { plan, output } => {
             rewrite(Rewriting::Certify, the_plan(plan), Form::of(output))
@@ -185,6 +209,22 @@ fn bench_of<'a>(plan: Named<'a>, cert: Option<&'a str>, play: Play<'a>) -> Task<
             Form::Plain,
         ),
         None => Task::One(plan, Over::Bench(play), Form::Plain),
+    }
+}
+
+fn learn_of<'a>(
+    vcd: &'a str,
+    names: Option<&'a str>,
+    lesson: Lesson<'a>,
+    form: Form<'a>,
+) -> Task<'a> {
+    let vcd = the_capture(vcd);
+    match names {
+        Some(names) => {
+            let names = named("--names", "brief", names);
+            Task::Two(names, vcd, OverBoth::Learn(lesson), form)
+        }
+        None => Task::One(vcd, Over::Learn(lesson), form),
     }
 }
 
@@ -240,22 +280,14 @@ impl<'a> Over<'a> {
             Over::Page => write_page_alone(rt, path, sources, out),
             Over::Rewrite(rewriting) => rewriting.run(rt.alloc(), sources, out),
             Over::Bench(play) => bench_alone(rt, sources, out, play, extras, canvas),
-            Over::Decode { bus, live } => {
-                decode(
-                    rt.alloc(),
-                    &mut sources.first,
-                    out,
-                    bus,
-                    live,
-                    extras.style(),
-                )
+            Over::Decode { bus, live, .. } => {
+                let style = extras.style();
+                decode(rt, &mut sources.first, out, bus, live, style, canvas)
             }
             Over::Signals(limits) => {
                 list_signals(rt.alloc(), &mut sources.first, out, limits, extras.style())
             }
-            Over::Learn { bus, likeness } => {
-                learn(rt.alloc(), &mut sources.first, out, bus, likeness)
-            }
+            Over::Learn(lesson) => learn(rt.alloc(), &mut sources.first, out, lesson),
         }
     }
 
@@ -264,6 +296,7 @@ impl<'a> Over<'a> {
         match self {
             Over::Check(look) => look.wave,
             Over::Bench(play) => play.wave,
+            Over::Decode { wave, .. } => wave,
             _ => None,
         }
     }
@@ -286,8 +319,11 @@ impl<'a> Over<'a> {
                 };
                 About::recording(names_of(lines, path), ["", "", "", ""])
             }
-            Over::Learn { bus, .. } => {
-                About::recording(names_of(bus.lines, path), ["twire learn", path, "", ""])
+            Over::Learn(lesson) => {
+                About::recording(
+                    names_of(lesson.bus.lines, path),
+                    ["twire learn", path, "", ""],
+                )
             }
             _ => About::plans(),
         }
@@ -327,6 +363,7 @@ impl<'a> OverBoth<'a> {
                 let canvas = canvas_of(play.wave, extras, read);
                 bench(rt, plans, other, out, play, extras, canvas)
             }
+            OverBoth::Learn(lesson) => learn_with_names(alloc, plans, other, out, lesson),
         }
     }
 
@@ -349,6 +386,10 @@ impl<'a> OverBoth<'a> {
             OverBoth::Page(bus) => {
                 let words = ["twire page", plan, "--capture", other];
                 About::recording(names_of(bus.lines, other), words).with(sources.further)
+            }
+            OverBoth::Learn(lesson) => {
+                let words = ["twire learn", other, "--names", plan];
+                About::recording(names_of(lesson.bus.lines, other), words)
             }
             OverBoth::Bench(_) | OverBoth::Verify { .. } => About::plans(),
         }

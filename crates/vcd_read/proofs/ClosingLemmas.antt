@@ -1,9 +1,9 @@
 -- What no token has refused can go on to the end of a dump.
 use Rattle.std.proofs.Common.{◌≡◌, ℕ, ◌⊎◌, inl, inr, Bool, true, false, List, [], ◌∷◌, Option, Some, None, Ok, refl, sym, subst, codes}
-use Rattle.std.specs.Str.{bytes_eq}
 use Rattle.std.proofs.lemmas.Slice.Eq.{bytes_eq-Decides}
 use Rattle.vcd_read.specs.declared.dumps.Context.{Context}
 use Rattle.vcd_read.specs.declared.dumps.Context.TheVariants as inside
+use Rattle.vcd_read.specs.declared.dumps.Levels.{Levels}
 use Rattle.vcd_read.specs.declared.dumps.Seen.{Seen}
 use Rattle.vcd_read.specs.declared.dumps.Seen.TheVariants as seen
 use Rattle.vcd_read.specs.declared.samples.Level.{Level}
@@ -12,7 +12,7 @@ use Rattle.vcd_read.specs.Beginnings.{IsInVar, CanBe}
 use Rattle.vcd_read.specs.Changes.{changed}
 use Rattle.vcd_read.specs.Definitions.{named_by}
 use Rattle.vcd_read.specs.Dumps.{Run, step, run}
-use Rattle.vcd_read.specs.Probes.{Finder, by_name, by_code, declares}
+use Rattle.vcd_read.specs.Probes.{Finder, by_name, by_code, by_bit, declares}
 use Rattle.vcd_read.specs.States.{Line, State}
 use Rattle.vcd_read.specs.Words.{is_empty, is_end}
 use Rattle.vcd_read.proofs.RunLemmas.{run_token}
@@ -127,16 +127,11 @@ step_code_word : (scl sda : Line) (one_bit : Bool) (began : ℕ) (block : Option
 unfolding step
 step_code_word scl sda one_bit began block latest defined time line token inner = rw inner refl
 
-step_reference : (scl sda : Line) (began : ℕ) (block : Option ℕ) (latest : List ℕ) (defined : Bool) (time line : ℕ) (reference : List ℕ) → is_end reference ≡ false →
-    step (in_var scl sda (seen.Code true) began block latest defined time) reference line
-    ≡ Ok (in_var (named_by reference latest scl) (named_by reference latest sda) seen.Reference began block latest defined time, None)
+step_reference : (scl sda : Line) (one_bit : Bool) (began : ℕ) (block : Option ℕ) (latest : List ℕ) (defined : Bool) (time line : ℕ) (reference : List ℕ) → is_end reference ≡ false →
+    step (in_var scl sda (seen.Code one_bit) began block latest defined time) reference line
+    ≡ Ok (in_var (named_by one_bit reference latest scl) (named_by one_bit reference latest sda) seen.Reference began block latest defined time, None)
 unfolding step
-step_reference scl sda began block latest defined time line reference inner = rw inner refl
-
-step_other_reference : (scl sda : Line) (began : ℕ) (block : Option ℕ) (latest : List ℕ) (defined : Bool) (time line : ℕ) →
-    step (in_var scl sda (seen.Code false) began block latest defined time) blank line ≡ Ok (in_var scl sda seen.Reference began block latest defined time, None)
-unfolding step
-step_other_reference scl sda began block latest defined time line = refl
+step_reference scl sda one_bit began block latest defined time line reference inner = rw inner refl
 
 step_var_close : (scl sda : Line) (began : ℕ) (block : Option ℕ) (latest : List ℕ) (defined : Bool) (time line : ℕ) →
     step (in_var scl sda seen.Reference began block latest defined time) end line ≡ Ok (state scl sda inside.Nothing block latest defined time, None)
@@ -147,25 +142,30 @@ step_var_close scl sda began block latest defined time line = refl
 abbrev name_in : Finder → List ℕ
 name_in (by_name name) = name
 name_in (by_code own) = blank
+name_in (by_bit own place) = blank
 
 abbrev code_in : Finder → List ℕ
 code_in (by_name name) = code
 code_in (by_code own) = own
+code_in (by_bit own place) = own
 
 name_in_var : (probe : Finder) → CanBe probe → IsInVar (name_in probe)
 name_in_var (by_name name) is = is
 name_in_var (by_code own) is = record { some = refl; one_token = refl; no_end = refl }
+name_in_var (by_bit own place) is = record { some = refl; one_token = refl; no_end = refl }
 
 code_in_var : (probe : Finder) → CanBe probe → IsInVar (code_in probe)
 code_in_var (by_name name) is = record { some = refl; one_token = refl; no_end = refl }
 code_in_var (by_code own) is = is
+code_in_var (by_bit own place) is = is
 
-is_own : (probe : Finder) → declares probe (name_in probe) (code_in probe) ≡ true
+is_own : (probe : Finder) → declares probe true (name_in probe) (code_in probe) ≡ true
 is_own (by_name name) = (bytes_eq-Decides name name).1 refl
 is_own (by_code own) = (bytes_eq-Decides own own).1 refl
+is_own (by_bit own place) = (bytes_eq-Decides own own).1 refl
 
 abbrev found : Finder → Line → Line
-found probe line = named_by (name_in probe) (code_in probe) line
+found probe line = named_by true (name_in probe) (code_in probe) line
 
 gets_by : (line : Line) (test : Bool) → CanBe line.probe → is_empty line.code ≡ test → is_empty (found line.probe line).code ≡ false
 gets_by line true can is = rw (is, is_own line.probe) ((code_in_var line.probe can).some)
@@ -183,7 +183,7 @@ is_word word is = record { some = is.some; one_token = is.one_token }
 
 -- `$var x 1 CODE NAME $end`
 closes_var : (own name : List ℕ) (scl sda : Line) (block : Option ℕ) (latest : List ℕ) (time : ℕ) → IsInVar own → IsInVar name →
-    Closes (λ line. state (named_by name own scl) (named_by name own sda) inside.Nothing block own false time) → Closes (λ line. state scl sda inside.Nothing block latest false time)
+    Closes (λ line. state (named_by true name own scl) (named_by true name own sda) inside.Nothing block own false time) → Closes (λ line. state scl sda inside.Nothing block latest false time)
 closes_var own name scl sda block latest time is_code is_name c =
     with_word (λ line. state scl sda inside.Nothing block latest false time) (λ line. in_var scl sda seen.Nothing line block latest false time) (codes "$var")
     (record { some = refl; one_token = refl }) (step_var_word scl sda block latest time)
@@ -193,11 +193,11 @@ closes_var own name scl sda block latest time is_code is_name c =
     (record { some = refl; one_token = refl }) (λ line. step_one_bit scl sda line block latest false time line)
     (with_word (λ line. in_var scl sda (seen.Size true) line block latest false time) (λ line. in_var scl sda (seen.Code true) line block own false time) own
     (is_word own is_code) (λ line. step_code_word scl sda true line block latest false time line own is_code.no_end)
-    (with_word (λ line. in_var scl sda (seen.Code true) line block own false time) (λ line. in_var (named_by name own scl) (named_by name own sda) seen.Reference line block own false time) name
-    (is_word name is_name) (λ line. step_reference scl sda line block own false time line name is_name.no_end)
-    (with_word (λ line. in_var (named_by name own scl) (named_by name own sda) seen.Reference line block own false time)
-    (λ line. state (named_by name own scl) (named_by name own sda) inside.Nothing block own false time) end end_word
-    (λ line. step_var_close (named_by name own scl) (named_by name own sda) line block own false time line) c)))))
+    (with_word (λ line. in_var scl sda (seen.Code true) line block own false time) (λ line. in_var (named_by true name own scl) (named_by true name own sda) seen.Reference line block own false time) name
+    (is_word name is_name) (λ line. step_reference scl sda true line block own false time line name is_name.no_end)
+    (with_word (λ line. in_var (named_by true name own scl) (named_by true name own sda) seen.Reference line block own false time)
+    (λ line. state (named_by true name own scl) (named_by true name own sda) inside.Nothing block own false time) end end_word
+    (λ line. step_var_close (named_by true name own scl) (named_by true name own sda) line block own false time line) c)))))
 
 -- a `$var` of this signal
 closes_found : (probe : Finder) (scl sda : Line) (block : Option ℕ) (latest : List ℕ) (time : ℕ) → CanBe probe →
@@ -210,7 +210,7 @@ closes_undefined : (scl sda : Line) (block : Option ℕ) (latest : List ℕ) (ti
 closes_undefined scl sda block latest time of_scl of_sda =
     let scl_first = found scl.probe scl in
     let sda_first = found scl.probe sda in
-    let same : sda_first.probe ≡ sda.probe = named-probe (name_in scl.probe) (code_in scl.probe) sda in
+    let same : sda_first.probe ≡ sda.probe = named-probe true (name_in scl.probe) (code_in scl.probe) sda in
     let of_second : CanBe sda_first.probe = (let P : Finder → Type 0 = λ probe. CanBe probe in subst P (sym same) of_sda) in
     closes_found scl.probe scl sda block latest time of_scl
     (closes_found sda_first.probe scl_first sda_first block (code_in scl.probe) time of_second
@@ -229,19 +229,16 @@ closes_reference scl sda began block latest defined time of_scl of_sda =
     with_word (λ line. in_var scl sda seen.Reference began block latest defined time) (λ line. state scl sda inside.Nothing block latest defined time) end end_word
     (step_var_close scl sda began block latest defined time) (closes_outside scl sda block latest defined time of_scl of_sda)
 
-still_reference : (reference latest : List ℕ) (line : Line) → CanBe line.probe → CanBe (named_by reference latest line).probe
-still_reference reference latest line is = let P : Finder → Type 0 = λ probe. CanBe probe in subst P (sym (named-probe reference latest line)) is
+still_reference : (one_bit : Bool) (reference latest : List ℕ) (line : Line) → CanBe line.probe → CanBe (named_by one_bit reference latest line).probe
+still_reference one_bit reference latest line is = let P : Finder → Type 0 = λ probe. CanBe probe in subst P (sym (named-probe one_bit reference latest line)) is
 
 closes_code : (scl sda : Line) (one_bit : Bool) (began : ℕ) (block : Option ℕ) (latest : List ℕ) (defined : Bool) (time : ℕ) → CanBe scl.probe → CanBe sda.probe →
     Closes (λ line. in_var scl sda (seen.Code one_bit) began block latest defined time)
-closes_code scl sda true began block latest defined time of_scl of_sda =
-    with_word (λ line. in_var scl sda (seen.Code true) began block latest defined time)
-    (λ line. in_var (named_by blank latest scl) (named_by blank latest sda) seen.Reference began block latest defined time) blank filler
-    (λ line. step_reference scl sda began block latest defined time line blank refl)
-    (closes_reference (named_by blank latest scl) (named_by blank latest sda) began block latest defined time (still_reference blank latest scl of_scl) (still_reference blank latest sda of_sda))
-closes_code scl sda false began block latest defined time of_scl of_sda =
-    with_word (λ line. in_var scl sda (seen.Code false) began block latest defined time) (λ line. in_var scl sda seen.Reference began block latest defined time) blank filler
-    (step_other_reference scl sda began block latest defined time) (closes_reference scl sda began block latest defined time of_scl of_sda)
+closes_code scl sda one_bit began block latest defined time of_scl of_sda =
+    with_word (λ line. in_var scl sda (seen.Code one_bit) began block latest defined time)
+    (λ line. in_var (named_by one_bit blank latest scl) (named_by one_bit blank latest sda) seen.Reference began block latest defined time) blank filler
+    (λ line. step_reference scl sda one_bit began block latest defined time line blank refl)
+    (closes_reference (named_by one_bit blank latest scl) (named_by one_bit blank latest sda) began block latest defined time (still_reference one_bit blank latest scl of_scl) (still_reference one_bit blank latest sda of_sda))
 
 closes_size : (scl sda : Line) (one_bit : Bool) (began : ℕ) (block : Option ℕ) (latest : List ℕ) (defined : Bool) (time : ℕ) → CanBe scl.probe → CanBe sda.probe →
     Closes (λ line. in_var scl sda (seen.Size one_bit) began block latest defined time)
@@ -270,11 +267,11 @@ step_skipped_close : (scl sda : Line) (began : ℕ) (block : Option ℕ) (latest
 unfolding step
 step_skipped_close scl sda began block latest defined time line = refl
 
-step_change : (scl sda : Line) (began : ℕ) (level : Level) (block : Option ℕ) (latest : List ℕ) (defined : Bool) (time line : ℕ) →
-    step (state scl sda (inside.Change began (Some level)) block latest defined time) code line
-    ≡ Ok (state (changed code level scl) (changed code level sda) inside.Nothing block latest defined time, None)
+step_change : (scl sda : Line) (began : ℕ) (to : Levels) (block : Option ℕ) (latest : List ℕ) (defined : Bool) (time line : ℕ) →
+    step (state scl sda (inside.Change began (Some to)) block latest defined time) code line
+    ≡ Ok (state (changed code to.scl scl) (changed code to.sda sda) inside.Nothing block latest defined time, None)
 unfolding step
-step_change scl sda began level block latest defined time line = refl
+step_change scl sda began to block latest defined time line = refl
 
 step_real : (scl sda : Line) (began : ℕ) (block : Option ℕ) (latest : List ℕ) (defined : Bool) (time line : ℕ) →
     step (state scl sda (inside.Change began None) block latest defined time) code line ≡ Ok (state scl sda inside.Nothing block latest defined time, None)
@@ -297,11 +294,11 @@ closes_in (inside.Skipped began) scl sda block latest defined time of_scl of_sda
 closes_in (inside.Var began so_far) scl sda block latest defined time of_scl of_sda safe = closes_in_var so_far scl sda began block latest defined time of_scl of_sda
 closes_in (inside.EndDefinitions began) scl sda block latest defined time of_scl of_sda (inl elsewhere) = absurd elsewhere
 closes_in (inside.EndDefinitions began) scl sda block latest defined time of_scl of_sda (inr named) = closes_end scl sda (λ line. began) block latest defined time named.0 named.1
-closes_in (inside.Change began (Some level)) scl sda block latest defined time of_scl of_sda safe =
-    with_word (λ line. state scl sda (inside.Change began (Some level)) block latest defined time)
-    (λ line. state (changed code level scl) (changed code level sda) inside.Nothing block latest defined time) code (record { some = refl; one_token = refl })
-    (step_change scl sda began level block latest defined time)
-    (closes_outside (changed code level scl) (changed code level sda) block latest defined time (still_named level scl of_scl) (still_named level sda of_sda))
+closes_in (inside.Change began (Some to)) scl sda block latest defined time of_scl of_sda safe =
+    with_word (λ line. state scl sda (inside.Change began (Some to)) block latest defined time)
+    (λ line. state (changed code to.scl scl) (changed code to.sda sda) inside.Nothing block latest defined time) code (record { some = refl; one_token = refl })
+    (step_change scl sda began to block latest defined time)
+    (closes_outside (changed code to.scl scl) (changed code to.sda sda) block latest defined time (still_named to.scl scl of_scl) (still_named to.sda sda of_sda))
 closes_in (inside.Change began None) scl sda block latest defined time of_scl of_sda safe =
     with_word (λ line. state scl sda (inside.Change began None) block latest defined time) (λ line. state scl sda inside.Nothing block latest defined time) code
     (record { some = refl; one_token = refl }) (step_real scl sda began block latest defined time) (closes_outside scl sda block latest defined time of_scl of_sda)

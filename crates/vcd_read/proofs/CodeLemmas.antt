@@ -10,7 +10,7 @@ use Rattle.std.proofs.lemmas.Slice.Eq.{bytes_eq-Decides}
 use Rattle.vcd_read.specs.declared.dumps.Context.TheVariants.{Nothing}
 use Rattle.vcd_read.specs.declared.samples.Level.{Level}
 use Rattle.vcd_read.specs.declared.samples.Level.TheVariants.{Low, High}
-use Rattle.vcd_read.specs.Changes.{changed, both_changed}
+use Rattle.vcd_read.specs.Changes.{changed, both_changed, on_both}
 use Rattle.vcd_read.specs.States.{Line, State}
 use Rattle.vcd_read.specs.Dumps.{step}
 use Rattle.vcd_read.specs.Words.{is_empty, binary_level_of, is_code, is_code_byte, bytes_number, code_number}
@@ -82,7 +82,7 @@ pub has_code : (code : List ℕ) → 0 < code_number code → is_code code ≡ t
 has_code code some = (and_both (is_code code) (nat_le (length code) 3) (numbered (is_code code && nat_le (length code) 3) (bytes_number code) some).0).0
 
 pub short_change : (s : State) (value : ℕ) (code : List ℕ) (line : ℕ) (level : Level) → s.context ≡ Nothing → s.defined ≡ true →
-    binary_level_of value ≡ Some level → 0 < code_number code → step s (value ∷ code) line ≡ Ok (both_changed code level s, None)
+    binary_level_of value ≡ Some level → 0 < code_number code → step s (value ∷ code) line ≡ Ok (both_changed code (on_both level) s, None)
 unfolding step
 short_change s value code line level outside defined is some =
     elim (is_binary value level is) [

@@ -38,7 +38,7 @@ defining scl sda context k m latest = record {
 -- ---- a `$var`
 
 abbrev pub code_after : Bool → (reference code : List ℕ) → Finder → List ℕ → List ℕ
-code_after one_bit reference code probe k = if one_bit && (is_empty k && declares probe reference code) then code else k
+code_after one_bit reference code probe k = if is_empty k && declares probe one_bit reference code then code else k
 
 named-by : (test : Bool) (probe : Finder) (code k : List ℕ) → (if test then record (unknown probe k) { code = code } else unknown probe k) ≡ unknown probe (if test then code else k)
 named-by true probe code k = refl
@@ -47,10 +47,9 @@ named-by false probe code k = refl
 pub declared-by : (one_bit : Bool) (scl sda : Finder) (context : Context) (k m code reference : List ℕ) →
     declared one_bit reference (defining scl sda context k m code)
     ≡ defining scl sda context (code_after one_bit reference code scl k) (code_after one_bit reference code sda m) code
-declared-by false scl sda context k m code reference = refl
-declared-by true scl sda context k m code reference =
-    ap (λ line. record (defining scl sda context k m code) { scl = line; sda = named_by reference code (unknown sda m) }) (named-by (is_empty k && declares scl reference code) scl code k)
-    ∙ ap (λ line. record (defining scl sda context (code_after true reference code scl k) m code) { sda = line }) (named-by (is_empty m && declares sda reference code) sda code m)
+declared-by one_bit scl sda context k m code reference =
+    ap (λ line. record (defining scl sda context k m code) { scl = line; sda = named_by one_bit reference code (unknown sda m) }) (named-by (is_empty k && declares scl one_bit reference code) scl code k)
+    ∙ ap (λ line. record (defining scl sda context (code_after one_bit reference code scl k) m code) { sda = line }) (named-by (is_empty m && declares sda one_bit reference code) sda code m)
 
 pub step_definition : (scl sda : Finder) (k m latest token : List ℕ) (line : ℕ) →
     step (defining scl sda inside.Nothing k m latest) token line ≡ stays (opened line (defining scl sda inside.Nothing k m latest) (command_of token))
@@ -129,17 +128,12 @@ first_or_later : (test : Bool) (code : List ℕ) (probe : Finder) (declarations 
 first_or_later true code probe declarations some = rw some refl
 first_or_later false code probe declarations some = refl
 
-never_again : (one_bit again : Bool) (code k : List ℕ) → (if one_bit && (false && again) then code else k) ≡ k
-never_again true again code k = refl
-never_again false again code k = refl
-
 pub first_code-var : (word type size code reference : Token) (more : List Token) (close : Token) (declarations : List Declaration) (k : List ℕ) (probe : Finder) → is_empty code.bytes ≡ false →
     first_code (code_after (bytes_eq size.bytes (codes "1")) reference.bytes code.bytes probe k) probe declarations
     ≡ first_code k probe (var word type size code reference more close ∷ declarations)
 first_code-var word type size code reference more close declarations [] probe some =
-    first_or_later (bytes_eq size.bytes (codes "1") && declares probe reference.bytes code.bytes) code.bytes probe declarations some
-first_code-var word type size code reference more close declarations (byte ∷ bytes) probe some =
-    ap (λ k. first_code k probe declarations) (never_again (bytes_eq size.bytes (codes "1")) (declares probe reference.bytes code.bytes) code.bytes (byte ∷ bytes))
+    first_or_later (declares probe (bytes_eq size.bytes (codes "1")) reference.bytes code.bytes) code.bytes probe declarations some
+first_code-var word type size code reference more close declarations (byte ∷ bytes) probe some = refl
 
 abbrev pub latest_after : List Declaration → List ℕ → List ℕ
 latest_after [] latest = latest

@@ -1,5 +1,5 @@
 -- The names of the signals of an accepted dump stand in it as references, and their codes as codes.
-use Rattle.std.proofs.Common.{◌≡◌, ℕ, inl, inr, Bool, true, false, ◌&&◌, List, [], ◌∷◌, ◌++◌, refl, sym, ◌∙◌, subst, append_assoc, codes}
+use Rattle.std.proofs.Common.{◌≡◌, ℕ, inl, inr, Bool, true, false, List, [], ◌∷◌, ◌++◌, refl, sym, ◌∙◌, subst, append_assoc, codes}
 use Rattle.std.specs.Prelude.{not}
 use Rattle.std.specs.Str.{bytes_eq}
 use Rattle.std.proofs.lemmas.List.{append-nil}
@@ -7,7 +7,7 @@ use Rattle.std.proofs.lemmas.Slice.Eq.{bytes_eq-Decides}
 use Rattle.vcd_read.specs.declared.samples.Sample.{Sample}
 use Rattle.vcd_read.specs.Beginnings.{IsInVar, CanBe}
 use Rattle.vcd_read.specs.Grammar.{without_end, Declaration, var, other, declaration_tokens, skipped_tokens, code_for, entries_tokens, stamps_tokens, declarations_tokens, AreDeclarations, Spells}
-use Rattle.vcd_read.specs.Probes.{Finder, by_name, by_code, declares}
+use Rattle.vcd_read.specs.Probes.{Finder, by_name, by_code, by_bit, declares}
 use Rattle.vcd_read.specs.Runs.{AreRuns}
 use Rattle.vcd_read.specs.Tokens.{Token, tokens_of}
 use Rattle.vcd_read.specs.Words.{is_empty, is_end}
@@ -37,23 +37,23 @@ in_var token own word inner same =
     let P : List ℕ → Type 0 = λ n. IsInVar n in
     subst P ((bytes_eq-Decides token own).0 same) (record { some = word.some; one_token = word.one_token; no_end = inner })
 
-can_be : (probe : Finder) (reference code : List ℕ) → IsWord reference → is_end reference ≡ false → IsWord code → is_end code ≡ false → declares probe reference code ≡ true → CanBe probe
-can_be (by_name name) reference code word inner code_word code_inner same = in_var reference name word inner same
-can_be (by_code own) reference code word inner code_word code_inner same = in_var code own code_word code_inner same
+can_be : (probe : Finder) (one_bit : Bool) (reference code : List ℕ) → IsWord reference → is_end reference ≡ false → IsWord code → is_end code ≡ false → declares probe one_bit reference code ≡ true → CanBe probe
+can_be (by_name name) one_bit reference code word inner code_word code_inner same = in_var reference name word inner ((and_both one_bit (bytes_eq reference name) same).1)
+can_be (by_code own) one_bit reference code word inner code_word code_inner same = in_var code own code_word code_inner ((and_both one_bit (bytes_eq code own) same).1)
+can_be (by_bit own place) one_bit reference code word inner code_word code_inner same = in_var code own code_word code_inner same
 
 abbrev Named : Finder → List Declaration → Type 0
 Named probe declarations =
     (rest : List Token) → AreDeclarations declarations → AreTokens (declarations_tokens declarations ++ rest) → is_empty (code_for probe declarations) ≡ false → CanBe probe
 
 named_by : (probe : Finder) (word type size code reference : Token) (more : List Token) (close : Token) (declarations : List Declaration) (test : Bool) →
-    (bytes_eq size.bytes (codes "1") && declares probe reference.bytes code.bytes) ≡ test → Named probe declarations → Named probe (var word type size code reference more close ∷ declarations)
+    declares probe (bytes_eq size.bytes (codes "1")) reference.bytes code.bytes ≡ test → Named probe declarations → Named probe (var word type size code reference more close ∷ declarations)
 named_by probe word type size code reference more close declarations true is each rest declaring are some =
-    let same = and_both (bytes_eq size.bytes (codes "1")) (declares probe reference.bytes code.bytes) is in
     let of_type = and_both (not (is_end type.bytes)) _ declaring.0.1 in
     let of_size = and_both (not (is_end size.bytes)) _ of_type.1 in
     let of_code = and_both (not (is_end code.bytes)) _ of_size.1 in
     let of_reference = and_both (not (is_end reference.bytes)) (without_end more) of_code.1 in
-    can_be probe reference.bytes code.bytes are.1.1.1.1.0 (not_true (is_end reference.bytes) of_reference.0) are.1.1.1.0 (not_true (is_end code.bytes) of_code.0) same.1
+    can_be probe (bytes_eq size.bytes (codes "1")) reference.bytes code.bytes are.1.1.1.1.0 (not_true (is_end reference.bytes) of_reference.0) are.1.1.1.0 (not_true (is_end code.bytes) of_code.0) is
 named_by probe word type size code reference more close declarations false is each rest declaring are some =
     let later = rw is at some in
     each rest declaring.1 (without_first (declaration_tokens (var word type size code reference more close)) declarations rest are) later
@@ -61,7 +61,7 @@ named_by probe word type size code reference more close declarations false is ea
 named : (probe : Finder) (declarations : List Declaration) → Named probe declarations
 named probe [] rest declaring are some = absurd cc
 named probe (var word type size code reference more close ∷ declarations) rest declaring are some =
-    named_by probe word type size code reference more close declarations (bytes_eq size.bytes (codes "1") && declares probe reference.bytes code.bytes) refl (named probe declarations) rest declaring are some
+    named_by probe word type size code reference more close declarations (declares probe (bytes_eq size.bytes (codes "1")) reference.bytes code.bytes) refl (named probe declarations) rest declaring are some
 named probe (other command ∷ declarations) rest declaring are some =
     named probe declarations rest declaring.1 (without_first (declaration_tokens (other command)) declarations rest are) some
 

@@ -5,7 +5,7 @@ use Rattle.std.proofs.lemmas.Bool.{eqb-true}
 use Rattle.vcd_read.specs.declared.dumps.Context.TheVariants as inside
 use Rattle.vcd_read.specs.declared.samples.Level.{Level}
 use Rattle.vcd_read.specs.declared.words.Command.{Command}
-use Rattle.vcd_read.specs.Changes.{stays, change, change_by, command_among_changes, both_changed, scalar_change}
+use Rattle.vcd_read.specs.Changes.{stays, change, change_by, command_among_changes, both_changed, on_both, scalar_change}
 use Rattle.vcd_read.specs.Dumps.{Run, step, run, and_then, with_front}
 use Rattle.vcd_read.specs.Grammar.{without_end}
 use Rattle.vcd_read.specs.States.{State}
@@ -78,7 +78,7 @@ other_than value other level true same is none =
 other_than value other level false same is none = refl
 
 pub change_scalar : (s : State) (value : ℕ) (code : List ℕ) (level : Level) (line : ℕ) → level_of value ≡ Some level → is_code code ≡ true →
-    change_by value code s line ≡ Ok (both_changed code level s, None)
+    change_by value code s line ≡ Ok (both_changed code (on_both level) s, None)
 change_scalar s value code level line is of_code =
     rw (
       other_than value 35 level (value == 35) refl is refl,

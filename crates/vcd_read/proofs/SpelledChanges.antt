@@ -5,18 +5,19 @@ use Rattle.std.proofs.lemmas.Bool.{eqb-true}
 use Rattle.std.proofs.lemmas.Bool.Decides.{nat_tests, eqb_tells}
 use Rattle.vcd_read.specs.declared.dumps.Context.{Context}
 use Rattle.vcd_read.specs.declared.dumps.Context.TheVariants as inside
+use Rattle.vcd_read.specs.declared.dumps.Levels.{Levels}
 use Rattle.vcd_read.specs.declared.errors.Refusal.{Refusal}
 use Rattle.vcd_read.specs.declared.errors.Refusal.TheVariants.{BadToken}
 use Rattle.vcd_read.specs.declared.samples.Level.{Level}
 use Rattle.vcd_read.specs.declared.samples.Sample.{Sample}
 use Rattle.vcd_read.specs.declared.words.Command.{Command}
 use Rattle.vcd_read.specs.declared.words.Command.TheVariants.{Var, EndDefinitions, Changes, End, Other}
-use Rattle.vcd_read.specs.Changes.{Step, stays, change, change_by, change_of_code, command_among_changes, both_changed, scalar_change, vector_change, time_change, time_reached}
+use Rattle.vcd_read.specs.Changes.{Step, stays, change, change_by, change_of_code, command_among_changes, both_changed, on_both, scalar_change, vector_levels, vector_change, time_change, time_reached}
 use Rattle.vcd_read.specs.Dumps.{Run, step, run, and_then, ended}
 use Rattle.vcd_read.specs.Grammar.{Skipped, without_end, Entry, scalar, vector, real, command, opens, closes, again, entry_tokens, IsEntry, AreEntries, is_skipped, opened_by, Stamp, entries_tokens, stamps_tokens, AreStamps, open_after, open_after_stamps}
 use Rattle.vcd_read.specs.States.{State}
 use Rattle.vcd_read.specs.Tokens.{Token}
-use Rattle.vcd_read.specs.Words.{is_code, is_empty, is_end, command_of, level_of, vector_level, time_of}
+use Rattle.vcd_read.specs.Words.{is_code, is_empty, is_end, command_of, level_of, is_vector, time_of}
 use Rattle.vcd_read.proofs.StampLemmas.{Names, state_in, state_at, step_changes, step_code, both_changed-by, in_front, ended-front}
 
 -- ---- what is accepted goes on
@@ -38,9 +39,9 @@ accepts_step (Err refusal) rest accepted = absurd cc
 pub data Kind (s : State) (bytes : List ℕ) (line : ℕ) (p : State × Option Sample) : Type 0 where
   of_time : (digits : List ℕ) (time : ℕ) → bytes ≡ 35 ∷ digits → time_of digits ≡ Some time → time_reached s time line ≡ Ok p → Kind s bytes line p
   of_command : (k : Command) → command_of bytes ≡ Some k → stays (command_among_changes s (Some k) line) ≡ Ok p → Kind s bytes line p
-  of_vector : (digits : List ℕ) (level : Level) → ((bytes ≡ 98 ∷ digits) ⊎ (bytes ≡ 66 ∷ digits)) → vector_level digits ≡ Some level → (record s { context = inside.Change line (Some level) }, None) ≡ p → Kind s bytes line p
+  of_vector : (digits : List ℕ) (to : Levels) → ((bytes ≡ 98 ∷ digits) ⊎ (bytes ≡ 66 ∷ digits)) → is_vector digits ≡ true → (record s { context = inside.Change line (Some to) }, None) ≡ p → Kind s bytes line p
   of_real : (text : List ℕ) → (((bytes ≡ 114 ∷ text) ⊎ (bytes ≡ 82 ∷ text)) ⊎ ((bytes ≡ 115 ∷ text) ⊎ (bytes ≡ 83 ∷ text))) → is_empty text ≡ false → (record s { context = inside.Change line None }, None) ≡ p → Kind s bytes line p
-  of_scalar : (value : ℕ) (code : List ℕ) (level : Level) → bytes ≡ value ∷ code → level_of value ≡ Some level → is_code code ≡ true → (both_changed code level s, None) ≡ p → Kind s bytes line p
+  of_scalar : (value : ℕ) (code : List ℕ) (level : Level) → bytes ≡ value ∷ code → level_of value ≡ Some level → is_code code ≡ true → (both_changed code (on_both level) s, None) ≡ p → Kind s bytes line p
 
 time_kind : (s : State) (digits : List ℕ) (line : ℕ) (p : State × Option Sample) (o : Option ℕ) → time_of digits ≡ o → time_change s o line ≡ Ok p → Kind s (35 ∷ digits) line p
 time_kind s digits line p None is ok = absurd cc
@@ -49,9 +50,9 @@ time_kind s digits line p (Some time) is ok = of_time digits time refl is ok
 pub ok_is : {A : Type 0} (x y : A) → (let r : Result A Refusal = Ok x in r) ≡ Ok y → x ≡ y
 ok_is x y is = cc
 
-vector_kind : (s : State) (first : ℕ) (digits : List ℕ) (line : ℕ) (p : State × Option Sample) (o : Option Level) → (((first ∷ digits) ≡ 98 ∷ digits) ⊎ ((first ∷ digits) ≡ 66 ∷ digits)) → vector_level digits ≡ o → stays (vector_change s o line) ≡ Ok p → Kind s (first ∷ digits) line p
-vector_kind s first digits line p None letter is ok = absurd cc
-vector_kind s first digits line p (Some level) letter is ok = of_vector digits level letter is (ok_is _ _ ok)
+vector_kind : (s : State) (first : ℕ) (digits : List ℕ) (line : ℕ) (p : State × Option Sample) (test : Bool) → (((first ∷ digits) ≡ 98 ∷ digits) ⊎ ((first ∷ digits) ≡ 66 ∷ digits)) → is_vector digits ≡ test → stays (vector_change s (vector_levels s digits) line) ≡ Ok p → Kind s (first ∷ digits) line p
+vector_kind s first digits line p false letter is ok = let h = rw is at ok in absurd cc
+vector_kind s first digits line p true letter is ok = of_vector digits _ letter is (ok_is _ _ (rw is at ok))
 
 real_kind : (s : State) (first : ℕ) (text : List ℕ) (line : ℕ) (p : State × Option Sample) (none : Bool) →
     ((((first ∷ text) ≡ 114 ∷ text) ⊎ ((first ∷ text) ≡ 82 ∷ text)) ⊎ (((first ∷ text) ≡ 115 ∷ text) ⊎ ((first ∷ text) ≡ 83 ∷ text))) → is_empty text ≡ none →
@@ -60,7 +61,7 @@ real_kind s first text line p true letter is ok = absurd cc
 real_kind s first text line p false letter is ok = of_real text letter is (ok_is _ _ ok)
 
 code_kind : (s : State) (value : ℕ) (code : List ℕ) (level : Level) (line : ℕ) (p : State × Option Sample) (test : Bool) → level_of value ≡ Some level → is_code code ≡ test →
-    stays (if test then Ok (both_changed code level s) else Err (BadToken line)) ≡ Ok p → Kind s (value ∷ code) line p
+    stays (if test then Ok (both_changed code (on_both level) s) else Err (BadToken line)) ≡ Ok p → Kind s (value ∷ code) line p
 code_kind s value code level line p true of_level is ok = of_scalar value code level refl of_level is (ok_is _ _ ok)
 code_kind s value code level line p false of_level is ok = absurd cc
 
@@ -90,9 +91,9 @@ kind_of s (first ∷ rest) line p ok =
       | inr a ↦ elim (eqb_tells first 36) [
         | inl y ↦ at_byte s rest line p first 36 y.1 (λ h. of_command _ refl h) ok
         | inr b ↦ elim (eqb_tells first 98) [
-          | inl y ↦ at_byte s rest line p first 98 y.1 (λ h. vector_kind s 98 rest line p (vector_level rest) (inl refl) refl h) ok
+          | inl y ↦ at_byte s rest line p first 98 y.1 (λ h. vector_kind s 98 rest line p (is_vector rest) (inl refl) refl h) ok
           | inr c ↦ elim (eqb_tells first 66) [
-            | inl y ↦ at_byte s rest line p first 66 y.1 (λ h. vector_kind s 66 rest line p (vector_level rest) (inr refl) refl h) ok
+            | inl y ↦ at_byte s rest line p first 66 y.1 (λ h. vector_kind s 66 rest line p (is_vector rest) (inr refl) refl h) ok
             | inr d ↦ elim (eqb_tells first 114) [
               | inl y ↦ at_byte s rest line p first 114 y.1 (λ h. real_kind s 114 rest line p (is_empty rest) (inl (inl refl)) refl h) ok
               | inr e ↦ elim (eqb_tells first 82) [
@@ -129,8 +130,8 @@ neither_opens_nor_closes _ = Unit {0}
 stays_open : (is_open : Bool) (entry : Entry) → neither_opens_nor_closes entry → opened_by is_open entry ≡ Some is_open
 stays_open true (scalar token value code level) other = refl
 stays_open false (scalar token value code level) other = refl
-stays_open true (vector token digits level code) other = refl
-stays_open false (vector token digits level code) other = refl
+stays_open true (vector token digits code) other = refl
+stays_open false (vector token digits code) other = refl
 stays_open true (real token text code) other = refl
 stays_open false (real token text code) other = refl
 stays_open true (command skipped) other = refl
@@ -234,7 +235,7 @@ parses_skipped n began time x y a b block token tokens each accepted =
 
 -- ---- at a code
 
-coded_by : (n : Names) (time : ℕ) (x y a b : Level) (block : Option ℕ) (level : Option Level) (token : Token) (tokens : List Token) (test : Bool) (p : State × Option Sample) →
+coded_by : (n : Names) (time : ℕ) (x y a b : Level) (block : Option ℕ) (level : Option Levels) (token : Token) (tokens : List Token) (test : Bool) (p : State × Option Sample) →
     is_code token.bytes ≡ test → stays (change_of_code (state_at n time x y a b block) level token.bytes token.line) ≡ Ok p → Parses tokens → Accepts (run p.0 tokens) →
     Coded (Rest time (is_some block)) (token ∷ tokens)
 coded_by n time x y a b block None token tokens true p is ok each accepted =
@@ -259,7 +260,7 @@ coded_by n time x y a b block (Some level) token tokens true p is ok each accept
     }
 coded_by n time x y a b block (Some level) token tokens false p is ok each accepted = let h = rw is at ok in absurd cc
 
-parses_code : (n : Names) (began time : ℕ) (x y a b : Level) (block : Option ℕ) (level : Option Level) (token : Token) (tokens : List Token) → Parses tokens →
+parses_code : (n : Names) (began time : ℕ) (x y a b : Level) (block : Option ℕ) (level : Option Levels) (token : Token) (tokens : List Token) → Parses tokens →
     AcceptsFrom n (inside.Change began level) time x y a b block (token ∷ tokens) → Coded (Rest time (is_some block)) (token ∷ tokens)
 parses_code n began time x y a b block level token tokens each accepted =
     let next = accepts_step (step (state_in n (inside.Change began level) time x y a b block) token.bytes token.line) (λ s. run s tokens) accepted in
@@ -275,11 +276,11 @@ accepts_from q p tokens is accepted = let P : (State × Option Sample) → Type 
 same_tokens : (time : ℕ) (is_open : Bool) (tokens other : List Token) → tokens ≡ other → Rest time is_open other → Rest time is_open tokens
 same_tokens time is_open tokens other is r = let P : List Token → Type 0 = λ t. Rest time is_open t in subst P (sym is) r
 
-vector_entry : (time : ℕ) (is_open : Bool) (token : Token) (digits : List ℕ) (level : Level) (tokens : List Token) →
-    ((token.bytes ≡ 98 ∷ digits) ⊎ (token.bytes ≡ 66 ∷ digits)) → vector_level digits ≡ Some level → Coded (Rest time is_open) tokens → Rest time is_open (token ∷ tokens)
-vector_entry time is_open token digits level tokens letter is r =
+vector_entry : (time : ℕ) (is_open : Bool) (token : Token) (digits : List ℕ) (tokens : List Token) →
+    ((token.bytes ≡ 98 ∷ digits) ⊎ (token.bytes ≡ 66 ∷ digits)) → is_vector digits ≡ true → Coded (Rest time is_open) tokens → Rest time is_open (token ∷ tokens)
+vector_entry time is_open token digits tokens letter is r =
     same_tokens time is_open (token ∷ tokens) (token ∷ (r.code ∷ r.rest)) (ap (λ t. token ∷ t) r.spelled)
-    (with_entry (vector token digits level r.code) time is_open is_open r.rest (letter, is, r.fits) (stays_open is_open (vector token digits level r.code) tt) r.follows)
+    (with_entry (vector token digits r.code) time is_open is_open r.rest (letter, is, r.fits) (stays_open is_open (vector token digits r.code) tt) r.follows)
 
 real_entry : (time : ℕ) (is_open : Bool) (token : Token) (text : List ℕ) (tokens : List Token) →
     (((token.bytes ≡ 114 ∷ text) ⊎ (token.bytes ≡ 82 ∷ text)) ⊎ ((token.bytes ≡ 115 ∷ text) ⊎ (token.bytes ≡ 83 ∷ text))) → is_empty text ≡ false → Coded (Rest time is_open) tokens → Rest time is_open (token ∷ tokens)
@@ -346,16 +347,16 @@ after_token : (n : Names) (time : ℕ) (x y a b : Level) (block : Option ℕ) (t
 after_token n time x y a b block token tokens p (of_time digits next is of_digits ok) each accepted =
     after_time n time x y a b block token tokens digits next p (nat_lt next time) (next == time) refl refl is of_digits ok each accepted
 after_token n time x y a b block token tokens p (of_command k is ok) each accepted = after_command n time x y a b block token tokens k p is ok each accepted
-after_token n time x y a b block token tokens p (of_vector digits level letter is same) each accepted =
-    vector_entry time (is_some block) token digits level tokens letter is
-    (each n (inside.Change token.line (Some level)) time x y a b block (accepts_from _ p tokens same accepted))
+after_token n time x y a b block token tokens p (of_vector digits to letter is same) each accepted =
+    vector_entry time (is_some block) token digits tokens letter is
+    (each n (inside.Change token.line (Some to)) time x y a b block (accepts_from _ p tokens same accepted))
 after_token n time x y a b block token tokens p (of_real text letter some same) each accepted =
     real_entry time (is_some block) token text tokens letter some
     (each n (inside.Change token.line None) time x y a b block (accepts_from _ p tokens same accepted))
 after_token n time x y a b block token tokens p (of_scalar value code level is of_level of_code same) each accepted =
     with_entry (scalar token value code level) time (is_some block) (is_some block) tokens (is, of_level, of_code) (stays_open (is_some block) (scalar token value code level) tt)
     (each n inside.Nothing time x y _ _ block (let P : State → Type 0 = λ s. Accepts (run s tokens) in
-    subst P (both_changed-by n time x y a b block code level) (accepts_from _ p tokens same accepted)))
+    subst P (both_changed-by n time x y a b block code (on_both level)) (accepts_from _ p tokens same accepted)))
 
 parses_more : (token : Token) (tokens : List Token) → Parses tokens → Parses (token ∷ tokens)
 parses_more token tokens each n inside.Nothing time x y a b block accepted =

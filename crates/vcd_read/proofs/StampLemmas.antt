@@ -7,18 +7,19 @@ use Rattle.std.proofs.lemmas.Bool.Decides.{nat_tests}
 use Rattle.std.proofs.lemmas.List.{append-nil}
 use Rattle.vcd_read.specs.declared.dumps.Context.{Context}
 use Rattle.vcd_read.specs.declared.dumps.Context.TheVariants as inside
+use Rattle.vcd_read.specs.declared.dumps.Levels.{Levels}
 use Rattle.vcd_read.specs.declared.errors.Refusal.{Refusal}
 use Rattle.vcd_read.specs.declared.samples.Level.{Level}
 use Rattle.vcd_read.specs.declared.samples.Sample.{Sample}
 use Rattle.vcd_read.specs.declared.words.Command.{Command}
 use Rattle.vcd_read.specs.declared.words.Command.TheVariants.{Var, EndDefinitions, Changes, End, Other}
-use Rattle.vcd_read.specs.Changes.{stays, change, change_of_code, both_changed, vector_change, time_change, time_reached, stamp_sample, same_level}
+use Rattle.vcd_read.specs.Changes.{stays, change, change_of_code, both_changed, on_both, time_change, time_reached, stamp_sample, same_level}
 use Rattle.vcd_read.specs.Dumps.{Run, step, run, and_then, with_front, with_last, at_end, ended}
-use Rattle.vcd_read.specs.Grammar.{Skipped, Entry, scalar, vector, real, command, opens, closes, again, entry_tokens, IsEntry, AreEntries, is_skipped, opened_by, level_by, level_after, Stamp, entries_tokens, stamps_tokens, AreStamps, open_after, open_after_stamps, sample_at, stamp_samples}
-use Rattle.vcd_read.specs.Probes.{Finder}
+use Rattle.vcd_read.specs.Grammar.{Skipped, Entry, scalar, vector, real, command, opens, closes, again, entry_tokens, IsEntry, AreEntries, is_skipped, opened_by, Named, level_by, level_after, Stamp, entries_tokens, stamps_tokens, AreStamps, open_after, open_after_stamps, sample_at, stamp_samples}
+use Rattle.vcd_read.specs.Probes.{Finder, place_of}
 use Rattle.vcd_read.specs.States.{Line, State}
 use Rattle.vcd_read.specs.Tokens.{Token}
-use Rattle.vcd_read.specs.Words.{is_empty, command_of, vector_level, time_of}
+use Rattle.vcd_read.specs.Words.{is_empty, command_of, is_vector, level_at, time_of}
 use Rattle.vcd_read.proofs.RunLemmas.{run_token, run_skipped, change_command, change_scalar}
 
 -- how the two signals are found, their codes, and the code of the latest `$var`
@@ -41,6 +42,16 @@ state_in n context time x y a b block = record {
   time = time;
 }
 
+abbrev pub scl_line : Names → Named
+scl_line n = record { probe = n.scl; code = n.scl_code }
+
+abbrev pub sda_line : Names → Named
+sda_line n = record { probe = n.sda; code = n.sda_code }
+
+-- what the digits of a vector say of the two lines
+abbrev pub levels_in : Names → List ℕ → Levels
+levels_in n digits = record { scl = level_at (place_of n.scl) digits; sda = level_at (place_of n.sda) digits }
+
 abbrev pub state_at : Names → ℕ → (x y a b : Level) → Option ℕ → State
 state_at n time x y a b block = state_in n inside.Nothing time x y a b block
 
@@ -52,7 +63,7 @@ block_by _ block = block
 abbrev RunsEntry : Names → ℕ → (x y a b : Level) → Option ℕ → Entry → List Token → Type 0
 RunsEntry n time x y a b block entry rest =
     run (state_at n time x y a b block) (entry_tokens entry ++ rest)
-    ≡ run (state_at n time x y (level_by n.scl_code a entry) (level_by n.sda_code b entry) (block_by entry block)) rest
+    ≡ run (state_at n time x y (level_by (scl_line n) a entry) (level_by (sda_line n) b entry) (block_by entry block)) rest
 
 -- ---- changes
 
@@ -60,14 +71,14 @@ changed-by : (test : Bool) (line : Line) (level : Level) → (if test then recor
 changed-by true line level = refl
 changed-by false line level = refl
 
-pub both_changed-by : (n : Names) (time : ℕ) (x y a b : Level) (block : Option ℕ) (code : List ℕ) (level : Level) →
-    both_changed code level (state_at n time x y a b block)
-    ≡ state_at n time x y (if bytes_eq code n.scl_code then level else a) (if bytes_eq code n.sda_code then level else b) block
-both_changed-by n time x y a b block code level =
-    ap (λ line. record (both_changed code level (state_at n time x y a b block)) { scl = line })
-    (changed-by (bytes_eq code n.scl_code) (record { probe = n.scl; code = n.scl_code; before = x; level = a }) level)
-    ∙ ap (λ line. record (state_at n time x y (if bytes_eq code n.scl_code then level else a) b block) { sda = line })
-    (changed-by (bytes_eq code n.sda_code) (record { probe = n.sda; code = n.sda_code; before = y; level = b }) level)
+pub both_changed-by : (n : Names) (time : ℕ) (x y a b : Level) (block : Option ℕ) (code : List ℕ) (to : Levels) →
+    both_changed code to (state_at n time x y a b block)
+    ≡ state_at n time x y (if bytes_eq code n.scl_code then to.scl else a) (if bytes_eq code n.sda_code then to.sda else b) block
+both_changed-by n time x y a b block code to =
+    ap (λ line. record (both_changed code to (state_at n time x y a b block)) { scl = line })
+    (changed-by (bytes_eq code n.scl_code) (record { probe = n.scl; code = n.scl_code; before = x; level = a }) to.scl)
+    ∙ ap (λ line. record (state_at n time x y (if bytes_eq code n.scl_code then to.scl else a) b block) { sda = line })
+    (changed-by (bytes_eq code n.sda_code) (record { probe = n.sda; code = n.sda_code; before = y; level = b }) to.sda)
 
 pub step_changes : (n : Names) (time : ℕ) (x y a b : Level) (block : Option ℕ) (token : List ℕ) (line : ℕ) →
     step (state_at n time x y a b block) token line ≡ change (state_at n time x y a b block) token line
@@ -78,32 +89,33 @@ runs_scalar : (n : Names) (time : ℕ) (x y a b : Level) (block : Option ℕ) (t
     IsEntry time (scalar token value code level) → RunsEntry n time x y a b block (scalar token value code level) rest
 runs_scalar n time x y a b block token value code level rest is =
     let s = state_at n time x y a b block in
-    run_token s (both_changed code level s) token rest
+    run_token s (both_changed code (on_both level) s) token rest
     (step_changes n time x y a b block token.bytes token.line ∙ ap (λ t. change s t token.line) is.0 ∙ change_scalar s value code level token.line is.1 is.2)
-    ∙ ap (λ t. run t rest) (both_changed-by n time x y a b block code level)
+    ∙ ap (λ t. run t rest) (both_changed-by n time x y a b block code (on_both level))
 
-pub step_code : (n : Names) (began time : ℕ) (x y a b : Level) (block : Option ℕ) (level : Option Level) (code : List ℕ) (line : ℕ) →
-    step (state_in n (inside.Change began level) time x y a b block) code line ≡ stays (change_of_code (state_at n time x y a b block) level code line)
+pub step_code : (n : Names) (began time : ℕ) (x y a b : Level) (block : Option ℕ) (to : Option Levels) (code : List ℕ) (line : ℕ) →
+    step (state_in n (inside.Change began to) time x y a b block) code line ≡ stays (change_of_code (state_at n time x y a b block) to code line)
 unfolding step
-step_code n began time x y a b block level code line = refl
+step_code n began time x y a b block to code line = refl
 
-vector_begins : (n : Names) (time : ℕ) (x y a b : Level) (block : Option ℕ) (token : List ℕ) (line : ℕ) (digits : List ℕ) (level : Level) →
-    ((token ≡ 98 ∷ digits) ⊎ (token ≡ 66 ∷ digits)) → vector_level digits ≡ Some level →
-    change (state_at n time x y a b block) token line ≡ Ok (state_in n (inside.Change line (Some level)) time x y a b block, None)
-vector_begins n time x y a b block token line digits level (inl is) value =
-    ap (λ t. change (state_at n time x y a b block) t line) is ∙ ap (λ o. stays (vector_change (state_at n time x y a b block) o line)) value
-vector_begins n time x y a b block token line digits level (inr is) value =
-    ap (λ t. change (state_at n time x y a b block) t line) is ∙ ap (λ o. stays (vector_change (state_at n time x y a b block) o line)) value
+vector_begins : (n : Names) (time : ℕ) (x y a b : Level) (block : Option ℕ) (token : List ℕ) (line : ℕ) (digits : List ℕ) →
+    ((token ≡ 98 ∷ digits) ⊎ (token ≡ 66 ∷ digits)) → is_vector digits ≡ true →
+    change (state_at n time x y a b block) token line ≡ Ok (state_in n (inside.Change line (Some (levels_in n digits))) time x y a b block, None)
+vector_begins n time x y a b block token line digits (inl is) value =
+    ap (λ t. change (state_at n time x y a b block) t line) is ∙ rw value refl
+vector_begins n time x y a b block token line digits (inr is) value =
+    ap (λ t. change (state_at n time x y a b block) t line) is ∙ rw value refl
 
-runs_vector : (n : Names) (time : ℕ) (x y a b : Level) (block : Option ℕ) (token : Token) (digits : List ℕ) (level : Level) (code : Token) (rest : List Token) →
-    IsEntry time (vector token digits level code) → RunsEntry n time x y a b block (vector token digits level code) rest
-runs_vector n time x y a b block token digits level code rest is =
+runs_vector : (n : Names) (time : ℕ) (x y a b : Level) (block : Option ℕ) (token : Token) (digits : List ℕ) (code : Token) (rest : List Token) →
+    IsEntry time (vector token digits code) → RunsEntry n time x y a b block (vector token digits code) rest
+runs_vector n time x y a b block token digits code rest is =
     let s = state_at n time x y a b block in
-    run_token s (state_in n (inside.Change token.line (Some level)) time x y a b block) token (code ∷ rest)
-    (step_changes n time x y a b block token.bytes token.line ∙ vector_begins n time x y a b block token.bytes token.line digits level is.0 is.1)
-    ∙ run_token (state_in n (inside.Change token.line (Some level)) time x y a b block) (both_changed code.bytes level s) code rest
-    (step_code n token.line time x y a b block (Some level) code.bytes code.line ∙ rw is.2 refl)
-    ∙ ap (λ t. run t rest) (both_changed-by n time x y a b block code.bytes level)
+    let to = levels_in n digits in
+    run_token s (state_in n (inside.Change token.line (Some to)) time x y a b block) token (code ∷ rest)
+    (step_changes n time x y a b block token.bytes token.line ∙ vector_begins n time x y a b block token.bytes token.line digits is.0 is.1)
+    ∙ run_token (state_in n (inside.Change token.line (Some to)) time x y a b block) (both_changed code.bytes to s) code rest
+    (step_code n token.line time x y a b block (Some to) code.bytes code.line ∙ rw is.2 refl)
+    ∙ ap (λ t. run t rest) (both_changed-by n time x y a b block code.bytes to)
 
 text_begins : (n : Names) (time : ℕ) (x y a b : Level) (block : Option ℕ) (token : List ℕ) (line : ℕ) (text : List ℕ) →
     (((token ≡ 114 ∷ text) ⊎ (token ≡ 82 ∷ text)) ⊎ ((token ≡ 115 ∷ text) ⊎ (token ≡ 83 ∷ text))) → is_empty text ≡ false →
@@ -174,7 +186,7 @@ runs_again n time x y a b block token digits rest is =
 pub runs_entry : (entry : Entry) (n : Names) (time : ℕ) (x y a b : Level) (block : Option ℕ) (is_open : Bool) (rest : List Token) →
     IsEntry time entry → opened_by (is_some block) entry ≡ Some is_open → RunsEntry n time x y a b block entry rest
 runs_entry (scalar token value code level) n time x y a b block is_open rest is opened = runs_scalar n time x y a b block token value code level rest is
-runs_entry (vector token digits level code) n time x y a b block is_open rest is opened = runs_vector n time x y a b block token digits level code rest is
+runs_entry (vector token digits code) n time x y a b block is_open rest is opened = runs_vector n time x y a b block token digits code rest is
 runs_entry (real token text code) n time x y a b block is_open rest is opened = runs_real n time x y a b block token text code rest is
 runs_entry (command skipped) n time x y a b block is_open rest is opened = runs_command n time x y a b block skipped rest is
 runs_entry (opens token) n time x y a b block is_open rest is opened = runs_opens n time x y a b block token is_open rest is opened
@@ -186,8 +198,8 @@ runs_entry (again token digits) n time x y a b block is_open rest is opened = ru
 block_after : (entry : Entry) (block : Option ℕ) (is_open : Bool) → opened_by (is_some block) entry ≡ Some is_open → is_some (block_by entry block) ≡ is_open
 block_after (scalar token value code level) None is_open opened = cc
 block_after (scalar token value code level) (Some line) is_open opened = cc
-block_after (vector token digits level code) None is_open opened = cc
-block_after (vector token digits level code) (Some line) is_open opened = cc
+block_after (vector token digits code) None is_open opened = cc
+block_after (vector token digits code) (Some line) is_open opened = cc
 block_after (real token text code) None is_open opened = cc
 block_after (real token text code) (Some line) is_open opened = cc
 block_after (command skipped) None is_open opened = cc
@@ -220,14 +232,14 @@ blocks_after (entry ∷ entries) block is_open after =
 pub runs_entries : (entries : List Entry) (n : Names) (time : ℕ) (x y a b : Level) (block : Option ℕ) (is_open : Bool) (rest : List Token) →
     AreEntries time entries → open_after (Some (is_some block)) entries ≡ Some is_open →
     run (state_at n time x y a b block) (entries_tokens entries ++ rest)
-    ≡ run (state_at n time x y (level_after n.scl_code a entries) (level_after n.sda_code b entries) (blocks_by entries block)) rest
+    ≡ run (state_at n time x y (level_after (scl_line n) a entries) (level_after (sda_line n) b entries) (blocks_by entries block)) rest
 runs_entries [] n time x y a b block is_open rest are after = refl
 runs_entries (entry ∷ entries) n time x y a b block is_open rest are after =
     let first = first_opened (opened_by (is_some block) entry) entries is_open after in
     let now : is_some (block_by entry block) ≡ first.0 = block_after entry block first.0 first.1 in
     ap (run (state_at n time x y a b block)) (append_assoc (entry_tokens entry) (entries_tokens entries) rest)
     ∙ runs_entry entry n time x y a b block first.0 (entries_tokens entries ++ rest) are.0 first.1
-    ∙ runs_entries entries n time x y (level_by n.scl_code a entry) (level_by n.sda_code b entry) (block_by entry block) is_open rest are.1
+    ∙ runs_entries entries n time x y (level_by (scl_line n) a entry) (level_by (sda_line n) b entry) (block_by entry block) is_open rest are.1
     (ap (λ o. open_after (Some o) entries) now ∙ ap (λ o. open_after o entries) (sym first.1) ∙ after)
 
 -- ---- stamps
@@ -290,18 +302,18 @@ no_block (Some line) none = absurd cc
 pub ended_stamps : (stamps : List Stamp) (entries : List Entry) (n : Names) (time : ℕ) (x y a b : Level) (block : Option ℕ) →
     AreEntries time entries → AreStamps time stamps → open_after_stamps (open_after (Some (is_some block)) entries) stamps ≡ Some false →
     ended (run (state_at n time x y a b block) (entries_tokens entries ++ stamps_tokens stamps))
-    ≡ Ok (sample_at time x y (level_after n.scl_code a entries) (level_after n.sda_code b entries)
-    ++ stamp_samples n.scl_code n.sda_code (level_after n.scl_code a entries) (level_after n.sda_code b entries) stamps)
+    ≡ Ok (sample_at time x y (level_after (scl_line n) a entries) (level_after (sda_line n) b entries)
+    ++ stamp_samples (scl_line n) (sda_line n) (level_after (scl_line n) a entries) (level_after (sda_line n) b entries) stamps)
 ended_stamps [] entries n time x y a b block are stamps_are closed =
-    let scl = level_after n.scl_code a entries in
-    let sda = level_after n.sda_code b entries in
+    let scl = level_after (scl_line n) a entries in
+    let sda = level_after (sda_line n) b entries in
     let none : blocks_by entries block ≡ None = no_block (blocks_by entries block) (blocks_after entries block false closed) in
     ap ended (runs_entries entries n time x y a b block false [] are closed)
     ∙ ap (λ o. ended (run (state_at n time x y scl sda o) [])) none
     ∙ ap Ok (sample_of-stamp n time x y scl sda None ∙ sym (append-nil (sample_at time x y scl sda)))
 ended_stamps (stamp ∷ stamps) entries n time x y a b block are stamps_are closed =
-    let scl = level_after n.scl_code a entries in
-    let sda = level_after n.sda_code b entries in
+    let scl = level_after (scl_line n) a entries in
+    let sda = level_after (sda_line n) b entries in
     let first = stamps_open (open_after (Some (is_some block)) entries) (stamp ∷ stamps) false closed in
     let now : is_some (blocks_by entries block) ≡ first.0 = blocks_after entries block first.0 first.1 in
     let rest = entries_tokens stamp.entries ++ stamps_tokens stamps in

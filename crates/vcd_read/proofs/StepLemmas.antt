@@ -6,6 +6,7 @@ use Rattle.std.proofs.lemmas.Bool.{eqb-true}
 use Rattle.std.proofs.lemmas.Slice.Eq.{bytes_eq-Decides}
 use Rattle.vcd_read.specs.declared.dumps.Context.{Context}
 use Rattle.vcd_read.specs.declared.dumps.Context.TheVariants as inside
+use Rattle.vcd_read.specs.declared.dumps.Levels.{Levels}
 use Rattle.vcd_read.specs.declared.dumps.Seen.{Seen}
 use Rattle.vcd_read.specs.declared.dumps.Seen.TheVariants as seen
 use Rattle.vcd_read.specs.declared.errors.Refusal.{Refusal}
@@ -15,12 +16,12 @@ use Rattle.vcd_read.specs.declared.samples.Signal.{Signal}
 use Rattle.vcd_read.specs.declared.words.Command.{Command}
 use Rattle.vcd_read.specs.declared.words.Command.TheVariants.{Var, EndDefinitions, Changes, End, Other}
 use Rattle.vcd_read.specs.Beginnings.{IsTime}
-use Rattle.vcd_read.specs.Changes.{Step, stays, settled, changed, both_changed, change_of_code, command_among_changes, time_change, vector_change, scalar_change, change}
+use Rattle.vcd_read.specs.Changes.{Step, stays, settled, changed, both_changed, change_of_code, command_among_changes, time_change, vector_change, on_both, vector_levels, scalar_change, change}
 use Rattle.vcd_read.specs.Definitions.{opened, named_by, declared, var_token, inside_var, missing, definitions_end, inside_end_definitions}
 use Rattle.vcd_read.specs.Dumps.{outside, token_in, step}
 use Rattle.vcd_read.specs.Probes.{declares}
 use Rattle.vcd_read.specs.States.{Line, State}
-use Rattle.vcd_read.specs.Words.{is_code, is_empty, is_end, command_of, level_of, vector_level, time_of}
+use Rattle.vcd_read.specs.Words.{is_code, is_empty, is_end, command_of, level_of, time_of}
 use Rattle.vcd_read.proofs.WordLemmas.{time_is_code}
 
 -- ---- `$enddefinitions`
@@ -120,13 +121,12 @@ same_probe : (test : Bool) (line : Line) (code : List ℕ) → (let l : Line = i
 same_probe true line code = refl
 same_probe false line code = refl
 
-pub named-probe : (reference code : List ℕ) (line : Line) → (named_by reference code line).probe ≡ line.probe
-named-probe reference code line = same_probe (is_empty line.code && declares line.probe reference code) line code
+pub named-probe : (one_bit : Bool) (reference code : List ℕ) (line : Line) → (named_by one_bit reference code line).probe ≡ line.probe
+named-probe one_bit reference code line = same_probe (is_empty line.code && declares line.probe one_bit reference code) line code
 
 keeps_declared : (s : State) (token : List ℕ) (one_bit : Bool) (context : Context) → IsElsewhere context → Keeps s token (record (declared one_bit token s) { context = context })
-keeps_declared s token true context elsewhere =
-    elsewhere_then s (record (declared true token s) { context = context }) token (named-probe token s.code s.scl) (named-probe token s.code s.sda) refl elsewhere (λ written. written)
-keeps_declared s token false context elsewhere = in_context s token context elsewhere
+keeps_declared s token one_bit context elsewhere =
+    elsewhere_then s (record (declared one_bit token s) { context = context }) token (named-probe one_bit token s.code s.scl) (named-probe one_bit token s.code s.sda) refl elsewhere (λ written. written)
 
 keeps_var : (s : State) (token : List ℕ) (began : ℕ) (so_far : Seen) → IsElsewhere s.context → Keeps s token (var_token began so_far s token)
 keeps_var s token began seen.Nothing elsewhere = in_context s token (inside.Var began seen.Type) tt
@@ -180,9 +180,9 @@ pub changed-probe : (code : List ℕ) (level : Level) (line : Line) → (changed
 changed-probe code level line = level_probe (bytes_eq code line.code) line level
 
 -- from the state in which the code is read
-keeps_changed : (s t : State) (token code : List ℕ) (level : Level) → t.scl.probe ≡ s.scl.probe → t.sda.probe ≡ s.sda.probe → t.defined ≡ s.defined → IsElsewhere t.context → (IsWritten s.time → IsWritten t.time) → Keeps s token (both_changed code level t)
-keeps_changed s t token code level scl sda defined elsewhere written =
-    elsewhere_then s (both_changed code level t) token (changed-probe code level t.scl ∙ scl) (changed-probe code level t.sda ∙ sda) defined elsewhere written
+keeps_changed : (s t : State) (token code : List ℕ) (to : Levels) → t.scl.probe ≡ s.scl.probe → t.sda.probe ≡ s.sda.probe → t.defined ≡ s.defined → IsElsewhere t.context → (IsWritten s.time → IsWritten t.time) → Keeps s token (both_changed code to t)
+keeps_changed s t token code to scl sda defined elsewhere written =
+    elsewhere_then s (both_changed code to t) token (changed-probe code to.scl t.scl ∙ scl) (changed-probe code to.sda t.sda ∙ sda) defined elsewhere written
 
 -- the state in which a code is read, as the state before it
 pub record IsLike (s t : State) : Type 0 where
@@ -192,13 +192,13 @@ pub record IsLike (s t : State) : Type 0 where
   pub elsewhere : IsElsewhere t.context
   pub written : IsWritten s.time → IsWritten t.time
 
-says_code : (s t : State) (token code : List ℕ) (line : ℕ) (level : Option Level) (test : Bool) → is_code code ≡ test → IsLike s t → (is_code code ≡ false → IsTime token → ⊥) →
-    Says s token line (stays (change_of_code t level code line))
+says_code : (s t : State) (token code : List ℕ) (line : ℕ) (to : Option Levels) (test : Bool) → is_code code ≡ test → IsLike s t → (is_code code ≡ false → IsTime token → ⊥) →
+    Says s token line (stays (change_of_code t to code line))
 says_code s t token code line None true is like not_time = rw is (elsewhere_then s t token like.scl_probe like.sda_probe like.defined like.elsewhere like.written)
 says_code s t token code line None false is like not_time = rw is (bad s token line (not_time is))
-says_code s t token code line (Some level) true is like not_time =
-    rw is (keeps_changed s t token code level like.scl_probe like.sda_probe like.defined like.elsewhere like.written)
-says_code s t token code line (Some level) false is like not_time = rw is (bad s token line (not_time is))
+says_code s t token code line (Some to) true is like not_time =
+    rw is (keeps_changed s t token code to like.scl_probe like.sda_probe like.defined like.elsewhere like.written)
+says_code s t token code line (Some to) false is like not_time = rw is (bad s token line (not_time is))
 
 abbrev block_ends : State → ℕ → Option ℕ → Result State Refusal
 block_ends s line None = Err (BadToken line)
@@ -238,14 +238,14 @@ says_time s first rest line (Some time) is begins elsewhere at =
     (says_either s token line (time == s.time) _ _ (keeps_all s token)
     (elsewhere_then s (record s { time = time; scl = settled s.scl; sda = settled s.sda }) token refl refl refl elsewhere (λ written. record { digits = rest; is = is })))
 
-says_vector : (s : State) (token : List ℕ) (line : ℕ) (o : Option Level) → (IsTime token → ⊥) → Says s token line (stays (vector_change s o line))
+says_vector : (s : State) (token : List ℕ) (line : ℕ) (o : Option Levels) → (IsTime token → ⊥) → Says s token line (stays (vector_change s o line))
 says_vector s token line None not_time = bad s token line not_time
-says_vector s token line (Some level) not_time = in_context s token (inside.Change line (Some level)) tt
+says_vector s token line (Some to) not_time = in_context s token (inside.Change line (Some to)) tt
 
 says_scalar : (s : State) (token code : List ℕ) (line : ℕ) (o : Option Level) → IsElsewhere s.context → (IsTime token → ⊥) → Says s token line (stays (scalar_change s o code line))
 says_scalar s token code line None elsewhere not_time = bad s token line not_time
 says_scalar s token code line (Some level) elsewhere not_time =
-    says_code s s token code line (Some level) (is_code code) refl
+    says_code s s token code line (Some (on_both level)) (is_code code) refl
     (record { scl_probe = refl; sda_probe = refl; defined = refl; elsewhere = elsewhere; written = λ written. written }) (λ none. not_time)
 
 -- what does not begin with `#`
@@ -258,14 +258,14 @@ begins_no_time first rest other time =
 says_no_time : (s : State) (first : ℕ) (rest : List ℕ) (line : ℕ) → IsElsewhere s.context → (IsTime (first ∷ rest) → ⊥) →
     Says s (first ∷ rest) line
     (if first == 36 then stays (command_among_changes s (command_of (first ∷ rest)) line)
-    else if first == 98 || first == 66 then stays (vector_change s (vector_level rest) line)
+    else if first == 98 || first == 66 then stays (vector_change s (vector_levels s rest) line)
     else if first == 114 || first == 82 || first == 115 || first == 83
     then (if is_empty rest then Err (BadToken line) else Ok (record s { context = inside.Change line None }, None))
     else stays (scalar_change s (level_of first) rest line))
 says_no_time s first rest line elsewhere not_time =
     let token = first ∷ rest in
     says_either s token line (first == 36) _ _ (says_command s token line (command_of token) elsewhere not_time)
-    (says_either s token line (first == 98 || first == 66) _ _ (says_vector s token line (vector_level rest) not_time)
+    (says_either s token line (first == 98 || first == 66) _ _ (says_vector s token line (vector_levels s rest) not_time)
     (says_either s token line (first == 114 || first == 82 || first == 115 || first == 83) _ _
     (says_either s token line (is_empty rest) _ _ (bad s token line not_time) (in_context s token (inside.Change line None) tt))
     (says_scalar s token rest line (level_of first) elsewhere not_time)))

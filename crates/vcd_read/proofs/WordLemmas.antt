@@ -1,13 +1,12 @@
 -- Codes and times, from byte to byte.
-use Rattle.std.proofs.Common.{◌≡◌, ◌<◌, ◌≤◌, ◌+◌, ◌-◌, ◌*◌, ◌^◌, ℕ, suc, Bool, true, false, ◌&&◌, List, [], ◌∷◌, ◌++◌, is_some, length, drop, get_or, Option, Some, None, refl, ap, sym, ◌∙◌, arith, ◌==◌, nat_le, drop-cons, add-one}
+use Rattle.std.proofs.Common.{◌≡◌, ◌<◌, ◌≤◌, ◌+◌, ◌-◌, ◌*◌, ◌^◌, ℕ, suc, Bool, true, false, List, [], ◌∷◌, length, drop, get_or, Option, Some, None, refl, ap, sym, ◌∙◌, arith, ◌==◌, nat_le, drop-cons, add-one}
 use Rattle.std.specs.Prelude.{if◌then◌else◌, IfSome}
 use Rattle.std.specs.List.{list_all}
 use Rattle.std.proofs.Math.Nat.{pow-le-pow_right, pow-suc}
 use Rattle.std.proofs.lemmas.Bool.{le-leb, leb-true, and_from, lt-ltb}
 use Rattle.std.proofs.lemmas.Bool.Decides.{nat_tests}
 use Rattle.vcd_read.specs.Tokens.{is_white, has_white}
-use Rattle.vcd_read.specs.declared.samples.Level.{Level}
-use Rattle.vcd_read.specs.Words.{is_empty, level_of, rightmost_level, vector_level, is_code, is_code_byte, is_digit, number_from, below_limit, time_of}
+use Rattle.vcd_read.specs.Words.{is_empty, is_value, is_vector, is_code, is_code_byte, is_digit, number_from, below_limit, time_of}
 use Rattle.vcd_read.proofs.RunLemmas.{and_both}
 
 pub some_bytes : (bytes : List ℕ) → (length bytes == 0) ≡ false → is_empty bytes ≡ false
@@ -18,30 +17,11 @@ pub code_of_some : (bytes : List ℕ) → (length bytes == 0) ≡ false → list
 code_of_some [] none = none
 code_of_some (byte ∷ bytes) some = refl
 
--- ---- the level of a vector
+-- ---- the digits of a vector
 
-level_or_before : (last : Option Level) → elim last [ None ↦ None | Some level ↦ Some level ] ≡ last
-level_or_before None = refl
-level_or_before (Some level) = refl
-
-rightmost_by : (first : Option Level) (others : List ℕ) (last : ℕ) →
-    ((before : Option Level) → rightmost_level before (others ++ (last ∷ [])) ≡ (if list_all (λ digit. is_some (level_of digit)) others then level_of last else None)) →
-    elim first [ None ↦ None | Some level ↦ rightmost_level (Some level) (others ++ (last ∷ [])) ]
-    ≡ (if is_some first && list_all (λ digit. is_some (level_of digit)) others then level_of last else None)
-rightmost_by None others last each = refl
-rightmost_by (Some level) others last each = each (Some level)
-
--- Where all digits are values, the last of them says the level.
-rightmost_of : (others : List ℕ) (last : ℕ) (before : Option Level) →
-    rightmost_level before (others ++ (last ∷ [])) ≡ (if list_all (λ digit. is_some (level_of digit)) others then level_of last else None)
-rightmost_of [] last before = level_or_before (level_of last)
-rightmost_of (digit ∷ others) last before = rightmost_by (level_of digit) others last (rightmost_of others last)
-
-pub vector_of_values : (others : List ℕ) (last : ℕ) → list_all (λ digit. is_some (level_of digit)) others ≡ true → level_of last ≡ vector_level (others ++ (last ∷ []))
-vector_of_values others last all = sym (rightmost_of others last None ∙ ap (λ test. if test then level_of last else None) all)
-
-pub vector_of_others : (others : List ℕ) (last : ℕ) → list_all (λ digit. is_some (level_of digit)) others ≡ false → None ≡ vector_level (others ++ (last ∷ []))
-vector_of_others others last all = sym (rightmost_of others last None ∙ ap (λ test. if test then level_of last else None) all)
+pub vector_of_some : (digits : List ℕ) → (length digits == 0) ≡ false → list_all is_value digits ≡ is_vector digits
+vector_of_some [] none = none
+vector_of_some (digit ∷ digits) some = refl
 
 -- ---- times
 

@@ -1,5 +1,5 @@
 -- The definitions of a dump (IEEE 1364-2005, 18.2.3: declaration commands), up to the `$end` of `$enddefinitions`.
-use Rattle.std.specs.Prelude.{ℕ, Bool, true, false, ◌&&◌, List, Option, Some, None, Result, Ok, Err, codes}
+use Rattle.std.specs.Prelude.{ℕ, Bool, true, ◌&&◌, List, Option, Some, None, Result, Ok, Err, codes}
 use Rattle.std.specs.Prelude.{if◌then◌else◌}
 use Rattle.std.specs.Str.{bytes_eq}
 use Rattle.vcd_read.specs.declared.dumps.Context.TheVariants as inside
@@ -25,14 +25,16 @@ opened line s _ = Err (BadToken line)
 abbrev pub definition : State → List ℕ → ℕ → Result State Refusal
 definition s token line = opened line s (command_of token)
 
--- The line takes the code of a `$var` of one bit by which it is found, if it has none yet.
-abbrev pub named_by : List ℕ → List ℕ → Line → Line
-named_by reference code line =
-    if is_empty line.code && declares line.probe reference code then record line { code = code } else line
+-- The line takes the code of a `$var` by which it is found, if it has none yet.
+abbrev pub named_by : Bool → (reference code : List ℕ) → Line → Line
+named_by one_bit reference code line =
+    if is_empty line.code && declares line.probe one_bit reference code then record line { code = code } else line
 
 abbrev pub declared : Bool → List ℕ → State → State
-declared false reference s = s
-declared true reference s = record s { scl = named_by reference s.code s.scl; sda = named_by reference s.code s.sda }
+declared one_bit reference s = record s {
+  scl = named_by one_bit reference s.code s.scl;
+  sda = named_by one_bit reference s.code s.sda;
+}
 
 -- One more token of a `$var`: type, size, code and reference, and others that say nothing here.
 abbrev pub var_token : ℕ → Seen → State → List ℕ → State

@@ -10,9 +10,9 @@ use Rattle.vcd_read.specs.declared.samples.Sample.{Sample}
 use Rattle.vcd_read.specs.declared.words.Command.{Command}
 use Rattle.vcd_read.specs.declared.words.Command.TheVariants.{Var, EndDefinitions, Changes, End, Other}
 use Rattle.vcd_read.specs.Changes.{same_level}
-use Rattle.vcd_read.specs.Probes.{Finder, declares}
+use Rattle.vcd_read.specs.Probes.{Finder, declares, place_of}
 use Rattle.vcd_read.specs.Tokens.{Token}
-use Rattle.vcd_read.specs.Words.{is_empty, is_end, command_of, level_of, vector_level, is_code, time_of}
+use Rattle.vcd_read.specs.Words.{is_empty, is_end, command_of, level_of, is_vector, level_at, is_code, time_of}
 
 -- ---- definitions
 
@@ -51,12 +51,11 @@ IsDeclaration (var word type size code reference more close) =
     × (is_end close.bytes ≡ true)
 IsDeclaration (other command) = (command_of command.word.bytes ≡ Some Other) × EndsOnce command
 
--- the code of the first `$var` of this reference, or of this code, whose size is `1`; none: empty
+-- the code of the first `$var` that is one of the signal, which has one bit where its size is `1`; none: empty
 abbrev pub code_for : Finder → List Declaration → List ℕ
 code_for probe [] = []
 code_for probe (var word type size code reference more close ∷ rest) =
-    if bytes_eq size.bytes (codes "1") && declares probe reference.bytes code.bytes then code.bytes
-    else code_for probe rest
+    if declares probe (bytes_eq size.bytes (codes "1")) reference.bytes code.bytes then code.bytes else code_for probe rest
 code_for probe (other command ∷ rest) = code_for probe rest
 
 -- ---- changes
@@ -65,7 +64,7 @@ code_for probe (other command ∷ rest) = code_for probe rest
 -- command, the begin and the end of a block of changes, or the same time once more.
 pub data Entry : Type 0 where
   scalar : (token : Token) (value : ℕ) (code : List ℕ) (level : Level) → Entry
-  vector : (token : Token) (digits : List ℕ) (level : Level) (code : Token) → Entry
+  vector : (token : Token) (digits : List ℕ) (code : Token) → Entry
   real : (token : Token) (text : List ℕ) (code : Token) → Entry
   command : (skipped : Skipped) → Entry
   opens : (token : Token) → Entry
@@ -74,7 +73,7 @@ pub data Entry : Type 0 where
 
 abbrev pub entry_tokens : Entry → List Token
 entry_tokens (scalar token value code level) = token ∷ []
-entry_tokens (vector token digits level code) = token ∷ (code ∷ [])
+entry_tokens (vector token digits code) = token ∷ (code ∷ [])
 entry_tokens (real token text code) = token ∷ (code ∷ [])
 entry_tokens (command skipped) = skipped_tokens skipped
 entry_tokens (opens token) = token ∷ []
@@ -92,9 +91,9 @@ is_skipped _ = false
 abbrev pub IsEntry : ℕ → Entry → Type 0
 IsEntry time (scalar token value code level) =
     (token.bytes ≡ value ∷ code) × (level_of value ≡ Some level) × (is_code code ≡ true)
-IsEntry time (vector token digits level code) =
+IsEntry time (vector token digits code) =
     ((token.bytes ≡ 98 ∷ digits) ⊎ (token.bytes ≡ 66 ∷ digits))
-    × (vector_level digits ≡ Some level)
+    × (is_vector digits ≡ true)
     × (is_code code.bytes ≡ true)
 IsEntry time (real token text code) =
     (((token.bytes ≡ 114 ∷ text) ⊎ (token.bytes ≡ 82 ∷ text))
@@ -118,15 +117,21 @@ opened_by false (closes token) = None
 opened_by true (closes token) = Some false
 opened_by is_open _ = Some is_open
 
--- the level that the last change of this code gives, or the level before
-abbrev pub level_by : List ℕ → Level → Entry → Level
-level_by code level (scalar token value its to) = if bytes_eq its code then to else level
-level_by code level (vector token digits to its) = if bytes_eq its.bytes code then to else level
-level_by code level _ = level
+-- a line: how it is found, and its code
+pub record Named : Type 0 where
+  pub probe : Finder
+  pub code : List ℕ
 
-abbrev pub level_after : List ℕ → Level → List Entry → Level
-level_after code level [] = level
-level_after code level (entry ∷ entries) = level_after code (level_by code level entry) entries
+-- the level that the last change of its code gives a line, or the level before: a vector gives that of its own digit
+abbrev pub level_by : Named → Level → Entry → Level
+level_by line level (scalar token value its to) = if bytes_eq its line.code then to else level
+level_by line level (vector token digits its) =
+    if bytes_eq its.bytes line.code then level_at (place_of line.probe) digits else level
+level_by line level _ = level
+
+abbrev pub level_after : Named → Level → List Entry → Level
+level_after line level [] = level
+level_after line level (entry ∷ entries) = level_after line (level_by line level entry) entries
 
 -- ---- time stamps
 
@@ -171,13 +176,13 @@ sample_at time scl_before sda_before scl sda =
     if same_level scl_before scl && same_level sda_before sda then []
     else record { time = time; scl = scl; sda = sda } ∷ []
 
--- the samples of the stamps, for the codes of the two signals and their levels before
-abbrev pub stamp_samples : List ℕ → List ℕ → Level → Level → List Stamp → List Sample
-stamp_samples scl_code sda_code scl sda [] = []
-stamp_samples scl_code sda_code scl sda (stamp ∷ stamps) =
-    let scl_now = level_after scl_code scl stamp.entries in
-    let sda_now = level_after sda_code sda stamp.entries in
-    sample_at stamp.time scl sda scl_now sda_now ++ stamp_samples scl_code sda_code scl_now sda_now stamps
+-- the samples of the stamps, for the two lines and their levels before
+abbrev pub stamp_samples : (scl_line sda_line : Named) → Level → Level → List Stamp → List Sample
+stamp_samples scl_line sda_line scl sda [] = []
+stamp_samples scl_line sda_line scl sda (stamp ∷ stamps) =
+    let scl_now = level_after scl_line scl stamp.entries in
+    let sda_now = level_after sda_line sda stamp.entries in
+    sample_at stamp.time scl sda scl_now sda_now ++ stamp_samples scl_line sda_line scl_now sda_now stamps
 
 -- ---- the dump
 
@@ -211,14 +216,18 @@ pub record IsDump (scl sda : Finder) (d : Dump) : Type 0 where
   pub stamps : AreStamps 0 d.stamps
   pub blocks_end : open_after_stamps (open_after (Some false) d.first) d.stamps ≡ Some false
 
+-- the line that is found so
+abbrev pub line_for : Finder → List Declaration → Named
+line_for probe declarations = record { probe = probe; code = code_for probe declarations }
+
 -- the samples of the dump: both levels are unknown before it
 abbrev pub dump_samples : Finder → Finder → Dump → List Sample
 dump_samples scl sda d =
-    let scl_code = code_for scl d.declarations in
-    let sda_code = code_for sda d.declarations in
-    let scl_first = level_after scl_code Unknown d.first in
-    let sda_first = level_after sda_code Unknown d.first in
-    sample_at 0 Unknown Unknown scl_first sda_first ++ stamp_samples scl_code sda_code scl_first sda_first d.stamps
+    let scl_line = line_for scl d.declarations in
+    let sda_line = line_for sda d.declarations in
+    let scl_first = level_after scl_line Unknown d.first in
+    let sda_first = level_after sda_line Unknown d.first in
+    sample_at 0 Unknown Unknown scl_first sda_first ++ stamp_samples scl_line sda_line scl_first sda_first d.stamps
 
 -- Definitions alone are a dump too, of which nothing was recorded.
 pub record IsDefinitions (scl sda : Finder) (declarations : List Declaration) : Type 0 where

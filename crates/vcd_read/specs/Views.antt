@@ -3,23 +3,25 @@ use Rattle.std.specs.Prelude.{◌≡◌, ℕ, ◌≤◌, Option, Result, Ok, Err
 use Rattle.vcd_read.specs.declared.dumps.Dump.{Dump}
 use Rattle.vcd_read.specs.declared.errors.Refusal.{Refusal}
 use Rattle.vcd_read.specs.declared.probes.Probe as rust
-use Rattle.vcd_read.specs.declared.probes.Probe.TheVariants.{Named, Coded}
+use Rattle.vcd_read.specs.declared.probes.Probe.TheVariants.{Named, Coded, Bit}
 use Rattle.vcd_read.specs.declared.probes.Sought.{Sought}
-use Rattle.vcd_read.specs.declared.probes.Sought.TheVariants.{Name, Code}
+use Rattle.vcd_read.specs.declared.probes.Sought.TheVariants.{Name, Code, CodeAndPlace}
 use Rattle.vcd_read.specs.declared.samples.Sample.{Sample}
 use Rattle.vcd_read.specs.declared.wires.Wire.{Wire}
 use Rattle.vcd_read.specs.Changes.{Step}
-use Rattle.vcd_read.specs.Probes.{Finder, by_name, by_code}
+use Rattle.vcd_read.specs.Probes.{Finder, by_name, by_code, by_bit}
 use Rattle.vcd_read.specs.States.{Line, State}
 
 -- what a call is asked for
 abbrev pub asked : rust.Probe → Finder
 asked (Named name) = by_name name.now
 asked (Coded code) = by_code code.now
+asked (Bit code place) = by_bit code.now place
 
 abbrev pub sought_by : Sought → Finder
 sought_by (Name name) = by_name (string_bytes name)
 sought_by (Code code) = by_code (string_bytes code)
+sought_by (CodeAndPlace code place) = by_bit (string_bytes code) place
 
 abbrev pub line_of : Wire → Line
 line_of w = record { probe = sought_by w.sought; code = w.code.items; before = w.before; level = w.level }

@@ -1,6 +1,6 @@
 -- What a single token of a dump says (IEEE 1364-2005, 18.2.1 and 18.2.3).
 use Rattle.std.specs.Prelude.{ℕ, ◌+◌, ◌-◌, ◌*◌, ◌^◌, Bool, true, false, ◌&&◌, ◌||◌, ◌==◌, nat_lt, nat_le, not, List, []}
-use Rattle.std.specs.Prelude.{◌∷◌, length, Option, Some, None, codes, if◌then◌else◌}
+use Rattle.std.specs.Prelude.{◌∷◌, length, get_or, Option, Some, None, is_some, codes, if◌then◌else◌}
 use Rattle.std.specs.List.{list_all}
 use Rattle.std.specs.Str.{bytes_eq}
 use Rattle.vcd_read.specs.declared.samples.Level.{Level}
@@ -41,17 +41,28 @@ level_of value =
     else if value == 120 || value == 88 then Some Unknown
     else None
 
--- the level of the rightmost of these digits, or of the digit before them; none where one of them is no value
-abbrev pub rightmost_level : Option Level → List ℕ → Option Level
-rightmost_level before [] = before
-rightmost_level before (digit ∷ digits) = elim (level_of digit) [
-  | None ↦ None
-  | Some level ↦ rightmost_level (Some level) digits
-]
+abbrev pub is_value : ℕ → Bool
+is_value digit = is_some (level_of digit)
 
--- what the digits of a vector change say of a line: one digit at least
-abbrev pub vector_level : List ℕ → Option Level
-vector_level digits = rightmost_level None digits
+-- the digits of a vector change: one at least, and each a value
+abbrev pub is_vector : List ℕ → Bool
+is_vector digits = not (is_empty digits) && list_all is_value digits
+
+abbrev pub level_or_unknown : Option Level → Level
+level_or_unknown None = Unknown
+level_or_unknown (Some level) = level
+
+-- The level of each bit to the left of the digits, which are fewer than the bits of the signal: a 0 stands there where the
+-- leftmost digit is 0 or 1, and else that digit once more (18.2.1: left-extending vector values).
+abbrev pub extended : List ℕ → Level
+extended [] = Unknown
+extended (digit ∷ digits) = if digit == 49 then Low else level_or_unknown (level_of digit)
+
+-- what the digits of a vector change say of the bit that stands so many places to the left of the rightmost
+abbrev pub level_at : ℕ → List ℕ → Level
+level_at place digits =
+    if nat_lt place (length digits) then level_or_unknown (level_of (get_or digits (length digits - 1 - place) 0))
+    else extended digits
 
 -- an identifier code is one or more characters from `!` to `~`
 abbrev pub is_code_byte : ℕ → Bool

@@ -1,17 +1,17 @@
 // Times and value changes: IEEE 1364-2005, 18.2.1 and 18.2.2, and the commands among them, 18.2.3.
 
 ghost use Rattle.std.specs.Prelude.{◌≡◌, ℕ, ◌<◌, List, ◌∷◌, Some, None, IsSome, Ok, true, false};
-ghost use Rattle.vcd_read.specs.Changes.{change, change_of_code, command_among_changes, time_reached, stamp_sample};
+ghost use Rattle.vcd_read.specs.Changes.{change, change_of_code, command_among_changes, time_reached, stamp_sample, scalar_change, on_both, vector_levels};
 ghost use Rattle.vcd_read.specs.Dumps.{step};
 ghost use Rattle.vcd_read.specs.Views.{state_of, HasRoom, Leaves, Steps};
 ghost use Rattle.vcd_read.specs.Words.{binary_level_of, code_number};
 ghost use Rattle.vcd_read.specs.declared.dumps.Context.TheVariants.{Nothing};
 
-use crate::dumps::{Context, Dump};
+use crate::dumps::{Context, Dump, Levels};
 use crate::errors::Refusal;
 use crate::samples::{Level, Sample};
 use crate::words::{
-    Command, binary_level_of, code_number, command_of, is_code, level_of, stamp_time, vector_level,
+    Command, binary_level_of, code_number, command_of, is_code, is_vector, level_of, stamp_time,
 };
 
 impl Dump {
@@ -67,8 +67,8 @@ impl Dump {
             }
             b'$' => self.command(command_of(token), line)?,
             b'b' | b'B' => {
-                let level = vector_level(rest).ok_or(bad)?;
-                self.context = Context::Change(line, Some(level));
+                let to = self.vector_levels(rest).ok_or(bad)?;
+                self.context = Context::Change(line, Some(to));
             }
             b'r' | b'R' | b's' | b'S' => {
                 if rest.is_empty() {
@@ -76,12 +76,35 @@ impl Dump {
                 }
                 self.context = Context::Change(line, None);
             }
-            value => {
-                let level = level_of(value).ok_or(bad)?;
-                self.change_of_code(Some(level), rest, line)?;
-            }
+            value => self.scalar_change(level_of(value), rest, line)?,
         }
         Ok(None)
+    }
+
+    // A change of one value: of this level, or of none.
+    #[inline(always)]
+    fn scalar_change(&mut self, level: Option<Level>, code: &[u8], line: u64) -> Result<(), Refusal>
+        ensures state { Leaves result (scalar_change (state_of self.old) level code.now line) (state_of self.new) }
+        ensures room { (n : ℕ) → HasRoom n self.old → HasRoom n self.new }
+    {
+        match level {
+            Some(level) => self.change_of_code(Some(on_both(level)), code, line),
+            None => Err(Refusal::BadToken(line)),
+        }
+    }
+
+    // What the digits of a vector say of each line.
+    #[inline(never)]
+    fn vector_levels(&self, digits: &[u8]) -> Option<Levels>
+        ensures { result ≡ vector_levels (state_of self.now) digits.now }
+    {
+        if !is_vector(digits) {
+            return None;
+        }
+        Some(Levels {
+            scl: self.scl.level_in(digits),
+            sda: self.sda.level_in(digits),
+        })
     }
 
     // A time: a later one closes the time stamp, an equal one continues it.
@@ -117,24 +140,24 @@ impl Dump {
         })
     }
 
-    /// The code of a change of this level, or of a real or string change.
+    /// The code of a change that says this, or of a real or string change.
     #[inline(always)]
     pub(crate) fn change_of_code(
         &mut self,
-        level: Option<Level>,
+        to: Option<Levels>,
         code: &[u8],
         line: u64,
     ) -> Result<(), Refusal>
-        ensures state { Leaves result (change_of_code (state_of self.old) level code.now line) (state_of self.new) }
+        ensures state { Leaves result (change_of_code (state_of self.old) to code.now line) (state_of self.new) }
         ensures room { (n : ℕ) → HasRoom n self.old → HasRoom n self.new }
     {
         let number = code_number(code);
         if number == 0 {
-            return self.change_of_long_code(level, code, line);
+            return self.change_of_long_code(to, code, line);
         }
-        if let Some(level) = level {
-            self.scl.change_by_number(number, level);
-            self.sda.change_by_number(number, level);
+        if let Some(to) = to {
+            self.scl.change_by_number(number, to.scl);
+            self.sda.change_by_number(number, to.sda);
         }
         Ok(())
     }
@@ -143,19 +166,19 @@ impl Dump {
     #[inline(never)]
     fn change_of_long_code(
         &mut self,
-        level: Option<Level>,
+        to: Option<Levels>,
         code: &[u8],
         line: u64,
     ) -> Result<(), Refusal>
-        ensures state { Leaves result (change_of_code (state_of self.old) level code.now line) (state_of self.new) }
+        ensures state { Leaves result (change_of_code (state_of self.old) to code.now line) (state_of self.new) }
         ensures room { (n : ℕ) → HasRoom n self.old → HasRoom n self.new }
     {
         if !is_code(code) {
             return Err(Refusal::BadToken(line));
         }
-        if let Some(level) = level {
-            self.scl.change(code, level);
-            self.sda.change(code, level);
+        if let Some(to) = to {
+            self.scl.change(code, to.scl);
+            self.sda.change(code, to.sda);
         }
         Ok(())
     }
@@ -176,5 +199,16 @@ impl Dump {
             }
         }
         Ok(())
+    }
+}
+
+// A change of one value says the same of both lines.
+#[inline(always)]
+fn on_both(level: Level) -> Levels
+    ensures { result ≡ on_both level }
+{
+    Levels {
+        scl: level,
+        sda: level,
     }
 }

@@ -64,10 +64,8 @@ impl Dump {
                 Seen::Code { one_bit }
             }
             Seen::Code { one_bit } => {
-                if one_bit {
-                    self.scl.name_by(token, self.code.as_slice());
-                    self.sda.name_by(token, self.code.as_slice());
-                }
+                self.scl.name_by(one_bit, token, self.code.as_slice());
+                self.sda.name_by(one_bit, token, self.code.as_slice());
                 Seen::Reference
             }
             Seen::Reference => return,
@@ -88,7 +86,7 @@ impl Dump {
         Ok(())
     }
 
-    /// The first of the two signals that no `$var` of one bit has been found for.
+    /// The first of the two signals that no `$var` has been found for.
     pub(crate) fn missing(&self) -> Option<Signal>
         ensures { result ≡ missing (state_of self.now) }
     {

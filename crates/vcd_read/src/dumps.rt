@@ -28,8 +28,15 @@ pub(crate) enum Context {
     Skipped(u64),
     Var(u64, Seen),
     EndDefinitions(u64),
-    /// A change whose code comes next: the level of a vector, or none of a real or string change.
-    Change(u64, Option<Level>),
+    /// A change whose code comes next: what a vector says, or nothing of a real or string change.
+    Change(u64, Option<Levels>),
+}
+
+/// What a change says of each line, where its code is the line's.
+#[derive(Clone, Copy, Debug, PartialEq, Eq)]
+pub(crate) struct Levels {
+    pub(crate) scl: Level,
+    pub(crate) sda: Level,
 }
 
 /// What the tokens of a dump have said so far.
@@ -106,10 +113,10 @@ impl Dump {
                     self.end_definitions()?;
                 }
             }
-            Context::Change(began, level) => {
+            Context::Change(began, to) => {
                 self.context = Context::Nothing;
-                if let Err(refusal) = self.change_of_code(level, token, line) {
-                    self.context = Context::Change(began, level);
+                if let Err(refusal) = self.change_of_code(to, token, line) {
+                    self.context = Context::Change(began, to);
                     return Err(refusal);
                 }
             }

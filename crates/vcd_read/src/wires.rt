@@ -5,7 +5,7 @@ ghost use Rattle.vcd_read.specs.Words.{is_empty, code_number};
 
 use crate::probes::{Probe, Sought};
 use crate::samples::Level;
-use crate::words::code_number;
+use crate::words::{code_number, level_at};
 use std::alloc::{AllocError, Global};
 
 /// A line: how its `$var` is found, the code that this `$var` gives it, and its levels.
@@ -25,6 +25,8 @@ pub(crate) struct Wire {
 impl Wire {
     ghost use Rattle.vcd_read.specs.Definitions.{named_by};
     ghost use Rattle.vcd_read.specs.Changes.{changed, settled, stays_level};
+    ghost use Rattle.vcd_read.specs.Probes.{place_of};
+    ghost use Rattle.vcd_read.specs.Words.{level_at};
     ghost use Rattle.vcd_read.specs.Views.{asked, line_of};
     ghost use Rattle.vcd_read.specs.States.{line_at_first};
 
@@ -41,20 +43,20 @@ impl Wire {
         })
     }
 
-    /// Whether no `$var` of one bit has been its own yet.
+    /// Whether no `$var` has been its own yet.
     pub(crate) fn is_missing(&self) -> bool
         ensures { result ≡ is_empty (line_of self.now).code }
     {
         self.code.is_empty()
     }
 
-    /// A `$var` of one bit has this reference and this code.
-    pub(crate) fn name_by(&mut self, reference: &[u8], code: &[u8])
+    /// A `$var` of one bit, or of another number, has this reference and this code.
+    pub(crate) fn name_by(&mut self, one_bit: bool, reference: &[u8], code: &[u8])
         requires { length code.now ≤ vec_capacity self.old.code }
-        ensures line { line_of self.new ≡ named_by reference.now code.now (line_of self.old) }
+        ensures line { line_of self.new ≡ named_by one_bit reference.now code.now (line_of self.old) }
         ensures room { vec_capacity self.old.code ≤ vec_capacity self.new.code }
     {
-        if self.is_missing() && self.sought.is_declared_by(reference, code) {
+        if self.is_missing() && self.sought.is_declared_by(one_bit, reference, code) {
             self.code.clear();
             let _ = self.code.extend_from_slice(code);
             self.number = code_number(code);
@@ -83,6 +85,13 @@ impl Wire {
         // no branch, since none would be foreseen
         let levels = [self.level, level];
         self.level = levels[(number == self.number) as usize];
+    }
+
+    /// What the digits of a vector say of the line.
+    pub(crate) fn level_in(&self, digits: &[u8]) -> Level
+        ensures { result ≡ level_at (place_of (line_of self.now).probe) digits.now }
+    {
+        level_at(self.sought.place(), digits)
     }
 
     /// The level now.

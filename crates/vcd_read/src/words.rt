@@ -4,7 +4,7 @@ ghost use Rattle.std.specs.Int.Digits.{number_from_digits, AllBelowBase};
 ghost use Rattle.std.specs.Prelude.{◌≡◌, ◌==◌, ◌<◌, ◌^◌, List, ◌∷◌, ℕ, length, is_some, IfSome};
 ghost use Rattle.std.specs.List.{list_all};
 ghost use Rattle.std.specs.Simd.Lanes.{number_l};
-ghost use Rattle.vcd_read.specs.Words.{command_of, named_command, is_end, level_of, vector_level};
+ghost use Rattle.vcd_read.specs.Words.{command_of, named_command, is_end, level_of, is_value, is_vector, level_at, extended, level_or_unknown};
 ghost use Rattle.vcd_read.specs.Words.{is_code, is_code_byte, code_number, binary_level_of, is_digit, number_from, time_of};
 
 use crate::samples::Level;
@@ -89,23 +89,50 @@ pub(crate) fn binary_level_of(value: u8) -> Option<Level>
     Some(levels[(value == b'1') as usize])
 }
 
-/// The level of the rightmost digit of a vector.
-pub(crate) fn vector_level(digits: &[u8]) -> Option<Level>
-    ensures { result ≡ vector_level digits.now }
+/// Whether these are the digits of a vector.
+pub(crate) fn is_vector(digits: &[u8]) -> bool
+    ensures { result ≡ is_vector digits.now }
 {
-    let (rightmost, others) = digits.split_last()?;
-    if others.iter().all(|digit| is_value(*digit)) {
-        level_of(*rightmost)
-    } else {
-        None
-    }
+    !digits.is_empty() && digits.iter().all(|digit| is_value(*digit))
 }
 
 #[inline(always)]
 fn is_value(digit: u8) -> bool
-    ensures { result ≡ is_some (level_of digit) }
+    ensures { result ≡ is_value digit }
 {
     (b'0' <= digit && digit <= b'1') || level_of(digit).is_some()
+}
+
+/// What the digits of a vector say of the bit that stands so many places to the left of the rightmost.
+pub(crate) fn level_at(place: u32, digits: &[u8]) -> Level
+    ensures { result ≡ level_at place digits.now }
+{
+    let place = place as usize;
+    if place < digits.len() {
+        level_or_unknown(digits[digits.len() - 1 - place])
+    } else {
+        extended(digits)
+    }
+}
+
+fn level_or_unknown(digit: u8) -> Level
+    ensures { result ≡ level_or_unknown (level_of digit) }
+{
+    match level_of(digit) {
+        Some(level) => level,
+        None => Level::Unknown,
+    }
+}
+
+// The level of each bit to the left of the digits.
+fn extended(digits: &[u8]) -> Level
+    ensures { result ≡ extended digits.now }
+{
+    match digits.split_first() {
+        Some((b'1', _)) => Level::Low,
+        Some((digit, _)) => level_or_unknown(*digit),
+        None => Level::Unknown,
+    }
 }
 
 /// Whether these bytes are an identifier code.

@@ -53,6 +53,30 @@ pub fn expansion_of<T: AsRef<str>>(briefs: &[T]) -> Result<String, (usize, Refus
     Ok(board.to_string())
 }
 
+/// What a brief has names for: devices and data bytes with their bits, messages and families, and controllers.
+pub struct Declared {
+    pub devices: Vec<(String, String)>,
+    pub bytes: Vec<(String, String)>,
+    pub messages: Vec<String>,
+    pub controllers: Vec<String>,
+}
+
+/// What this brief has names for.
+pub fn declared(brief: &str) -> Result<Declared, Refusal> {
+    let mut board = Board::default();
+    board.read(brief)?;
+    let bits = |known: &[Known]| known.iter().map(|one| (one.name.clone(), one.bits.clone())).collect();
+    let messages = board.messages.iter().map(|one| one.name.clone());
+    let families = board.families.iter().map(|one| one.name.clone());
+    let controllers = board.controllers.iter().map(|one| one.name.clone());
+    Ok(Declared {
+        devices: bits(&board.devices),
+        bytes: bits(&board.bytes),
+        messages: messages.chain(families).collect(),
+        controllers: controllers.chain(board.labels.iter().map(Party::name)).collect(),
+    })
+}
+
 /// Whether a message, a controller or an interrupt of a plan has a name that is a word of briefs.
 pub fn has_brief_word(items: &Items) -> bool {
     items.names().any(|name| !Language::Brief.is_name(name))

@@ -1,13 +1,15 @@
 //! The commands, from the bytes of their files to what they write and their status
 //! (docs/COMMAND_LINE.md).
 
+use super::before::Before;
 use super::benches::Answers;
 use super::briefs::{expansion, expansion_of, has_brief_word};
 use super::captures::{Transaction, Until};
 use super::decoded::{bytes_of, calls_of};
-use super::found::{checked, decoded, decoded_so_far, explainers, ordered, played, verified};
+use super::found::{checked, decoded, decoded_on, decoded_so_far, explainers, ordered, played, verified};
 use super::found::{Checked, Decoded, Fault, Order, Ordered};
 use super::learned::{is_path, learned, Data};
+use super::lines::Lines;
 use super::order::{Span, Totals};
 use super::pairs::{first_clash, proof_of};
 use super::participants::{Participant, Participants};
@@ -137,7 +139,12 @@ pub fn verify(plan: &[u8], cert: &[u8]) -> Answer {
 
 /// `twire capture PLAN VCD`, with these names of the two lines.
 pub fn capture(plan: &[u8], dump: &[u8], scl: &str, sda: &str) -> Answer {
-    of_plan(plan, |plan| match decoded(dump, scl, sda) {
+    capture_on(plan, dump, &Lines::named(scl, sda))
+}
+
+/// `twire capture PLAN VCD`, with these lines.
+pub fn capture_on(plan: &[u8], dump: &[u8], lines: &Lines) -> Answer {
+    of_plan(plan, |plan| match decoded_on(dump, lines) {
         Ok(decoded) => {
             let lines: String = decoded.transactions.iter().map(|it| explained_line(plan, it)).collect();
             let is_odd = |it: &&Transaction| matches!(it.until, Until::Stopped(_)) && explainers(plan, it).is_empty();
@@ -175,12 +182,17 @@ fn listed<'a>(participants: impl Iterator<Item = &'a Participant<'a>>) -> String
 
 /// `twire decode VCD`, with these names of the two lines.
 pub fn decode(dump: &[u8], scl: &str, sda: &str) -> Answer {
-    of_dump(dump, scl, sda, |decoded| decoded.transactions.iter().map(decoded_line).collect())
+    decode_on(dump, &Lines::named(scl, sda))
+}
+
+/// `twire decode VCD`, with these lines.
+pub fn decode_on(dump: &[u8], lines: &Lines) -> Answer {
+    of_dump(dump, lines, |decoded| decoded.transactions.iter().map(decoded_line).collect())
 }
 
 /// `twire decode --summary VCD`.
 pub fn decode_summary(dump: &[u8], scl: &str, sda: &str) -> Answer {
-    of_dump(dump, scl, sda, |decoded| {
+    of_dump(dump, &Lines::named(scl, sda), |decoded| {
         let calls = calls_of(&decoded.transactions);
         let called = calls.iter().map(|((address, is_read), calls)| {
             let direction = if *is_read { "Rd" } else { "Wr" };
@@ -193,17 +205,24 @@ pub fn decode_summary(dump: &[u8], scl: &str, sda: &str) -> Answer {
     })
 }
 
-/// `twire learn VCD`. The brief explains each transaction that is in one of its messages.
-pub fn learn(dump: &[u8], scl: &str, sda: &str, data: Data) -> Answer {
+/// `twire learn VCD`, perhaps beside the brief of a file. The brief, after that one, explains each transaction
+/// that is in one of its messages.
+pub fn learn(dump: &[u8], scl: &str, sda: &str, data: Data, before: Option<File>) -> Answer {
+    let briefs: Vec<String> = before.iter().map(|file| String::from_utf8_lossy(file.text).into_owned()).collect();
+    let before = match before.map(|file| Before::of(file.name, &briefs[0])).transpose() {
+        Ok(before) => before,
+        Err(refusal) => return Answer::refused(refusal),
+    };
     let decoded = match decoded(dump, scl, sda) {
         Ok(decoded) => decoded,
         Err(refusal) => return Answer::refused(refusal),
     };
-    let learned = learned(&decoded.transactions, data);
+    let learned = learned(&decoded.transactions, data, before.as_ref());
     let of_path = |it: &&Transaction| matches!(it.until, Until::Stopped(_)) && is_path(&it.marks);
     let paths: Vec<&Transaction> = decoded.transactions.iter().filter(of_path).collect();
+    let all = expansion_of(&[briefs, vec![learned.brief.clone()]].concat()).expect("a plan");
     let explained =
-        with_plan(learned.brief.as_bytes(), |plan| paths.iter().filter(|it| !explainers(plan, it).is_empty()).count());
+        with_plan(all.as_bytes(), |plan| paths.iter().filter(|it| !explainers(plan, it).is_empty()).count());
     assert!(explained.is_ok_and(|count| count >= paths.len() - learned.left), "{}", learned.brief);
     Answer::written(u8::from(!learned.is_all), learned.brief)
 }
@@ -223,9 +242,9 @@ fn decoded_line(transaction: &Transaction) -> String {
 }
 
 // What is written of a dump before the last line, and that line.
-fn of_dump(dump: &[u8], scl: &str, sda: &str, lines: impl FnOnce(&Decoded) -> String) -> Answer {
-    match decoded(dump, scl, sda) {
-        Ok(decoded) => Answer::written(0, lines(&decoded) + &format!("{} transactions\n", decoded.stopped())),
+fn of_dump(dump: &[u8], lines: &Lines, told: impl FnOnce(&Decoded) -> String) -> Answer {
+    match decoded_on(dump, lines) {
+        Ok(decoded) => Answer::written(0, told(&decoded) + &format!("{} transactions\n", decoded.stopped())),
         Err(refusal) => Answer::refused(refusal),
     }
 }

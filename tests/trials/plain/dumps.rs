@@ -1,15 +1,17 @@
 //! Value change dumps, read as whole lists of tokens: what happens to the two lines of a bus, or
 //! the first refusal (IEEE 1364-2005, clause 18; docs/CAPTURES.md).
 
+use super::lines::{Found, Lines, Var, Where};
 use std::fmt;
 use std::str;
-use DumpRefusal::{BadToken, NoSignal, TimeBack, Unended};
+use DumpRefusal::{BadToken, NoOwn, NoSignal, TimeBack, Unended};
 
-/// One of the two lines of the bus.
+/// One of the two lines of the bus, or one by which a controller pulls SDA, by its number.
 #[derive(Clone, Copy, Debug, PartialEq, Eq)]
 pub enum Signal {
     Scl,
     Sda,
+    Own(usize),
 }
 
 /// The level of a line.
@@ -32,6 +34,8 @@ pub enum Change {
 pub enum DumpRefusal {
     /// V1
     NoSignal(Signal),
+    /// The line of a controller that is not there, by its number.
+    NoOwn(usize),
     /// V2
     BadToken(usize),
     /// V3
@@ -44,7 +48,8 @@ impl fmt::Display for DumpRefusal {
     fn fmt(&self, f: &mut fmt::Formatter) -> fmt::Result {
         match self {
             NoSignal(Signal::Scl) => f.write_str("V1 scl"),
-            NoSignal(Signal::Sda) => f.write_str("V1 sda"),
+            NoSignal(_) => f.write_str("V1 sda"),
+            NoOwn(number) => write!(f, "drives {number}"),
             BadToken(line) => write!(f, "V2 line {line}"),
             TimeBack(line) => write!(f, "V3 line {line}"),
             Unended(line) => write!(f, "V4 line {line}"),
@@ -105,23 +110,8 @@ impl<'t, 'a> Rest<'t, 'a> {
     }
 }
 
-// The codes of SCL and SDA, once they are declared.
-#[derive(Default)]
-struct Codes<'a> {
-    scl: Option<&'a [u8]>,
-    sda: Option<&'a [u8]>,
-}
-
-impl Codes<'_> {
-    // Both are there.
-    fn complete(&self) -> Result<(), DumpRefusal> {
-        self.scl.ok_or(NoSignal(Signal::Scl))?;
-        self.sda.ok_or(NoSignal(Signal::Sda))?;
-        Ok(())
-    }
-}
-
 /// What happens in a dump, in which the two lines have these names; or its first refusal.
+#[cfg(test)]
 pub fn changes_of(dump: &[u8], scl: &str, sda: &str) -> Result<Vec<Change>, DumpRefusal> {
     match changes_until(dump, scl, sda) {
         (changes, None) => Ok(changes),
@@ -131,10 +121,15 @@ pub fn changes_of(dump: &[u8], scl: &str, sda: &str) -> Result<Vec<Change>, Dump
 
 /// What happens in a dump up to its end or its first refusal.
 pub fn changes_until(dump: &[u8], scl: &str, sda: &str) -> (Vec<Change>, Option<DumpRefusal>) {
+    changes_on(dump, &Lines::named(scl, sda))
+}
+
+/// What happens on these lines in a dump up to its end or its first refusal.
+pub fn changes_on(dump: &[u8], lines: &Lines) -> (Vec<Change>, Option<DumpRefusal>) {
     let tokens = tokens_of(dump);
     let mut rest = Rest(&tokens);
-    let mut changes = match read_definitions(&mut rest, scl, sda) {
-        Ok(codes) => Changes { codes, found: Vec::new(), block: None },
+    let mut changes = match read_definitions(&mut rest, lines) {
+        Ok(lines) => Changes { lines, found: Vec::new(), block: None },
         Err(refusal) => return (Vec::new(), Some(refusal)),
     };
     while let Some(first) = rest.next() {
@@ -181,9 +176,10 @@ pub fn changes_so_far(dump: &[u8], scl: &str, sda: &str) -> Vec<Change> {
     changes
 }
 
-// Reads the definitions, up to the end of the text where they have none.
-fn read_definitions<'a>(rest: &mut Rest<'_, 'a>, scl: &str, sda: &str) -> Result<Codes<'a>, DumpRefusal> {
-    let mut codes = Codes::default();
+// Reads the definitions, up to the end of the text where they have none, and finds the lines.
+fn read_definitions(rest: &mut Rest, lines: &Lines) -> Result<Vec<(Signal, Found)>, DumpRefusal> {
+    let mut vars = Vec::new();
+    let mut scopes = Vec::new();
     while let Some(first) = rest.next() {
         if !first.text.starts_with(b"$") || first.is("$end") || first.begins_block() {
             return Err(BadToken(first.line));
@@ -192,39 +188,57 @@ fn read_definitions<'a>(rest: &mut Rest<'_, 'a>, scl: &str, sda: &str) -> Result
         if first.is("$enddefinitions") {
             break;
         }
+        if first.is("$scope") {
+            scopes.push(body.get(1).map_or(b"".as_slice(), |token| token.text));
+        }
+        if first.is("$upscope") {
+            scopes.pop();
+        }
         if first.is("$var") {
-            let [_, size, code, reference, ..] = body else {
+            let [_, size, code, words @ ..] = body else {
                 return Err(BadToken(end.line));
             };
-            // The first signal of one bit with the name of a line is this line.
-            if size.is("1") && reference.is(scl) {
-                codes.scl = codes.scl.or(Some(code.text));
+            if words.is_empty() {
+                return Err(BadToken(end.line));
             }
-            if size.is("1") && reference.is(sda) {
-                codes.sda = codes.sda.or(Some(code.text));
-            }
+            let words = words.iter().map(|word| word.text).collect();
+            vars.push(Var { scopes: scopes.clone(), size: size.text, code: code.text, words });
         }
     }
-    codes.complete()?;
-    Ok(codes)
+    find(lines, &vars)
+}
+
+// Each of the lines.
+fn find(lines: &Lines, vars: &[Var]) -> Result<Vec<(Signal, Found)>, DumpRefusal> {
+    let mut found = Vec::new();
+    for (signal, line) in [(Signal::Scl, lines.scl), (Signal::Sda, lines.sda)] {
+        found.push((signal, lines.found(line, vars).ok_or(NoSignal(signal))?));
+    }
+    for (number, line) in lines.own.iter().enumerate() {
+        let own = lines.found(Where::Any(line), vars).ok_or(NoOwn(number))?;
+        found.push((Signal::Own(number), own));
+    }
+    Ok(found)
 }
 
 // What was found behind the definitions, and the line of the block that is open.
-struct Changes<'a> {
-    codes: Codes<'a>,
+struct Changes {
+    lines: Vec<(Signal, Found)>,
     found: Vec<Change>,
     block: Option<usize>,
 }
 
-impl<'a> Changes<'a> {
-    fn read(&mut self, first: Token<'a>, rest: &mut Rest<'_, 'a>) -> Result<(), DumpRefusal> {
+impl Changes {
+    fn read(&mut self, first: Token, rest: &mut Rest) -> Result<(), DumpRefusal> {
         match first.text.split_first() {
             Some((b'$', _)) => self.read_command(first, rest),
             Some((b'#', digits)) => self.read_time(first, digits),
             Some((b'b' | b'B', digits)) => {
-                let level = vector_level(digits).ok_or(BadToken(first.line))?;
+                if digits.is_empty() || digits.iter().any(|digit| level_of(*digit).is_none()) {
+                    return Err(BadToken(first.line));
+                }
                 let code = self.next_code(first, rest)?;
-                self.take(code.text, level);
+                self.take(code.text, |line| line.digit_of(digits).and_then(level_of));
                 Ok(())
             }
             // A number or a string is skipped with its code.
@@ -232,7 +246,8 @@ impl<'a> Changes<'a> {
             Some((letter, code)) => {
                 let level = level_of(*letter).ok_or(BadToken(first.line))?;
                 judge_code(code, first.line)?;
-                self.take(code, level);
+                // (it sets the bit of a vector, whichever it is)
+                self.take(code, |_| Some(level));
                 Ok(())
             }
             None => Ok(()),
@@ -268,17 +283,17 @@ impl<'a> Changes<'a> {
     }
 
     // The token behind this one, which is to be its code.
-    fn next_code(&self, first: Token, rest: &mut Rest<'_, 'a>) -> Result<Token<'a>, DumpRefusal> {
+    fn next_code<'a>(&self, first: Token, rest: &mut Rest<'_, 'a>) -> Result<Token<'a>, DumpRefusal> {
         let code = rest.next().ok_or(self.unended(first))?;
         judge_code(code.text, code.line)?;
         Ok(code)
     }
 
-    // The lines with this code take the level.
-    fn take(&mut self, code: &[u8], level: Level) {
-        for (line, known) in [(Signal::Scl, self.codes.scl), (Signal::Sda, self.codes.sda)] {
-            if known == Some(code) {
-                self.found.push(Change::Takes(line, level));
+    // The lines with this code take these levels.
+    fn take(&mut self, code: &[u8], level: impl Fn(&Found) -> Option<Level>) {
+        for (signal, line) in &self.lines {
+            if line.code == code {
+                self.found.extend(level(line).map(|level| Change::Takes(*signal, level)));
             }
         }
     }
@@ -300,12 +315,6 @@ fn time(digits: &[u8]) -> Option<u64> {
         return None;
     }
     str::from_utf8(digits).ok()?.parse().ok()
-}
-
-// The level of the last digit, where all digits are levels.
-fn vector_level(digits: &[u8]) -> Option<Level> {
-    let levels: Option<Vec<Level>> = digits.iter().map(|digit| level_of(*digit)).collect();
-    levels?.last().copied()
 }
 
 fn level_of(letter: u8) -> Option<Level> {

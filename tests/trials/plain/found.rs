@@ -4,7 +4,8 @@
 use super::benches::{play_on, Answers, Player};
 use super::captures::{events_of, explains, samples_of, transactions_of, Event, Transaction, Until};
 use super::certificates::{read_certificate, Certificate, Wrong};
-use super::dumps::{changes_of, changes_so_far, Change, DumpRefusal};
+use super::dumps::{changes_on, changes_so_far, Change, DumpRefusal};
+use super::lines::Lines;
 use super::order::{ways, Totals, Ways};
 use super::pairs::{clashes_so, first_clash, is_proved, Clash};
 use super::participants::{Participant, Participants, StarterRefusal};
@@ -133,7 +134,15 @@ impl Decoded {
 
 /// What a dump shows in which the two lines have these names.
 pub fn decoded(dump: &[u8], scl: &str, sda: &str) -> Result<Decoded, DumpRefusal> {
-    Ok(Decoded::of(&changes_of(dump, scl, sda)?))
+    decoded_on(dump, &Lines::named(scl, sda))
+}
+
+/// What a dump shows of these lines.
+pub fn decoded_on(dump: &[u8], lines: &Lines) -> Result<Decoded, DumpRefusal> {
+    match changes_on(dump, lines) {
+        (changes, None) => Ok(Decoded::of(&changes)),
+        (_, Some(refusal)) => Err(refusal),
+    }
 }
 
 /// The transactions that have ended before the dump, of which a byte is read at a time, is refused or at

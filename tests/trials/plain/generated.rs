@@ -2,8 +2,12 @@
 
 mod dumps;
 mod plans;
+mod plays;
+mod vectors;
 
 #[cfg(test)]
 pub use dumps::{changes, dump_of};
 pub use dumps::{clean_dump, dump, wrong_dump};
 pub use plans::{answers, plan, plan_of_lengths, safe_plan, script, starters};
+pub use plays::{plays, Plays};
+pub use vectors::{named_dump, Given, Named};

@@ -3,7 +3,9 @@
 //! A message is the list of its paths. What it sends at a place is what those of its paths send that
 //! came there, and a place is the answers up to it: none at the beginning.
 
+use super::before::{Before, Explained};
 use super::captures::{Mark, Transaction, Until};
+use std::collections::{BTreeMap, BTreeSet};
 use std::fmt;
 
 /// What becomes of data bytes after the register of a write.
@@ -47,28 +49,33 @@ struct Step {
 /// Why a transaction is in no message.
 #[derive(Clone, Copy, Debug, PartialEq, Eq)]
 enum Reason {
+    Collision,
     Broken,
     OddRead,
     AfterNack,
     Long,
     NoRoom,
+    NoSending,
+    NoController,
 }
 
 impl fmt::Display for Reason {
     fn fmt(&self, f: &mut fmt::Formatter) -> fmt::Result {
         f.write_str(match self {
+            Reason::Collision => "those who made its STOP have sent different bits: nobody sent this",
             Reason::Broken => "a START or STOP stands in the midst of a byte, or no byte between two",
             Reason::OddRead => "a read that does not end with its first byte that is not acknowledged",
             Reason::AfterNack => "bytes go on after one that was not acknowledged",
             Reason::Long => "more than 256 bytes (a read has one byte at least)",
             Reason::NoRoom => "a plan has at most 256 messages",
+            Reason::NoSending => "the controllers of a plan list at most 512 messages",
+            Reason::NoController => "a plan has at most 32 controllers",
         })
     }
 }
 
 const MOST_BYTES: usize = 256;
 const MOST_READ: usize = 255;
-const MOST_MESSAGES: usize = 256;
 
 /// Whether a transaction that a STOP ended is the path of some message.
 pub fn is_path(marks: &[Mark]) -> bool {
@@ -140,11 +147,12 @@ fn byte_of(nine: &[bool]) -> (u8, bool) {
 
 // ---- messages
 
-// A path, how often it was seen, and when first.
+// A path, how often it was seen, when first, and by which controllers.
 struct Sight {
     path: Vec<Step>,
     times: usize,
     first: u64,
+    owners: BTreeSet<usize>,
 }
 
 struct Odd {
@@ -197,8 +205,19 @@ struct Message<'a> {
 }
 
 impl<'a> Message<'a> {
-    fn takes(&self, path: &[Step]) -> bool {
-        self.sights.iter().all(|sight| go_together(&sight.path, path, self.data))
+    fn takes(&self, other: &Sight) -> bool {
+        let is_like = |sight: &&Sight| go_together(&sight.path, &other.path, self.data);
+        *self.owners() == other.owners && self.sights.iter().all(is_like)
+    }
+
+    // Who sends it: all its paths are of the same controllers.
+    fn owners(&self) -> &BTreeSet<usize> {
+        &self.sights[0].owners
+    }
+
+    fn parted(&self) -> (Stem, usize) {
+        let (words, length) = parted(self.pieces(&[], &Saying::default()));
+        ((self.owners().clone(), words), length)
     }
 
     // The answers before each place, in the order in which the places first came.
@@ -227,58 +246,150 @@ impl<'a> Message<'a> {
         self.sights.iter().any(|sight| answers_of(&sight.path).starts_with(&answers))
     }
 
-    // A data byte with its open bits, or a header with what stands before its address.
-    fn word(&self, place: &[bool], write: &str, read: &str, is_counted: bool) -> String {
+    // How many bytes the read at this place has in a brief.
+    fn count_at(&self, place: &[bool]) -> usize {
+        let count = |sent: &Sent| if let Sent::Read(_, count) = sent { *count } else { None };
+        self.sent_at(place).iter().find_map(count).unwrap_or(1)
+    }
+
+    // What stands at this place as a comment tells it.
+    fn told(&self, place: &[bool]) -> String {
         let all = self.sent_at(place);
-        let counts = || all.iter().find_map(|sent| if let Sent::Read(_, count) = sent { *count } else { None });
         match all.first() {
-            Some(Sent::Write(address)) => write.replace('@', &format!("{address:02x}")),
+            Some(Sent::Write(address)) => format!("{address:02x} Wr"),
+            Some(Sent::Read(address, _)) => format!("{address:02x} Rd"),
+            Some(Sent::Data(_)) if self.data == Data::Widened => "any".to_owned(),
+            _ => data_word(&bits_of(&all)),
+        }
+    }
+
+    // What stands at this place as a brief has it.
+    fn word(&self, place: &[bool], saying: &Saying) -> String {
+        let all = self.sent_at(place);
+        match all.first() {
+            Some(Sent::Write(address)) => format!("write {}", saying.address(*address)),
             Some(Sent::Read(address, _)) => {
-                let word = read.replace('@', &format!("{address:02x}"));
-                if is_counted {
-                    format!("{word} {}", counts().unwrap_or(1))
-                } else {
-                    word
-                }
+                let own = || self.count_at(place).to_string();
+                let count = saying.counts.iter().find(|counts| counts.0 == place);
+                let count = count.map_or_else(own, |counts| counts.1.clone());
+                format!("read {} {count}", saying.address(*address))
             }
             Some(Sent::Data(_)) if self.data == Data::Widened => "any".to_owned(),
-            _ => data_word(&all),
+            Some(Sent::Data(_)) => data_word(&bits_of(&all)),
+            _ => saying.byte(&bits_of(&all)),
         }
     }
 
     // The words from this place on: what follows a NACK stands before what follows the ACK.
-    fn pieces(&self, place: &[bool]) -> Vec<Piece> {
+    fn pieces(&self, place: &[bool], saying: &Saying) -> Vec<Piece> {
         let sent = self.sent_at(place);
         if sent.is_empty() {
             return Vec::new();
         }
-        let refused = self.pieces(&after(place, true));
+        let refused = self.pieces(&after(place, true), saying);
         let is_any = self.data == Data::Widened && matches!(sent[0], Sent::Data(_)) && refused.is_empty();
-        let word = self.word(place, "write 0x@", "read 0x@", true);
+        let word = self.word(place, saying);
         let mut pieces = vec![if is_any { Piece::Any } else { Piece::Word(word) }];
         if !refused.is_empty() {
             pieces.extend(["else", "("].map(|word| Piece::Word(word.to_owned())));
             pieces.extend(refused);
             pieces.push(Piece::Word(")".to_owned()));
         }
-        pieces.extend(self.pieces(&after(place, false)));
+        pieces.extend(self.pieces(&after(place, false), saying));
         pieces
     }
 
-    // The headers that come if all is acknowledged, two at most, as a name has them.
-    fn name(&self) -> String {
-        let mut headers = Vec::new();
+    // The reads, in the order in which their places first came.
+    fn reads(&self) -> Vec<Vec<bool>> {
+        let is_read = |place: &Vec<bool>| matches!(self.sent_at(place).first(), Some(Sent::Read(..)));
+        self.places().into_iter().filter(is_read).collect()
+    }
+
+    // The first two headers that come if all is acknowledged, and the register of the first that is a
+    // write, as a name has them. Where it is left out for a family, two writes have none.
+    fn name(&self, is_family: bool) -> String {
+        // of each header whether it is a read, its address, and its register
+        let mut headers: Vec<(bool, u8, Option<u8>)> = Vec::new();
         let mut place = Vec::new();
         while let Some(sent) = self.sent_at(&place).first() {
             match sent {
-                Sent::Write(address) => headers.push(format!("write_{address:02x}")),
-                Sent::Read(address, _) => headers.push(format!("read_{address:02x}")),
-                Sent::Register(_) | Sent::Data(_) => {}
+                Sent::Write(address) => headers.push((false, *address, None)),
+                Sent::Read(address, _) => headers.push((true, *address, None)),
+                Sent::Register(byte) => headers.last_mut().expect("a header").2 = Some(*byte),
+                Sent::Data(_) => {}
             }
             place.push(false);
         }
         headers.truncate(2);
-        headers.join("_")
+        match headers[..] {
+            [(false, to, Some(register)), (true, from, _)] if to == from => return format!("read_{to:02x}_r{register:02x}"),
+            [(false, _, _), (false, _, _)] if is_family => headers[0].2 = None,
+            _ => {}
+        }
+        if let [(false, _, _), second] = &mut headers[..] {
+            second.2 = None;
+        }
+        let words = headers.iter().map(|(is_read, address, register)| {
+            let register = register.map_or(String::new(), |register| format!("_r{register:02x}"));
+            format!("{}_{address:02x}{register}", if *is_read { "read" } else { "write" })
+        });
+        words.collect::<Vec<String>>().join("_")
+    }
+
+    // How often what stands at this place was sent.
+    fn times(&self, place: &[bool]) -> usize {
+        let came = self.sights.iter().filter(|sight| {
+            let answers = answers_of(&sight.path);
+            answers.len() > place.len() && answers.starts_with(place)
+        });
+        came.map(|sight| sight.times).sum()
+    }
+
+    // Lines for data bytes that were the same each time, or whose known bits were.
+    fn alike(&self) -> String {
+        let mut kinds: Vec<((usize, bool), Vec<String>)> = Vec::new();
+        for place in self.places() {
+            let all = self.sent_at(&place);
+            let bits = bits_of(&all);
+            if self.data == Data::Widened || !matches!(all[0], Sent::Data(_)) || bits == "xxxxxxxx" {
+                continue;
+            }
+            let kind = (self.times(&place), !bits.contains('x'));
+            match kinds.iter_mut().find(|one| one.0 == kind) {
+                Some(one) => one.1.push(data_word(&bits)),
+                None => kinds.push((kind, vec![data_word(&bits)])),
+            }
+        }
+        let line = |((times, is_whole), words): ((usize, bool), Vec<String>)| {
+            let said = match (times, is_whole) {
+                (1, _) => "once:".to_owned(),
+                (_, true) => format!("{times} times, always this value:"),
+                (_, false) => format!("{times} times, always these bits:"),
+            };
+            let said = said.split(' ').map(str::to_owned);
+            lines("# seen", "#    ", &said.chain(first_few(words)).collect::<Vec<String>>())
+        };
+        kinds.into_iter().map(line).collect()
+    }
+}
+
+// How frames are written: with other words for the counts of the reads at these places, and with the
+// names of a brief.
+#[derive(Clone, Default)]
+struct Saying<'a> {
+    counts: Option<(Vec<bool>, String)>,
+    before: Option<&'a Before>,
+}
+
+impl Saying<'_> {
+    fn address(&self, address: u8) -> String {
+        let name = self.before.and_then(|before| before.device(&format!("{address:07b}")));
+        name.unwrap_or_else(|| format!("0x{address:02x}"))
+    }
+
+    fn byte(&self, bits: &str) -> String {
+        let name = self.before.filter(|_| bits != "xxxxxxxx").and_then(|before| before.byte(bits));
+        name.unwrap_or_else(|| data_word(bits))
     }
 }
 
@@ -290,8 +401,8 @@ fn after(place: &[bool], is_nack: bool) -> Vec<bool> {
     [place, &[is_nack]].concat()
 }
 
-// One data byte that stands for all of these: bits that differ are open.
-fn data_word(all: &[Sent]) -> String {
+// The bits of one data byte that stands for all of these: those that differ are open.
+fn bits_of(all: &[Sent]) -> String {
     let bytes: Vec<u8> = all
         .iter()
         .filter_map(|sent| match sent {
@@ -306,7 +417,10 @@ fn data_word(all: &[Sent]) -> String {
             (is_high, _) => char::from(b'0' + u8::from(is_high)),
         }
     };
-    let bits: String = (0..8).rev().map(bit_of).collect();
+    (0..8).rev().map(bit_of).collect()
+}
+
+fn data_word(bits: &str) -> String {
     let digits: Option<String> = [&bits[..4], &bits[4..]].into_iter().map(digit_of).collect();
     match digits {
         Some(digits) if digits == "XX" => "any".to_owned(),
@@ -324,14 +438,17 @@ fn digit_of(bits: &str) -> Option<char> {
 
 // ---- families
 
-// Messages that are written as one: their words but for the `any` at the end, and how many of these
-// they end in.
+// Messages that are written as one: with how many `any` at the end, and how many bytes one of their
+// reads has.
 struct Item<'m, 'a> {
     members: Vec<&'m Message<'a>>,
-    stem: Vec<Piece>,
     least: usize,
     most: usize,
+    counts: Option<(Vec<bool>, usize, usize)>,
 }
+
+// Who sends a message, and its words before the `any` at the end.
+type Stem = (BTreeSet<usize>, Vec<Piece>);
 
 // The words before the `any` at the end, and how many of these there are.
 fn parted(mut pieces: Vec<Piece>) -> (Vec<Piece>, usize) {
@@ -340,23 +457,63 @@ fn parted(mut pieces: Vec<Piece>) -> (Vec<Piece>, usize) {
     (pieces, length)
 }
 
-// Each item where the first of its messages was seen.
+// The numbers without a gap around this one.
+fn around(own: usize, is_there: impl Fn(&usize) -> bool) -> (usize, usize) {
+    let least = (0..=own).rev().take_while(&is_there).last().unwrap_or(own);
+    let most = (own..).take_while(&is_there).last().unwrap_or(own);
+    (least, most)
+}
+
+// Each item where the first of its messages was seen: first families, then counts of what is in none.
 fn items_of<'m, 'a>(messages: &'m [Message<'a>]) -> Vec<Item<'m, 'a>> {
-    let parts: Vec<(Vec<Piece>, usize)> = messages.iter().map(|message| parted(message.pieces(&[]))).collect();
+    let parts: Vec<(Stem, usize)> = messages.iter().map(Message::parted).collect();
+    let lengths = |stem: &Stem, length: usize| around(length, |length| parts.contains(&(stem.clone(), *length)));
     let mut items: Vec<Item> = Vec::new();
-    for (stem, length) in &parts {
-        let has_it = |item: &Item| item.stem == *stem && (item.least..=item.most).contains(length);
-        if items.iter().any(has_it) {
-            continue;
+    let mut singles: Vec<usize> = Vec::new();
+    // the place of the first message of each item
+    let mut first: Vec<usize> = Vec::new();
+    for (number, (stem, length)) in parts.iter().enumerate() {
+        let (least, most) = lengths(stem, *length);
+        let is_of_it = |(other, length): &(Stem, usize)| other == stem && (least..=most).contains(length);
+        let numbers: Vec<usize> = (0..parts.len()).filter(|k| is_of_it(&parts[*k])).collect();
+        if least == most && messages[number].data == Data::Widened {
+            singles.push(number);
+        } else if least == most || numbers[0] == number {
+            let numbers = if least == most { vec![number] } else { numbers };
+            let members = numbers.iter().map(|k| &messages[*k]).collect();
+            items.push(Item { members, least, most, counts: None });
+            first.push(number);
         }
-        let is_there = |length: &usize| parts.contains(&(stem.clone(), *length));
-        let least = (0..=*length).rev().take_while(is_there).last().unwrap_or(*length);
-        let most = (*length..).take_while(is_there).last().unwrap_or(*length);
-        let of_it = |(_, (other, length)): &(_, &(Vec<Piece>, usize))| other == stem && (least..=most).contains(length);
-        let members = messages.iter().zip(&parts).filter(of_it).map(|(message, _)| message).collect();
-        items.push(Item { members, stem: stem.clone(), least, most });
     }
-    items
+    while let Some(number) = singles.first().copied() {
+        let own = &messages[number];
+        let found = own.reads().into_iter().find_map(|place| {
+            let apart = |k: &usize| apart_from_count(&messages[*k], &place);
+            let alike: Vec<usize> = singles.iter().copied().filter(|k| apart(k) == apart(&number)).collect();
+            let count = |k: &usize| messages[*k].count_at(&place);
+            let (least, most) = around(count(&number), |wanted| alike.iter().any(|k| count(k) == *wanted));
+            let members: Vec<usize> = alike.iter().copied().filter(|k| (least..=most).contains(&count(k))).collect();
+            (least < most).then_some((members, (place.clone(), least, most)))
+        });
+        let (numbers, counts) = match found {
+            Some((numbers, counts)) => (numbers, Some(counts)),
+            None => (vec![number], None),
+        };
+        singles.retain(|k| !numbers.contains(k));
+        let length = parts[number].1;
+        let members = numbers.iter().map(|k| &messages[*k]).collect();
+        items.push(Item { members, least: length, most: length, counts });
+        first.push(number);
+    }
+    let mut order: Vec<(usize, Item)> = first.into_iter().zip(items).collect();
+    order.sort_by_key(|(first, _)| *first);
+    order.into_iter().map(|(_, item)| item).collect()
+}
+
+// Who sends a message, and its words without the count of the read at this place, if there is one.
+fn apart_from_count<'m>(message: &'m Message, place: &[bool]) -> (&'m BTreeSet<usize>, Vec<Piece>) {
+    let saying = Saying { counts: Some((place.to_vec(), "?".to_owned())), before: None };
+    (message.owners(), message.pieces(&[], &saying))
 }
 
 impl Item<'_, '_> {
@@ -364,10 +521,17 @@ impl Item<'_, '_> {
         self.least < self.most
     }
 
-    fn words(&self) -> Vec<String> {
+    // Who sends its messages, which all are of the same controllers.
+    fn owners(&self) -> &BTreeSet<usize> {
+        self.members[0].owners()
+    }
+
+    fn words(&self, before: Option<&Before>) -> Vec<String> {
+        let counts = self.counts.as_ref().map(|(place, least, most)| (place.clone(), format!("{least}..{most}")));
+        let (stem, _) = parted(self.members[0].pieces(&[], &Saying { counts, before }));
         let mut words = Vec::new();
         let mut times = 0;
-        for piece in &self.stem {
+        for piece in &stem {
             match piece {
                 Piece::Any => times += 1,
                 Piece::Word(word) => {
@@ -390,7 +554,7 @@ impl Item<'_, '_> {
         let mut all: Vec<(String, bool, bool)> = Vec::new();
         for message in &self.members {
             for place in message.places() {
-                let word = message.word(&place, "@ Wr", "@ Rd", false);
+                let word = message.told(&place);
                 let (acked, nacked) = (message.is_seen(&place, false), message.is_seen(&place, true));
                 match all.iter_mut().find(|one| message.data == Data::Widened && one.0 == word) {
                     Some(one) => (one.1, one.2) = (one.1 || acked, one.2 || nacked),
@@ -415,65 +579,195 @@ fn repeated(times: usize) -> Option<String> {
 
 // ---- the brief
 
-/// What is learned of these transactions.
-pub fn learned(transactions: &[Transaction], data: Data) -> Learned {
-    let stopped = transactions.iter().filter(|transaction| matches!(transaction.until, Until::Stopped(_)));
+/// What is learned of these transactions, beside a brief.
+pub fn learned(transactions: &[Transaction], data: Data, before: Option<&Before>) -> Learned {
+    learned_of(transactions, data, before, &Shares::default())
+}
+
+/// The controllers whose lines are followed, and who sent each transaction, by their numbers: nothing where those who made its STOP
+/// have sent different bits.
+#[derive(Clone, Debug, Default)]
+pub struct Shares<'a> {
+    pub controllers: Vec<&'a str>,
+    pub owners: Vec<Option<BTreeSet<usize>>>,
+}
+
+impl Shares<'_> {
+    // Who sent this transaction.
+    fn owners_of(&self, number: usize) -> Option<BTreeSet<usize>> {
+        self.owners.get(number).cloned().unwrap_or(Some(BTreeSet::new()))
+    }
+}
+
+/// The same, where the messages are shared out among controllers.
+pub fn learned_of(transactions: &[Transaction], data: Data, before: Option<&Before>, shares: &Shares) -> Learned {
+    let is_stopped = |transaction: &Transaction| matches!(transaction.until, Until::Stopped(_));
+    let stopped = transactions.iter().enumerate().filter(|(_, transaction)| is_stopped(transaction));
     let mut sights: Vec<Sight> = Vec::new();
     let mut odd = Vec::new();
-    for transaction in stopped.clone() {
+    let mut said = Said { stopped: stopped.clone().count(), ..Said::default() };
+    for (number, transaction) in stopped {
+        let Some(owners) = shares.owners_of(number) else {
+            put_odd(&mut odd, Reason::Collision, 1, transaction.from);
+            continue;
+        };
+        if before.is_some_and(|before| said.is_explained(before, transaction, &owners, shares)) {
+            continue;
+        }
         match path_of(&transaction.marks) {
             Ok(path) => match sights.iter_mut().find(|sight| sight.path == path) {
-                Some(sight) => sight.times += 1,
-                None => sights.push(Sight { path, times: 1, first: transaction.from }),
+                Some(sight) => {
+                    sight.times += 1;
+                    sight.owners.extend(owners);
+                }
+                None => sights.push(Sight { path, times: 1, first: transaction.from, owners }),
             },
             Err(reason) => put_odd(&mut odd, reason, 1, transaction.from),
         }
     }
+    let mut rooms = vec![(256, Reason::NoRoom)];
+    if let Some(before) = before {
+        rooms[0].0 -= before.messages;
+        rooms.push((512_usize.saturating_sub(before.sendings + said.unlisted.len()), Reason::NoSending));
+        rooms.push((if before.controllers < 32 { 512 } else { 0 }, Reason::NoController));
+    }
+    // of equal ones the messages, unless there is no room for a controller
+    rooms.sort_by_key(|(room, reason)| (*room, *reason != Reason::NoController, *reason != Reason::NoRoom));
+    let (room, full) = rooms[0];
     let mut messages: Vec<Message> = Vec::new();
     let mut left = 0;
     for sight in &sights {
-        if let Some(message) = messages.iter_mut().find(|message| message.takes(&sight.path)) {
+        if let Some(message) = messages.iter_mut().find(|message| message.takes(sight)) {
             message.sights.push(sight);
-        } else if messages.len() < MOST_MESSAGES {
+        } else if messages.len() < room {
             messages.push(Message { data, sights: vec![sight] });
         } else {
             left += sight.times;
-            put_odd(&mut odd, Reason::NoRoom, sight.times, sight.first);
+            put_odd(&mut odd, full, sight.times, sight.first);
         }
     }
-    Learned { brief: written(stopped.count(), &odd, &messages), is_all: odd.is_empty(), left }
+    Learned { brief: written(&said, &odd, &messages, before, shares), is_all: odd.is_empty(), left }
 }
 
-fn written(stopped: usize, odd: &[Odd], messages: &[Message]) -> String {
+// What is said of all transactions that a STOP ended: how many they are, how many a brief explains, and
+// the places and names of those of its messages that no controller lists, or not those who sent them.
+#[derive(Default)]
+struct Said {
+    stopped: usize,
+    explained: usize,
+    unlisted: BTreeMap<(usize, String), BTreeSet<usize>>,
+}
+
+impl Said {
+    // Whether a brief explains a transaction that these sent.
+    fn is_explained(
+        &mut self,
+        before: &Before,
+        transaction: &Transaction,
+        owners: &BTreeSet<usize>,
+        shares: &Shares,
+    ) -> bool {
+        let (message, others) = match before.explained(transaction) {
+            Explained::Nowhere => return false,
+            Explained::Listed(message) => {
+                let lists = |owner: &usize| before.lists(shares.controllers[*owner], message.0);
+                let others: BTreeSet<usize> = owners.iter().copied().filter(|owner| !lists(owner)).collect();
+                (message, Some(others).filter(|others| !others.is_empty()))
+            }
+            Explained::Unlisted(message) => (message, Some(owners.clone())),
+        };
+        self.explained += 1;
+        if let Some(others) = others {
+            self.unlisted.entry(message).or_default().extend(others);
+        }
+        true
+    }
+}
+
+fn written(said: &Said, odd: &[Odd], messages: &[Message], before: Option<&Before>, shares: &Shares) -> String {
     let items = items_of(messages);
     let mut brief = String::from("brief 1\n");
-    brief += &lines(&format!("# seen: {stopped} transactions, {} messages", messages.len()), "#", &[]);
+    let count: usize = items.iter().map(|item| item.most - item.least + 1).sum();
+    brief += &lines(&format!("# seen: {} transactions, {count} messages", said.stopped), "#", &[]);
+    if let Some(before) = before {
+        let mut words: Vec<String> = vec![said.explained.to_string()];
+        words.extend("transactions are those of messages in".split(' ').map(str::to_owned));
+        words.push(before.file.clone());
+        brief += &lines("#", "#  ", &words);
+    }
     for Odd { reason, times, first } in odd {
         let mut words = vec![format!("{times},"), "first".to_owned(), "at".to_owned(), format!("{first}:")];
         words.extend(reason.to_string().split(' ').map(str::to_owned));
         brief += &lines("# in no message:", "#  ", &words);
     }
     let mut names: Vec<String> = Vec::new();
-    let mut bases: Vec<String> = Vec::new();
+    // the names without numbers, and the numbers that were given
+    let mut given: Vec<(String, usize)> = Vec::new();
     for item in &items {
-        let base = item.members[0].name();
-        let number = 1 + bases.iter().filter(|other| **other == base).count();
-        let mut name = if number > 1 { format!("{base}_{number}") } else { base.clone() };
-        if item.is_family() {
-            name += "_any";
-        }
+        let base = item.members[0].name(item.is_family());
+        let last = given.iter().rev().find(|(other, _)| *other == base).map_or(0, |(_, number)| *number);
+        let name_of = |number: usize| {
+            let number = if number > 1 { format!("_{number}") } else { String::new() };
+            format!("{base}{number}{}", if item.is_family() { "_any" } else { "" })
+        };
+        let is_free = |number: &usize| {
+            let name = name_of(*number);
+            let members = (item.least..=item.most).filter(|_| item.is_family()).map(|n| format!("{name}_{n}"));
+            !members.chain([name.clone()]).any(|name| before.is_some_and(|before| before.has_message(&name)))
+        };
+        let number = (last + 1..).find(is_free).expect("a number");
+        let name = name_of(number);
         brief.push('\n');
         brief += &comments(item);
         let mut words = vec![name.clone()];
-        words.extend(item.words());
+        words.extend(item.words(before));
         words.push(";".to_owned());
         brief += &lines("message", "   ", &words);
-        bases.push(base);
+        given.push((base, number));
         names.push(name);
     }
-    names.push(";".to_owned());
-    brief.push('\n');
-    brief + &lines("controller seen", "   ", &names)
+    brief + &controllers(said, &items, &names, before, shares)
+}
+
+// The controllers, and what each of them lists. The last has what nobody was seen to send. Beside others, and beside a brief,
+// there is none that has nothing.
+fn controllers(said: &Said, items: &[Item], names: &[String], before: Option<&Before>, shares: &Shares) -> String {
+    let known = shares.controllers.iter().enumerate().map(|(number, name)| (Some(number), *name));
+    let mut text = String::new();
+    let mut given = BTreeSet::new();
+    for (number, base) in known.chain([(None, "seen")]) {
+        let is_own = |owners: &BTreeSet<usize>| match number {
+            Some(number) => owners.contains(&number),
+            None => owners.is_empty(),
+        };
+        let of_before = said.unlisted.iter().filter(|(_, owners)| is_own(owners));
+        let of_items = items.iter().zip(names).filter(|(item, _)| is_own(item.owners()));
+        let own: Vec<&String> = of_before.map(|((_, name), _)| name).chain(of_items.map(|(_, name)| name)).collect();
+        if own.is_empty() && (before.is_some() || !shares.controllers.is_empty()) {
+            continue;
+        }
+        let is_taken = |name: &String| {
+            let is_others = shares.controllers.iter().any(|one| one == name) && (number.is_none() || name != base);
+            is_others || given.contains(name) || before.is_some_and(|before| before.has_controller(name))
+        };
+        let name = free_name(base, is_taken);
+        given.insert(name.clone());
+        text.push('\n');
+        if let Some(before) = before.filter(|_| number.is_none() || name != base) {
+            let of = number.map_or("the controllers", |_| base);
+            let words: Vec<String> = of.split(' ').chain(["of", &before.file]).map(str::to_owned).collect();
+            text += &lines("# before a check, put these into", "#  ", &words);
+        }
+        let listed: Vec<String> = [&name].into_iter().chain(own).cloned().chain([";".to_owned()]).collect();
+        text += &lines("controller", "   ", &listed);
+    }
+    text
+}
+
+// This name, or the first of it with a number that nobody has.
+fn free_name(base: &str, is_taken: impl Fn(&String) -> bool) -> String {
+    let names = (2..).map(|number| format!("{base}_{number}"));
+    std::iter::once(base.to_owned()).chain(names).find(|name| !is_taken(name)).expect("a name")
 }
 
 // How many paths, and how many answers, are told.
@@ -487,12 +781,16 @@ fn comments(item: &Item) -> String {
     if sights.len() > TOLD {
         text += &format!("# and {} others\n", sights.len() - TOLD);
     }
-    let mut unseen = item.unseen();
-    if unseen.len() > TOLD {
-        unseen.truncate(TOLD);
-        unseen.push("..".to_owned());
+    text += &lines("# never seen:", "#    ", &first_few(item.unseen()));
+    text + &item.members[0].alike()
+}
+
+fn first_few(mut words: Vec<String>) -> Vec<String> {
+    if words.len() > TOLD {
+        words.truncate(TOLD);
+        words.push("..".to_owned());
     }
-    text + &lines("# never seen:", "#    ", &unseen)
+    words
 }
 
 fn sight_lines(sight: &Sight) -> String {

@@ -4,6 +4,7 @@
 //!
 //! `texts` and `runs` have the definitions of docs/BUS.md as they stand there, for `tests`.
 
+pub mod before;
 mod benches;
 mod briefs;
 pub mod bytes;
@@ -11,12 +12,14 @@ pub mod captures;
 mod certificates;
 mod commands;
 pub mod decoded;
+pub mod drives;
 mod dumps;
 pub mod explained;
 pub mod found;
 pub mod generated;
 pub mod groups;
 pub mod learned;
+pub mod lines;
 mod order;
 mod pairs;
 mod participants;
@@ -36,10 +39,10 @@ mod writing;
 
 pub use certificates::{read_certificate, Certificate, Wrong};
 pub use commands::{
-    bench, brief, capture, captured_so_far, certify, check, decode, decode_summary, decoded_lines_so_far, expand,
-    labels, learn, order, seats, spelling, verify, with_plan, Answer, File,
+    bench, brief, capture, capture_on, captured_so_far, certify, check, decode, decode_on, decode_summary,
+    decoded_lines_so_far, expand, labels, learn, order, seats, spelling, verify, with_plan, Answer, File,
 };
-pub use dumps::place_of_refusal;
+pub use dumps::{place_of_refusal, Level};
 pub use order::Ways;
 pub use pairs::break_of;
 pub use participants::{Participant, Participants};

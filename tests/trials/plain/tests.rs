@@ -6,11 +6,13 @@ use super::benches::{play_on, Answers, Player};
 use super::briefs::expansion_of;
 use super::captures::{events_of, explains, samples_of, transactions_of, Mark, Transaction, Until};
 use super::commands::{capture, certify, check, expand, learn, seats, verify, Answer, File};
-use super::dumps::{changes_of, DumpRefusal};
+use super::drives::{driven, Does};
+use super::dumps::{changes_of, changes_on, Change, DumpRefusal, Level, Signal};
 use super::explained::{decided, kept_apart, mends, Decided};
 use super::found::checked;
 use super::generated;
 use super::learned::{learned, Data};
+use super::lines::Lines;
 use super::pairs::proof_of;
 use super::participants::Participants;
 use super::plans::{items_of, Items};
@@ -499,6 +501,7 @@ fn generated_dumps_with_wrong_tokens_are_refused_in_each_way() {
             Err(DumpRefusal::BadToken(_)) => 2,
             Err(DumpRefusal::TimeBack(_)) => 3,
             Err(DumpRefusal::Unended(_)) => 4,
+            Err(DumpRefusal::NoOwn(_)) => panic!("no controller has a line"),
         };
         counts[kind] += 1;
     }
@@ -558,7 +561,7 @@ fn generated_captures_of_several_lengths_make_families() {
     for _ in 0..100 {
         let plan = generated::plan_of_lengths(&mut dice);
         let dump = generated::clean_dump(&plan, &mut dice);
-        let learnt = learn(dump.as_bytes(), "scl", "sda", Data::Widened);
+        let learnt = learn(dump.as_bytes(), "scl", "sda", Data::Widened, None);
         let messages: Vec<&str> = learnt.out.lines().filter(|line| line.starts_with("message ")).collect();
         let count = |word: &str| messages.iter().filter(|line| line.contains(word)).count();
         families += count("..");
@@ -583,12 +586,12 @@ fn what_was_seen_of_an_eeprom_is_learnt_as_the_page_says() {
         vec![write(&[0x00]), vec![0xa1, 0xaa]],
     ];
     let transactions: Vec<Transaction> = (1..).zip(&frames).map(|(k, frames)| transaction(k * 1000, frames)).collect();
-    let learnt = learned(&transactions, Data::Widened).brief;
+    let learnt = learned(&transactions, Data::Widened, None).brief;
     let page = include_str!("../../../docs/CAPTURES.md");
     let (_, page) = page.split_once("and a random read:\n\n").unwrap();
-    let (page, _) = page.split_once("\n## ").unwrap_or((page, ""));
+    let (page, _) = page.split_once("\n### ").unwrap_or((page, ""));
     let page: String = page.lines().map(|line| format!("{}\n", line.strip_prefix("    ").unwrap_or(line))).collect();
-    let controller = "controller seen write_50_any write_50_2 write_50_read_50 ;\n";
+    let controller = "controller seen write_50_r00_any write_50_r10 read_50_r00 ;\n";
     assert_eq!(learnt, format!("brief 1\n# seen: 5 transactions, 5 messages\n\n{page}\n{controller}"));
 }
 
@@ -607,4 +610,95 @@ fn transaction(from: u64, frames: &[Vec<u8>]) -> Transaction {
     }
     marks.push(Mark::Stop);
     Transaction { from, until: Until::Stopped(from + 1), marks }
+}
+
+// In the order of the file: a bit, then a signal of one bit with the path, then one with the name, and vectors.
+const NAMED: &str = "$var wire 8 v bus [7:0] $end $scope module top $end $var wire 8 w bus[10:3] $end \
+    $var wire 4 u bus $end $upscope $end $scope module bus[1] $end $var wire 1 p x $end $upscope $end \
+    $var wire 1 n bus[1] $end $var wire 1 r bus [2] $end $var wire 4 s pins [0:3] $end $enddefinitions $end";
+
+// The changes after the definitions, and what the line does that is given so.
+const LINES: [(&str, Option<&str>, &str, &str); 16] = [
+    // the name of a signal of one bit comes before the bit of the vector
+    ("bus[1]", None, "1n bxxxxxx0x v", "1"),
+    ("bus[0]", None, "1n b10 v b01 v b1 v bx v bz v", "01 1x1"),
+    // all that stands up to the `$end`
+    ("bus [2]", None, "1r b0 v", "1"),
+    ("  bus   [2] ", None, "1r b0 v", "1"),
+    // short values: 0 stands to the left of 0 and 1, and else the digit once more
+    ("bus[7]", None, "b1 v bz v bx0 v b0x v b01 v", "01x00"),
+    // the second number is that of the rightmost bit
+    ("pins[3]", None, "b0001 s b1000 s", "10"),
+    ("pins[0]", None, "b0001 s b1000 s b1 s", "010"),
+    ("top.bus[3]", None, "b1 w b10 w b1 u", "10"),
+    ("top.bus[10]", None, "b10000000 w b0 w", "10"),
+    // the first vector does not have the bit, and the second one says nothing
+    ("top.bus[2]", None, "b100 u b0 u", "10"),
+    ("bus[2]", Some("top"), "b100 u b0 u b1 w", "10"),
+    ("bus[9]", None, "b1000000 w b0 w", "10"),
+    ("x", Some("bus[1]"), "1p 0p", "10"),
+    ("bus[1].x", None, "1p 0p", "10"),
+    // a change without `b` sets the bit, whichever it is
+    ("bus[5]", None, "1v 0v", "10"),
+    ("bus[11]", None, "1v", "?"),
+];
+
+#[test]
+fn lines_are_found_as_the_page_says() {
+    for (given, scope, changes, wanted) in LINES {
+        let dump = format!("{NAMED} {changes}");
+        let lines = Lines { scope, ..Lines::named(given, given) };
+        let found = match changes_on(dump.as_bytes(), &lines) {
+            (_, Some(refusal)) => {
+                assert_eq!(refusal, DumpRefusal::NoSignal(Signal::Scl));
+                "?".to_owned()
+            }
+            (changes, None) => changes.iter().filter_map(level_of_scl).collect(),
+        };
+        assert_eq!(found, wanted.replace(' ', ""), "{given} {changes}");
+    }
+}
+
+fn level_of_scl(change: &Change) -> Option<char> {
+    match change {
+        Change::Takes(Signal::Scl, Level::Low) => Some('0'),
+        Change::Takes(Signal::Scl, Level::High) => Some('1'),
+        Change::Takes(Signal::Scl, Level::Unknown) => Some('x'),
+        _ => None,
+    }
+}
+
+#[test]
+fn who_drove_is_who_played() {
+    let mut dice = Dice { state: 20_261_127 };
+    let (mut wins, mut losses) = (0, 0);
+    for _ in 0..60 {
+        let text = generated::safe_plan(3, &mut dice);
+        let items = items(&text);
+        let plan = Participants::of(&items);
+        let plays = generated::plays(&plan, 1, &mut dice);
+        let own = plays.drives.iter().map(|(_, place)| place.as_str()).collect();
+        let lines = Lines { own, ..Lines::named("scl", "sda") };
+        let pulls = if plays.pulls { Level::High } else { Level::Low };
+        let (found, _) = driven(plays.dump.as_bytes(), &lines, pulls);
+        assert_eq!(found.len(), plays.lost.len());
+        for (one, lost) in found.iter().zip(&plays.lost) {
+            let is_winner = |name: &String| lost.iter().any(|(other, lost)| other == name && lost.is_none());
+            let named = plays.drives.iter().enumerate();
+            let winners: Vec<usize> = named.filter(|(_, (name, _))| is_winner(name)).map(|(line, _)| line).collect();
+            assert_eq!(one.makers(), winners, "{text}");
+            assert!(!one.is_collision(), "{text}");
+            for (line, (name, _)) in plays.drives.iter().enumerate() {
+                let did = one.does(&plan, name, line);
+                let played = lost.iter().find(|(other, _)| other == name).map(|(_, lost)| match lost {
+                    Some(slot) => Does::Loses { slot: *slot },
+                    None => Does::GoesOn,
+                });
+                assert_eq!(did, played, "{name} {text}");
+                wins += u32::from(played == Some(Does::GoesOn));
+                losses += u32::from(matches!(played, Some(Does::Loses { .. })));
+            }
+        }
+    }
+    assert!(wins > 50 && losses > 20, "{wins} {losses}");
 }

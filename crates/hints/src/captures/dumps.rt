@@ -1,9 +1,10 @@
 // After the refusal of a dump.
 
+use crate::captures::converting::{format_of, push_format};
 use crate::captures::naming::{Names, push_names};
 use crate::captures::opening::find_opened;
 use crate::captures::wording::{push_dump, push_token, push_unended};
-use crate::kinds::{Kind, is_binary, kind_of_file, push_kind};
+use crate::kinds::{Kind, head_of_file, is_binary, kind_of, push_kind};
 use crate::lines::Lines;
 use crate::marking::push_marked;
 use crate::values::Hints;
@@ -21,7 +22,13 @@ pub fn on_dump<F: Read + Seek + Drop>(
     wrong: Option<&Wrong>,
 ) -> Result<Hints, AllocError> {
     let mut lines = Lines::new(alloc);
-    let kind = kind_of_file(alloc, &mut file);
+    let front = front_of(alloc, &mut file, refusal, wrong)?;
+    let head = front.bytes.as_slice();
+    let kind = kind_of(head);
+    if let Some(format) = format_of(kind, head) {
+        push_format(&mut lines, format, front.file(names));
+        return lines.finish();
+    }
     if is_binary(kind) {
         // no line of it says more
     } else if let VcdError::NoSignal(signal) = refusal {
@@ -35,6 +42,46 @@ pub fn on_dump<F: Read + Seek + Drop>(
     }
     push_kind(&mut lines, kind, Kind::Dump);
     lines.finish()
+}
+
+// The first bytes of what was refused.
+#[derive(Drop)]
+struct Front {
+    bytes: Vec<u8>,
+    // whether they are those of a file that can be read once more
+    is_of_file: bool,
+}
+
+impl Front {
+    // The file, where a command can be given it.
+    fn file<'a>(&self, names: Names<'a>) -> Option<&'a str> {
+        self.is_of_file.then_some(names.vcd)
+    }
+}
+
+// Where a file cannot be read once more its first line is known if that is refused.
+fn front_of<F: Read + Seek>(
+    alloc: Global,
+    file: &mut Option<F>,
+    refusal: VcdError,
+    wrong: Option<&Wrong>,
+) -> Result<Front, AllocError> {
+    if let Some(bytes) = head_of_file(alloc, file) {
+        return Ok(Front {
+            bytes,
+            is_of_file: true,
+        });
+    }
+    let mut bytes = Vec::new(alloc);
+    if let (VcdError::BadToken(1), Some(Wrong::Token(place))) = (refusal, wrong) {
+        bytes.extend_from_slice(place.before())?;
+        bytes.extend_from_slice(place.token())?;
+        bytes.extend_from_slice(place.after())?;
+    }
+    Ok(Front {
+        bytes,
+        is_of_file: false,
+    })
 }
 
 // The token, marked in its line, and what is wrong with it.

@@ -6,7 +6,9 @@ use crate::lines::Lines;
 use crate::marking::push_name;
 use dump_tokens::{Scale, Time};
 use run_parts::Watched;
-use signals::{Found, Listing, Picked, bus_options, needs_picking, pick, read_beginning};
+use signals::{
+    Found, Listing, Picked, base_of, bus_options, fit_of, needs_picking, pick, read_beginning,
+};
 use std::alloc::{AllocError, Global};
 use std::io::{Read, Seek, SeekFrom};
 use vcd_read::{Probe, Reader, Signal};
@@ -45,7 +47,7 @@ impl<'a> Names<'a> {
 pub(crate) fn word_of<'a>(probe: Probe<'a>) -> &'a str {
     match probe {
         Probe::Named(name) => name,
-        Probe::Coded(code) => code,
+        Probe::Coded(code) | Probe::Bit(code, _) => code,
     }
 }
 
@@ -102,9 +104,10 @@ fn reader_with(alloc: Global, picked: &Picked) -> Option<Reader> {
 #[derive(Clone, Copy)]
 struct Wanted<'a> {
     probe: Probe<'a>,
-    // whether a signal of one bit has the name, or one of another size
+    // whether a signal fits the name
     is_there: bool,
-    is_wide: bool,
+    // how many bits a signal of another size has that has the name, and which of them is the rightmost
+    wide: Option<(u32, i64)>,
 }
 
 impl<'a> Wanted<'a> {
@@ -112,15 +115,33 @@ impl<'a> Wanted<'a> {
         Wanted {
             probe,
             is_there: false,
-            is_wide: false,
+            wide: None,
         }
     }
 
     fn see(&mut self, found: Found<'_>) {
-        if is_named(found, self.probe) {
-            self.is_there = self.is_there || found.one_bit;
-            self.is_wide = self.is_wide || !found.one_bit;
+        self.is_there = self.is_there || is_fit(found, self.probe);
+        if !found.one_bit && self.wide.is_none() {
+            self.wide = wide_of(found, self.probe);
         }
+    }
+}
+
+// The bits of a signal of another size that has the name, with or without their range.
+fn wide_of(found: Found<'_>, probe: Probe<'_>) -> Option<(u32, i64)> {
+    match probe {
+        Probe::Named(name) if found.is_called(name) || found.is_bare(base_of(name)) => {
+            Some((found.size?, found.rightmost()))
+        }
+        _ => None,
+    }
+}
+
+// Whether a signal is looked for by its name, path or bit, and fits.
+fn is_fit(found: Found<'_>, probe: Probe<'_>) -> bool {
+    match probe {
+        Probe::Named(name) => fit_of(found, name, None).is_some(),
+        Probe::Coded(_) | Probe::Bit(..) => false,
     }
 }
 
@@ -128,7 +149,7 @@ impl<'a> Wanted<'a> {
 pub(crate) fn is_named(found: Found<'_>, probe: Probe<'_>) -> bool {
     match probe {
         Probe::Named(name) => found.is_called(name),
-        Probe::Coded(_) => false,
+        Probe::Coded(_) | Probe::Bit(..) => false,
     }
 }
 
@@ -140,26 +161,43 @@ struct Declared<'a> {
     sda: Wanted<'a>,
     // among the names of those of one bit
     nearest: Nearest<'a>,
+    // whether these are compared by their paths
+    are_paths: bool,
     // whether the definitions come to their end
     have_ended: bool,
 }
 
 impl<'a> Declared<'a> {
     fn new(alloc: Global, names: Names<'a>, signal: Signal) -> Declared<'a> {
+        let wanted = word_of(names.of(signal));
         Declared {
             alloc,
             scl: Wanted::new(names.scl),
             sda: Wanted::new(names.sda),
-            nearest: Nearest::new(alloc, word_of(names.of(signal)).as_bytes()),
+            nearest: Nearest::new(alloc, wanted.as_bytes()),
+            are_paths: wanted.contains("."),
             have_ended: false,
         }
     }
 
-    fn is_wide(&self, signal: Signal) -> bool {
+    fn wanted(&self, signal: Signal) -> Wanted<'a> {
         match signal {
-            Signal::Scl => self.scl.is_wide,
-            Signal::Sda => self.sda.is_wide,
+            Signal::Scl => self.scl,
+            Signal::Sda => self.sda,
         }
+    }
+
+    // The nearest are told by their paths, and compared by these where the wanted one may be a path.
+    fn compare(&mut self, found: Found<'_>) -> Result<(), AllocError> {
+        if found.scope.is_empty() {
+            return self.nearest.add(self.alloc, found.name);
+        }
+        let mut path = found.scope.to_vec(self.alloc)?;
+        path.push(b'.')?;
+        path.extend_from_slice(found.name)?;
+        let path = path.as_slice();
+        let compared = if self.are_paths { path } else { found.name };
+        self.nearest.add_as(self.alloc, compared, path)
     }
 }
 
@@ -168,7 +206,7 @@ impl Listing for Declared<'_> {
         self.scl.see(found);
         self.sda.see(found);
         if found.one_bit {
-            self.nearest.add(self.alloc, found.name)?;
+            self.compare(found)?;
         }
         Ok(())
     }
@@ -268,7 +306,9 @@ fn push_missing(lines: &mut Lines, names: Names<'_>, signal: Signal, are_both: b
     let probe = names.of(signal);
     match probe {
         Probe::Named(_) => push_word(lines, "no signal of one bit has the name", word_of(probe)),
-        Probe::Coded(_) => push_word(lines, "no signal of one bit has the code", word_of(probe)),
+        Probe::Coded(_) | Probe::Bit(..) => {
+            push_word(lines, "no signal of one bit has the code", word_of(probe));
+        }
     }
     if let (Some(scope), Probe::Named(_)) = (names.scope, probe) {
         push_word(lines, " in the scope", scope);
@@ -298,17 +338,25 @@ fn push_declared(lines: &mut Lines, declared: Option<&Declared<'_>>, signal: Sig
     let Some(declared) = declared else {
         return;
     };
-    if declared.is_wide(signal) {
-        lines.say(
-            "a signal of this name is there, and has another size: each line is to be a signal of its own",
-        );
-    }
+    push_wide(lines, declared.wanted(signal));
     if declared.nearest.is_empty() {
         lines.say("the file declares no signal of one bit: is it a value change dump?");
     } else {
         lines.say("these signals have one bit, the nearest names first:");
         declared.nearest.tell(lines);
     }
+}
+
+// A signal of several bits that has the name, and how one of them is given.
+fn push_wide(lines: &mut Lines, wanted: Wanted<'_>) {
+    let Some((size, rightmost)) = wanted.wide else {
+        return;
+    };
+    lines.part(format_args!(
+        "a signal of this name is there, and has {size} bits: its rightmost one is '"
+    ));
+    push_name(lines, base_of(word_of(wanted.probe)).as_bytes());
+    lines.say(format_args!("[{rightmost}]'"));
 }
 
 // How the line is given, or both.

@@ -1,18 +1,21 @@
-// Messages that differ only in how many data bytes end them, as families.
+// Messages that differ only in how many data bytes end them, as families. Those that differ only in how many bytes a read has are
+// one message by `counts`.
 
-use crate::lessons::frames::push_frames;
+use crate::lessons::counts::{Counts, join_counts};
+use crate::lessons::frames::{Part, push_frames};
 use crate::lessons::trees::{Run, Tree};
 use growing_text::Lines;
 use std::alloc::{AllocError, Global};
 
 /// What is written as one message: this one up to the place `end`, and then so many data bytes, where several lengths are a
-/// family. Its members are all messages that are written so, as they were first seen.
+/// family. A read may have several counts. Its members are all messages that are written so, as they were first seen.
 #[derive(Drop)]
 pub(crate) struct Item {
     pub(crate) written: usize,
     pub(crate) end: Option<usize>,
     pub(crate) least: u64,
     pub(crate) most: u64,
+    pub(crate) counts: Option<Counts>,
     pub(crate) members: Vec<usize>,
 }
 
@@ -39,23 +42,57 @@ pub(crate) fn messages_of(alloc: Global, trees: &Vec<Tree>) -> Result<Vec<Item>,
             end: None,
             least: 0,
             most: 0,
+            counts: None,
             members,
         })?;
     }
     Ok(items)
 }
 
-/// The messages, where those of neighbouring lengths are one family, which stands where the first of them does.
+/// The messages, where those of neighbouring lengths are one family, and others of neighbouring counts one message, which stands
+/// where the first of them does.
 pub(crate) fn families_of(alloc: Global, trees: &Vec<Tree>) -> Result<Vec<Item>, AllocError> {
     let shapes = shapes_of(alloc, trees)?;
+    let alone = alone_in(alloc, shapes.as_slice())?;
     let mut items: Vec<Item> = Vec::new(alloc);
     for number in 0..shapes.len() {
         if !is_in_one(items.as_slice(), number) {
-            let item = item_of(alloc, shapes.as_slice(), number)?;
+            let mut item = item_of(alloc, shapes.as_slice(), number)?;
+            if !item.is_family() {
+                let free = free_of(alloc, alone.as_slice(), items.as_slice(), number)?;
+                join_counts(alloc, trees, free.as_slice(), &mut item)?;
+            }
             items.push(item)?;
         }
     }
     Ok(items)
+}
+
+// The messages that are in no family.
+fn alone_in(alloc: Global, shapes: &[Shape]) -> Result<Vec<usize>, AllocError> {
+    let mut alone = Vec::new(alloc);
+    for (number, shape) in shapes.iter().enumerate() {
+        if least_of(shapes, shape) == most_of(shapes, shape) {
+            alone.push(number)?;
+        }
+    }
+    Ok(alone)
+}
+
+// Those of them after this one that stand in none of these items.
+fn free_of(
+    alloc: Global,
+    alone: &[usize],
+    items: &[Item],
+    after: usize,
+) -> Result<Vec<usize>, AllocError> {
+    let mut free = Vec::new(alloc);
+    for number in alone {
+        if *number > after && !is_in_one(items, *number) {
+            free.push(*number)?;
+        }
+    }
+    Ok(free)
 }
 
 fn is_in_one(items: &[Item], number: usize) -> bool {
@@ -71,6 +108,7 @@ fn is_in_one(items: &[Item], number: usize) -> bool {
 #[derive(Drop)]
 struct Shape {
     stem: String,
+    by: u32,
     run: Run,
 }
 
@@ -79,14 +117,15 @@ fn shapes_of(alloc: Global, trees: &Vec<Tree>) -> Result<Vec<Shape>, AllocError>
     for tree in trees.iter() {
         let run = tree.run();
         let stem = stem_of(alloc, tree, run)?;
-        shapes.push(Shape { stem, run })?;
+        let by = tree.by;
+        shapes.push(Shape { stem, by, run })?;
     }
     Ok(shapes)
 }
 
 fn stem_of(alloc: Global, tree: &Tree, run: Run) -> Result<String, AllocError> {
     let mut line = Lines::new(alloc);
-    push_frames(alloc, &mut line, tree, run.start);
+    push_frames(alloc, &mut line, tree, Part::before(run.start));
     line.finish()
 }
 
@@ -97,6 +136,7 @@ fn item_of(alloc: Global, shapes: &[Shape], number: usize) -> Result<Item, Alloc
         end: None,
         least: 0,
         most: 0,
+        counts: None,
         members: Vec::new(alloc),
     };
     if let Some(like) = shapes.get(number) {
@@ -151,5 +191,5 @@ fn is_there(shapes: &[Shape], like: &Shape, length: u64) -> bool {
 }
 
 fn have_one_stem(one: &Shape, other: &Shape) -> bool {
-    one.stem.as_str() == other.stem.as_str()
+    one.by == other.by && one.stem.as_str() == other.stem.as_str()
 }

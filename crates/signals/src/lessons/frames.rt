@@ -1,5 +1,7 @@
 // The frames of a message, as a brief has them.
 
+use crate::lessons::before::BriefBefore;
+use crate::lessons::counts::{Counts, count_of};
 use crate::lessons::paths::Sent;
 use crate::lessons::trees::{After, Node, Tree};
 use crate::lessons::words::push_data;
@@ -9,15 +11,35 @@ use std::alloc::{AllocError, Global};
 // No message has more places than this, and each is written once with what opens and closes an `else`.
 const MOST_WORDS: u32 = 20_000;
 
-/// The frames of a message: all, or what stands before the place `end`.
-pub(crate) fn push_frames(alloc: Global, line: &mut Lines, tree: &Tree, end: Option<usize>) {
+/// What of a message is written, and how: all, or what stands before the place `end`, a read with several counts where there is
+/// one, and devices and bytes by the names that the brief before it has.
+#[derive(Clone, Copy)]
+pub(crate) struct Part<'a> {
+    pub(crate) end: Option<usize>,
+    pub(crate) counts: Option<Counts>,
+    pub(crate) before: Option<&'a BriefBefore<'a>>,
+}
+
+impl Part<'_> {
+    /// What stands before this place, without names.
+    pub(crate) fn before(end: Option<usize>) -> Part<'static> {
+        Part {
+            end,
+            counts: None,
+            before: None,
+        }
+    }
+}
+
+/// The frames of a message.
+pub(crate) fn push_frames(alloc: Global, line: &mut Lines, tree: &Tree, part: Part<'_>) {
     let mut waiting = Vec::new(alloc);
     push_waiting(line, &mut waiting, Waiting::Place(0));
     for _ in 0..MOST_WORDS {
         match waiting.pop() {
             Some(Waiting::Close) => line.word(")"),
-            Some(Waiting::Place(place)) if Some(place) == end => {}
-            Some(Waiting::Place(place)) => push_place(alloc, line, tree, place, &mut waiting),
+            Some(Waiting::Place(place)) if Some(place) == part.end => {}
+            Some(Waiting::Place(place)) => push_place(alloc, line, tree, place, part, &mut waiting),
             None => break,
         }
     }
@@ -43,12 +65,13 @@ fn push_place(
     line: &mut Lines,
     tree: &Tree,
     place: usize,
+    part: Part<'_>,
     waiting: &mut Vec<Waiting>,
 ) {
     let Some((count, node)) = tree.together(place) else {
         return;
     };
-    line.word_made(sent_word(alloc, &node, count));
+    line.word_made(sent_word(alloc, &node, count, place, part));
     if let After::On(place) = node.acked {
         push_waiting(line, waiting, Waiting::Place(place));
     }
@@ -60,28 +83,66 @@ fn push_place(
 }
 
 // A header, or so many data bytes, as a brief has them, on one line.
-fn sent_word(alloc: Global, node: &Node, count: u64) -> Result<String, AllocError> {
+fn sent_word(
+    alloc: Global,
+    node: &Node,
+    times: u64,
+    place: usize,
+    part: Part<'_>,
+) -> Result<String, AllocError> {
     let mut text = Text::new(alloc);
     match node.sent {
-        Sent::Write(address) => push_address(&mut text, "write 0x", address),
-        Sent::Register(byte) => push_data(&mut text, byte, node.known),
+        Sent::Write(address) => push_address(&mut text, "write ", address, part),
+        Sent::Register(byte) => push_byte(&mut text, byte, node.known, part),
         Sent::Data(byte) => {
             push_data(&mut text, byte, node.known);
-            push_times(&mut text, count);
+            push_times(&mut text, times);
         }
         Sent::Read(address, count) => {
-            push_address(&mut text, "read 0x", address);
+            push_address(&mut text, "read ", address, part);
             text.push(" ");
-            // a read that was always refused has some count
-            text.push_number(u64::from(count.unwrap_or(1)));
+            push_count(&mut text, count_of(count), place, part);
         }
     }
     text.finish()
 }
 
-fn push_address(text: &mut Text, before: &str, address: u8) {
-    text.push(before);
+fn push_address(text: &mut Text, word: &str, address: u8, part: Part<'_>) {
+    text.push(word);
+    match part.before {
+        Some(before) => match before.device(address) {
+            Some(name) => text.push(name),
+            None => push_number(text, address),
+        },
+        None => push_number(text, address),
+    }
+}
+
+fn push_number(text: &mut Text, address: u8) {
+    text.push("0x");
     text.push_hex(address);
+}
+
+fn push_byte(text: &mut Text, byte: u8, known: u8, part: Part<'_>) {
+    match part.before {
+        Some(before) if known != 0 => match before.byte(byte, known) {
+            Some(name) => text.push(name),
+            None => push_data(text, byte, known),
+        },
+        _ => push_data(text, byte, known),
+    }
+}
+
+// How many bytes the read at this place has.
+fn push_count(text: &mut Text, count: u8, place: usize, part: Part<'_>) {
+    match part.counts {
+        Some(counts) if counts.place == place => {
+            text.push_number(u64::from(counts.least));
+            text.push("..");
+            text.push_number(u64::from(counts.most));
+        }
+        _ => text.push_number(u64::from(count)),
+    }
 }
 
 // How often a byte stands there, where that is not once.

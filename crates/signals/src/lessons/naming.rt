@@ -1,26 +1,38 @@
 // The names of messages.
 
+use crate::lessons::before::BriefBefore;
 use crate::lessons::families::Item;
 use crate::lessons::paths::Sent;
 use crate::lessons::trees::{After, Tree};
 use growing_text::Text;
 use std::alloc::{AllocError, Global};
 
-/// The name of a message: its first two headers, how many messages up to it have the same, and whether it is a family.
+/// The name of a message: its first two headers with the register of a write, which of the messages with these it is, and whether
+/// it is a family.
 #[derive(Clone, Copy)]
 pub(crate) struct Name {
-    first: Option<Sent>,
-    second: Option<Sent>,
+    base: Base,
     number: u64,
     is_family: bool,
+}
+
+// The first two headers of a message, and the register of the first one that is a write.
+#[derive(Clone, Copy, PartialEq, Eq)]
+struct Base {
+    first: Option<Sent>,
+    second: Option<Sent>,
+    register: Option<u8>,
 }
 
 impl Name {
     /// It as a word. The first message with these headers has no number.
     pub(crate) fn word(&self, alloc: Global) -> Result<String, AllocError> {
+        self.text(alloc).finish()
+    }
+
+    fn text(&self, alloc: Global) -> Text {
         let mut text = Text::new(alloc);
-        push_header(&mut text, "", self.first);
-        push_header(&mut text, "_", self.second);
+        self.base.push(&mut text);
         if self.number > 1 {
             text.push("_");
             text.push_number(self.number);
@@ -28,7 +40,36 @@ impl Name {
         if self.is_family {
             text.push("_any");
         }
+        text
+    }
+
+    // The name of the message of this length, where it is a family.
+    fn member(&self, alloc: Global, length: u64) -> Result<String, AllocError> {
+        let mut text = self.text(alloc);
+        text.push("_");
+        text.push_number(length);
         text.finish()
+    }
+}
+
+impl Base {
+    fn push(self, text: &mut Text) {
+        match (self.first, self.second, self.register) {
+            (Some(Sent::Write(to)), Some(Sent::Read(from, _)), Some(register)) if to == from => {
+                push_address(text, "read_", to);
+                push_address(text, "_r", register);
+            }
+            (first, second, register) => {
+                push_header(text, "", first);
+                if is_write(first) {
+                    push_register(text, register);
+                }
+                push_header(text, "_", second);
+                if !is_write(first) {
+                    push_register(text, register);
+                }
+            }
+        }
     }
 }
 
@@ -39,19 +80,37 @@ fn push_header(text: &mut Text, before: &str, header: Option<Sent>) {
         _ => return,
     };
     text.push(before);
+    push_address(text, word, address);
+}
+
+fn push_register(text: &mut Text, register: Option<u8>) {
+    if let Some(register) = register {
+        push_address(text, "_r", register);
+    }
+}
+
+fn push_address(text: &mut Text, word: &str, address: u8) {
     text.push(word);
     text.push_hex(address);
 }
 
-/// A name for each message or family.
+fn is_write(header: Option<Sent>) -> bool {
+    matches!(header, Some(Sent::Write(_)))
+}
+
+/// A name for each message or family, which nothing in the brief before has.
 pub(crate) fn names_of(
     alloc: Global,
     trees: &Vec<Tree>,
     items: &Vec<Item>,
+    before: Option<&BriefBefore<'_>>,
 ) -> Result<Vec<Name>, AllocError> {
     let mut names = Vec::new(alloc);
     for item in items.iter() {
-        let name = name_of(item, trees, names.as_slice());
+        let mut name = name_of(item, trees, names.as_slice());
+        if let Some(before) = before {
+            name = free_name(alloc, name, item, before)?;
+        }
         names.push(name)?;
     }
     Ok(names)
@@ -59,50 +118,107 @@ pub(crate) fn names_of(
 
 // The name of a message after those with these names.
 fn name_of(item: &Item, trees: &Vec<Tree>, names: &[Name]) -> Name {
-    let (first, second) = match trees.get(item.written) {
-        Some(tree) => headers_of(tree),
-        None => (None, None),
-    };
+    let base = base_of(item, trees);
     let mut number = 1u64;
     for name in names {
-        if name.first == first && name.second == second {
-            number = number.saturating_add(1);
+        if name.base == base {
+            number = name.number.saturating_add(1);
         }
     }
     Name {
-        first,
-        second,
+        base,
         number,
         is_family: item.is_family(),
     }
 }
 
-// The first two headers of a message, as far as what it sends is acknowledged.
-fn headers_of(tree: &Tree) -> (Option<Sent>, Option<Sent>) {
-    let mut first = None;
+// A brief has fewer names of messages than this.
+const MOST_NAMES: u32 = 1_024;
+
+// The name with the next number that is free, also for all messages of a family.
+fn free_name(
+    alloc: Global,
+    mut name: Name,
+    item: &Item,
+    before: &BriefBefore<'_>,
+) -> Result<Name, AllocError> {
+    for _ in 0..MOST_NAMES {
+        if is_free(alloc, name, item, before)? {
+            break;
+        }
+        name.number = name.number.saturating_add(1);
+    }
+    Ok(name)
+}
+
+fn is_free(
+    alloc: Global,
+    name: Name,
+    item: &Item,
+    before: &BriefBefore<'_>,
+) -> Result<bool, AllocError> {
+    if before.has_message(name.word(alloc)?.as_str()) {
+        return Ok(false);
+    }
+    if name.is_family {
+        for length in item.least..=item.most {
+            if before.has_message(name.member(alloc, length)?.as_str()) {
+                return Ok(false);
+            }
+        }
+    }
+    Ok(true)
+}
+
+// A family that has two writes is named without a register, so that the names of its messages are short enough.
+fn base_of(item: &Item, trees: &Vec<Tree>) -> Base {
+    let mut base = Base {
+        first: None,
+        second: None,
+        register: None,
+    };
+    if let Some(tree) = trees.get(item.written) {
+        base = headers_of(tree);
+    }
+    if item.is_family() && is_write(base.first) && is_write(base.second) {
+        base.register = None;
+    }
+    base
+}
+
+// As far as what the message sends is acknowledged.
+fn headers_of(tree: &Tree) -> Base {
+    let mut base = Base {
+        first: None,
+        second: None,
+        register: None,
+    };
     let mut place = 0usize;
     for _ in 0..tree.nodes.len() {
         let Some(node) = tree.nodes.get(place) else {
             break;
         };
-        match header_of(node.sent) {
-            Some(header) if first.is_some() => return (first, Some(header)),
-            Some(header) => first = Some(header),
-            None => {}
+        match node.sent {
+            Sent::Register(byte) if base.second.is_none() || !is_write(base.first) => {
+                base.register = Some(byte);
+            }
+            Sent::Register(_) | Sent::Data(_) => {}
+            header if base.first.is_none() => base.first = Some(without_count(header)),
+            header if base.second.is_none() => base.second = Some(without_count(header)),
+            _ => break,
         }
         match node.acked {
             After::On(next) => place = next,
             _ => break,
         }
     }
-    (first, None)
+    base
 }
 
 // A header, of a read without how many bytes are read.
-fn header_of(sent: Sent) -> Option<Sent> {
-    match sent {
-        Sent::Write(_) => Some(sent),
-        Sent::Read(address, _) => Some(Sent::Read(address, None)),
-        Sent::Register(_) | Sent::Data(_) => None,
+fn without_count(header: Sent) -> Sent {
+    match header {
+        Sent::Read(address, _) => Sent::Read(address, None),
+        other => other,
     }
 }

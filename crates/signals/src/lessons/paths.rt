@@ -32,8 +32,16 @@ pub(crate) enum NoPath {
     OnRefused,
     /// It has more than 256 bytes as it is written.
     Long,
+    /// Controllers that go on to its STOP have sent different bits.
+    Collision,
     /// The messages so far leave no room.
     NoRoom,
+    /// What the controllers list so far leaves no room.
+    NoSending,
+    /// The controllers of the brief before it leave no room.
+    NoController,
+    /// It was put into a message that does not have it.
+    Lost,
 }
 
 // The most bytes of a message's path.

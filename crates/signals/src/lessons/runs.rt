@@ -1,15 +1,14 @@
 // From what was seen to the brief.
 
+use crate::lessons::before::Room;
 use crate::lessons::families::{families_of, messages_of};
+use crate::lessons::had::those_had;
 use crate::lessons::paths::NoPath;
 use crate::lessons::seen::{Sight, Sights};
 use crate::lessons::trees::{Likeness, Tree};
 use crate::lessons::writing::written;
 use run_parts::Status;
 use std::alloc::{AllocError, Global};
-
-// The most messages of a plan.
-const MOST_MESSAGES: usize = 256;
 
 /// A brief of what was seen.
 #[derive(Drop)]
@@ -26,7 +25,7 @@ pub struct Learned {
 /// Where an allocation fails.
 pub fn brief_of(
     alloc: Global,
-    mut seen: Sights,
+    mut seen: Sights<'_>,
     likeness: Likeness,
 ) -> Result<Learned, AllocError> {
     let trees = put_together(alloc, &mut seen, likeness)?;
@@ -40,7 +39,7 @@ pub fn brief_of(
     })
 }
 
-fn status_of(seen: &Sights) -> Status {
+fn status_of(seen: &Sights<'_>) -> Status {
     if seen.odd.is_empty() {
         Status::Good
     } else {
@@ -48,50 +47,104 @@ fn status_of(seen: &Sights) -> Status {
     }
 }
 
-// Each path goes into the first message that takes it, or into a new one.
+// Each path goes into the first message that takes it, or into a new one. What finds no room, and what the message does not
+// have after all, is told.
 fn put_together(
     alloc: Global,
-    seen: &mut Sights,
+    seen: &mut Sights<'_>,
     likeness: Likeness,
 ) -> Result<Vec<Tree>, AllocError> {
+    let room = seen.room();
     let mut trees: Vec<Tree> = Vec::new(alloc);
-    let mut left = 0u64;
-    let mut first = 0u64;
+    let mut outside = Outside { times: 0, first: 0 };
     for (number, sight) in seen.sights.iter().enumerate() {
-        if put(alloc, &mut trees, sight, number, likeness)? {
-            continue;
+        if !put(alloc, &mut trees, room, sight, number, likeness)? {
+            outside.add(sight);
         }
-        if left == 0 {
-            first = sight.first;
-        }
-        left = left.saturating_add(sight.times);
     }
-    if left > 0 {
-        seen.see_odd(NoPath::NoRoom, left, first)?;
-    }
+    let lost = lost_of(alloc, &mut trees, seen)?;
+    outside.tell(seen, room.full)?;
+    lost.tell(seen, NoPath::Lost)?;
     Ok(trees)
+}
+
+// Paths that are in no message: how often they were seen, and when first.
+#[derive(Drop)]
+struct Outside {
+    times: u64,
+    first: u64,
+}
+
+impl Outside {
+    fn add(&mut self, sight: &Sight) {
+        if self.times == 0 {
+            self.first = sight.first;
+        }
+        self.times = self.times.saturating_add(sight.times);
+    }
+
+    // Those of the paths with these numbers that are not among the others.
+    fn add_others(&mut self, seen: &Sights<'_>, numbers: &[usize], had: &[usize]) {
+        for number in numbers {
+            if let Some(sight) = seen.sights.get(*number)
+                && !had.contains(number)
+            {
+                self.add(sight);
+            }
+        }
+    }
+
+    fn tell(self, seen: &mut Sights<'_>, why: NoPath) -> Result<(), AllocError> {
+        if self.times > 0 {
+            seen.see_odd(why, self.times, self.first)?;
+        }
+        Ok(())
+    }
+}
+
+// Leaves each message only the paths that it has, and says which are lost.
+fn lost_of(alloc: Global, trees: &mut Vec<Tree>, seen: &Sights<'_>) -> Result<Outside, AllocError> {
+    let mut paths = Vec::new(alloc);
+    for sight in seen.sights.iter() {
+        paths.push(sight.path.as_slice())?;
+    }
+    let mut lost = Outside { times: 0, first: 0 };
+    for tree in trees.iter_mut() {
+        let had = those_had(
+            alloc,
+            tree.nodes.as_slice(),
+            paths.as_slice(),
+            tree.paths.as_slice(),
+        )?;
+        if had.len() < tree.paths.len() {
+            lost.add_others(seen, tree.paths.as_slice(), had.as_slice());
+        }
+        tree.paths = had;
+    }
+    Ok(lost)
 }
 
 // Whether there was room for the path.
 fn put(
     alloc: Global,
     trees: &mut Vec<Tree>,
+    room: Room,
     sight: &Sight,
     number: usize,
     likeness: Likeness,
 ) -> Result<bool, AllocError> {
     let path = sight.path.as_slice();
     for tree in trees.iter_mut() {
-        if tree.takes(path) {
-            tree.put(path, number)?;
+        if tree.by == sight.by && tree.takes(path) {
+            tree.put(path, number, sight.times)?;
             return Ok(true);
         }
     }
-    if trees.len() >= MOST_MESSAGES {
+    if trees.len() >= room.messages {
         return Ok(false);
     }
-    let mut tree = Tree::new(alloc, likeness);
-    tree.put(path, number)?;
+    let mut tree = Tree::new(alloc, likeness, sight.by);
+    tree.put(path, number, sight.times)?;
     trees.push(tree)?;
     Ok(true)
 }

@@ -37,11 +37,13 @@ pub(crate) enum After {
     On(usize),
 }
 
-/// One place of a message: what is sent there, with those bits known of a data byte, and what follows.
+/// One place of a message: what is sent there, with those bits known of a data byte, in how many transactions, and what
+/// follows.
 #[derive(Clone, Copy)]
 pub(crate) struct Node {
     pub(crate) sent: Sent,
     pub(crate) known: u8,
+    pub(crate) times: u64,
     pub(crate) acked: After,
     pub(crate) refused: After,
 }
@@ -57,6 +59,8 @@ pub(crate) struct Run {
 #[derive(Drop)]
 pub(crate) struct Tree {
     pub(crate) likeness: Likeness,
+    /// Which controllers its paths are of, where lines of theirs were followed: the same for all of them.
+    pub(crate) by: u32,
     pub(crate) nodes: Vec<Node>,
     pub(crate) paths: Vec<usize>,
 }
@@ -66,9 +70,10 @@ const MOST_NODES: usize = 4_096;
 
 impl Tree {
     /// No path yet.
-    pub(crate) fn new(alloc: Global, likeness: Likeness) -> Tree {
+    pub(crate) fn new(alloc: Global, likeness: Likeness, by: u32) -> Tree {
         Tree {
             likeness,
+            by,
             nodes: Vec::new(alloc),
             paths: Vec::new(alloc),
         }
@@ -103,8 +108,13 @@ impl Tree {
         matches!(at, After::Unseen | After::Stop)
     }
 
-    /// Puts in a path that the message takes, which has this number.
-    pub(crate) fn put(&mut self, path: &[Step], number: usize) -> Result<(), AllocError> {
+    /// Puts in a path that the message takes, which has this number and was seen so often.
+    pub(crate) fn put(
+        &mut self,
+        path: &[Step],
+        number: usize,
+        times: u64,
+    ) -> Result<(), AllocError> {
         let mut at = if self.nodes.is_empty() { None } else { Some(0) };
         let mut last: Option<(usize, bool)> = None;
         for step in path {
@@ -112,7 +122,7 @@ impl Tree {
                 Some(place) => place,
                 None => self.grow(step.sent, last)?,
             };
-            at = self.pass(place, step);
+            at = self.pass(place, step, times);
             last = Some((place, step.refused));
         }
         if let Some((place, refused)) = last {
@@ -129,6 +139,7 @@ impl Tree {
         self.nodes.push(Node {
             sent,
             known,
+            times: 0,
             acked: After::Unseen,
             refused: After::Unseen,
         })?;
@@ -157,8 +168,9 @@ impl Tree {
     }
 
     // What the path sends at this place is one of what the message sends there. Where it goes on, if something is there.
-    fn pass(&mut self, place: usize, step: &Step) -> Option<usize> {
+    fn pass(&mut self, place: usize, step: &Step, times: u64) -> Option<usize> {
         let node = self.nodes.get_mut(place)?;
+        node.times = node.times.saturating_add(times);
         match (node.sent, step.sent) {
             (Sent::Data(one), Sent::Data(other)) => node.known &= !(one ^ other),
             (Sent::Read(_, None), count) => node.sent = count,

@@ -83,7 +83,11 @@ pub(crate) fn why(no: NoPath) -> &'static str {
         NoPath::OddRead => "a read that does not end with its first byte that is not acknowledged",
         NoPath::OnRefused => "bytes go on after one that was not acknowledged",
         NoPath::Long => "more than 256 bytes (a read has one byte at least)",
+        NoPath::Collision => "those who made its STOP have sent different bits: nobody sent this",
         NoPath::NoRoom => "a plan has at most 256 messages",
+        NoPath::NoSending => "the controllers of a plan list at most 512 messages",
+        NoPath::NoController => "a plan has at most 32 controllers",
+        NoPath::Lost => "the message it was put into does not have it: a fault of twire",
     }
 }
 
@@ -99,5 +103,15 @@ fn answered(alloc: Global, node: &Node, answer: &str) -> Result<String, AllocErr
         header => push_sent(&mut text, "", header),
     }
     text.push(answer);
+    text.finish()
+}
+
+/// The name of a file on one line, and in the characters of a brief.
+pub(crate) fn plain_word(alloc: Global, file: &str) -> Result<String, AllocError> {
+    let mut text = Text::new(alloc);
+    for c in file.chars() {
+        let is_plain = c.is_ascii() && !c.is_control();
+        text.push_char(if is_plain { c } else { '?' });
+    }
     text.finish()
 }

@@ -1,14 +1,16 @@
 // Messages, written as a brief.
 
+use crate::lessons::alike::push_alike;
 use crate::lessons::families::Item;
-use crate::lessons::frames::{push_frames, push_run};
+use crate::lessons::frames::{Part, push_frames, push_run};
+use crate::lessons::listing::{Controller, controllers_of, push_controllers};
 use crate::lessons::naming::{Name, names_of};
 use crate::lessons::seen::{Odd, Sight, Sights};
 use crate::lessons::trees::Tree;
 use crate::lessons::unseen::push_unseen;
-use crate::lessons::words::{push_path, why};
+use crate::lessons::words::{plain_word, push_path, why};
 use dump_tokens::Scale;
-use growing_text::Lines;
+use growing_text::{Lines, Text};
 use std::alloc::{AllocError, Global};
 
 // How many paths are told above a message.
@@ -17,23 +19,33 @@ const TOLD: usize = 8;
 /// The brief of these messages and families.
 pub(crate) fn written(
     alloc: Global,
-    seen: &Sights,
+    seen: &Sights<'_>,
     trees: &Vec<Tree>,
     items: &Vec<Item>,
 ) -> Result<String, AllocError> {
-    let names = names_of(alloc, trees, items)?;
+    let names = names_of(alloc, trees, items, seen.before)?;
+    let controllers = controllers_of(alloc, seen, trees, items)?;
     let mut line = Lines::new(alloc);
-    push_brief(alloc, &mut line, seen, trees, items, names.as_slice());
+    push_brief(
+        alloc,
+        &mut line,
+        seen,
+        trees,
+        items,
+        names.as_slice(),
+        &controllers,
+    );
     line.finish()
 }
 
 fn push_brief(
     alloc: Global,
     line: &mut Lines,
-    seen: &Sights,
+    seen: &Sights<'_>,
     trees: &Vec<Tree>,
     items: &Vec<Item>,
     names: &[Name],
+    controllers: &Vec<Controller>,
 ) {
     line.begin("brief 1", "");
     line.end();
@@ -42,11 +54,10 @@ fn push_brief(
         if let Some(item) = items.get(k) {
             line.end();
             push_sights(alloc, line, item, trees, seen);
-            push_message(alloc, line, item, trees, *name);
+            push_message(alloc, line, item, trees, *name, seen);
         }
     }
-    line.end();
-    push_controller(alloc, line, names);
+    push_controllers(alloc, line, seen, controllers, names);
 }
 
 fn messages_in(items: &Vec<Item>) -> u64 {
@@ -57,24 +68,27 @@ fn messages_in(items: &Vec<Item>) -> u64 {
     count
 }
 
-fn push_controller(alloc: Global, line: &mut Lines, names: &[Name]) {
-    line.begin("controller seen", "   ");
-    for name in names {
-        line.word_made(name.word(alloc));
-    }
-    line.word(";");
-    line.end();
-}
-
-fn push_counts(alloc: Global, line: &mut Lines, seen: &Sights, messages: u64) {
+fn push_counts(alloc: Global, line: &mut Lines, seen: &Sights<'_>, messages: u64) {
     line.begin("# seen:", "#");
     line.number(seen.stopped, "");
     line.word("transactions,");
     line.number(messages, "");
     line.word("messages");
     line.end();
+    push_explained(alloc, line, seen);
     for odd in seen.odd.iter() {
         push_odd(alloc, line, *odd, seen.told_scale());
+    }
+}
+
+// How many transactions the brief before explains.
+fn push_explained(alloc: Global, line: &mut Lines, seen: &Sights<'_>) {
+    if let Some(before) = seen.before {
+        line.begin("#", "#  ");
+        line.number(seen.explained, "");
+        line.words("transactions are those of messages in");
+        line.word_made(plain_word(alloc, before.file));
+        line.end();
     }
 }
 
@@ -86,8 +100,8 @@ fn push_odd(alloc: Global, line: &mut Lines, odd: Odd, scale: Option<Scale>) {
     line.end();
 }
 
-// How often and when first each path was seen, and what never was.
-fn push_sights(alloc: Global, line: &mut Lines, item: &Item, trees: &Vec<Tree>, seen: &Sights) {
+// How often and when first each path was seen, what never was, and what was always the same.
+fn push_sights(alloc: Global, line: &mut Lines, item: &Item, trees: &Vec<Tree>, seen: &Sights<'_>) {
     let mut last = None;
     for _ in 0..TOLD {
         let Some(number) = next_path(item, trees, last) else {
@@ -107,6 +121,9 @@ fn push_sights(alloc: Global, line: &mut Lines, item: &Item, trees: &Vec<Tree>, 
     line.begin("# never seen:", "#    ");
     push_unseen(alloc, line, item, trees);
     line.end();
+    if let Some(tree) = trees.get(item.written) {
+        push_alike(alloc, line, tree);
+    }
 }
 
 // How many paths were put into all its messages.
@@ -172,11 +189,23 @@ fn first_word(alloc: Global, time: u64, scale: Scale) -> Result<String, AllocErr
     Ok(word)
 }
 
-fn push_message(alloc: Global, line: &mut Lines, item: &Item, trees: &Vec<Tree>, name: Name) {
+fn push_message(
+    alloc: Global,
+    line: &mut Lines,
+    item: &Item,
+    trees: &Vec<Tree>,
+    name: Name,
+    seen: &Sights<'_>,
+) {
+    let part = Part {
+        end: item.end,
+        counts: item.counts,
+        before: seen.before,
+    };
     line.begin("message", "   ");
     line.word_made(name.word(alloc));
     if let Some(tree) = trees.get(item.written) {
-        push_frames(alloc, line, tree, item.end);
+        push_frames(alloc, line, tree, part);
     }
     push_run(alloc, line, item.least, item.most);
     line.word(";");

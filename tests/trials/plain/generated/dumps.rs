@@ -89,8 +89,8 @@ fn place(count: usize, dice: &mut Dice) -> usize {
     dice.index(sides)
 }
 
-// A token and white space behind it.
-fn spaced(token: &str, dice: &mut Dice) -> String {
+/// A token and white space behind it.
+pub fn spaced(token: &str, dice: &mut Dice) -> String {
     let space = match dice.throw(8) {
         0 => "\n",
         1 => "\r\n\n",

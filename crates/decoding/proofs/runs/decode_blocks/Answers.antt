@@ -2,7 +2,8 @@ use Rattle.std.proofs.Common.{◌≡◌, ◌<◌, ℕ, subst, arith, length}
 use Rattle.decoding.specs.Decoding.{HaltsAtDecoding}
 use Rattle.decoding.specs.Dumps.{read_fails, meets_no_end}
 use Rattle.run_parts.specs.Devices.{HasGiven}
-use Rattle.decoding.proofs.DecodingLemmas.{begin, all_read, ends, end_halts, one_more, feed_halts, reads_halt}
+use Rattle.decoding.proofs.DecodingLemmas.{begin, ends, end_halts, one_more, feed_halts, reads_halt}
+use Rattle.run_parts.proofs.DeviceLemmas.{all_read}
 use Rattle.run_parts.proofs.RunLemmas.{on_error}
 use Rattle.decoding.proofs.runs.decode_blocks.Goals as goal
 

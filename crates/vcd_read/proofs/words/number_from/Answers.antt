@@ -1,4 +1,4 @@
-use Rattle.std.proofs.Common.{◌≡◌, ◌<◌, ◌+◌, ◌-◌, ◌*◌, ◌^◌, length, get_or, sym, ◌∙◌, ap, drop, arith}
+use Rattle.std.proofs.Common.{◌≡◌, ◌<◌, ◌+◌, ◌-◌, ◌*◌, length, get_or, sym, ◌∙◌, ap, drop, arith}
 use Rattle.vcd_read.specs.Words.{number_from}
 use Rattle.vcd_read.proofs.WordLemmas.{few_digits, number_next, one_more}
 use Rattle.vcd_read.proofs.words.number_from.Goals as goal

@@ -1,4 +1,4 @@
-use Rattle.std.proofs.Common.{◌≡◌, ◌+◌, ◌%◌, ℕ, suc, false, List, ◌∷◌, length, get_or, ◌==◌, refl, ap, sym, ◌∙◌, subst, arith, Fits, w8}
+use Rattle.std.proofs.Common.{◌≡◌, ◌+◌, ◌%◌, ℕ, false, List, ◌∷◌, length, get_or, ◌==◌, refl, ap, sym, ◌∙◌, subst, arith, Fits, w8}
 use Rattle.std.proofs.lemmas.Bool.{ne_eqb}
 use Rattle.vcd_read.proofs.EightLemmas.{seven_digits}
 use Rattle.vcd_read.proofs.WordLemmas.{time_from_eight}

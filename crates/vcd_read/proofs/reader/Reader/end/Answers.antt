@@ -1,6 +1,5 @@
 use Rattle.vcd_read.specs.Pieces.{kept_of}
 use Rattle.vcd_read.specs.Readers.{reading_of}
-use Rattle.std.proofs.lemmas.Result.{err_from_is_err_and}
 use Rattle.vcd_read.proofs.FedLemmas.{scan_of_going, scan_of_refused, samples_going, samples_refused_at_end, samples_refused, is_refusal}
 use Rattle.vcd_read.proofs.reader.Reader.end.Goals as goal
 

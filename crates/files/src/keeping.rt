@@ -1,0 +1,78 @@
+// What was read, and can be read once more: a file, or standard input where that was little.
+
+use std::alloc::Global;
+use std::io::{self, Cursor, Read, Seek, SeekFrom};
+
+// The most of standard input that is kept: 1 MiB.
+const MOST: usize = 1 << 20;
+
+/// A reader that keeps what it has read, as long as that is little and there is memory for it.
+#[derive(Drop)]
+pub struct Keeping<D> {
+    device: D,
+    kept: Option<Vec<u8>>,
+}
+
+impl<D> Keeping<D> {
+    /// Nothing was read yet.
+    pub fn new(alloc: Global, device: D) -> Keeping<D> {
+        Keeping {
+            device,
+            kept: Some(Vec::new(alloc)),
+        }
+    }
+
+    /// All that was read, where it was kept.
+    pub fn into_kept(self) -> Option<Vec<u8>>
+    where
+        D: Drop,
+    {
+        let Keeping { kept, .. } = self;
+        kept
+    }
+
+    fn keep(&mut self, bytes: &[u8]) {
+        let is_kept = match &mut self.kept {
+            Some(kept) if kept.len().saturating_add(bytes.len()) <= MOST => {
+                kept.extend_from_slice(bytes).is_ok()
+            }
+            _ => false,
+        };
+        if !is_kept {
+            self.kept = None;
+        }
+    }
+}
+
+impl<D: Read> Read for Keeping<D> {
+    fn read(&mut self, buf: &mut [u8]) -> io::Result<usize> {
+        let count = self.device.read(buf)?;
+        self.keep(buf.get(..count).unwrap_or(&[]));
+        Ok(count)
+    }
+}
+
+/// What can be read once more.
+#[derive(Drop)]
+pub enum Reread<F> {
+    File(F),
+    Kept(Cursor<Vec<u8>>),
+}
+
+impl<F: Read> Read for Reread<F> {
+    fn read(&mut self, buf: &mut [u8]) -> io::Result<usize> {
+        match self {
+            Reread::File(file) => file.read(buf),
+            Reread::Kept(kept) => kept.read(buf),
+        }
+    }
+}
+
+impl<F: Seek> Seek for Reread<F> {
+    fn seek(&mut self, to: SeekFrom) -> io::Result<u64> {
+        match self {
+            Reread::File(file) => file.seek(to),
+            Reread::Kept(kept) => kept.seek(to),
+        }
+    }
+}

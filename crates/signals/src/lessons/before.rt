@@ -1,0 +1,270 @@
+// The brief that what is learned is given after: which transactions its messages explain, and the names that it has.
+
+use crate::lessons::paths::NoPath;
+use brief_text::Origins;
+use capture_check::{Transaction, explain};
+use message_tree::{Address, Pattern};
+use plan_core::limits::{MOST_CONTROLLERS, MOST_MESSAGES, MOST_SENDINGS};
+use plan_core::{Builder, Name, Participant, Plan};
+use std::alloc::{AllocError, Global};
+
+/// A brief that is given first: what is learned is a further file after it.
+#[derive(Drop)]
+pub struct BriefBefore<'a> {
+    pub(crate) file: &'a str,
+    plan: &'a Plan,
+    origins: &'a Origins,
+    // all messages of the plan, in its order, which one controller lists
+    messages: Plan,
+    // by the number of the message
+    is_listed: Vec<bool>,
+}
+
+/// How many messages there is room for, and what is said of those that find none.
+#[derive(Clone, Copy)]
+pub(crate) struct Room {
+    pub(crate) messages: usize,
+    pub(crate) full: NoPath,
+}
+
+/// The room where no brief is given first.
+pub(crate) fn room_alone() -> Room {
+    Room {
+        messages: MOST_MESSAGES as usize,
+        full: NoPath::NoRoom,
+    }
+}
+
+/// Where a transaction is explained.
+#[derive(Clone, Copy)]
+pub(crate) enum Explained {
+    Nowhere,
+    /// By this message, which a controller lists.
+    Listed(u32),
+    /// By this message, which no controller lists.
+    Unlisted(u32),
+}
+
+impl<'a> BriefBefore<'a> {
+    /// The brief of this file, which means this plan.
+    ///
+    /// # Errors
+    ///
+    /// Where an allocation fails.
+    pub fn new(
+        alloc: Global,
+        file: &'a str,
+        plan: &'a Plan,
+        origins: &'a Origins,
+    ) -> Result<BriefBefore<'a>, AllocError> {
+        Ok(BriefBefore {
+            file,
+            plan,
+            origins,
+            messages: with_all(alloc, plan)?,
+            is_listed: listed_in(alloc, plan)?,
+        })
+    }
+
+    // How many messages no controller lists.
+    fn unlisted(&self) -> u32 {
+        let mut count = 0u32;
+        for is_listed in self.is_listed.iter() {
+            if !*is_listed {
+                count = count.saturating_add(1);
+            }
+        }
+        count
+    }
+
+    fn sendings(&self) -> u32 {
+        self.plan
+            .participants()
+            .saturating_sub(self.plan.interrupts())
+    }
+
+    // Whether a further controller can list what no controller lists.
+    fn lists_more(&self) -> bool {
+        self.plan.controllers() < MOST_CONTROLLERS
+            && self.sendings().saturating_add(self.unlisted()) <= MOST_SENDINGS
+    }
+
+    /// How many further messages there is room for, where a further controller lists so many of its own.
+    pub(crate) fn room(&self, listed: usize) -> Room {
+        let messages = MOST_MESSAGES.saturating_sub(self.plan.messages()) as usize;
+        let sendings = MOST_SENDINGS.saturating_sub(self.sendings()) as usize;
+        let sendings = sendings.saturating_sub(listed);
+        if self.plan.controllers() >= MOST_CONTROLLERS {
+            Room {
+                messages: 0,
+                full: NoPath::NoController,
+            }
+        } else if sendings < messages {
+            Room {
+                messages: sendings,
+                full: NoPath::NoSending,
+            }
+        } else {
+            Room {
+                messages,
+                full: NoPath::NoRoom,
+            }
+        }
+    }
+
+    /// Which of its messages explains a transaction. One that no controller lists counts where a further one can list it.
+    pub(crate) fn explained(
+        &self,
+        alloc: Global,
+        transaction: &Transaction,
+    ) -> Result<Explained, AllocError> {
+        let numbers = explain(alloc, &self.messages, transaction)?;
+        for number in numbers.iter() {
+            if self.is_listed.get(*number as usize).copied() == Some(true) {
+                return Ok(Explained::Listed(*number));
+            }
+        }
+        match numbers.first() {
+            Some(number) if self.lists_more() => Ok(Explained::Unlisted(*number)),
+            _ => Ok(Explained::Nowhere),
+        }
+    }
+
+    /// The name of a message of its plan.
+    pub(crate) fn message_name(&self, number: u32) -> Option<&'a str> {
+        if number < self.plan.messages() {
+            Some(self.plan.message_name(number).as_str())
+        } else {
+            None
+        }
+    }
+
+    /// How many messages its plan has.
+    pub(crate) fn count(&self) -> u32 {
+        self.plan.messages()
+    }
+
+    /// Whether a message has this name, or a family.
+    pub(crate) fn has_message(&self, word: &str) -> bool {
+        for number in 0..self.plan.messages() {
+            if self.plan.message_name(number).as_str() == word {
+                return true;
+            }
+        }
+        for family in self.origins.families.iter() {
+            if family.name.as_str() == word {
+                return true;
+            }
+        }
+        false
+    }
+
+    /// Whether a controller of this name lists the message.
+    pub(crate) fn lists(&self, controller: &str, message: u32) -> bool {
+        for p in 0..self.plan.participants() {
+            if let Participant::Sending {
+                controller: number,
+                message: sent,
+            } = self.plan.participant(p)
+                && sent == message
+                && self.is_called(number, controller)
+            {
+                return true;
+            }
+        }
+        false
+    }
+
+    fn is_called(&self, controller: u32, name: &str) -> bool {
+        match self.origins.controllers.get(controller as usize) {
+            Some(origin) => origin.controller.as_str() == name,
+            None => false,
+        }
+    }
+
+    /// Whether a controller has this name.
+    pub(crate) fn has_controller(&self, word: &str) -> bool {
+        for number in 0..self.plan.controllers() {
+            if self.plan.controller_name(number).as_str() == word {
+                return true;
+            }
+        }
+        for origin in self.origins.controllers.iter() {
+            if origin.controller.as_str() == word {
+                return true;
+            }
+        }
+        false
+    }
+
+    /// The one device with this address in all bits.
+    pub(crate) fn device(&self, address: u8) -> Option<&'a str> {
+        let wanted = Address::new(0x7f, address);
+        let mut found = None;
+        for device in self.origins.devices.iter() {
+            if device.address == wanted {
+                if found.is_some() {
+                    return None;
+                }
+                found = Some(device.name.as_str());
+            }
+        }
+        found
+    }
+
+    /// The one name of just these bits of a data byte, of which some are known.
+    pub(crate) fn byte(&self, byte: u8, known: u8) -> Option<&'a str> {
+        let wanted = Pattern::new(known, byte);
+        let mut found = None;
+        for named in self.origins.bytes.iter() {
+            if named.bits == wanted {
+                if found.is_some() {
+                    return None;
+                }
+                found = Some(named.name.as_str());
+            }
+        }
+        found
+    }
+}
+
+// A plan of these messages, which one controller lists.
+fn with_all(alloc: Global, plan: &Plan) -> Result<Plan, AllocError> {
+    let mut builder = Builder::new(alloc);
+    let mut names = Vec::new(alloc);
+    for number in 0..plan.messages() {
+        let name = plan.message_name(number).as_str();
+        let frame = plan.message(number).copy(alloc)?;
+        if builder.message(name_of(alloc, name)?, frame).is_err() {
+            return Err(AllocError);
+        }
+        names.push(name_of(alloc, name)?)?;
+    }
+    let controller = name_of(alloc, "all")?;
+    if builder.controller(controller, names.as_slice()).is_err() {
+        return Err(AllocError);
+    }
+    Ok(builder.finish())
+}
+
+// A copy of a name of the plan, which has the form of one.
+fn name_of(alloc: Global, text: &str) -> Result<Name, AllocError> {
+    match Name::new(alloc, text) {
+        Ok(name) => Ok(name),
+        Err(_) => Err(AllocError),
+    }
+}
+
+fn listed_in(alloc: Global, plan: &Plan) -> Result<Vec<bool>, AllocError> {
+    let mut is_listed = Vec::new(alloc);
+    for number in 0..plan.messages() {
+        let mut is_in_one = false;
+        for controller in 0..plan.controllers() {
+            if plan.controller_messages(controller).contains(&number) {
+                is_in_one = true;
+            }
+        }
+        is_listed.push(is_in_one)?;
+    }
+    Ok(is_listed)
+}

@@ -1,0 +1,226 @@
+// The two lines of a bus, kept as they are recorded.
+
+use crate::definitions::{Definitions, Found, Listing};
+use crate::taps::Tap;
+use dump_tokens::Scale;
+use dump_tokens::reading::Reading;
+use dump_tokens::tokens::Cutter;
+use pulses::Filter;
+use run_parts::RunError;
+use std::alloc::{AllocError, Global};
+use vcd_read::{Level, Probe, Reader, Sample, VcdError};
+
+/// A tap that keeps the levels of the two lines, and what the numbers of the dump count. What is wrong with a dump is for its
+/// decoder to say.
+#[derive(Drop)]
+pub struct Recorder {
+    reader: Reader,
+    lines: RecordedLines,
+    // the definitions, until they end
+    definitions: Option<Cutter<Definitions<Nobody>>>,
+}
+
+// Nobody is told of the signals.
+#[derive(Drop)]
+struct Nobody;
+
+impl Listing for Nobody {
+    fn signal(&mut self, _found: Found<'_>) -> Result<(), AllocError> {
+        Ok(())
+    }
+}
+
+impl Recorder {
+    /// Of the lines that are found so in the definitions of a dump.
+    ///
+    /// # Errors
+    ///
+    /// Where an allocation fails.
+    pub fn new(alloc: Global, scl: Probe<'_>, sda: Probe<'_>) -> Result<Recorder, AllocError> {
+        Ok(Recorder {
+            reader: Reader::of(alloc, scl, sda)?,
+            lines: RecordedLines::new(alloc),
+            definitions: Some(Cutter::new(alloc, Definitions::new(alloc, Nobody))),
+        })
+    }
+
+    // Looks for what the numbers count.
+    fn define(&mut self, block: &[u8]) -> Result<(), AllocError> {
+        let Some(mut cutter) = self.definitions.take() else {
+            return Ok(());
+        };
+        if cutter.block(block).unwrap_or(false) {
+            self.definitions = Some(cutter);
+            return Ok(());
+        }
+        let (definitions, _) = cutter.finish()?;
+        let (_, header) = definitions.finish();
+        self.lines.scale = header.scale;
+        Ok(())
+    }
+
+    /// What was recorded, where the dump has ended.
+    ///
+    /// # Errors
+    ///
+    /// Where an allocation fails.
+    pub fn finish(self) -> Result<RecordedLines, AllocError> {
+        let Recorder {
+            reader,
+            mut lines,
+            ..
+        } = self;
+        if let Ok(samples) = reader.end() {
+            lines.add(samples.as_slice())?;
+        }
+        Ok(lines)
+    }
+}
+
+impl Tap for Recorder {
+    fn block(&mut self, block: &[u8]) -> Result<(), RunError> {
+        self.define(block)?;
+        let fed = self.reader.feed(block);
+        self.lines.add(self.reader.samples())?;
+        self.reader.clear_samples();
+        match fed {
+            Err(VcdError::NoMemory) => Err(RunError::NoMemory),
+            _ => Ok(()),
+        }
+    }
+}
+
+/// The levels of the two lines, as they were recorded, or without those that were too short. Each sample takes a few bytes:
+/// the first has the levels and the least three bits of the time since the one before, each other one seven bits of it. The
+/// greatest bit of a byte says whether one more follows.
+#[derive(Drop)]
+pub struct RecordedLines {
+    /// What the numbers of the dump count, where it says so.
+    pub scale: Option<Scale>,
+    bytes: Vec<u8>,
+    time: u64,
+}
+
+const MORE: u8 = 0x80;
+
+impl RecordedLines {
+    fn new(alloc: Global) -> RecordedLines {
+        RecordedLines {
+            scale: None,
+            bytes: Vec::new(alloc),
+            time: 0,
+        }
+    }
+
+    fn add(&mut self, samples: &[Sample]) -> Result<(), AllocError> {
+        for sample in samples {
+            self.push(sample)?;
+        }
+        Ok(())
+    }
+
+    fn push(&mut self, sample: &Sample) -> Result<(), AllocError> {
+        let mut rest = sample.time.saturating_sub(self.time);
+        self.time = sample.time;
+        let first = digit(sample.scl) << 2 | digit(sample.sda) | ((rest & 7) as u8) << 4;
+        rest >>= 3;
+        self.bytes
+            .push(if rest == 0 { first } else { first | MORE })?;
+        // (61 bits are left at most)
+        for _ in 0..9 {
+            if rest == 0 {
+                break;
+            }
+            let part = (rest & 0x7f) as u8;
+            rest >>= 7;
+            self.bytes.push(if rest == 0 { part } else { part | MORE })?;
+        }
+        Ok(())
+    }
+
+    /// More steps than there are samples.
+    pub fn bound(&self) -> usize {
+        self.bytes.len()
+    }
+
+    /// The samples, from the first on.
+    pub fn samples(&self) -> Samples<'_> {
+        Samples {
+            bytes: self.bytes.as_slice(),
+            time: 0,
+        }
+    }
+
+    /// The levels that last for so long.
+    ///
+    /// # Errors
+    ///
+    /// Where an allocation fails.
+    pub fn lasting(&self, alloc: Global, least: u64) -> Result<RecordedLines, AllocError> {
+        let mut filter = Filter::new(least);
+        let mut quiet = Vec::new(alloc);
+        let mut lasting = RecordedLines::new(alloc);
+        lasting.scale = self.scale;
+        let mut samples = self.samples();
+        for _ in 0..self.bound() {
+            let Some(sample) = samples.next() else {
+                break;
+            };
+            filter.feed(&[sample], &mut quiet)?;
+            lasting.add(quiet.as_slice())?;
+            quiet.clear();
+        }
+        filter.end(&mut quiet)?;
+        lasting.add(quiet.as_slice())?;
+        Ok(lasting)
+    }
+}
+
+fn digit(level: Level) -> u8 {
+    match level {
+        Level::Low => 0,
+        Level::High => 1,
+        Level::Unknown => 2,
+    }
+}
+
+/// The samples that are left of what was recorded.
+#[derive(Clone, Copy)]
+pub struct Samples<'a> {
+    bytes: &'a [u8],
+    // that of the sample before
+    time: u64,
+}
+
+impl Samples<'_> {
+    /// The next one, if any.
+    pub fn next(&mut self) -> Option<Sample> {
+        let (first, mut rest) = self.bytes.split_first()?;
+        let mut passed = u64::from(*first >> 4 & 7);
+        let mut has_more = *first & MORE != 0;
+        for k in 0..9u32 {
+            if !has_more {
+                break;
+            }
+            let (byte, after) = rest.split_first()?;
+            passed |= u64::from(*byte & 0x7f) << (7 * k + 3);
+            has_more = *byte & MORE != 0;
+            rest = after;
+        }
+        self.bytes = rest;
+        self.time = self.time.saturating_add(passed);
+        Some(Sample {
+            time: self.time,
+            scl: level_of(*first >> 2 & 3),
+            sda: level_of(*first & 3),
+        })
+    }
+}
+
+fn level_of(digit: u8) -> Level {
+    match digit {
+        0 => Level::Low,
+        1 => Level::High,
+        _ => Level::Unknown,
+    }
+}

@@ -1,0 +1,2 @@
+pub mod AnswerReading
+pub mod VerifiedLemmas

@@ -1,0 +1,15 @@
+//! What a certificate says of a plan, over any readers and writers: as a value, and as a line with a status.
+//!
+//! Below it stand the checker of certificates and what reads and writes streams. It names nothing of the search.
+#![tactic(auto)]
+
+mod answering;
+pub mod answers;
+pub mod finding;
+pub mod laws;
+pub mod verification;
+
+pub use answers::{answer_line, status_of_answer};
+pub use cert_check::{Answer, Answered};
+pub use finding::find_plan;
+pub use verification::{run_verify, verify_found, verify_plan};

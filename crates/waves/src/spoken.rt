@@ -1,0 +1,215 @@
+// The bytes of a recorded bus as words, each from the time on at which it begins on the wire.
+
+use capture_check::{Event, Watch, What};
+use dump_tokens::{Scale, Window};
+use growing_text::Text;
+use signals::RecordedLines;
+use std::alloc::{AllocError, Global};
+use vcd_read::{Level, Sample};
+
+/// A word from this time on.
+#[derive(Clone, Copy)]
+pub(crate) struct Said {
+    pub(crate) time: u64,
+    pub(crate) word: Word,
+}
+
+/// What happens on a bus, as bytes are written.
+#[derive(Clone, Copy)]
+pub(crate) enum Word {
+    Start,
+    Again,
+    Stop,
+    /// A level is no longer known.
+    Cut,
+    /// The acknowledge of a byte.
+    Answer(bool),
+    Byte(Bits),
+}
+
+/// A byte, or the first bits of one that is cut short.
+#[derive(Clone, Copy)]
+pub(crate) struct Bits {
+    value: u8,
+    count: u32,
+    is_header: bool,
+    is_cut: bool,
+}
+
+impl Word {
+    /// Adds it, without white space.
+    pub(crate) fn push_to(self, text: &mut Text) {
+        text.push(match self {
+            Word::Start => "S",
+            Word::Again => "Sr",
+            Word::Stop => "P",
+            Word::Cut => "cut",
+            Word::Answer(false) => "A",
+            Word::Answer(true) => "NA",
+            Word::Byte(bits) => return bits.push_to(text),
+        });
+    }
+}
+
+impl Bits {
+    fn push_to(self, text: &mut Text) {
+        if self.count < 8 {
+            text.push("0b");
+            for k in (0..self.count).rev() {
+                text.push(if self.value >> k.min(7) & 1 == 1 {
+                    "1"
+                } else {
+                    "0"
+                });
+            }
+        } else if self.is_header {
+            text.push_hex(self.value >> 1);
+            text.push(if self.value & 1 == 1 { "_Rd" } else { "_Wr" });
+        } else {
+            text.push_hex(self.value);
+        }
+        if self.is_cut {
+            text.push("(cut)");
+        }
+    }
+}
+
+/// The words of the transactions in these levels that begin within the window.
+///
+/// # Errors
+///
+/// Where an allocation fails.
+pub(crate) fn said_of(
+    alloc: Global,
+    lines: &RecordedLines,
+    window: Window,
+) -> Result<Vec<Said>, AllocError> {
+    let mut speaker = Speaker {
+        watch: Watch::new(),
+        window,
+        scale: lines.scale,
+        heard: Heard::Unknown,
+        is_told: false,
+        scl: Level::Unknown,
+        fell: 0,
+        began: 0,
+        bits: NONE,
+        said: Vec::new(alloc),
+    };
+    let mut samples = lines.samples();
+    for _ in 0..lines.bound() {
+        let Some(sample) = samples.next() else {
+            break;
+        };
+        speaker.sample(sample)?;
+    }
+    speaker.end_byte(true)?;
+    let Speaker { said, .. } = speaker;
+    Ok(said)
+}
+
+// What is known of the bus, as of transactions.
+#[derive(Clone, Copy)]
+enum Heard {
+    Unknown,
+    Free,
+    Busy,
+}
+
+const NONE: Bits = Bits {
+    value: 0,
+    count: 0,
+    is_header: true,
+    is_cut: false,
+};
+
+#[derive(Drop)]
+struct Speaker {
+    watch: Watch,
+    window: Window,
+    scale: Option<Scale>,
+    heard: Heard,
+    // whether the transaction that goes on is told
+    is_told: bool,
+    // the level of SCL before, and when it fell last
+    scl: Level,
+    fell: u64,
+    // the byte that goes on, and when it began
+    began: u64,
+    bits: Bits,
+    said: Vec<Said>,
+}
+
+impl Speaker {
+    fn sample(&mut self, sample: Sample) -> Result<(), AllocError> {
+        if let Some(event) = self.watch.next(&sample) {
+            self.event(event)?;
+        }
+        if self.scl == Level::High && sample.scl == Level::Low {
+            self.fell = sample.time;
+        }
+        self.scl = sample.scl;
+        Ok(())
+    }
+
+    // (docs/CAPTURES.md, transactions)
+    fn event(&mut self, event: Event) -> Result<(), AllocError> {
+        match (self.heard, event.what) {
+            (Heard::Busy, What::Bit(level)) => self.bit(level)?,
+            (Heard::Busy, What::Start) => self.go_to(event.time, Word::Again, Heard::Busy)?,
+            (Heard::Busy, What::Stop) => self.go_to(event.time, Word::Stop, Heard::Free)?,
+            (Heard::Busy, What::Unknown) => self.go_to(event.time, Word::Cut, Heard::Unknown)?,
+            (Heard::Free, What::Start) => {
+                self.is_told = self.window.has(self.scale, event.time);
+                self.go_to(event.time, Word::Start, Heard::Busy)?;
+            }
+            (Heard::Free, What::Known(false) | What::Unknown) => self.heard = Heard::Unknown,
+            (Heard::Unknown, What::Known(true) | What::Stop) => self.heard = Heard::Free,
+            _ => {}
+        }
+        Ok(())
+    }
+
+    // The byte that goes on is cut short, and a header comes next, if anything does.
+    fn go_to(&mut self, time: u64, word: Word, heard: Heard) -> Result<(), AllocError> {
+        self.end_byte(true)?;
+        self.bits = NONE;
+        self.heard = heard;
+        self.say(time, word)
+    }
+
+    // A bit, or the acknowledge after eight of them: each begins where SCL fell before it.
+    fn bit(&mut self, level: bool) -> Result<(), AllocError> {
+        if self.bits.count == 8 {
+            self.end_byte(false)?;
+            self.bits.is_header = false;
+            return self.say(self.fell, Word::Answer(level));
+        }
+        if self.bits.count == 0 {
+            self.began = self.fell;
+        }
+        self.bits.value = self.bits.value << 1 | u8::from(level);
+        self.bits.count = self.bits.count.saturating_add(1);
+        Ok(())
+    }
+
+    fn end_byte(&mut self, is_cut: bool) -> Result<(), AllocError> {
+        let bits = Bits {
+            is_cut,
+            ..self.bits
+        };
+        self.bits.value = 0;
+        self.bits.count = 0;
+        if bits.count == 0 {
+            return Ok(());
+        }
+        self.say(self.began, Word::Byte(bits))
+    }
+
+    fn say(&mut self, time: u64, word: Word) -> Result<(), AllocError> {
+        if self.is_told {
+            self.said.push(Said { time, word })?;
+        }
+        Ok(())
+    }
+}

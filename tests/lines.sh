@@ -1,0 +1,397 @@
+#!/usr/bin/env bash
+# Which lines of a dump: names, paths and bits of vectors, and the lines by which controllers pull SDA. The last line is
+# 'N passed, M failed', and the exit status is 1 where a case fails.
+#
+# It runs the launcher at the top of the repository, or the program that TWIRE names.
+set -u
+
+tests=$(dirname -- "$(readlink -f -- "${BASH_SOURCE[0]}")")
+twire=$(readlink -f -- "${TWIRE:-$tests/../twire}")
+work=$(mktemp -d)
+trap 'rm -rf -- "$work"' EXIT
+cd -- "$work" || exit 1
+
+passed=0
+failed=0
+
+# expect NAME STATUS OUT ERR COMMAND ARG..: one call of twire, with hints only where the arguments say so.
+expect() {
+    local name=$1 status=$2 out=$3 err=$4
+    shift 4
+    local found_out found_err found_status
+    found_out=$("$twire" "$@" 2>err)
+    found_status=$?
+    found_err=$(cat err)
+    if [[ $found_status == "$status" && $found_out == "$out" && $found_err == "$err" ]]; then
+        passed=$((passed + 1))
+    else
+        failed=$((failed + 1))
+        printf 'FAILED: %s: wanted %s, found %s\n%s\n%s\n' "$name" "$status $out $err" "$found_status" "$found_out" "$found_err"
+    fi
+}
+
+# refuses NAME WORDS COMMAND ARG..: a command line that does not parse, for this reason.
+refuses() {
+    local name=$1 words=$2
+    shift 2
+    local found_out found_status
+    found_out=$("$twire" "$@" 2>err)
+    found_status=$?
+    if [[ $found_status == 2 && -z $found_out && $(head -n 1 err) == "error: $words" ]]; then
+        passed=$((passed + 1))
+    else
+        failed=$((failed + 1))
+        printf 'FAILED: %s: wanted %s, found %s\n' "$name" "$words" "$found_status"
+        cat err
+    fi
+}
+
+"$twire" --version >/dev/null 2>&1
+
+cat >plan <<'PLAN'
+plan 1
+message m write 1001000 stop else stop ;
+message n write 1001000 0000000x stop else stop else stop ;
+controller a m ;
+controller b n ;
+PLAN
+
+# ---- names, paths and bits
+
+# A bus whose SCL and SDA are bits of `bus`, which is written with as few digits as its value needs: SCL is the fourth from the
+# right, and SDA the second. A write of no byte to 0x48, from 5 to 160, which is acknowledged.
+bits() {
+    awk -v levels=100100000 '
+    function put(c, d,   value) {
+        value = (c ? "1" : "") (c ? "0" : "") (c || d ? d : "") "0"
+        print "#" time " b" value " !"
+        time += 5
+    }
+    BEGIN {
+        time = 0; put(1, 1); time = 5; put(1, 0); put(0, 0)
+        for (i = 1; i <= length(levels); i++) {
+            level = substr(levels, i, 1)
+            put(0, level); put(1, level); put(0, level)
+        }
+        put(0, 0); put(1, 0); put(1, 1)
+    }'
+}
+# of DEFINITIONS..: such a dump, with these `$var` in the scopes top and m.
+of() {
+    printf '%s\n' '$scope module top $end' '$scope module m $end' "$@" '$upscope $end' '$upscope $end' '$enddefinitions $end'
+    bits
+}
+write=$'5-160 a/m\n1 transactions, 0 unexplained'
+of '$var wire 4 ! bus [3:0] $end' >vector
+of '$var wire 4 ! bus[3:0] $end' >joined
+of '$var wire 4 ! bus [0:3] $end' >ascending
+of '$var wire 4 ! bus [10:7] $end' >shifted
+of '$var wire 4 ! bus $end' >bare
+of '$var wire 4 ! bus [-1:-4] $end' >negative
+for dump in vector joined bare; do
+    expect "bits of a vector: $dump" 0 "$write" "" capture plan $dump --scl 'bus[3]' --sda 'bus[1]'
+done
+expect "bits that count up" 0 "$write" "" capture plan ascending --scl 'bus[0]' --sda 'bus[2]'
+expect "bits that count from another number" 0 "$write" "" capture plan shifted --scl 'bus[10]' --sda 'bus[8]'
+expect "bits that count below 0" 0 "$write" "" capture plan negative --scl 'bus[-1]' --sda 'bus[-3]'
+expect "bits by their path" 0 "$write" "" capture plan vector --scl 'top.m.bus[3]' --sda 'top.m.bus[1]'
+expect "bits with blanks at the ends" 0 "$write" "" capture plan vector --scl ' bus[3]' --sda 'bus[1] '
+expect "a path with blanks at the ends" 0 "$write" "" capture plan vector --scl ' top.m.bus[3] ' --sda ' top.m.bus[1]'
+expect "bits in a scope" 0 "$write" "" capture plan vector --scope top.m --scl 'bus[3]' --sda 'bus[1]'
+expect "bits by a path below a scope" 0 "$write" "" capture plan vector --scope top --scl 'm.bus[3]' --sda 'm.bus[1]'
+expect "bits in another scope" 2 "" "refused V1 scl" capture plan vector --scope top --scl 'bus[3]' --sda 'bus[1]'
+expect "a bit above the first" 2 "" "refused V1 scl" capture plan vector --scl 'bus[4]' --sda 'bus[1]'
+expect "a bit below the last" 2 "" "refused V1 sda" capture plan shifted --scl 'bus[10]' --sda 'bus[6]'
+expect "a bit that is no number" 2 "" "refused V1 scl" capture plan vector --scl 'bus[x]' --sda 'bus[1]'
+expect "a vector is no line" 2 "" "refused V1 scl" capture plan vector --scl 'bus [3:0]' --sda 'bus[1]'
+expect "bits, decoded" 0 $'5-160  S 48 Wr A P\n1 transactions' "" decode vector --scl 'bus[3]' --sda 'bus[1]'
+expect "bits, learned" 0 "$(sed 's/ [3:0]//' vector >plain_name; "$twire" learn plain_name --scl 'bus[3]' --sda 'bus[1]')" "" \
+    learn vector --scl 'bus[3]' --sda 'bus[1]'
+expect "bits on standard input" 0 "$write" "" capture plan - --scl 'bus[3]' --sda 'bus[1]' < <(cat vector)
+expect "bits, while recorded" 0 "$write" "" capture plan vector --live --scl 'bus[3]' --sda 'bus[1]'
+
+# A signal of one bit whose whole name it is wins over a bit, and a name over a path, wherever they stand.
+{
+    printf '%s\n' '$scope module top $end' '$var wire 4 ! bus [3:0] $end' '$var wire 1 # bus[3] $end' '$var wire 1 " sda $end' \
+        '$scope module m $end' '$var wire 1 % scl $end' '$upscope $end' '$var wire 1 & top.m.scl $end' '$upscope $end' \
+        '$enddefinitions $end' '#0 b0 ! 1# 1" 1% 1&'
+    printf '%s\n' '#5 0"' '#10 0#' '#15 1#' '#20 0#' '#25 1#' '#30 1"' '#35 0&' '#40 1&' '#45 0"' '#50 1"'
+} >twins
+expect "a whole name wins over a bit" 0 $'5-30  S 0b0(cut) P\n45-50  S P\n2 transactions' "" decode twins --scl 'bus[3]'
+expect "a whole name wins over a path" 0 $'5-30  S P\n45-50  S P\n2 transactions' "" decode twins --scl top.m.scl
+expect "a path" 0 $'5-30  S P\n45-50  S P\n2 transactions' "" decode twins --scl top.m.scl --sda top.sda
+
+# What a change does not write: 0 where its first digit is 0 or 1, and else that digit once more.
+{
+    printf '%s\n' '$var wire 4 ! bus [3:0] $end' '$enddefinitions $end'
+    printf '%s\n' '#0 bz !' '#5 b1z0z !' '#10 b1 !' '#15 b1000 !' '#20 bz !'
+} >extended
+expect "short values are extended" 0 "5-20  S P
+1 transactions" "" decode extended --scl 'bus[3]' --sda 'bus[1]'
+{
+    printf '%s\n' '$var wire 4 ! bus [3:0] $end' '$enddefinitions $end'
+    printf '%s\n' '#0 b1111 !' '#5 b1101 !' '#10 bx01 !' '#15 b1111 !'
+} >extended_by_x
+expect "an unknown digit is extended" 0 "5-10 cut S
+0 transactions" "" decode extended_by_x --scl 'bus[3]' --sda 'bus[1]'
+expect "a vector in a place of no digits" 2 "" "refused V2 line 3" decode <(sed 's/bz !/b2 !/' extended) --scl 'bus[3]' --sda 'bus[1]'
+
+# ---- hints
+
+expect "a hint on a vector" 2 "" "refused V1 scl
+hint: no signal of one bit has the name 'bus'
+hint: a signal of this name is there, and has 4 bits: its rightmost one is
+hint: 'bus[7]'
+hint: the file declares no signal of one bit: is it a value change dump?
+hint: give the name that the line has in the file with --scl NAME
+hint: this lists the signals: twire signals shifted" decode shifted --scl bus --sda 'bus[8]' --hints always
+near="refused V1 scl
+hint: no signal of one bit has the name 'm.scl'
+hint: these signals have one bit, the nearest names first:
+hint:   top.m.scl
+hint:   top.top.m.scl
+hint:   top.sda
+hint:   top.bus[3]
+hint: give the name that the line has in the file with --scl NAME
+hint: this lists the signals: twire signals"
+expect "nearest names have their scopes" 2 "" "$near twins" decode twins --scl m.scl --sda top.sda --hints always
+expect "nearest names on standard input" 2 "" "$near -" decode - --scl m.scl --sda top.sda --hints always < <(cat twins)
+
+# ---- who drove
+
+# drove A B TARGET STARTS: a dump in which two controllers pull SDA by the lines oa and ob: their levels and those that the target
+# gives, slot by slot. STARTS says which of the two pull SDA at the START. From 5 on, in steps of 5, and 3 steps a slot.
+drove() {
+    awk -v a="$1" -v b="$2" -v target="$3" -v starts="$4" -v time="${5:-5}" '
+    function put(oa, ob, t, c) {
+        print "#" time " " oa "# " ob "$ " ((oa && ob && t) ? 1 : 0) "\" " c "!"
+        time += 5
+    }
+    BEGIN {
+        put(starts ~ /a/ ? 0 : 1, starts ~ /b/ ? 0 : 1, 1, 1)
+        put(starts ~ /a/ ? 0 : 1, starts ~ /b/ ? 0 : 1, 1, 0)
+        for (i = 1; i <= length(a); i++) {
+            oa = substr(a, i, 1) + 0; ob = substr(b, i, 1) + 0; t = substr(target, i, 1) + 0
+            put(oa, ob, t, 0); put(oa, ob, t, 1); put(oa, ob, t, 0)
+        }
+        last = (starts ~ /A/) ? 0 : 1
+        put(last, 1 - last, 1, 0); put(last, 1 - last, 1, 1); put(1, 1, 1, 1)
+    }'
+}
+heads() {
+    printf '%s\n' '$timescale 1 us $end' '$scope module top $end' '$var wire 1 ! scl $end' '$var wire 1 " sda $end' \
+        '$var wire 1 # oa $end' '$var wire 1 $ ob $end' '$upscope $end' '$enddefinitions $end' '#0 1! 1" 1# 1$'
+}
+cat >two.brief <<'PLAN'
+brief 1
+message low  write 0x48 0x0f ;
+message high write 0x48 0x33 ;
+controller a low ;
+controller b high ;
+PLAN
+both=(--drives a=oa --drives b=ob)
+header=10010000
+rest=11111111
+# The target pulls in slots 8 and 17.
+target=111111110111111110
+{ heads; drove "${header}1000011111" "${header}1001111111" $target Aab; } >arbitrated
+expect "one loses" 0 "5-295 a/low
+    a starts, and goes on to the end
+    b starts, and loses in slot 11: it sends 1, the bus has 0
+    who drove: in 1 transactions as the rules of the plan give, not in 0; others
+    sent 0
+1 transactions, 0 unexplained" "" capture two.brief arbitrated "${both[@]}"
+expect "lines by paths, codes and a scope" 0 "$("$twire" capture two.brief arbitrated "${both[@]}")" "" \
+    capture two.brief arbitrated --drives a=top.oa --drives 'b=$'
+expect "one line alone" 0 "5-295 a/low
+    b starts, and loses in slot 11: it sends 1, the bus has 0
+    who drove: in 1 transactions as the rules of the plan give, not in 0; others
+    sent 0
+1 transactions, 0 unexplained" "" capture two.brief arbitrated --drives b=ob
+expect "while it is recorded" 0 "$("$twire" capture two.brief arbitrated "${both[@]}")" "" \
+    capture two.brief arbitrated "${both[@]}" --live
+# The same with lines that pull where they are 1, as bits of one vector.
+{
+    heads | sed 's/\$var wire 1 # oa \$end/$var wire 2 # enable [1:0] $end/; /ob \$end/d; s/ 1# 1\$/ b0 #/'
+    drove "${header}1000011111" "${header}1001111111" $target Aab | awk '{
+        print $1 " b" (1 - substr($2, 1, 1)) (1 - substr($3, 1, 1)) " # " $4 " " $5
+    }'
+} >enables
+expect "lines that pull where they are 1" 0 "$("$twire" capture two.brief arbitrated "${both[@]}")" "" \
+    capture two.brief enables --drives 'a=enable[1]' --drives 'b=enable[0]' --pulls 1
+{ heads; drove "${header}1000011111" "${header}1001110111" $target ab; } >pulls_on
+expect "one still pulls" 1 "5-295 unexplained
+    a starts, and loses in slot 14: it sends 1, the bus has 0
+    b starts, and loses in slot 11, but still pulls SDA in slot 14: against the
+    rules
+    who drove: in 0 transactions as the rules of the plan give, not in 1; others
+    sent 0
+1 transactions, 1 unexplained" "" capture two.brief pulls_on "${both[@]}"
+{ heads; drove "${header}1000011111" "${rest}1110111111" $target Aa; } >late
+expect "one joins late" 1 "5-295 a/low
+    a starts, and goes on to the end
+    b does not start, but pulls SDA in slot 11: against the rules
+    who drove: in 0 transactions as the rules of the plan give, not in 1; others
+    sent 0
+1 transactions, 0 unexplained" "" capture two.brief late "${both[@]}"
+{ heads; drove "${header}1010011111" "${rest}1111111111" $target Aa; } >departed
+expect "one departs from its messages" 1 "5-295 unexplained
+    a starts, and in slot 10 releases SDA, which no message of it does there:
+    against the plan
+    who drove: in 0 transactions as the rules of the plan give, not in 1; others
+    sent 0
+1 transactions, 1 unexplained" "" capture two.brief departed "${both[@]}"
+{ heads; drove "${rest}1111111111" "${header}1001100111" $target b; } >other
+expect "the other alone" 0 "5-295 b/high
+    b starts, and goes on to the end
+    who drove: in 1 transactions as the rules of the plan give, not in 0; others
+    sent 0
+1 transactions, 0 unexplained" "" capture two.brief other "${both[@]}"
+{ heads; drove "${header}1000011111" "${header}1001111111" $target Aab | head -n 32; echo '#900'; } >cut_short
+expect "what is unfinished is not counted" 0 "5- unfinished
+    a starts, and goes on to the end
+    b starts, and goes on to the end
+    who drove: in 0 transactions as the rules of the plan give, not in 0; others
+    sent 0
+0 transactions, 0 unexplained" "" capture two.brief cut_short "${both[@]}"
+expect "as objects" 0 '{"kind":"transaction","from":5,"to":295,"end":"stop","participants":["a/low"],"drives":[{"controller":"a","does":"goes on"},{"controller":"b","does":"loses","slot":11}]}
+{"kind":"transactions","transactions":1,"unexplained":0,"drives":{"right":1,"wrong":0,"others":0}}' "" \
+    capture two.brief arbitrated "${both[@]}" --format json
+expect "as objects, against the rules" 1 '{"kind":"transaction","from":5,"to":295,"end":"stop","participants":[],"drives":[{"controller":"a","does":"loses","slot":14},{"controller":"b","does":"pulls on","slot":11,"again":14}]}
+{"kind":"transactions","transactions":1,"unexplained":1,"drives":{"right":0,"wrong":1,"others":0}}' "" \
+    capture two.brief pulls_on "${both[@]}" --format json
+
+expect "what only the controllers that are followed could have sent" 1 "5-295 b/high
+    none of the controllers that are followed pulls SDA, and no other sends
+    this: against the plan
+    who drove: in 0 transactions as the rules of the plan give, not in 1; others
+    sent 0
+1 transactions, 0 unexplained" "" capture two.brief other --drives b=oa
+expect "what others sent" 0 "5-295 b/high
+    who drove: in 0 transactions as the rules of the plan give, not in 0; others
+    sent 1
+1 transactions, 0 unexplained" "" capture two.brief other --drives a=oa
+
+# ---- messages shared out
+
+{ heads; drove "${header}1000011111" "${header}1001111111" $target Aab; drove "${rest}1111111111" "${header}1001100111" $target b 300; } >lesson
+shared='brief 1
+# seen: 2 transactions, 2 messages
+
+# 1 times, first at 5: S 48 Wr A 0f A P
+# never seen: 48 Wr NA, 0x0f NA,
+message write_48_r0f write 0x48 0x0f ;
+
+# 1 times, first at 300: S 48 Wr A 33 A P
+# never seen: 48 Wr NA, 0x33 NA,
+message write_48_r33 write 0x48 0x33 ;
+
+controller a write_48_r0f ;
+
+controller b write_48_r33 ;'
+expect "each has its own messages" 0 "$shared" "" learn lesson "${both[@]}"
+expect "what is of none of them" 0 "${shared/$'\n\ncontroller a write_48_r0f ;'/}
+
+controller seen write_48_r0f ;" "" learn lesson --drives b=ob
+theirs=${shared/$'\n\ncontroller a write_48_r0f ;'/}
+expect "what is of none of them, beside one of that name" 0 "${theirs/controller b/controller seen}
+
+controller seen_2 write_48_r0f ;" "" learn lesson --drives seen=ob
+{ heads; drove "${header}1000011111" "${header}1000011111" $target Aab; drove "${rest}1111111111" "${header}1000011111" $target b 300; } >one_message
+expect "a message of both" 0 'brief 1
+# seen: 2 transactions, 1 messages
+
+# 2 times, first at 5: S 48 Wr A 0f A P
+# never seen: 48 Wr NA, 0x0f NA,
+message write_48_r0f write 0x48 0x0f ;
+
+controller a write_48_r0f ;
+
+controller b write_48_r0f ;' "" learn one_message "${both[@]}"
+
+# Each has messages of its own: only b has sent a byte, and a nothing but a header that nobody acknowledges.
+{
+    heads
+    drove "${rest}1111111111" "${header}1001100111" $target b
+    drove "${header}1" "${rest}1" 111111111 Aa 300
+} >polls
+expect "no message has what only another one sent" 0 'brief 1
+# seen: 2 transactions, 2 messages
+
+# 1 times, first at 5: S 48 Wr A 33 A P
+# never seen: 48 Wr NA, 0x33 NA,
+message write_48_r33 write 0x48 0x33 ;
+
+# 1 times, first at 300: S 48 Wr NA P
+# never seen: 48 Wr A,
+message write_48 write 0x48 ;
+
+controller a write_48 ;
+
+controller b write_48_r33 ;' "" learn polls "${both[@]}"
+# a goes on after it has lost: the STOP is of both.
+{ heads; drove "${header}1000011111" "${header}1001100111" $target Aab | sed 's/^\(#2[89][05]\) 0# 1\$/\1 0# 0$/'; } >collision
+expect "what nobody sent is no message" 1 'brief 1
+# seen: 1 transactions, 0 messages
+# in no message: 1, first at 5: those who made its STOP have sent different
+#   bits: nobody sent this' "" learn collision "${both[@]}"
+cat >known.brief <<'PLAN'
+brief 1
+device sensor 0x48 ;
+message high write sensor 0x33 ;
+controller a high ;
+PLAN
+expect "a message that another controller lists" 0 'brief 1
+# seen: 1 transactions, 0 messages
+# 1 transactions are those of messages in known.brief
+
+controller b high ;' "" learn other "${both[@]}" --names known.brief
+expect "a controller that the brief has" 0 'brief 1
+# seen: 2 transactions, 1 messages
+# 1 transactions are those of messages in known.brief
+
+# 1 times, first at 5: S 48 Wr A 0f A P
+# never seen: 48 Wr NA, 0x0f NA,
+message write_48_r0f write sensor 0x0f ;
+
+# before a check, put these into a of known.brief
+controller a_2 write_48_r0f ;
+
+controller b high ;' "" learn lesson "${both[@]}" --names known.brief
+
+# ---- refusals
+
+expect "a line that is not there" 2 "" "refused drives b
+hint: no signal fits 'none': it may be a name, a path as top.bmc.sda_o, or the
+hint: code of a signal of one bit; or one bit of a vector, as bus[2]" \
+    capture two.brief arbitrated --drives a=oa --drives b=none --hints always
+expect "SCL is missing too" 2 "" "refused V1 scl" capture two.brief arbitrated --scl clk --drives b=none
+expect "a line that is SDA" 2 "5-295 a/low
+    a starts, and goes on to the end
+    b starts, and in slot 8 pulls SDA, which no message of it does there:
+    against the plan
+    who drove: in 0 transactions as the rules of the plan give, not in 1; others
+    sent 0
+1 transactions, 0 unexplained" "refused drives b" capture two.brief arbitrated --drives a=oa --drives b=sda
+expect "a line that pulls at the other level" 2 "" "refused drives a
+hint: 'oa' pulls SDA LOW in a slot in which SDA is HIGH, so it is another line,
+hint: or pulls at the other level: --pulls 1 is for lines that pull where they
+hint: are 1, and --pulls 0 for those that pull where they are 0" learn arbitrated "${both[@]}" --pulls 1 --hints always
+expect "a lesson by a line that is SDA" 2 "" "refused drives b" learn arbitrated --drives a=oa --drives b=sda
+expect "a controller that the plan does not have" 2 "" "refused drives c
+hint: the plan has no controller 'c'; it has
+hint:   a
+hint:   b" capture two.brief arbitrated --drives c=oa --hints always
+expect "a controller that no brief has" 2 "" "refused drives 1a" learn arbitrated --drives 1a=oa
+expect "a controller with a word of briefs" 2 "" "refused drives device" learn arbitrated --drives device=oa
+expect "a refusal as an object" 2 "" '{"kind":"refusal","code":"drives","controller":"c"}' \
+    capture two.brief arbitrated --drives c=oa --format json
+refuses "no line" "'--drives' takes NAME=WHERE, as bmc=top.bmc.sda_o" learn arbitrated --drives a=
+refuses "no equals sign" "'--drives' takes NAME=WHERE, as bmc=top.bmc.sda_o" capture plan arbitrated --drives oa
+refuses "a controller twice" "'--drives' names a controller twice: it has one line" learn arbitrated --drives a=oa --drives a=ob
+refuses "short pulses" "'--min-pulse' leaves out levels, and '--drives' looks at all of them" \
+    capture plan arbitrated --drives a=oa --min-pulse 5
+refuses "counts alone" "'--summary' leaves no transactions for '--drives'" capture plan arbitrated --drives a=oa --summary
+
+echo "$passed passed, $failed failed"
+[[ $failed == 0 ]]

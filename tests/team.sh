@@ -1,0 +1,182 @@
+#!/usr/bin/env bash
+# The checks of a team, as docs/GUIDE.md has them: its script and its workflow, in a git repository of its own, with the mistakes
+# that people make. Each ends with a line that says what to do, and once that is done the checks pass. The last line is
+# 'N passed, M failed', and the exit status is 1 where a case fails.
+#
+# It runs the launchers of twire and twire-verify, or the programs that TWIRE and TWIRE_VERIFY name.
+set -u
+
+tests=$(dirname -- "$(readlink -f -- "${BASH_SOURCE[0]}")")
+twire=$(readlink -f -- "${TWIRE:-$tests/../twire}")
+verifier=$(readlink -f -- "${TWIRE_VERIFY:-$tests/../tools/twire-verify}")
+guide=$tests/../docs/GUIDE.md
+work=$(mktemp -d)
+trap 'rm -rf -- "$work"' EXIT
+cd -- "$work" || exit 1
+type -P git >/dev/null || {
+    echo "left out: the checks of a team (there is no git)"
+    echo "0 passed, 0 failed"
+    exit 0
+}
+"$twire" --version >/dev/null 2>&1
+"$verifier" --version >/dev/null 2>&1
+
+passed=0
+failed=0
+
+# want NAME WANTED FOUND
+want() {
+    if [[ $2 == "$3" ]]; then
+        passed=$((passed + 1))
+        return
+    fi
+    failed=$((failed + 1))
+    printf 'FAILED: %s: wanted\n%s\nfound\n%s\n' "$1" "$2" "$3"
+}
+
+# block LANGUAGE: the block of the guide's section in this language.
+block() {
+    awk -v language="$1" '
+        /^### / { on = $0 == "### The checks of a team" }
+        on && $0 == "```" language { inside = 1; next }
+        /^```$/ { inside = 0 }
+        inside' "$guide"
+}
+
+# ---- the team's repository, with the programs as tools/package packs them
+
+mkdir -p twire/bin bus/tools
+cp -- "$twire" twire/bin/twire
+cp -- "$verifier" twire/bin/twire-verify
+# (a launcher finds its sources by its own place)
+[[ -n ${TWIRE:-} ]] || ln -sf -- "$twire" twire/bin/twire
+[[ -n ${TWIRE_VERIFY:-} ]] || ln -sf -- "$verifier" twire/bin/twire-verify
+(cd twire && sha256sum bin/twire bin/twire-verify >SHA256SUMS)
+tar -cf bus/tools/twire.tar twire
+export PATH=$work/twire/bin:$PATH
+
+export HOME=$work GIT_CONFIG_NOSYSTEM=1
+git config --global user.name team
+git config --global user.email team@example.org
+git config --global init.defaultBranch main
+git config --global advice.detachedHead false
+cd bus || exit 1
+git init -q
+block sh >checks.sh
+block gitattributes >.gitattributes
+printf 'brief 1\ndevice eeprom 0x50 ;  device sensor 0x48 ;\nbyte settings 0x01 ;\nmessage get write sensor settings read sensor 1 ;\n' >devices.brief
+printf 'brief 1\nmessage set write sensor settings any ;\ncontroller bmc set ;\n' >bmc.brief
+printf 'brief 1\nmessage load write eeprom any read eeprom 16 ;\ncontroller pch load ;\n' >pch.brief
+briefs="devices.brief bmc.brief pch.brief"
+twire expand $briefs -o bus.plan
+twire certify bus.plan -o bus.cert
+git add .
+git commit -q -m "The bus"
+
+# checks NAME STATUS LAST: what the script ends with: its status, and its last line.
+checks() {
+    local text status
+    text=$(sh checks.sh 2>&1)
+    status=$?
+    want "$1" "$2: $3" "$status: $(tail -n 1 <<<"$text")"
+}
+
+# advised NAME: does what the last line of the checks says behind its colon, which is a command, and the checks pass.
+advised() {
+    local line
+    line=$(sh checks.sh 2>&1 | tail -n 1)
+    line=${line#checks: *: }
+    bash -c "${line%%, and see*}" >/dev/null
+    checks "$1, after what the line says" 0 "accepted safe"
+}
+
+again() {
+    git checkout -q -f main && git reset -q --hard && git clean -q -f -d
+}
+
+want "the script is there" "#!/bin/sh" "$(head -n 1 checks.sh)"
+want "what the shell finds wrong" "" "$(sh -n checks.sh 2>&1)"
+checks "the first commit" 0 "accepted safe"
+
+# ---- the mistakes
+
+sed -i 's/any read eeprom 16/any read eeprom 32/' pch.brief
+checks "a stale plan" 1 "checks: bus.plan is not what the briefs mean: twire expand $briefs -o bus.plan"
+advised "a stale plan"
+want "which file that changed" " M bus.plan
+ M pch.brief" "$(git status --short)"
+again
+
+fits="checks: bus.cert does not fit bus.plan: twire certify bus.plan -o bus.cert, and see that twire check bus.plan says safe"
+printf 'message look read eeprom 8 ;\ncontroller host look ;\n' >>pch.brief
+twire expand $briefs -o bus.plan
+checks "a stale certificate" 1 "$fits"
+advised "a stale certificate"
+again
+
+sed -i 's/^pairs .*/pairs 7/' bus.cert
+checks "a certificate of another plan" 1 "$fits"
+advised "a certificate of another plan"
+again
+
+# both start alike, and then one repeats START while the other sends data
+sed -i 's/^controller bmc set ;/controller bmc set ;\ncontroller host get ;/' bmc.brief
+twire expand $briefs -o bus.plan
+twire certify bus.plan -o bus.cert
+checks "an unsafe plan" 1 "checks: the plan is not safe: twire check bus.plan --explain says where, and what mends it"
+want "what its line names" "unsafe: 1 of 3 pairs" "$(twire check bus.plan | tail -n 1)"
+again
+
+sed -i 's/^briefs=.*/briefs="bmc.brief devices.brief pch.brief"/' checks.sh
+checks "the wrong order" 1 "checks: the briefs are refused: mend the line above, or their order in checks.sh (what a file uses stands before it)"
+want "the refusal above it" "refused P8 line 2" "$(sh checks.sh 2>&1 | grep -o '^refused P8 line 2')"
+again
+
+sed -i 's/^briefs=.*/briefs="devices.brief bcm.brief pch.brief"/' checks.sh
+checks "a name that is mistyped" 1 "checks: there is no bcm.brief: put it there, or mend its name in checks.sh"
+again
+
+git rm -q bus.cert
+checks "no certificate" 1 "checks: there is no bus.cert: put it there, or mend its name in checks.sh"
+again
+
+sed -i 's/sensor 0x48/sensor 0x4G/' devices.brief
+checks "a mistyped address" 1 "checks: the briefs are refused: mend the line above, or their order in checks.sh (what a file uses stands before it)"
+again
+
+# Checkouts on Windows: with the lines of the guide, and with the script's alone.
+git clone -q -c core.autocrlf=true . "$work/windows"
+cd "$work/windows" || exit 1
+checks "a checkout of Windows" 0 "accepted safe"
+cd "$work/bus" || exit 1
+git checkout -q -b forgotten
+echo "checks.sh -text" >.gitattributes
+git commit -q -a -m "Some ends of lines"
+git clone -q -c core.autocrlf=true . "$work/forgotten"
+git checkout -q main
+cd "$work/forgotten" || exit 1
+for file in devices.brief bmc.brief pch.brief bus.plan bus.cert; do
+    checks "a checkout of Windows that has changed $file" 1 "checks: $file has the ends of lines of Windows: add '*.${file#*.} -text' to .gitattributes, delete $file, and git checkout $file"
+    echo "*.${file#*.} -text" >>.gitattributes
+    rm "$file"
+    git checkout -q -- "$file"
+done
+checks "a checkout of Windows, after what the lines say" 0 "accepted safe"
+cd "$work/bus" || exit 1
+
+# ---- the workflow
+
+block yaml >workflow.yml
+want "the steps of the workflow" 3 "$(grep -c '^      - run: ' workflow.yml)"
+git clone -q . "$work/server"
+sed -n 's/^      - run: //p' workflow.yml >"$work/steps"
+cd "$work/server" || exit 1
+while IFS= read -r step; do
+    want "a step of the workflow: $step" 0 "$(PATH=/usr/local/bin:/usr/bin:/bin bash -e -c "$step" >"$work/said" 2>&1 </dev/null; echo $?)"
+done <"$work/steps"
+want "what its last step says" "accepted safe" "$(cat "$work/said")"
+echo >>twire/bin/twire-verify
+want "a changed program, by its sums" 1 "$(bash -e -c "$(sed -n 2p "$work/steps")" >/dev/null 2>&1; echo $?)"
+
+echo "$passed passed, $failed failed"
+((failed == 0))

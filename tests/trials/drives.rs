@@ -1,0 +1,241 @@
+//! Dumps of plays in which controllers have lines of their own: what twire says that each of them did, by `capture`, and how it
+//! shares out what it learns among them.
+
+use crate::cases::NAMES;
+use crate::crew::Crew;
+use crate::desks::Desk;
+use crate::dice::Dice;
+use crate::disagreements::{Disagreement, Score};
+use crate::json::Value;
+use crate::objects::{of_explained, of_kind};
+use crate::plain::before::Before;
+use crate::plain::captures::{Transaction, Until};
+use crate::plain::drives::{driven, Does, Driven, DrivesRefusal};
+use crate::plain::found::explainers;
+use crate::plain::generated::{self, Plays};
+use crate::plain::learned::{learned_of, Data, Shares};
+use crate::plain::lines::Lines;
+use crate::plain::{brief, with_plan, Answer, Level, Participant, Participants};
+use crate::seeds::mixed;
+use crate::tallies::Tallies;
+use crate::values::object;
+use crate::vectors::disagreement;
+use std::io;
+
+// How many dumps there are, and in how many of their plays a controller has a fault: none of one, or all but one of so many.
+const LOTS: [(&str, u32, u64); 2] = [("plays by the rules", 1, 100), ("plays with faults", 8, 200)];
+
+// Each of these is to come up.
+const WANTED: [&str; 7] = ["goes on", "loses", "pulls on", "departs", "joins late", "is SDA", "is not on the bus"];
+
+/// Tells who drove in such dumps, and learns of them, one of so many.
+pub fn try_drives(crew: &mut Crew, score: &mut Score, seed: u64, step: usize) -> io::Result<()> {
+    let mut tallies = Tallies::default();
+    for (place, (name, faults, count)) in LOTS.into_iter().enumerate() {
+        let numbers: Vec<u64> = (0..count).step_by(step).collect();
+        let tried = crew.each(&numbers, |desk, number| {
+            let mut dice = Dice { state: mixed(seed ^ 0xd21e ^ place as u64, *number) };
+            let plan = match dice.throw(3) {
+                0 => generated::safe_plan(2 + dice.index(3), &mut dice),
+                _ => generated::plan(&mut dice),
+            };
+            let plays = |plan: &Participants| generated::plays(plan, faults, &mut dice);
+            match with_plan(plan.as_bytes(), plays) {
+                Ok(plays) if !plays.drives.is_empty() => {
+                    compare(desk, &format!("{name}, number {number}"), &plan, &plays)
+                }
+                _ => Ok((Vec::new(), None)),
+            }
+        })?;
+        println!("made up, {name}: {}", tried.len());
+        for (kinds, disagreement) in tried {
+            kinds.into_iter().for_each(|kind| tallies.count(kind));
+            score.count(&[disagreement]);
+        }
+    }
+    let rare = if step > 1 { Vec::new() } else { tallies.rare_of(&WANTED) };
+    for (kind, found) in rare {
+        score.fail(&format!("too few of {kind} among plays: {found}"));
+    }
+    Ok(())
+}
+
+// The kinds of what controllers did, and where both do not say the same.
+fn compare(desk: &mut Desk, name: &str, plan: &str, plays: &Plays) -> io::Result<(Vec<String>, Option<Disagreement>)> {
+    let own = plays.drives.iter().map(|(_, place)| place.as_str()).collect();
+    let lines = Lines { own, ..Lines::named("scl", "sda") };
+    let pulls = if plays.pulls { Level::High } else { Level::Low };
+    let found = driven(plays.dump.as_bytes(), &lines, pulls);
+    let (plan, dump) = (plan.as_bytes(), plays.dump.as_bytes());
+    let of_plan = |plan: &Participants| captured(plan, plays, &found);
+    let (kinds, wanted) = with_plan(plan, of_plan).expect("a plan");
+    let mut options = options_of("capture", plays);
+    options.push("--format=json".to_owned());
+    let told = format!("{name}: {options:?}\n{}\n{}", plan_of(plan), plays.dump);
+    let said = desk.say(plan, dump, options, NAMES.to_vec())?;
+    let fault = disagreement(&told, plan, dump, wanted, &with_report_of(said, &found.1));
+    if fault.is_some() {
+        return Ok((kinds, fault));
+    }
+    let brief = brief(plan).out;
+    for lesson in lessons(plays, &brief) {
+        let said = desk.say(brief.as_bytes(), dump, lesson.options(), vec![NAMES[1]])?;
+        let told = format!("{name}: {:?}\n{brief}\n{}", lesson.options(), plays.dump);
+        let fault = disagreement(&told, brief.as_bytes(), dump, lesson.wanted(&found), &said);
+        if fault.is_some() {
+            return Ok((kinds, fault));
+        }
+    }
+    Ok((kinds, None))
+}
+
+// What is learned of plays: with these names of the controllers, perhaps beside a brief.
+struct Lesson<'a> {
+    plays: Plays,
+    data: Data,
+    before: Option<&'a str>,
+}
+
+// Each kind of lesson alone, and one beside the brief of the plan. There the controllers have the names of one another, so they
+// send what it does not list for them.
+fn lessons<'a>(plays: &Plays, brief: &'a str) -> Vec<Lesson<'a>> {
+    let alone = |data: Data| Lesson { plays: plays.clone(), data, before: None };
+    let mut turned = plays.clone();
+    let count = turned.drives.len();
+    for (k, (name, _)) in turned.drives.iter_mut().enumerate() {
+        name.clone_from(&plays.drives[(k + 1) % count].0);
+    }
+    let beside = |plays: Plays| Lesson { plays, data: Data::AsSeen, before: Some(brief) };
+    let all = Data::ALL.into_iter().map(alone);
+    all.chain([beside(plays.clone()), beside(turned)]).collect()
+}
+
+impl Lesson<'_> {
+    fn options(&self) -> Vec<String> {
+        let mut options = options_of("learn", &self.plays);
+        options.extend(match self.data {
+            Data::AsSeen => None,
+            Data::Merged => Some("--merge".to_owned()),
+            Data::Widened => Some("--widen".to_owned()),
+        });
+        options.extend(self.before.map(|_| format!("--names={}", NAMES[0])));
+        options
+    }
+
+    // What `learn` writes.
+    fn wanted(&self, found: &Found) -> Answer {
+        if let Some(refusal) = &found.1 {
+            return refused(&self.plays, refusal, false);
+        }
+        let makers = |driven: &Driven| (!driven.is_collision()).then(|| driven.makers().into_iter().collect());
+        let shares = Shares {
+            controllers: self.plays.drives.iter().map(|(name, _)| name.as_str()).collect(),
+            owners: found.0.iter().map(makers).collect(),
+        };
+        let transactions: Vec<Transaction> = found.0.iter().map(|driven| driven.transaction.clone()).collect();
+        let before = self.before.map(|brief| Before::of(NAMES[0], brief).expect("a brief of a plan"));
+        let learned = learned_of(&transactions, self.data, before.as_ref(), &shares);
+        Answer { status: u8::from(!learned.is_all), out: learned.brief, refusal: String::new() }
+    }
+}
+
+fn options_of(command: &str, plays: &Plays) -> Vec<String> {
+    let mut options = vec![command.to_owned(), format!("--pulls={}", u8::from(plays.pulls))];
+    options.extend(plays.drives.iter().map(|(name, place)| format!("--drives={name}={place}")));
+    options
+}
+
+fn plan_of(plan: &[u8]) -> String {
+    String::from_utf8_lossy(plan).into_owned()
+}
+
+// What came before a refusal may stand there or not.
+fn with_report_of(said: Answer, refusal: &Option<DrivesRefusal>) -> Answer {
+    match refusal {
+        Some(_) => Answer { out: String::new(), ..said },
+        None => said,
+    }
+}
+
+type Found = (Vec<Driven>, Option<DrivesRefusal>);
+
+// The refusal of the line of a controller.
+fn refused(plays: &Plays, refusal: &DrivesRefusal, is_object: bool) -> Answer {
+    let (DrivesRefusal::IsSda(line) | DrivesRefusal::IsDenied(line)) = refusal else {
+        panic!("the dump of a play is refused: {refusal:?}");
+    };
+    let name = &plays.drives[*line].0;
+    let fields = vec![("code", Value::text("drives")), ("controller", Value::text(name))];
+    let object = format!("on standard error: {}\n", of_kind("refusal", fields));
+    Answer { status: 2, out: String::new(), refusal: if is_object { object } else { format!("drives {name}") } }
+}
+
+// What `capture` says in objects.
+fn captured(plan: &Participants, plays: &Plays, found: &Found) -> (Vec<String>, Answer) {
+    if let Some(refusal) = &found.1 {
+        let kind = if matches!(refusal, DrivesRefusal::IsSda(_)) { "is SDA" } else { "is not on the bus" };
+        return (vec![kind.to_owned()], refused(plays, refusal, true));
+    }
+    let mut kinds = Vec::new();
+    let mut out = String::new();
+    let (mut stopped, mut unexplained, mut right, mut wrong, mut others) = (0, 0, 0, 0, 0);
+    for driven in &found.0 {
+        let named = plays.drives.iter().enumerate();
+        let does: Vec<(&str, Does)> =
+            named.filter_map(|(line, (name, _))| Some((name.as_str(), driven.does(plan, name, line)?))).collect();
+        kinds.extend(does.iter().map(|(_, does)| word_of(*does).to_owned()));
+        if matches!(driven.transaction.until, Until::Stopped(_)) {
+            stopped += 1;
+            let explainers = explainers(plan, &driven.transaction);
+            unexplained += usize::from(explainers.is_empty());
+            let is_denied = does.is_empty() && !explainers.is_empty() && all_followed(plan, plays, &explainers);
+            if is_denied || does.iter().any(|(_, does)| does.is_wrong()) {
+                wrong += 1;
+            } else if does.is_empty() {
+                others += 1;
+            } else {
+                right += 1;
+            }
+        }
+        let Value::Object(mut members) = of_explained(plan, &driven.transaction, None) else {
+            continue;
+        };
+        let objects = does.iter().map(|(name, does)| object_of(name, *does));
+        members.push(("drives".to_owned(), Value::Array(objects.collect())));
+        out += &format!("{}\n", Value::Object(members));
+    }
+    let counts = object(vec![("right", Value::of(right)), ("wrong", Value::of(wrong)), ("others", Value::of(others))]);
+    let fields =
+        vec![("transactions", Value::of(stopped)), ("unexplained", Value::of(unexplained)), ("drives", counts)];
+    out += &format!("{}\n", of_kind("transactions", fields));
+    (kinds, Answer { status: u8::from(unexplained + wrong > 0), out, refusal: String::new() })
+}
+
+// Whether all of these are of controllers that have lines.
+fn all_followed(plan: &Participants, plays: &Plays, participants: &[&Participant]) -> bool {
+    let controllers = &plan.items.controllers;
+    let is_given = |name: &str| plays.drives.iter().any(|(given, _)| given == name);
+    participants.iter().all(|one| one.controller.is_some_and(|number| is_given(controllers[number].name)))
+}
+
+fn word_of(does: Does) -> &'static str {
+    match does {
+        Does::GoesOn => "goes on",
+        Does::Loses { .. } => "loses",
+        Does::PullsOn { .. } => "pulls on",
+        Does::Departs { .. } => "departs",
+        Does::JoinsLate { .. } => "joins late",
+    }
+}
+
+fn object_of(name: &str, does: Does) -> Value {
+    let mut fields = vec![("controller", Value::text(name)), ("does", Value::text(word_of(does)))];
+    match does {
+        Does::GoesOn => {}
+        Does::Loses { slot } | Does::Departs { slot } | Does::JoinsLate { slot } => {
+            fields.push(("slot", Value::of(slot)));
+        }
+        Does::PullsOn { slot, again } => fields.extend([("slot", Value::of(slot)), ("again", Value::of(again))]),
+    }
+    object(fields)
+}

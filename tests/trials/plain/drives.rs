@@ -1,0 +1,193 @@
+//! What each controller did in a transaction, by the line with which it pulls SDA (docs/CAPTURES.md, "Who drove").
+
+use super::captures::{events_of, samples_of, transactions_of, Mark, Transaction, Until, What};
+use super::dumps::{changes_on, Change, DumpRefusal, Level, Signal};
+use super::lines::Lines;
+use super::participants::Participants;
+use super::senders::{Place, Sender};
+use super::wires::Item;
+
+/// What a controller did, in the order of the page. Slots are counted from 0.
+#[derive(Clone, Copy, Debug, PartialEq, Eq)]
+pub enum Does {
+    GoesOn,
+    Loses { slot: usize },
+    PullsOn { slot: usize, again: usize },
+    Departs { slot: usize },
+    JoinsLate { slot: usize },
+}
+
+impl Does {
+    /// Whether it is against the rules or the plan.
+    pub fn is_wrong(self) -> bool {
+        !matches!(self, Does::GoesOn | Does::Loses { .. })
+    }
+
+    // What goes further stands first.
+    fn rank(self) -> (usize, usize) {
+        let (rank, slot) = match self {
+            Does::GoesOn => (0, 0),
+            Does::Loses { slot } => (1, slot),
+            Does::PullsOn { slot, .. } => (2, slot),
+            Does::Departs { slot } => (3, slot),
+            Does::JoinsLate { slot } => (4, slot),
+        };
+        (rank, usize::MAX - slot)
+    }
+}
+
+/// A transaction, and whether each line pulls SDA at its START and in each of its slots.
+#[derive(Clone, Debug)]
+pub struct Driven {
+    pub transaction: Transaction,
+    pub start: Vec<bool>,
+    pub slots: Vec<Vec<bool>>,
+}
+
+impl Driven {
+    /// What a controller did that has this line, and sends these messages: nothing, where it does not pull SDA.
+    pub fn does(&self, plan: &Participants, controller: &str, line: usize) -> Option<Does> {
+        let pulls: Vec<bool> = self.slots.iter().map(|slot| slot[line]).collect();
+        if !self.start[line] {
+            return pulls.iter().position(|pulls| *pulls).map(|slot| Does::JoinsLate { slot });
+        }
+        let place = plan.items.controllers.iter().position(|one| one.name == controller);
+        let own = plan.all.iter().filter(|one| one.controller.is_some() && one.controller == place);
+        own.map(|one| follow(one.sender, &self.transaction.marks, &pulls)).min_by_key(|does| does.rank())
+    }
+
+    /// Which of so many lines pull SDA before the STOP: those who made it.
+    pub fn makers(&self) -> Vec<usize> {
+        let is_stopped = matches!(self.transaction.until, Until::Stopped(_));
+        let last = self.slots.last().filter(|_| is_stopped);
+        last.map_or(Vec::new(), |last| (0..last.len()).filter(|line| last[*line]).collect())
+    }
+
+    /// Whether one of those who made its STOP has sent a 1 where the bus has 0.
+    pub fn is_collision(&self) -> bool {
+        let makers = self.makers();
+        let mut slots = self.slots.iter();
+        self.transaction.marks.split(|mark| *mark == Mark::Again).any(|frame| {
+            // (a repeated START is the slot behind its frame)
+            let pulls: Vec<&Vec<bool>> = slots.by_ref().take(frame.len() + 1).collect();
+            let is_read = frame.get(7) == Some(&Mark::Level(true));
+            let mut bits = frame.iter().zip(pulls).enumerate();
+            bits.any(|(k, (mark, pulls))| {
+                is_of_controllers(k, is_read) && *mark == Mark::Level(false) && makers.iter().any(|line| !pulls[*line])
+            })
+        })
+    }
+
+    // What each line does in the slots in which the bus has a level: whether the bus is HIGH, and whether the line pulls SDA.
+    fn bits(&self, line: usize) -> impl Iterator<Item = (bool, bool)> + '_ {
+        self.slots.iter().zip(&self.transaction.marks).filter_map(move |(slot, mark)| match mark {
+            Mark::Level(bus) => Some((*bus, slot[line])),
+            Mark::Again | Mark::Stop => None,
+        })
+    }
+}
+
+// Whether controllers drive this bit of a frame: the header, bytes that are written, and the acknowledges of those that are read.
+fn is_of_controllers(k: usize, is_read: bool) -> bool {
+    (k >= 9 && is_read) == (k % 9 == 8)
+}
+
+// What is done of a message by a controller that pulls SDA at the START, and in these slots.
+fn follow(sender: &Sender, marks: &[Mark], pulls: &[bool]) -> Does {
+    let mut place = Place::START;
+    for (slot, (mark, pulls_here)) in marks.iter().zip(pulls).enumerate() {
+        let item = match (mark, sender.offers(place)) {
+            (Mark::Level(bus), [Item::Sent(_), ..]) => {
+                let own = Item::Sent(!pulls_here);
+                // (a line that pulls where the bus is HIGH is not on it, and is refused)
+                if !sender.may_put(place, own) || *pulls_here && *bus {
+                    return Does::Departs { slot };
+                }
+                if !pulls_here && !bus {
+                    let later = (slot + 1..).zip(&pulls[slot + 1..]).find(|(_, pulls)| **pulls);
+                    return later.map_or(Does::Loses { slot }, |(again, _)| Does::PullsOn { slot, again });
+                }
+                own
+            }
+            (Mark::Level(bus), [Item::Heard(_), ..]) if !pulls_here => Item::Heard(*bus),
+            (Mark::Again, [Item::Again]) if *pulls_here => Item::Again,
+            (Mark::Stop, [Item::Stop]) if *pulls_here => Item::Stop,
+            _ => return Does::Departs { slot },
+        };
+        place = sender.after(place, item);
+    }
+    Does::GoesOn
+}
+
+/// Why the lines of controllers are refused.
+#[derive(Clone, Copy, Debug, PartialEq, Eq)]
+pub enum DrivesRefusal {
+    Dump(DumpRefusal),
+    /// This line does in each slot what SDA does.
+    IsSda(usize),
+    /// This line pulls SDA in a slot in which it is HIGH.
+    IsDenied(usize),
+}
+
+/// The transactions of a dump, and what pulls SDA in them: these lines where they are HIGH, or where they are LOW. They are there
+/// too where a line is refused.
+pub fn driven(dump: &[u8], lines: &Lines, pulls: Level) -> (Vec<Driven>, Option<DrivesRefusal>) {
+    let changes = match changes_on(dump, lines) {
+        (changes, None) => changes,
+        (_, Some(refusal)) => return (Vec::new(), Some(DrivesRefusal::Dump(refusal))),
+    };
+    let events = events_of(&samples_of(&changes));
+    let pulling = |time: u64| -> Vec<bool> {
+        (0..lines.own.len()).map(|line| level_before(&changes, line, time) == pulls).collect()
+    };
+    let falls = falls_of(&changes);
+    // Before SCL falls after this time, if it does so before the next event, or else before that one.
+    let before_fall = |time: u64| {
+        let next = events.iter().map(|event| event.time).chain([u64::MAX]).find(|next| *next > time);
+        let next = next.unwrap_or(u64::MAX);
+        pulling(falls.iter().copied().find(|fall| *fall > time && *fall < next).unwrap_or(next))
+    };
+    let of_transaction = |transaction: Transaction| {
+        let events = events.iter().filter(|event| event.time > transaction.from);
+        let marks = events.filter_map(|event| match event.what {
+            What::Bit(_) | What::Stop => Some(pulling(event.time)),
+            What::Start => Some(before_fall(event.time)),
+            What::Known(_) | What::Unknown => None,
+        });
+        let slots = marks.take(transaction.marks.len()).collect();
+        Driven { start: before_fall(transaction.from), slots, transaction }
+    };
+    let driven: Vec<Driven> = transactions_of(&events).into_iter().map(of_transaction).collect();
+    let refusal = refusal_of(&driven, lines.own.len());
+    (driven, refusal)
+}
+
+// The first line that is SDA, or else the first that pulls it where it is HIGH.
+fn refusal_of(driven: &[Driven], lines: usize) -> Option<DrivesRefusal> {
+    let bits = |line: &usize| -> Vec<(bool, bool)> { driven.iter().flat_map(|one| one.bits(*line)).collect() };
+    let is_sda = |line: &usize| !bits(line).is_empty() && bits(line).iter().all(|(bus, pulls)| bus != pulls);
+    let is_denied = |line: &usize| bits(line).contains(&(true, true));
+    let same = (0..lines).find(is_sda).map(DrivesRefusal::IsSda);
+    same.or_else(|| (0..lines).find(is_denied).map(DrivesRefusal::IsDenied))
+}
+
+// The level of the line of a controller after all that came before this time.
+fn level_before(changes: &[Change], line: usize, time: u64) -> Level {
+    let (mut now, mut level) = (0, Level::Unknown);
+    for change in changes {
+        match change {
+            Change::At(other) => now = *other,
+            Change::Takes(Signal::Own(other), own) if *other == line && now < time => level = *own,
+            Change::Takes(..) => {}
+        }
+    }
+    level
+}
+
+// When SCL falls, both levels being known.
+fn falls_of(changes: &[Change]) -> Vec<u64> {
+    let samples = samples_of(changes);
+    let both = samples.windows(2).filter(|two| two[0].scl == Level::High && two[1].scl == Level::Low);
+    let known = both.filter(|two| two.iter().all(|sample| sample.sda != Level::Unknown));
+    known.map(|two| two[1].time).collect()
+}
