@@ -22,7 +22,7 @@ pub fn names_in(alloc: Global, text: &[u8]) -> Result<Names<'_>, AllocError> {
                 Some(kind) => names.begin(Some(kind)),
                 None => names.end(),
             },
-            Symbol::Word(word) => names.add(word, token.line)?,
+            Symbol::Word(word) => names.add(word, token.line, tokens.start())?,
             Symbol::Sign(Sign::Semicolon) => names.end(),
             Symbol::Sign(_) => {}
             Symbol::Stray | Symbol::Foreign | Symbol::End => break,

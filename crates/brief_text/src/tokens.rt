@@ -6,6 +6,7 @@ ghost use Rattle.brief_text.specs.Tokens.{tokens_of};
 
 use crate::symbols::Token;
 use lexer::{Letters, Lexer, Spot};
+use plan_text::places::start_of;
 use plan_text::{Expected, PlanError, Refused};
 
 /// What is left of a brief.
@@ -42,6 +43,11 @@ impl<'a> Tokens<'a> {
     /// Where the last token stands.
     pub(crate) fn spot(&self) -> Spot {
         self.lexer.spot()
+    }
+
+    /// How many bytes of the text stand before the last token.
+    pub(crate) fn start(&self) -> usize {
+        start_of(self.lexer.text(), self.lexer.spot())
     }
 
     /// The refusal of the token that was taken last, in the place of `brief` or of the `1` after it.

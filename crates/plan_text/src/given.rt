@@ -10,6 +10,8 @@ use std::alloc::{AllocError, Global};
 pub struct NameAt<'a> {
     pub name: &'a [u8],
     pub line: u64,
+    /// How many bytes of the text stand before it.
+    pub start: usize,
     /// What the item gives a name to, and None where it is a `never`.
     pub item: Option<Kind>,
     /// How many items begin before it.
@@ -53,18 +55,19 @@ impl<'a> Names<'a> {
         self.is_open = false;
     }
 
-    /// A word of the item, which is a name of it.
+    /// A word of the item, which is a name of it, and begins after so many bytes of the text.
     ///
     /// # Errors
     ///
     /// Where an allocation fails.
-    pub fn add(&mut self, name: &'a [u8], line: u64) -> Result<(), AllocError> {
+    pub fn add(&mut self, name: &'a [u8], line: u64, start: usize) -> Result<(), AllocError> {
         if !self.is_open {
             return Ok(());
         }
         self.found.push(NameAt {
             name,
             line,
+            start,
             item: self.item,
             number: self.number,
             before: self.before,
@@ -96,7 +99,7 @@ pub fn names_in(alloc: Global, text: &[u8]) -> Result<Names<'_>, AllocError> {
             Symbol::Keyword(Keyword::Controller) => names.begin(Some(Kind::Controller)),
             Symbol::Keyword(Keyword::Interrupt) => names.begin(Some(Kind::Interrupt)),
             Symbol::Keyword(Keyword::Never) => names.begin(None),
-            Symbol::Word(word) => names.add(word, token.line)?,
+            Symbol::Word(word) => names.add(word, token.line, tokens.start())?,
             Symbol::Keyword(_) | Symbol::Semicolon => names.end(),
             Symbol::Stray | Symbol::Foreign | Symbol::End => break,
         }

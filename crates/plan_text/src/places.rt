@@ -159,7 +159,7 @@ fn place_of(
     over: Option<Over>,
 ) -> Option<Place> {
     let line = error.line()?;
-    let start = text.len().saturating_sub(spot.start);
+    let start = start_of(text, spot);
     Some(Place {
         line,
         column: columns_before(text, start).saturating_add(1),
@@ -175,6 +175,11 @@ fn place_of(
             _ => None,
         },
     })
+}
+
+/// How many bytes of the text stand before what stands here in it.
+pub fn start_of(text: &[u8], spot: Spot) -> usize {
+    text.len().saturating_sub(spot.start)
 }
 
 // How many bytes of its line stand before this place.

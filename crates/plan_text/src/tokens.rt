@@ -9,7 +9,7 @@ ghost use Rattle.plan_text.specs.Tokens.{tokens_of, next, word, keyword};
 ghost use Rattle.plan_text.specs.declared.symbols.Keyword.TheVariants as keywords;
 
 use crate::errors::PlanError;
-use crate::places::{Expected, Over, Refused};
+use crate::places::{Expected, Over, Refused, start_of};
 use crate::symbols::Token;
 use crate::words::pattern;
 use lexer::{Letters, Lexer};
@@ -100,6 +100,11 @@ impl<'a> Tokens<'a> {
     /// Whether `.` counts as a part of words, as in the second version.
     pub(crate) fn has_dots(&self) -> bool {
         self.lexer.letters == Letters::Dots
+    }
+
+    /// How many bytes of the text stand before the last token.
+    pub(crate) fn start(&self) -> usize {
+        start_of(self.lexer.text(), self.lexer.spot())
     }
 
     /// The refusal of the token that was taken last, where this was expected. A message may be too long by so much.
