@@ -134,12 +134,20 @@ pub enum Request<'a> {
     },
 }
 
-/// Whether hints and colours are wanted with a run, and whether reports, refusals and hints are JSON.
+/// Whether hints and colours are wanted with a run, and how what it says is written.
 #[derive(Clone, Copy)]
 pub struct Manner {
     pub hints: When,
     pub colors: When,
-    pub is_json: bool,
+    pub format: Format,
+}
+
+/// How reports and refusals are written.
+#[derive(Clone, Copy, PartialEq, Eq)]
+pub enum Format {
+    Text,
+    Json,
+    Gcc,
 }
 
 /// When something for people is wanted.
@@ -280,7 +288,15 @@ fn manner_of(matches: &ArgMatches<'_>) -> Manner {
     Manner {
         hints: when_of(matches.get_str("hints")),
         colors: when_of(matches.get_str("color")),
-        is_json: matches.get_str("format") == Some("json"),
+        format: format_of(matches.get_str("format")),
+    }
+}
+
+fn format_of(word: Option<&str>) -> Format {
+    match word {
+        Some("json") => Format::Json,
+        Some("gcc") => Format::Gcc,
+        _ => Format::Text,
     }
 }
 

@@ -135,8 +135,8 @@ pub const FORMAT: Argument = Argument::Choice {
     id: "format",
     value_name: "HOW",
     default: "text",
-    values: &["text", "json"],
-    help: "Reports as text, or as json, with one object a line",
+    values: &["text", "json", "gcc"],
+    help: "Reports as text, json, or gcc (as compilers do)",
 };
 
 /// The commands, in the order of the help.

@@ -17,13 +17,19 @@ use verdicts::Faults;
 // their families.
 type Key = (usize, u32, u32);
 
-// The pairs of a group whose participants are called alike so.
+// The pairs of a group whose participants are called alike so: who they are, how many pairs, and the place of the first one
+// among the unsafe pairs.
 #[derive(Clone, Copy)]
 struct Meet {
     group: usize,
     first: Called,
     second: Called,
+    pairs: usize,
+    example: usize,
 }
+
+// An unsafe pair: its two, and its place among all of them.
+type Unsafe = ((u32, u32), usize);
 
 // One side of these pairs: a participant, and whether there are others.
 #[derive(Clone, Copy)]
@@ -33,20 +39,25 @@ struct Called {
 }
 
 impl Meet {
-    fn new(group: usize, both: (u32, u32)) -> Meet {
+    fn new(group: usize, one: Unsafe) -> Meet {
+        let (both, example) = one;
         Meet {
             group,
             first: Called::new(both.0),
             second: Called::new(both.1),
+            pairs: 1,
+            example,
         }
     }
 
-    // The same with these two.
-    fn with(self, both: (u32, u32)) -> Meet {
+    // The same with this pair after the others.
+    fn with(self, one: Unsafe) -> Meet {
+        let (both, _) = one;
         Meet {
-            group: self.group,
             first: self.first.with(both.0),
             second: self.second.with(both.1),
+            pairs: self.pairs.saturating_add(1),
+            ..self
         }
     }
 }
@@ -65,6 +76,17 @@ impl Called {
             has_others: self.has_others || self.participant != participant,
         }
     }
+}
+
+/// The pairs of a group whose participants are called alike.
+#[derive(Clone, Copy)]
+pub struct Alike<'a> {
+    /// What the two are called: with all of its family, where several of it meet there, and else alone.
+    pub called: (&'a str, &'a str),
+    /// How many they are.
+    pub pairs: usize,
+    /// The first one: its place among the unsafe pairs.
+    pub example: usize,
 }
 
 /// The unsafe pairs of a plan, in groups of one cause each: the shortest wire first.
@@ -114,11 +136,25 @@ impl Grouped {
         to.saturating_sub(from)
     }
 
-    /// What the two of the `i`th of these are called: with all of its family, where several of it meet there, and else alone.
+    /// The pairs of the `i`th of these.
+    pub fn alike(&self, g: usize, i: usize) -> Option<Alike<'_>> {
+        let (from, to) = self.range(g);
+        let at = from.saturating_add(i);
+        if to <= at {
+            return None;
+        }
+        let meet = self.meets.get(at)?;
+        Some(Alike {
+            called: (self.name(meet.first), self.name(meet.second)),
+            pairs: meet.pairs,
+            example: meet.example,
+        })
+    }
+
+    /// What the two of the `i`th of these are called.
     pub fn meet(&self, g: usize, i: usize) -> (&str, &str) {
-        let (from, _) = self.range(g);
-        match self.meets.get(from.saturating_add(i)) {
-            Some(meet) => (self.name(meet.first), self.name(meet.second)),
+        match self.alike(g, i) {
+            Some(alike) => alike.called,
             None => ("", ""),
         }
     }
@@ -280,7 +316,8 @@ fn meets_of(
         let (pair, _) = faults.get(k);
         if k < groups.pairs() {
             let both = both_of(plan, pair);
-            all.push((key_of(groups.group_of(k), both, firsts.as_slice()), both))?;
+            let key = key_of(groups.group_of(k), both, firsts.as_slice());
+            all.push((key, (both, k)))?;
         }
     }
     all.sort()?;
@@ -299,15 +336,15 @@ fn first_at(firsts: &[u32], p: u32) -> u32 {
 }
 
 // Those that count for the same once: they stand side by side.
-fn together(alloc: Global, all: &[(Key, (u32, u32))]) -> Result<Vec<Meet>, AllocError> {
+fn together(alloc: Global, all: &[(Key, Unsafe)]) -> Result<Vec<Meet>, AllocError> {
     let mut meets = Vec::new(alloc);
     let mut open: Option<(Key, Meet)> = None;
-    for (key, both) in all {
+    for (key, one) in all {
         open = match open {
-            Some((last, meet)) if last == *key => Some((last, meet.with(*both))),
+            Some((last, meet)) if last == *key => Some((last, meet.with(*one))),
             before => {
                 push_meet(&mut meets, before)?;
-                Some((*key, Meet::new(key.0, *both)))
+                Some((*key, Meet::new(key.0, *one)))
             }
         };
     }

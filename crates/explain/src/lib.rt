@@ -65,7 +65,7 @@ pub use capture_lines::{CaptureLines, Layout};
 pub use decode_lines::DecodeLines;
 pub use glitches::{Cut, Cuts};
 pub use group_lines::why_unsafe;
-pub use groups::{Grouped, grouped_of};
+pub use groups::{Alike, Grouped, grouped_of};
 pub use keeping::Kept;
 pub use labels::{Labels, called_by, label_of, labels_of};
 pub use leaving::{Leaves, mark_words, nearest, offer_words};

@@ -44,10 +44,11 @@ pub use devices::{
     Named, on_closed_input, on_fault, on_memory, on_no_answers, on_no_timescale, on_no_waves,
     on_opening, on_reading, on_workers, on_writing,
 };
-pub use names::first_stand;
+pub use names::{Stand, first_stand};
+pub use odd::on_oddity;
 pub use paths::{file_word, shown, visible};
 pub use plans::on_no_brief;
 pub use safety::{Found, on_checked, on_safe};
 pub use starters::{on_starters, unknown_starter};
-pub use texts::{Earlier, RefusedIn, SemicolonAt, missing_semicolon_at, on_text};
+pub use texts::{Cause, Earlier, RefusedIn, SemicolonAt, cause_of, missing_semicolon_at, on_text};
 pub use values::{Hint, Hints};

@@ -4,7 +4,6 @@ use crate::likeness::Nearest;
 use crate::lines::Lines;
 use crate::paths::quoted;
 use crate::texts::{Earlier, RefusedIn};
-use brief_text::Spot;
 use plan_text::given::{NameAt, Names};
 use plan_text::places::Kind;
 use plan_text::{Expected, Language, PlanError};
@@ -42,12 +41,29 @@ impl Known<'_> {
         self.at.item == Some(kind) && self.at.before == 0
     }
 
-    fn spot(self) -> Spot {
-        Spot {
+    fn stand(self) -> Stand {
+        let NameAt {
+            name,
+            line,
+            start,
+            ..
+        } = self.at;
+        Stand {
             file: self.file,
-            line: self.at.line,
+            line,
+            start,
+            end: start.saturating_add(name.len()),
         }
     }
+}
+
+/// Where a name stands: in the brief of this number, from 0 on, on this line, and in these bytes of the text.
+#[derive(Clone, Copy)]
+pub struct Stand {
+    pub file: u32,
+    pub line: u64,
+    pub start: usize,
+    pub end: usize,
 }
 
 // The names of the briefs before the text that is refused, and of this text after them.
@@ -82,10 +98,10 @@ fn push_known<'a>(
 }
 
 // Where one of this kind gets this name.
-fn spot_of(known: &[Known<'_>], kind: Kind, word: &[u8]) -> Option<Spot> {
+fn stand_of(known: &[Known<'_>], kind: Kind, word: &[u8]) -> Option<Stand> {
     for one in known {
         if one.gives(kind) && one.at.name == word {
-            return Some(one.spot());
+            return Some(one.stand());
         }
     }
     None
@@ -97,27 +113,27 @@ fn spot_of(known: &[Known<'_>], kind: Kind, word: &[u8]) -> Option<Spot> {
 #[derive(Clone, Copy)]
 enum Stands {
     // one of this kind, which has the name
-    Named(Kind, Option<Spot>),
+    Named(Kind, Option<Stand>),
     // a message that the controller lists, or one of the family
-    Listed(Option<Spot>),
+    Listed(Option<Stand>),
     // a message with the name of one of the family
-    Member(Option<Spot>),
+    Member(Option<Stand>),
     // the first side of the `never`, which is of the same controller
     Side,
     // a `never` with the same two
-    Never(Option<Spot>),
+    Never(Option<Stand>),
     // a controller with the name of the part that a label makes
-    Part(Option<Spot>),
+    Part(Option<Stand>),
 }
 
 impl Stands {
-    fn spot(self) -> Option<Spot> {
+    fn stand(self) -> Option<Stand> {
         match self {
-            Stands::Named(_, spot)
-            | Stands::Listed(spot)
-            | Stands::Member(spot)
-            | Stands::Never(spot)
-            | Stands::Part(spot) => spot,
+            Stands::Named(_, stand)
+            | Stands::Listed(stand)
+            | Stands::Member(stand)
+            | Stands::Never(stand)
+            | Stands::Part(stand) => stand,
             Stands::Side => None,
         }
     }
@@ -129,9 +145,9 @@ impl Stands {
 /// # Errors
 ///
 /// Where an allocation fails.
-pub fn first_stand(alloc: Global, refused: RefusedIn<'_>) -> Result<Option<Spot>, AllocError> {
+pub fn first_stand(alloc: Global, refused: RefusedIn<'_>) -> Result<Option<Stand>, AllocError> {
     match refused.error {
-        PlanError::Twice(_) => Ok(stands_in(alloc, &refused)?.spot()),
+        PlanError::Twice(_) => Ok(stands_in(alloc, &refused)?.stand()),
         _ => Ok(None),
     }
 }
@@ -155,10 +171,10 @@ fn stands_among(known: &[Known<'_>], refused: &RefusedIn<'_>) -> Stands {
     match refused.place.expected {
         Some(Expected::Name(kind)) => Stands::Named(
             kind,
-            spot_of(known, kind, word).or(spot_of_maker(known, kind, word)),
+            stand_of(known, kind, word).or(stand_of_maker(known, kind, word)),
         ),
-        Some(Expected::Sending) => Stands::Listed(spot_in_list(known, word)),
-        Some(Expected::Times { .. }) => Stands::Member(spot_of_member(known, word)),
+        Some(Expected::Sending) => Stands::Listed(stand_in_list(known, word)),
+        Some(Expected::Times { .. }) => Stands::Member(stand_of_member(known, word)),
         _ => side_among(known, word),
     }
 }
@@ -182,17 +198,17 @@ fn push_stands(alloc: Global, lines: &mut Lines, refused: &RefusedIn<'_>, stands
             "a label makes a controller, with '_' in place of '/': an earlier one has this name",
         ),
     }
-    if let Some(spot) = stands.spot() {
-        push_place(alloc, lines, refused, spot);
+    if let Some(stand) = stands.stand() {
+        push_place(alloc, lines, refused, stand);
     }
     lines.end();
 }
 
 // A place in a sentence: the line, and the file where that is another one than that of the refused text.
-fn push_place(alloc: Global, lines: &mut Lines, refused: &RefusedIn<'_>, spot: Spot) {
-    let line = spot.line;
+fn push_place(alloc: Global, lines: &mut Lines, refused: &RefusedIn<'_>, stand: Stand) {
+    let line = stand.line;
     lines.part(format_args!(", on line {line}"));
-    if let Some(brief) = refused.earlier.get(spot.file as usize) {
+    if let Some(brief) = refused.earlier.get(stand.file as usize) {
         match quoted(alloc, brief.file) {
             Ok(file) => {
                 lines.part(" of ");
@@ -204,21 +220,21 @@ fn push_place(alloc: Global, lines: &mut Lines, refused: &RefusedIn<'_>, spot: S
 }
 
 // Where the last item, a controller, lists this.
-fn spot_in_list(known: &[Known<'_>], word: &[u8]) -> Option<Spot> {
+fn stand_in_list(known: &[Known<'_>], word: &[u8]) -> Option<Stand> {
     let last = known.last()?;
     for one in known {
         let is_listed = one.file == last.file
             && one.at.number == last.at.number
             && one.at.before != 0;
         if is_listed && one.at.name == word {
-            return Some(one.spot());
+            return Some(one.stand());
         }
     }
     None
 }
 
 // What makes one of this kind that has this name: a family, or a label.
-fn spot_of_maker(known: &[Known<'_>], kind: Kind, word: &[u8]) -> Option<Spot> {
+fn stand_of_maker(known: &[Known<'_>], kind: Kind, word: &[u8]) -> Option<Stand> {
     for one in known {
         let makes = match kind {
             Kind::Message => one.gives(kind) && member_number(one.at.name, word).is_some(),
@@ -226,7 +242,7 @@ fn spot_of_maker(known: &[Known<'_>], kind: Kind, word: &[u8]) -> Option<Spot> {
             _ => false,
         };
         if makes {
-            return Some(one.spot());
+            return Some(one.stand());
         }
     }
     None
@@ -256,7 +272,7 @@ fn halves(label: &[u8]) -> Option<(&[u8], &[u8])> {
 }
 
 // A message that has the name of one of the family that this range makes.
-fn spot_of_member(known: &[Known<'_>], range: &[u8]) -> Option<Spot> {
+fn stand_of_member(known: &[Known<'_>], range: &[u8]) -> Option<Stand> {
     let family = known.last()?.at.name;
     let (least, greatest) = str::from_utf8(range).ok()?.split_once("..")?;
     let least = least.parse::<u8>().ok()?;
@@ -265,7 +281,7 @@ fn spot_of_member(known: &[Known<'_>], range: &[u8]) -> Option<Spot> {
         if one.gives(Kind::Message) {
             if let Some(number) = member_number(family, one.at.name) {
                 if least <= number && number <= greatest {
-                    return Some(one.spot());
+                    return Some(one.stand());
                 }
             }
         }
@@ -279,12 +295,12 @@ fn side_among(known: &[Known<'_>], word: &[u8]) -> Stands {
         if controller_of(first) == controller_of(word) {
             return Stands::Side;
         }
-        let spot = spot_of_never(known, first, word);
-        if spot.is_some() || halves(word).is_none() {
-            return Stands::Never(spot);
+        let stand = stand_of_never(known, first, word);
+        if stand.is_some() || halves(word).is_none() {
+            return Stands::Never(stand);
         }
     }
-    Stands::Part(spot_of_part(known, word))
+    Stands::Part(stand_of_part(known, word))
 }
 
 // The first side of the `never` that has no second one yet.
@@ -302,7 +318,7 @@ fn controller_of(side: &[u8]) -> &[u8] {
 }
 
 // A `never` with these two, in either order.
-fn spot_of_never(known: &[Known<'_>], one: &[u8], other: &[u8]) -> Option<Spot> {
+fn stand_of_never(known: &[Known<'_>], one: &[u8], other: &[u8]) -> Option<Stand> {
     let mut first: &[u8] = &[];
     for side in known {
         if side.at.item.is_some() {
@@ -312,18 +328,18 @@ fn spot_of_never(known: &[Known<'_>], one: &[u8], other: &[u8]) -> Option<Spot> 
         if side.at.before == 0 {
             first = name;
         } else if first == one && name == other || first == other && name == one {
-            return Some(side.spot());
+            return Some(side.stand());
         }
     }
     None
 }
 
 // The controller, or the other label, that has the name of the part which this label makes.
-fn spot_of_part(known: &[Known<'_>], label: &[u8]) -> Option<Spot> {
+fn stand_of_part(known: &[Known<'_>], label: &[u8]) -> Option<Stand> {
     for one in known {
         let has_name = one.gives(Kind::Controller) && is_part(label, one.at.name);
         if has_name || one.at.item.is_none() && makes_same(one.at.name, label) {
-            return Some(one.spot());
+            return Some(one.stand());
         }
     }
     None
@@ -372,7 +388,7 @@ fn push_absent_side(
 ) {
     let controller = controller_of(word);
     match halves(word) {
-        Some((_, label)) if spot_of(known, Kind::Controller, controller).is_some() => {
+        Some((_, label)) if stand_of(known, Kind::Controller, controller).is_some() => {
             if refused.is_before(b'*') {
                 push_star(lines, known, controller, label);
             }
@@ -387,7 +403,7 @@ fn push_absent_side(
 fn push_star(lines: &mut Lines, known: &[Known<'_>], controller: &[u8], label: &[u8]) {
     let family = label.strip_suffix(b"_").unwrap_or(label);
     lines.part("'*' is no part of a label");
-    if spot_of(known, Kind::Message, family).is_some() {
+    if stand_of(known, Kind::Message, family).is_some() {
         let controller = str::from_utf8(controller).unwrap_or("");
         let family = str::from_utf8(family).unwrap_or("");
         lines.part(format_args!(": the family has the label '{controller}/{family}'"));
@@ -443,7 +459,7 @@ fn line_below(
     word: &[u8],
 ) -> Option<u64> {
     match known_in(alloc, refused.language, &[], refused.text) {
-        Ok(known) => Some(spot_of(known.as_slice(), kind, word)?.line),
+        Ok(known) => Some(stand_of(known.as_slice(), kind, word)?.line),
         Err(_) => {
             lines.fail();
             None

@@ -1,6 +1,7 @@
 // After a check of briefs: what is allowed there, and is likely a mistake.
 
 use crate::lines::Lines;
+use crate::values::Hints;
 use growing_text::Text;
 use lint::Oddity;
 use plan_core::Plan;
@@ -37,6 +38,21 @@ pub(crate) fn push_oddities(
         lines.say(format_args!("and {more} more of this kind"));
     }
     Ok(())
+}
+
+/// What is said of one of them, without its place.
+///
+/// # Errors
+///
+/// Where an allocation fails.
+pub fn on_oddity(
+    alloc: Global,
+    words: PlanWords<'_>,
+    oddity: Oddity<'_>,
+) -> Result<Hints, AllocError> {
+    let mut lines = Lines::new(alloc);
+    push_oddity(alloc, &mut lines, words, oddity)?;
+    lines.finish()
 }
 
 fn is_unsent(oddity: Oddity<'_>) -> bool {

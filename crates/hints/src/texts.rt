@@ -72,17 +72,69 @@ pub(crate) fn called(language: Language) -> &'static str {
 /// Where an allocation fails.
 pub fn on_text(alloc: Global, refused: RefusedIn<'_>) -> Result<Hints, AllocError> {
     let mut lines = Lines::new(alloc);
-    let head = refused.text.get(..LOOKED_AT).unwrap_or(refused.text);
-    let kind = kind_of(head);
-    let refused = as_brief(alloc, refused, head).unwrap_or(refused);
-    if !is_binary(kind) {
-        push_refused(alloc, &mut lines, &refused);
+    let looked = Looked::at(alloc, refused);
+    if !is_binary(looked.kind) {
+        push_span(alloc, &mut lines, &looked.refused, looked.fault.span());
     }
-    match kind {
-        Some(Kind::Plan) if refused.file.is_some() => lines.say(PLAN_AMONG_SEVERAL),
-        _ => push_kind(&mut lines, kind, kind_of_language(refused.language)),
-    }
+    push_cause(alloc, &mut lines, &looked);
     lines.finish()
+}
+
+/// Why a plan or a brief is refused: these bytes of it are shown, and this is said of them.
+#[derive(Drop)]
+pub struct Cause {
+    pub start: usize,
+    pub end: usize,
+    pub said: Hints,
+}
+
+/// The same as values, for whoever shows the place in another way.
+///
+/// # Errors
+///
+/// Where an allocation fails.
+pub fn cause_of(alloc: Global, refused: RefusedIn<'_>) -> Result<Cause, AllocError> {
+    let mut lines = Lines::new(alloc);
+    let looked = Looked::at(alloc, refused);
+    push_cause(alloc, &mut lines, &looked);
+    let Span { start, end, .. } = looked.fault.span();
+    Ok(Cause {
+        start,
+        end,
+        said: lines.finish()?,
+    })
+}
+
+// A refusal as people see it: that of a brief, where the text is meant as one.
+#[derive(Clone, Copy)]
+struct Looked<'a> {
+    refused: RefusedIn<'a>,
+    fault: Fault,
+    kind: Option<Kind>,
+}
+
+impl<'a> Looked<'a> {
+    fn at(alloc: Global, refused: RefusedIn<'a>) -> Looked<'a> {
+        let head = refused.text.get(..LOOKED_AT).unwrap_or(refused.text);
+        let refused = as_brief(alloc, refused, head).unwrap_or(refused);
+        Looked {
+            refused,
+            fault: fault_of(&refused),
+            kind: kind_of(head),
+        }
+    }
+}
+
+// What is said of a refusal, without its place.
+fn push_cause(alloc: Global, lines: &mut Lines, looked: &Looked<'_>) {
+    let refused = &looked.refused;
+    if !is_binary(looked.kind) {
+        push_refused(alloc, lines, refused, looked.fault);
+    }
+    match looked.kind {
+        Some(Kind::Plan) if refused.file.is_some() => lines.say(PLAN_AMONG_SEVERAL),
+        kind => push_kind(lines, kind, kind_of_language(refused.language)),
+    }
 }
 
 const PLAN_AMONG_SEVERAL: &str = "this is a plan, and none of several files may be one";
@@ -115,9 +167,7 @@ fn as_brief<'a>(alloc: Global, refused: RefusedIn<'a>, head: &[u8]) -> Option<Re
     }
 }
 
-fn push_refused(alloc: Global, lines: &mut Lines, refused: &RefusedIn<'_>) {
-    let fault = fault_of(refused);
-    push_span(alloc, lines, refused, fault.span());
+fn push_refused(alloc: Global, lines: &mut Lines, refused: &RefusedIn<'_>, fault: Fault) {
     if let Fault::End(_) = fault {
         lines.say("the text ends here");
     }

@@ -28,6 +28,20 @@ pub enum Oddity<'a> {
 }
 
 impl Oddity<'_> {
+    /// What it is, in a few words that stay as they are.
+    pub fn code(self) -> &'static str {
+        match self {
+            Oddity::EmptyBrief(_) => "empty brief",
+            Oddity::CarriageReturn(_) => "carriage return",
+            Oddity::SameAddress(..) => "same address",
+            Oddity::ReservedAddress(_) => "reserved address",
+            Oddity::UnusedDevice(_) => "unused device",
+            Oddity::UnusedByte(_) => "unused byte",
+            Oddity::Unsent { .. } => "unsent message",
+            Oddity::Idle { .. } => "idle controller",
+        }
+    }
+
     /// Where it stands.
     pub fn spot(self) -> Spot {
         match self {

@@ -38,29 +38,26 @@ fn add_oddity(
     oddity: Oddity<'_>,
 ) -> Result<(), AllocError> {
     let alloc = lines.alloc;
+    let code = oddity.code();
     let place = line_at(alloc, words, oddity.spot())?;
     match oddity {
-        Oddity::EmptyBrief(_) => add(lines, "empty brief", &[], &[place]),
-        Oddity::CarriageReturn(_) => add(lines, "carriage return", &[], &[place]),
+        Oddity::EmptyBrief(_) | Oddity::CarriageReturn(_) => add(lines, code, &[], &[place]),
         Oddity::SameAddress(first, second) => {
             let names = [second.name.as_str(), first.name.as_str()];
             let places = [place, line_at(alloc, words, first.spot)?];
-            add(lines, "same address", &names, &places);
+            add(lines, code, &names, &places);
         }
-        Oddity::ReservedAddress(device) => {
-            add(lines, "reserved address", &[device.name.as_str()], &[place]);
+        Oddity::ReservedAddress(device) | Oddity::UnusedDevice(device) => {
+            add(lines, code, &[device.name.as_str()], &[place]);
         }
-        Oddity::UnusedDevice(device) => {
-            add(lines, "unused device", &[device.name.as_str()], &[place]);
-        }
-        Oddity::UnusedByte(byte) => add(lines, "unused byte", &[byte.name.as_str()], &[place]),
+        Oddity::UnusedByte(byte) => add(lines, code, &[byte.name.as_str()], &[place]),
         Oddity::Unsent { first, count, .. } => {
             let names = names_from(alloc, words.plan(), first, count)?;
-            add(lines, "unsent message", names.as_slice(), &[place]);
+            add(lines, code, names.as_slice(), &[place]);
         }
         Oddity::Idle { controller, .. } => {
             let name = words.side(alloc, controller)?;
-            add(lines, "idle controller", &[name.as_str()], &[place]);
+            add(lines, code, &[name.as_str()], &[place]);
         }
     }
     Ok(())

@@ -8,12 +8,14 @@ use crate::drawings::draw_fault;
 use brief_text::Origins;
 use cert_check::{Answer, Judged, check_certificate_at};
 use certificate::Refusal;
+use diagnostics::{Diagnostic, Messages, diagnose_check};
 use explain::{
     Detail, Mistake, Paint, Reasons, called_by, count_groups, explain_answer, explain_check,
     is_all_checked, kept_apart, mistake_of, reasons_of,
 };
 use files::Comparing;
 use given_plans::GivenPlan;
+use growing_text::Text;
 use hints::{Found, Hints, on_certificate, on_checked, on_safe};
 use lint::{Oddity, oddities};
 use objects::{write_answer, write_check, write_order, write_scores};
@@ -24,7 +26,7 @@ use report::{
     Answered, Checked, Input, NoGate, Output, RunError, Status, answer_line, check_found,
     check_report, read_within, status_of_answer, verify_found,
 };
-use run_ends::{Canvas, Ended, Extras, Halt, Remark, Sources, Style};
+use run_ends::{Canvas, Ended, Extras, Format, Halt, Remark, Sources, Style};
 use run_parts::devices::reading::READS;
 use run_parts::write_lines;
 use std::alloc::{AllocError, Global};
@@ -108,6 +110,7 @@ fn tell_found<R: Files + Print + Eprint + Clock + AllocGlobal, O: Output>(
         checked,
         words,
         odd.as_slice(),
+        texts,
         out,
         look,
         extras,
@@ -120,6 +123,7 @@ fn tell_all<R: Files + Print + Eprint + Clock + AllocGlobal, O: Output>(
     checked: &Checked,
     words: PlanWords<'_>,
     odd: &[Oddity<'_>],
+    texts: &[Vec<u8>],
     out: &mut O,
     look: Look<'_>,
     extras: Extras,
@@ -128,15 +132,18 @@ fn tell_all<R: Files + Print + Eprint + Clock + AllocGlobal, O: Output>(
     requires { AreFaults (plan_contents checked.now.plan) (fault_list checked.now.faults) }
 {
     let alloc = rt.alloc();
-    let status = tell_checked(
-        alloc,
-        checked,
-        words,
-        odd,
-        out,
-        look.explain,
-        extras.style(),
-    )?;
+    let status = match extras.format {
+        Format::Messages => write_messages(alloc, checked, words, odd, texts, out)?,
+        _ => tell_checked(
+            alloc,
+            checked,
+            words,
+            odd,
+            out,
+            look.explain,
+            extras.style(),
+        )?,
+    };
     if let Some(canvas) = canvas {
         draw_fault(rt, checked, look.pair, status, canvas)?;
     }
@@ -145,6 +152,39 @@ fn tell_all<R: Files + Print + Eprint + Clock + AllocGlobal, O: Output>(
         status: judged(status, &checked.plan, look.strict),
         remark: remark_on(alloc, checked, words, odd, is_explained, extras),
     })
+}
+
+// Writes what is wrong as compilers do.
+fn write_messages<O: Output>(
+    alloc: Global,
+    checked: &Checked,
+    words: PlanWords<'_>,
+    odd: &[Oddity<'_>],
+    texts: &[Vec<u8>],
+    out: &mut O,
+) -> Result<Status, RunError>
+    requires { AreFaults (plan_contents checked.now.plan) (fault_list checked.now.faults) }
+{
+    let found = diagnose_check(alloc, words, checked, odd, texts)?;
+    let lines = message_lines(alloc, words, found.as_slice(), texts)?;
+    write_lines(out, lines.as_bytes(), status_of(checked))
+}
+
+fn message_lines(
+    alloc: Global,
+    words: PlanWords<'_>,
+    found: &[Diagnostic],
+    texts: &[Vec<u8>],
+) -> Result<String, AllocError> {
+    let mut messages = Messages::new(alloc, words.files());
+    for text in texts {
+        messages.add(alloc, text.as_slice())?;
+    }
+    let mut lines = Text::new(alloc);
+    for diagnostic in found {
+        messages.push(&mut lines, diagnostic);
+    }
+    lines.finish()
 }
 
 // The status of a run with this status over a plan. One that is strict is good where all of the plan was looked at.

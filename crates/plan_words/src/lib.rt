@@ -27,10 +27,15 @@ impl<'a> BriefFiles<'a> {
             None => self.first,
             Some(after) => *self.further.get(after as usize)?,
         };
-        match path {
-            "-" | "/dev/stdin" => Some("<stdin>"),
-            _ => Some(path),
-        }
+        Some(called(path))
+    }
+}
+
+/// What people call the file of this path: of standard input they know no name.
+pub fn called(path: &str) -> &str {
+    match path {
+        "-" | "/dev/stdin" => "<stdin>",
+        _ => path,
     }
 }
 
@@ -160,6 +165,15 @@ impl<'a> PlanWords<'a> {
         text.push("/");
         text.push(self.family_name(family));
         text.finish()
+    }
+
+    /// The name that the item of a message gives it: that of its family, where one makes it. Nothing for a number that is none.
+    pub fn message_name(self, message: u32) -> &'a str {
+        match self.family_of(message) {
+            Some(family) => self.family_name(family),
+            None if message < self.plan.messages() => self.plan.message_name(message).as_str(),
+            None => "",
+        }
     }
 
     fn family_name(self, family: usize) -> &'a str {

@@ -216,7 +216,12 @@ fn on_refusal<F: Read + Seek + Drop>(
     ended: RunError,
     closing: Closing<'_>,
 ) -> Result<Hints, AllocError> {
-    let Inputs { last, error, other } = read;
+    let Inputs {
+        last,
+        error,
+        other,
+        ..
+    } = read;
     let Closing {
         remark,
         named,

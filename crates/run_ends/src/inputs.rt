@@ -174,7 +174,9 @@ fn unopened<R: Eprint + AllocGlobal>(rt: &R, file: Named<'_>, error: &io::Error,
 pub struct Inputs<'a, F> {
     pub last: Named<'a>,
     pub error: Option<io::Error>,
-    /// The second text, or the only one, where that can be read once more.
+    /// The path of the second text, or of the only one.
+    pub path: &'a str,
+    /// This text, where it can be read once more.
     pub other: Option<F>,
 }
 
@@ -192,6 +194,7 @@ pub fn one_read<'a, R: Files + Clock + Eprint, S: io::Read + Drop>(
     Inputs {
         last,
         error,
+        path: named.first.path,
         other: reread(first),
     }
 }
@@ -217,6 +220,7 @@ pub fn both_read<'a, R: Files + Clock + Eprint, S: io::Read + Drop>(
     Inputs {
         last,
         error,
+        path: second.path,
         other: reread(source),
     }
 }

@@ -2,7 +2,7 @@
 //!
 //! `inputs` opens the files of a run, each once, and says which cannot be opened. `sources` has what gives a plan: one text, or
 //! several briefs. `endings` says how a run has ended, and what is to be said of it; `advice` says that, and `voices` how it
-//! sounds: as lines, or as JSON. `extras` has what people get beside the exact report, `styles` how a report is written, and
+//! sounds: as lines, or as JSON; `messages` has refusals as compilers write them. `extras` has what people get beside the exact report, `styles` how a report is written, and
 //! `canvases` the file for waves.
 #![tactic(auto)]
 
@@ -11,6 +11,7 @@ mod canvases;
 mod endings;
 mod extras;
 mod inputs;
+mod messages;
 mod sources;
 mod styles;
 mod voices;
@@ -20,6 +21,7 @@ pub use canvases::{Canvas, write_wave};
 pub use endings::{Ended, Halt, Recorded, RefusedSource, Remark, Takes};
 pub use extras::Extras;
 pub use inputs::{Inputs, NamedSources, both_read, one_read, open_both, open_sources};
+pub use messages::refused_at;
 pub use sources::Sources;
-pub use styles::Style;
+pub use styles::{Format, Style};
 pub use voices::{Voice, refused, say};

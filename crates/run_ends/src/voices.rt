@@ -1,9 +1,12 @@
 // What goes to standard error: refusals, and hints for people.
 
+use diagnostics::push_file;
+use growing_text::Text;
 use hints::{Hints, shown, visible};
 use object_lines::{
     Detail, TextDetail, drive_object, hint_objects, refusal_object, timescale_object,
 };
+use plan_words::called;
 use report::RunError;
 use std::alloc::{AllocError, Global};
 
@@ -15,14 +18,16 @@ pub enum Voice {
     Colored,
     /// One object a line, for programs.
     Objects,
+    /// Refusals as messages of a compiler.
+    Messages,
 }
 
 impl Voice {
     /// The same without colours.
     pub fn uncolored(self) -> Voice {
         match self {
-            Voice::Objects => Voice::Objects,
-            _ => Voice::Plain,
+            Voice::Objects | Voice::Messages => self,
+            Voice::Plain | Voice::Colored => Voice::Plain,
         }
     }
 }
@@ -36,6 +41,8 @@ pub fn refused<R: Eprint + AllocGlobal>(
 ) -> u8 {
     match (voice, detail) {
         (Voice::Objects, _) => say_refusal(rt, refusal_object(rt.alloc(), error, detail)),
+        (Voice::Messages, Detail::File(file)) => say_message(rt, called(file), error),
+        (Voice::Messages, _) => say_message(rt, "twire", error),
         (
             _,
             Detail::Text(
@@ -66,6 +73,19 @@ fn say_refused_file<R: Eprint + AllocGlobal>(rt: &R, error: RunError, file: &str
     }
 }
 
+// A refusal that has no place in a text: of a file, or of the run.
+fn say_message<R: Eprint + AllocGlobal>(rt: &R, place: &str, error: RunError) {
+    let mut text = Text::new(rt.alloc());
+    push_file(&mut text, place);
+    let _ = match text.finish() {
+        Ok(place) => {
+            let place = place.as_str();
+            eprintln!(rt; "{place}: error: refused {error}")
+        }
+        Err(_) => eprintln!(rt; "twire: error: refused {error}"),
+    };
+}
+
 // Where there is no memory for the object of a refusal, that is refused.
 fn say_refusal<R: Eprint>(rt: &R, object: Result<String, AllocError>) {
     let _ = match object {
@@ -78,6 +98,9 @@ fn say_refusal<R: Eprint>(rt: &R, object: Result<String, AllocError>) {
 pub fn refused_timescale<R: Eprint + AllocGlobal>(rt: &R, voice: Voice) {
     match voice {
         Voice::Objects => say_refusal(rt, timescale_object(rt.alloc())),
+        Voice::Messages => {
+            let _ = eprintln!(rt; "twire: error: refused timescale");
+        }
         _ => {
             let _ = eprintln!(rt; "refused timescale");
         }
@@ -92,7 +115,12 @@ pub fn refused_drive<R: Eprint + AllocGlobal>(rt: &R, controller: &str, voice: V
     match visible(rt.alloc(), controller) {
         Ok(controller) => {
             let controller = controller.as_str();
-            let _ = eprintln!(rt; "refused drives {controller}");
+            let head = if let Voice::Messages = voice {
+                "twire: error: "
+            } else {
+                ""
+            };
+            let _ = eprintln!(rt; "{head}refused drives {controller}");
         }
         Err(_) => {
             let _ = eprintln!(rt; "refused drives");
@@ -106,7 +134,7 @@ pub fn say<R: Eprint + AllocGlobal>(rt: &R, hints: Result<Hints, AllocError>, vo
         return;
     };
     let text = match voice {
-        Voice::Plain => hints.text(rt.alloc(), false),
+        Voice::Plain | Voice::Messages => hints.text(rt.alloc(), false),
         Voice::Colored => hints.text(rt.alloc(), true),
         Voice::Objects => hint_objects(rt.alloc(), &hints),
     };

@@ -2,14 +2,15 @@
 
 use crate::tasks::{Over, OverBoth, Task, task_of};
 use crate::versions::version_of;
-use command_words::{Asked, Manner, Request, When, read_words};
+use command_words::{Asked, Format, Manner, Request, When, read_words};
 use files::{FilesRead, Form, Reread, Sheet, Watcher, is_standard_input};
 use hints::{Named, visible};
 use object_lines::Detail;
 use report::{RunError, Status, Watched};
 use run_ends::{
-    About, Closing, Ended, Extras, Halt, Inputs, NamedSources, Remark, Voice, advise, both_read,
-    no_drive, no_timescale, one_read, open_both, open_sources, refused,
+    About, Closing, Ended, Extras, Format as Written, Halt, Inputs, NamedSources, Remark, Voice,
+    advise, both_read, no_drive, no_timescale, one_read, open_both, open_sources, refused,
+    refused_at,
 };
 use std::env::{self, VarError};
 use std::io;
@@ -76,11 +77,20 @@ fn extras_of<R: Env + AllocGlobal>(
 ) -> Extras {
     let take_colors = takes_colors(rt);
     Extras {
-        hints: are_wanted(manner.hints, terminals.err),
+        // (a message of a compiler says what a hint does)
+        hints: are_wanted(manner.hints, terminals.err && manner.format != Format::Gcc),
         colors_out: are_wanted(manner.colors, terminals.out && take_colors),
         colors_err: are_wanted(manner.colors, terminals.err && take_colors),
-        is_json: manner.is_json,
+        format: written_as(manner.format),
         watcher,
+    }
+}
+
+fn written_as(format: Format) -> Written {
+    match format {
+        Format::Text => Written::Lines,
+        Format::Json => Written::Objects,
+        Format::Gcc => Written::Messages,
     }
 }
 
@@ -293,7 +303,7 @@ fn finish<'a, R: Files + Print + Eprint + Clock + AllocGlobal>(
         }
     };
     let ended = out.settle(ended);
-    let status = exit_code_of(rt, ended, &remark, named, read.last.path, extras);
+    let status = exit_code_of(rt, ended, &remark, named, &read, extras);
     if extras.hints {
         let closing = Closing {
             ended,
@@ -311,12 +321,12 @@ fn finish<'a, R: Files + Print + Eprint + Clock + AllocGlobal>(
 
 // The exit code of a run that has ended, with the line of a refusal, which may name a file: one of those that give a
 // plan, or the one that was read last. The line that told how far it was goes away.
-fn exit_code_of<R: Clock + Eprint + AllocGlobal>(
+fn exit_code_of<R: Clock + Eprint + AllocGlobal, F>(
     rt: &R,
     ended: Result<Status, RunError>,
     remark: &Remark,
     named: NamedSources<'_>,
-    last: &str,
+    read: &Inputs<'_, F>,
     extras: Extras,
 ) -> u8 {
     extras.watcher.clear(rt);
@@ -324,7 +334,12 @@ fn exit_code_of<R: Clock + Eprint + AllocGlobal>(
         Ok(Status::Good) => 0,
         Ok(Status::Bad) => 1,
         Ok(Status::Refused) => 2,
-        Err(error @ RunError::Read) => refused(rt, error, Detail::File(last), extras.voice()),
+        Err(error) if extras.format == Written::Messages => {
+            refused_at(rt, error, remark, named, read)
+        }
+        Err(error @ RunError::Read) => {
+            refused(rt, error, Detail::File(read.last.path), extras.voice())
+        }
         Err(error) => {
             let detail = remark.detail(rt.alloc(), error, named);
             refused(rt, error, detail, extras.voice())

@@ -1,0 +1,48 @@
+// What a check finds.
+
+ghost use Rattle.plan_core.specs.PlanContents.{plan_contents};
+ghost use Rattle.verdicts.specs.Faults.{AreFaults, fault_list};
+
+use crate::items::Items;
+use crate::lints::push_odd;
+use crate::meetings::push_unsafe;
+use crate::values::Diagnostic;
+use explain::{Grouped, grouped_of};
+use lint::Oddity;
+use plan_words::PlanWords;
+use report::Checked;
+use std::alloc::{AllocError, Global};
+
+/// What is wrong with the plan that was checked, which these texts give: its unsafe pairs, those that are alike together, in the
+/// order of their groups; and what is likely a mistake.
+///
+/// # Errors
+///
+/// Where an allocation fails.
+pub fn diagnose_check(
+    alloc: Global,
+    words: PlanWords<'_>,
+    checked: &Checked,
+    odd: &[Oddity<'_>],
+    texts: &[Vec<u8>],
+) -> Result<Vec<Diagnostic>, AllocError>
+    requires { AreFaults (plan_contents checked.now.plan) (fault_list checked.now.faults) }
+{
+    let groups = grouped_of(alloc, &checked.plan, words, &checked.faults, 0)?;
+    diagnose_groups(alloc, words, checked, &groups, odd, texts)
+}
+
+fn diagnose_groups(
+    alloc: Global,
+    words: PlanWords<'_>,
+    checked: &Checked,
+    groups: &Grouped,
+    odd: &[Oddity<'_>],
+    texts: &[Vec<u8>],
+) -> Result<Vec<Diagnostic>, AllocError> {
+    let items = Items::of(alloc, words, texts)?;
+    let mut found = Vec::new(alloc);
+    push_unsafe(alloc, &mut found, words, checked, groups, &items)?;
+    push_odd(alloc, &mut found, words, odd, &items, texts)?;
+    Ok(found)
+}

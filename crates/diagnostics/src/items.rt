@@ -1,0 +1,104 @@
+// Where the names of items stand.
+
+use crate::values::Span;
+use plan_core::Participant;
+use plan_text::Language;
+use plan_text::given::Names;
+use plan_text::places::Kind;
+use plan_words::PlanWords;
+use std::alloc::{AllocError, Global};
+
+/// The names that items get in the texts which give a plan. No two of a kind have the same.
+#[derive(Drop)]
+pub(crate) struct Items<'a> {
+    given: Vec<Given<'a>>,
+}
+
+#[derive(Clone, Copy)]
+struct Given<'a> {
+    kind: Kind,
+    name: &'a [u8],
+    span: Span,
+}
+
+impl<'a> Items<'a> {
+    /// Those of the texts that give the plan of these words.
+    pub(crate) fn of(
+        alloc: Global,
+        words: PlanWords<'_>,
+        texts: &'a [Vec<u8>],
+    ) -> Result<Items<'a>, AllocError> {
+        let language = if words.has_briefs() {
+            Language::Brief
+        } else {
+            Language::Plan
+        };
+        let mut items = Items {
+            given: Vec::new(alloc),
+        };
+        let mut file = 0u32;
+        for text in texts {
+            let names = names_in(alloc, language, text.as_slice())?;
+            items.add(&names, file)?;
+            file = file.saturating_add(1);
+        }
+        Ok(items)
+    }
+
+    fn add(&mut self, names: &Names<'a>, file: u32) -> Result<(), AllocError> {
+        for at in names.all() {
+            if let (Some(kind), 0) = (at.item, at.before) {
+                self.given.push(Given {
+                    kind,
+                    name: at.name,
+                    span: Span {
+                        file,
+                        start: at.start,
+                        end: at.start.saturating_add(at.name.len()),
+                    },
+                })?;
+            }
+        }
+        Ok(())
+    }
+
+    /// Where the item of this kind stands that gives this name: the name. Where there is none, the beginning of the first text.
+    pub(crate) fn named(&self, kind: Kind, name: &str) -> Span {
+        for one in self.given.iter() {
+            if one.kind == kind && one.name == name.as_bytes() {
+                return one.span;
+            }
+        }
+        Span {
+            file: 0,
+            start: 0,
+            end: 0,
+        }
+    }
+
+    /// Where what a participant sends stands: its message, or the interrupt that it is.
+    pub(crate) fn sender(&self, words: PlanWords<'_>, p: u32) -> Span {
+        match words.message_of(p) {
+            Some(message) => self.named(Kind::Message, words.message_name(message)),
+            None => self.named(Kind::Interrupt, interrupt_name(words, p)),
+        }
+    }
+}
+
+fn interrupt_name(words: PlanWords<'_>, p: u32) -> &str {
+    let plan = words.plan();
+    if plan.participants() <= p {
+        return "";
+    }
+    match plan.participant(p) {
+        Participant::Interrupt(interrupt) => plan.interrupt_name(interrupt).as_str(),
+        Participant::Sending { .. } => "",
+    }
+}
+
+fn names_in(alloc: Global, language: Language, text: &[u8]) -> Result<Names<'_>, AllocError> {
+    match language {
+        Language::Plan => plan_text::given::names_in(alloc, text),
+        Language::Brief => brief_text::names_in(alloc, text),
+    }
+}

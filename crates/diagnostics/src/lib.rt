@@ -1,0 +1,18 @@
+//! What is wrong in the texts that give a plan, as values with places: for compilers' messages, and for editors.
+//!
+//! `refusals` has that of a text which is refused, `meetings` those of unsafe pairs, `lints` those of what is likely a mistake;
+//! `items` knows where names stand. `gcc` writes them as compilers do. Nothing here decides anything.
+#![tactic(auto)]
+
+mod checks;
+mod gcc;
+mod items;
+mod lints;
+mod meetings;
+mod refusals;
+mod values;
+
+pub use checks::diagnose_check;
+pub use gcc::{Messages, push_file};
+pub use refusals::diagnose_refusal;
+pub use values::{Diagnostic, Related, Severity, Span};

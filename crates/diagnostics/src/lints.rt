@@ -1,0 +1,88 @@
+// What is likely a mistake in briefs.
+
+use crate::items::Items;
+use crate::values::{Diagnostic, Related, Severity, Span, one_line};
+use brief_text::Spot;
+use hints::on_oddity;
+use lint::Oddity;
+use plan_text::places::Kind;
+use plan_words::PlanWords;
+use std::alloc::{AllocError, Global};
+
+/// Adds one for each of these.
+pub(crate) fn push_odd(
+    alloc: Global,
+    found: &mut Vec<Diagnostic>,
+    words: PlanWords<'_>,
+    odd: &[Oddity<'_>],
+    items: &Items<'_>,
+    texts: &[Vec<u8>],
+) -> Result<(), AllocError> {
+    for oddity in odd {
+        let said = on_oddity(alloc, words, *oddity)?;
+        found.push(Diagnostic {
+            severity: Severity::Warning,
+            code: oddity.code(),
+            span: span_of(words, *oddity, items, texts),
+            message: one_line(alloc, &said)?,
+            related: related_of(alloc, *oddity, items)?,
+        })?;
+    }
+    Ok(())
+}
+
+fn span_of(words: PlanWords<'_>, oddity: Oddity<'_>, items: &Items<'_>, texts: &[Vec<u8>]) -> Span {
+    match oddity {
+        Oddity::EmptyBrief(spot) | Oddity::CarriageReturn(spot) => line_of(spot, texts),
+        Oddity::SameAddress(_, device)
+        | Oddity::ReservedAddress(device)
+        | Oddity::UnusedDevice(device) => items.named(Kind::Device, device.name.as_str()),
+        Oddity::UnusedByte(byte) => items.named(Kind::Byte, byte.name.as_str()),
+        Oddity::Unsent { first, .. } => items.named(Kind::Message, words.message_name(first)),
+        Oddity::Idle { controller, .. } => items.named(Kind::Controller, words.name(controller)),
+    }
+}
+
+fn related_of(
+    alloc: Global,
+    oddity: Oddity<'_>,
+    items: &Items<'_>,
+) -> Result<Vec<Related>, AllocError> {
+    let mut related = Vec::new(alloc);
+    if let Oddity::SameAddress(first, _) = oddity {
+        related.push(Related {
+            span: items.named(Kind::Device, first.name.as_str()),
+            message: format!(in alloc; "the device with the same address")?,
+        })?;
+    }
+    Ok(related)
+}
+
+// A line of a text, without its line feed.
+fn line_of(spot: Spot, texts: &[Vec<u8>]) -> Span {
+    let mut start = 0usize;
+    let mut line = 1u64;
+    if let Some(text) = texts.get(spot.file as usize) {
+        for words in text.as_slice().split(is_line_feed) {
+            let end = start.saturating_add(words.len());
+            if line == spot.line {
+                return Span {
+                    file: spot.file,
+                    start,
+                    end,
+                };
+            }
+            start = end.saturating_add(1);
+            line = line.saturating_add(1);
+        }
+    }
+    Span {
+        file: spot.file,
+        start: 0,
+        end: 0,
+    }
+}
+
+fn is_line_feed(byte: &u8) -> bool {
+    *byte == b'\n'
+}

@@ -1,0 +1,60 @@
+// What is wrong with a text that is refused.
+
+use crate::values::{Diagnostic, Related, Severity, Span, one_line};
+use hints::{RefusedIn, cause_of, first_stand};
+use plan_text::PlanError;
+use std::alloc::{AllocError, Global};
+
+/// Why this text is refused, which has this number among those that give the plan, and where: also where that stands already
+/// which may stand once.
+///
+/// # Errors
+///
+/// Where an allocation fails.
+pub fn diagnose_refusal(
+    alloc: Global,
+    refused: RefusedIn<'_>,
+    file: u32,
+) -> Result<Diagnostic, AllocError> {
+    let cause = cause_of(alloc, refused)?;
+    Ok(Diagnostic {
+        severity: Severity::Error,
+        code: code_of(refused.error),
+        span: Span {
+            file,
+            start: cause.start,
+            end: cause.end,
+        },
+        message: one_line(alloc, &cause.said)?,
+        related: earlier_of(alloc, refused)?,
+    })
+}
+
+fn earlier_of(alloc: Global, refused: RefusedIn<'_>) -> Result<Vec<Related>, AllocError> {
+    let mut related = Vec::new(alloc);
+    if let Some(stand) = first_stand(alloc, refused)? {
+        related.push(Related {
+            span: Span {
+                file: stand.file,
+                start: stand.start,
+                end: stand.end,
+            },
+            message: format!(in alloc; "it stands here already")?,
+        })?;
+    }
+    Ok(related)
+}
+
+fn code_of(error: PlanError) -> &'static str {
+    match error {
+        PlanError::NotAscii(_) => "P1",
+        PlanError::Version(_) => "P2",
+        PlanError::Unexpected(_) => "P3",
+        PlanError::BadCount(_) => "P4",
+        PlanError::TooLong(_) => "P5",
+        PlanError::TooMany(_) => "P6",
+        PlanError::Twice(_) => "P7",
+        PlanError::Unknown(_) => "P8",
+        PlanError::NoMemory => "memory",
+    }
+}

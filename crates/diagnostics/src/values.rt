@@ -1,0 +1,75 @@
+// What is wrong, and where.
+
+use growing_text::Text;
+use hints::{Hint, Hints};
+use std::alloc::{AllocError, Global};
+
+/// How bad it is: an error is why a run has another status than 0.
+#[derive(Clone, Copy, PartialEq, Eq)]
+pub enum Severity {
+    Error,
+    Warning,
+}
+
+/// Bytes of one of the texts that give a plan, of this number from 0 on: from so many bytes on, up to so many.
+#[derive(Clone, Copy, PartialEq, Eq)]
+pub struct Span {
+    pub file: u32,
+    pub start: usize,
+    pub end: usize,
+}
+
+/// Something that is wrong.
+#[derive(Drop)]
+pub struct Diagnostic {
+    pub severity: Severity,
+    /// `P1` to `P8`, `unsafe`, or the name of what is likely a mistake.
+    pub code: &'static str,
+    pub span: Span,
+    /// One line.
+    pub message: String,
+    /// Further places, which have to do with it.
+    pub related: Vec<Related>,
+}
+
+/// Another place, and what stands there.
+#[derive(Drop)]
+pub struct Related {
+    pub span: Span,
+    pub message: String,
+}
+
+/// What hints say, on one line: sentences, and what belongs to one after it.
+pub(crate) fn one_line(alloc: Global, hints: &Hints) -> Result<String, AllocError> {
+    let mut text = Text::new(alloc);
+    let mut before = Before::Nothing;
+    for hint in hints.all() {
+        let now = match hint {
+            Hint::Sentence(_) => Before::Sentence,
+            Hint::Item(_) | Hint::Detail(_) => Before::Item,
+            Hint::Marks { .. } => continue,
+        };
+        text.push(between(before, now));
+        text.push_made(hint.text(alloc));
+        before = now;
+    }
+    text.finish()
+}
+
+// What stands before a hint on its line.
+#[derive(Clone, Copy)]
+enum Before {
+    Nothing,
+    Sentence,
+    Item,
+}
+
+fn between(before: Before, now: Before) -> &'static str {
+    match (before, now) {
+        (Before::Nothing, _) => "",
+        // (a sentence that has items ends in a colon)
+        (Before::Sentence, Before::Item) => " ",
+        (Before::Item, Before::Item) => ", ",
+        _ => "; ",
+    }
+}

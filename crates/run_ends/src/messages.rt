@@ -1,0 +1,99 @@
+// Refusals as compilers write them.
+
+use crate::endings::{RefusedSource, Remark};
+use crate::inputs::{Inputs, NamedSources};
+use crate::voices::{Voice, refused};
+use diagnostics::{Diagnostic, Messages, diagnose_refusal, push_file};
+use growing_text::Text;
+use object_lines::Detail;
+use plan_text::PlanError;
+use plan_words::{BriefFiles, called};
+use report::RunError;
+use std::alloc::{AllocError, Global};
+use vcd_read::{VcdError, Wrong};
+
+/// Writes the message of a refusal at its place: in one of the texts that were to give a plan, in a dump, or in no text. Its status.
+pub fn refused_at<R: Eprint + AllocGlobal, F>(
+    rt: &R,
+    error: RunError,
+    remark: &Remark,
+    named: NamedSources<'_>,
+    read: &Inputs<'_, F>,
+) -> u8 {
+    let alloc = rt.alloc();
+    let message = match (error, remark) {
+        (RunError::Plan(error), Remark::Text(source)) => text_message(alloc, error, source, named),
+        (RunError::Vcd(error), _) => dump_message(alloc, error, remark.wrong(), read.path),
+        (RunError::Read, _) => {
+            return refused(rt, error, Detail::File(read.last.path), Voice::Messages);
+        }
+        _ => return refused(rt, error, Detail::Nothing, Voice::Messages),
+    };
+    match message {
+        Ok(message) => {
+            let message = message.as_str();
+            let _ = eprint!(rt; "{message}");
+            2
+        }
+        Err(_) => refused(rt, RunError::NoMemory, Detail::Nothing, Voice::Messages),
+    }
+}
+
+fn text_message(
+    alloc: Global,
+    error: PlanError,
+    source: &RefusedSource,
+    named: NamedSources<'_>,
+) -> Result<String, AllocError> {
+    let earlier = source.earlier(alloc, named)?;
+    let refused = source.refused_in(error, source.file(named), earlier.as_slice());
+    let diagnostic = diagnose_refusal(alloc, refused, source.refused.file)?;
+    message_of(alloc, source, &diagnostic, named.files())
+}
+
+fn message_of(
+    alloc: Global,
+    source: &RefusedSource,
+    diagnostic: &Diagnostic,
+    files: BriefFiles<'_>,
+) -> Result<String, AllocError> {
+    let mut messages = Messages::new(alloc, files);
+    for text in source.before.iter() {
+        messages.add(alloc, text.as_slice())?;
+    }
+    messages.add(alloc, source.refused.text.as_slice())?;
+    let mut text = Text::new(alloc);
+    messages.push(&mut text, diagnostic);
+    text.finish()
+}
+
+// A dump has its own lines and columns.
+fn dump_message(
+    alloc: Global,
+    error: VcdError,
+    wrong: Option<&Wrong>,
+    file: &str,
+) -> Result<String, AllocError> {
+    let mut text = Text::new(alloc);
+    push_file(&mut text, called(file));
+    if let Some(line) = line_of(error) {
+        text.push(":");
+        text.push_number(line);
+        if let Some(Wrong::Token(place)) = wrong {
+            text.push(":");
+            text.push_number(place.column);
+        }
+    }
+    let refusal = RunError::Vcd(error);
+    text.push_made(format!(in alloc; ": error: refused {refusal}\n"));
+    text.finish()
+}
+
+fn line_of(error: VcdError) -> Option<u64> {
+    match error {
+        VcdError::BadToken(line) | VcdError::TimeBack(line) | VcdError::Unended(line) => {
+            Some(line)
+        }
+        VcdError::NoSignal(_) | VcdError::NoMemory => None,
+    }
+}
