@@ -19,6 +19,8 @@ pub enum Asked<'a> {
         drives: Vec<Drive<'a>>,
         manner: Manner,
     },
+    /// The server of an editor, and the further files of its briefs.
+    Serve(Vec<&'a str>),
     /// The help, for standard output.
     Show(String),
     /// The program's name and version, for standard output.
@@ -181,6 +183,8 @@ const NO_FILE: Fault = "'--wave' wants a file, since the report goes to standard
 
 const INPUT_TWICE: Fault = "standard input can be one of the files, and not two";
 
+const INPUT_OF_EDITOR: Fault = "standard input is the editor's, and none of the files";
+
 // What clap says in place of a request, unless it had no memory.
 fn told<'a>(alloc: Global, words: &[String], error: &Error) -> Result<Asked<'a>, AllocError> {
     if error.kind() == ErrorKind::OutOfMemory {
@@ -235,6 +239,9 @@ fn with_tip(alloc: Global, told: &str) -> Result<String, AllocError> {
 
 fn parse<'a>(alloc: Global, words: &'a [String]) -> Result<Asked<'a>, Error> {
     let matches = program(alloc)?.try_get_matches_from(words)?;
+    if serves(&matches) {
+        return serve_of(alloc, &matches);
+    }
     match asked_of(&matches) {
         Ok((request, manner)) => Ok(Asked::Run {
             request,
@@ -244,6 +251,23 @@ fn parse<'a>(alloc: Global, words: &'a [String]) -> Result<Asked<'a>, Error> {
         }),
         Err(fault) => Err(error_of(alloc, fault)?),
     }
+}
+
+// Whether an editor is to be served.
+fn serves(matches: &ArgMatches<'_>) -> bool {
+    match matches.subcommand() {
+        Some((name, _)) => name == "lsp",
+        None => false,
+    }
+}
+
+// Standard input is taken by the editor.
+fn serve_of<'a>(alloc: Global, matches: &ArgMatches<'a>) -> Result<Asked<'a>, Error> {
+    let further = further_of(alloc, matches)?;
+    if further.iter().any(|path| is_input(path)) {
+        return Err(error_of(alloc, INPUT_OF_EDITOR)?);
+    }
+    Ok(Asked::Serve(further))
 }
 
 fn error_of(alloc: Global, fault: &str) -> Result<Error, AllocError> {

@@ -378,3 +378,18 @@ A plan that has a name 'brief', 'device', 'byte' or 'any' has no brief, since
 these are words of the language: 'refused brief name'.
 
 Exit status: 0 written, 2 refused.";
+
+pub const AFTER_LSP_HELP: &str = "\
+An editor starts this, and speaks the Language Server Protocol with it. It shows
+what is wrong while a plan or a brief is written: a refusal at its place, unsafe
+pairs at both messages, and what is likely a mistake. It says what a message is
+in bytes and who wins, finds where a name is given, and lays a text out.
+
+With '--with FILE' each document is the first of several briefs, and the files
+follow in this order: as they are open in the editor, or else on disk. Neovim
+starts it in the folder of the project by
+
+  vim.lsp.start_client({ cmd = { 'twire', 'lsp', '--with', 'pch.brief' } })
+
+Exit status: 0 after 'shutdown' and 'exit', 1 where the editor ends otherwise, 2
+where it ends inside of a frame, and where standard output cannot be written.";

@@ -2,8 +2,8 @@
 
 use crate::help::{
     AFTER_BENCH_HELP, AFTER_BRIEF_HELP, AFTER_CAPTURE_HELP, AFTER_CERTIFY_HELP, AFTER_CHECK_HELP,
-    AFTER_DECODE_HELP, AFTER_EXPAND_HELP, AFTER_LEARN_HELP, AFTER_ORDER_HELP, AFTER_PAGE_HELP,
-    AFTER_PRINT_HELP, AFTER_SIGNALS_HELP, AFTER_VERIFY_HELP,
+    AFTER_DECODE_HELP, AFTER_EXPAND_HELP, AFTER_LEARN_HELP, AFTER_LSP_HELP, AFTER_ORDER_HELP,
+    AFTER_PAGE_HELP, AFTER_PRINT_HELP, AFTER_SIGNALS_HELP, AFTER_VERIFY_HELP,
 };
 
 /// A command of the program.
@@ -140,9 +140,9 @@ pub const FORMAT: Argument = Argument::Choice {
 };
 
 /// The commands, in the order of the help.
-pub const COMMANDS: [Entry; 13] = [
+pub const COMMANDS: [Entry; 14] = [
     CHECK, CERTIFY, VERIFY, ORDER, CAPTURE, DECODE, SIGNALS, LEARN, BENCH, PAGE, EXPAND, PRINT,
-    BRIEF,
+    BRIEF, LSP,
 ];
 
 const CHECK: Entry = Entry {
@@ -267,6 +267,14 @@ const BRIEF: Entry = Entry {
     usage: None,
     after_help: AFTER_BRIEF_HELP,
     arguments: &[PLAN_TEXT, OUTPUT],
+};
+
+const LSP: Entry = Entry {
+    name: "lsp",
+    about: "Serve an editor: the Language Server Protocol on standard streams",
+    usage: None,
+    after_help: AFTER_LSP_HELP,
+    arguments: &[WITH],
 };
 
 const PLAN: Argument = Argument::Word {

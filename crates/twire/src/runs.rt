@@ -5,6 +5,7 @@ use crate::versions::version_of;
 use command_words::{Asked, Format, Manner, Request, When, read_words};
 use files::{FilesRead, Form, Reread, Sheet, Watcher, is_standard_input};
 use hints::{Named, visible};
+use language_server::serve;
 use object_lines::Detail;
 use report::{RunError, Status, Watched};
 use run_ends::{
@@ -62,6 +63,7 @@ fn run_words<R: Files + Env + Input + Print + Eprint + AllocGlobal + Threads + W
             let task = task_of(request, drives.as_slice());
             Ok(do_task(rt, task, further.as_slice(), extras))
         }
+        Ok(Asked::Serve(further)) => serve_editor(rt, further.as_slice()),
         Ok(Asked::Show(text)) => show(rt, text.as_str()),
         Ok(Asked::Version(text)) => show(rt, version_of(rt, text.as_str())?.as_str()),
         Ok(Asked::Refuse(text)) => Ok(refuse(rt, visible(rt.alloc(), text.as_str())?.as_str())),
@@ -345,6 +347,21 @@ fn exit_code_of<R: Clock + Eprint + AllocGlobal, F>(
             refused(rt, error, detail, extras.voice())
         }
     }
+}
+
+// Serves the editor that has started the program, and answers the status.
+fn serve_editor<R: Files + Env + Input + Print + Eprint + AllocGlobal + Threads + Clock + Sync>(
+    rt: &R,
+    further: &[&str],
+) -> Result<u8, RunError> {
+    let nothing = FilesRead { ids: &[] };
+    let mut out = Watched::new(Sheet::new(rt, Form::Plain, nothing, Watcher::nobody(false)));
+    let status = serve(rt, &mut Watched::new(rt.reader()), &mut out, further)?;
+    Ok(match status {
+        Status::Good => 0,
+        Status::Bad => 1,
+        Status::Refused => 2,
+    })
 }
 
 // Prints the help or the version that was asked for. Whoever has read enough of it, as `head` has, may close the pipe.

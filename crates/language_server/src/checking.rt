@@ -1,0 +1,194 @@
+// What is wrong with the texts that give a plan.
+
+ghost use Rattle.std.specs.Prelude.{IfOk};
+ghost use Rattle.plan_core.specs.PlanContents.{plan_contents};
+ghost use Rattle.verdicts.specs.Faults.{AreFaults, fault_list};
+
+use crate::plans::Part;
+use brief_text::Origins;
+use diagnostics::{Diagnostic, diagnose_check, diagnose_refusal};
+use given_plans::GivenPlan;
+use hints::Named;
+use lint::{Oddity, oddities};
+use plan_core::Plan;
+use plan_text::PlanError;
+use plan_words::{BriefFiles, PlanWords};
+use report::{Checked, NoGate, RunError, Watched, check_found};
+use run_ends::{Halt, NamedSources, RefusedSource, Sources};
+use std::alloc::{AllocError, Global};
+use std::thread::Threads;
+
+/// The texts of a plan, to be read.
+pub(crate) type Texts<'a> = Sources<'a, Watched<&'a [u8]>>;
+
+/// What was found wrong.
+#[derive(Drop)]
+pub(crate) struct Found {
+    pub(crate) all: Vec<Diagnostic>,
+    /// Whether the texts give a plan. What is wrong with it is wrong between two places.
+    pub(crate) is_plan: bool,
+}
+
+/// What people call the texts after the first one.
+///
+/// # Errors
+///
+/// Where an allocation fails.
+pub(crate) fn names_after_first(alloc: Global, parts: &[Part]) -> Result<Vec<&str>, AllocError> {
+    let mut names = Vec::new(alloc);
+    for part in parts.iter().skip(1) {
+        names.push(part.name.as_str())?;
+    }
+    Ok(names)
+}
+
+/// The texts of these parts, to be read. The names are those after the first.
+///
+/// # Errors
+///
+/// Where an allocation fails.
+pub(crate) fn texts_of<'a>(
+    alloc: Global,
+    parts: &'a [Part],
+    names: &'a [&'a str],
+) -> Result<Texts<'a>, AllocError> {
+    let mut further = Vec::new(alloc);
+    for part in parts.iter().skip(1) {
+        if further.push(Watched::new(part.text.as_slice())).is_err() {
+            return Err(AllocError);
+        }
+    }
+    let (text, name) = first_of(parts);
+    Ok(Sources {
+        first: Watched::new(text),
+        further,
+        files: BriefFiles {
+            first: name,
+            further: names,
+        },
+        texts: Vec::new(alloc),
+    })
+}
+
+fn first_of(parts: &[Part]) -> (&[u8], &str) {
+    match parts.first() {
+        Some(part) => (part.text.as_slice(), part.name.as_str()),
+        None => (&[], ""),
+    }
+}
+
+/// What is wrong with the texts of these parts.
+///
+/// # Errors
+///
+/// Where an allocation fails.
+pub(crate) fn wrong_in<R: Threads + Sync>(
+    rt: &R,
+    alloc: Global,
+    parts: &[Part],
+) -> Result<Found, AllocError> {
+    let names = names_after_first(alloc, parts)?;
+    let mut texts = texts_of(alloc, parts, names.as_slice())?;
+    match texts.find(alloc) {
+        Ok(given) => wrong_in_plan(rt, alloc, given, &texts),
+        Err(Halt::Text(RunError::Plan(error), Some(source))) => {
+            refusal_of(alloc, error, &source, named(&texts))
+        }
+        Err(_) => Err(AllocError),
+    }
+}
+
+fn named<'a>(texts: &Texts<'a>) -> NamedSources<'a> {
+    NamedSources {
+        first: Named {
+            argument: "PLAN",
+            what: "plan",
+            path: texts.files.first,
+        },
+        further: texts.files.further,
+        argument: "--with",
+    }
+}
+
+fn refusal_of(
+    alloc: Global,
+    error: PlanError,
+    source: &RefusedSource,
+    named: NamedSources<'_>,
+) -> Result<Found, AllocError> {
+    let earlier = source.earlier(alloc, named)?;
+    let refused = source.refused_in(error, source.file(named), earlier.as_slice());
+    let mut all = Vec::new(alloc);
+    let diagnostic = diagnose_refusal(alloc, refused, source.refused.file)?;
+    if all.push(diagnostic).is_err() {
+        return Err(AllocError);
+    }
+    Ok(Found {
+        all,
+        is_plan: false,
+    })
+}
+
+fn wrong_in_plan<R: Threads + Sync>(
+    rt: &R,
+    alloc: Global,
+    given: GivenPlan,
+    texts: &Texts<'_>,
+) -> Result<Found, AllocError> {
+    let GivenPlan { plan, origins } = given;
+    let checked = checked(rt, alloc, plan)?;
+    let words = texts.words(&checked.plan, &origins);
+    let odd = odd_in(alloc, &checked.plan, &origins, texts.texts.as_slice())?;
+    wrong_in_checked(
+        alloc,
+        &checked,
+        words,
+        odd.as_slice(),
+        texts.texts.as_slice(),
+    )
+}
+
+/// The plan, and its faults.
+///
+/// # Errors
+///
+/// Where an allocation fails.
+pub(crate) fn checked<R: Threads + Sync>(
+    rt: &R,
+    alloc: Global,
+    plan: Plan,
+) -> Result<Checked, AllocError>
+    ensures { IfOk result (λ it. AreFaults (plan_contents it.plan) (fault_list it.faults)) }
+{
+    match check_found(rt, alloc, plan, 1, &NoGate) {
+        Ok(checked) => Ok(checked),
+        Err(_) => Err(AllocError),
+    }
+}
+
+fn wrong_in_checked(
+    alloc: Global,
+    checked: &Checked,
+    words: PlanWords<'_>,
+    odd: &[Oddity<'_>],
+    texts: &[Vec<u8>],
+) -> Result<Found, AllocError>
+    requires { AreFaults (plan_contents checked.now.plan) (fault_list checked.now.faults) }
+{
+    Ok(Found {
+        all: diagnose_check(alloc, words, checked, odd, texts)?,
+        is_plan: true,
+    })
+}
+
+fn odd_in<'a>(
+    alloc: Global,
+    plan: &Plan,
+    origins: &'a Option<Origins>,
+    texts: &[Vec<u8>],
+) -> Result<Vec<Oddity<'a>>, AllocError> {
+    match origins {
+        Some(origins) => oddities(alloc, plan, origins, texts),
+        None => Ok(Vec::new(alloc)),
+    }
+}

@@ -1,0 +1,90 @@
+// The texts that are open in the editor.
+
+use crate::places::path_of;
+use std::alloc::{AllocError, Global};
+
+/// A text that is open.
+#[derive(Drop)]
+pub(crate) struct Document {
+    pub(crate) uri: String,
+    /// The path of its file, where it has one.
+    pub(crate) path: Option<String>,
+    pub(crate) text: String,
+}
+
+/// All of them, in the order in which they were opened.
+#[derive(Drop)]
+pub(crate) struct Documents {
+    alloc: Global,
+    open: Vec<Document>,
+}
+
+impl Documents {
+    /// None.
+    pub(crate) fn new(alloc: Global) -> Documents {
+        Documents {
+            alloc,
+            open: Vec::new(alloc),
+        }
+    }
+
+    /// All of them.
+    pub(crate) fn all(&self) -> &[Document] {
+        self.open.as_slice()
+    }
+
+    /// The one with this name.
+    pub(crate) fn find(&self, uri: &str) -> Option<&Document> {
+        self.open.iter().find(|one| one.uri.as_str() == uri)
+    }
+
+    /// The number of the one with this name.
+    pub(crate) fn number_of(&self, uri: &str) -> Option<usize> {
+        self.open.iter().position(|one| one.uri.as_str() == uri)
+    }
+
+    /// A further one. Where it is open it has this text from now on.
+    ///
+    /// # Errors
+    ///
+    /// Where an allocation fails.
+    pub(crate) fn open(&mut self, uri: &str, text: &str) -> Result<(), AllocError> {
+        self.close(uri);
+        let alloc = self.alloc;
+        let document = Document {
+            uri: String::from_str(alloc, uri)?,
+            path: path_of(alloc, uri)?,
+            text: String::from_str(alloc, text)?,
+        };
+        match self.open.push(document) {
+            Ok(()) => Ok(()),
+            Err(_) => Err(AllocError),
+        }
+    }
+
+    /// An open one has another text. Whether it is open.
+    ///
+    /// # Errors
+    ///
+    /// Where an allocation fails.
+    pub(crate) fn change(&mut self, uri: &str, text: &str) -> Result<bool, AllocError> {
+        for one in self.open.iter_mut() {
+            if one.uri.as_str() == uri {
+                one.text = String::from_str(self.alloc, text)?;
+                return Ok(true);
+            }
+        }
+        Ok(false)
+    }
+
+    /// One is not open any more. Whether it was.
+    pub(crate) fn close(&mut self, uri: &str) -> bool {
+        match self.number_of(uri) {
+            Some(at) => {
+                let _closed = self.open.remove(at);
+                true
+            }
+            None => false,
+        }
+    }
+}

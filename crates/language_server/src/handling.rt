@@ -1,0 +1,380 @@
+// What is done for each message of a client.
+
+use crate::answers::{Answers, json};
+use crate::checking::wrong_in;
+use crate::definitions::definition_of;
+use crate::documents::{Document, Documents};
+use crate::formatting::{edit_of, formatted};
+use crate::hovers::hover_of;
+use crate::naming::{Word, word_at, words_in};
+use crate::plans::{Further, Given, given_by, heads_of};
+use crate::positions::{Position, offset_of};
+use crate::publishing::{location_of, publish, publish_nothing};
+use crate::rpc::{
+    BAD_PARAMS, BEGUN, Call, Fault, Message, NO_JSON, NO_REQUEST, NOT_BEGUN, SHUT_DOWN, UNKNOWN,
+    message_of, number_in, text_in,
+};
+use growing_text::Text;
+use report::Status;
+use serde_json::Value;
+use std::alloc::{AllocError, Global};
+use std::rt::Files;
+use std::thread::Threads;
+
+/// A server: what is open, and how far it is.
+#[derive(Drop)]
+pub(crate) struct Server<'a, R> {
+    rt: &'a R,
+    further: Vec<Further>,
+    documents: Documents,
+    phase: Phase,
+}
+
+#[derive(Clone, Copy, PartialEq, Eq)]
+enum Phase {
+    New,
+    Ready,
+    Shut,
+}
+
+const CAPABILITIES: &str =
+    "{\"capabilities\":{\"positionEncoding\":\"utf-16\",\"textDocumentSync\":1,\
+\"hoverProvider\":true,\"definitionProvider\":true,\"documentFormattingProvider\":true},\
+\"serverInfo\":{\"name\":\"twire\"}}";
+
+const NULL: &str = "null";
+
+// A place of a document.
+#[derive(Clone, Copy)]
+struct Asked<'a> {
+    uri: &'a str,
+    position: Position,
+}
+
+impl<'a, R: Files + AllocGlobal + Threads + Sync> Server<'a, R> {
+    /// Nothing is open, and plans have these further files.
+    pub(crate) fn new(rt: &'a R, further: Vec<Further>) -> Server<'a, R> {
+        Server {
+            rt,
+            further,
+            documents: Documents::new(rt.alloc()),
+            phase: Phase::New,
+        }
+    }
+
+    /// Does what a body asks for. The status with which the program ends, where it is to end.
+    ///
+    /// # Errors
+    ///
+    /// Where an allocation fails.
+    pub(crate) fn take(
+        &mut self,
+        body: &[u8],
+        answers: &mut Answers,
+    ) -> Result<Option<Status>, AllocError> {
+        match Value::from_slice(self.rt.alloc(), body) {
+            Ok(body) => self.take_value(&body, answers),
+            Err(error) if error.is_memory() => Err(AllocError),
+            Err(_) => {
+                answers.error(None, NO_JSON);
+                Ok(None)
+            }
+        }
+    }
+
+    fn take_value(
+        &mut self,
+        body: &Value,
+        answers: &mut Answers,
+    ) -> Result<Option<Status>, AllocError> {
+        match message_of(body) {
+            Message::Request(id, call) => {
+                if let Some(fault) = self.answer(id, call, answers)? {
+                    answers.error(Some(id), fault);
+                }
+                Ok(None)
+            }
+            Message::Notification(call) => self.note(call, answers),
+            Message::Response => Ok(None),
+            Message::Wrong(id) => {
+                answers.error(id, NO_REQUEST);
+                Ok(None)
+            }
+        }
+    }
+
+    // Answers a request, or says why it cannot be answered.
+    fn answer(
+        &mut self,
+        id: &Value,
+        call: Call<'_>,
+        answers: &mut Answers,
+    ) -> Result<Option<Fault>, AllocError> {
+        match (self.phase, call.method) {
+            (Phase::New, "initialize") => {
+                self.phase = Phase::Ready;
+                answers.made(id, String::from_str(self.rt.alloc(), CAPABILITIES));
+                Ok(None)
+            }
+            (Phase::New, _) => Ok(Some(NOT_BEGUN)),
+            (Phase::Shut, _) => Ok(Some(SHUT_DOWN)),
+            (Phase::Ready, "initialize") => Ok(Some(BEGUN)),
+            (Phase::Ready, "shutdown") => {
+                self.phase = Phase::Shut;
+                answers.made(id, String::from_str(self.rt.alloc(), NULL));
+                Ok(None)
+            }
+            (Phase::Ready, "textDocument/formatting") => self.format(id, call, answers),
+            (Phase::Ready, "textDocument/hover") => self.hover(id, call, answers),
+            (Phase::Ready, "textDocument/definition") => self.define(id, call, answers),
+            (Phase::Ready, _) => Ok(Some(UNKNOWN)),
+        }
+    }
+
+    // Takes notice of something. What is not known is left out.
+    fn note(
+        &mut self,
+        call: Call<'_>,
+        answers: &mut Answers,
+    ) -> Result<Option<Status>, AllocError> {
+        match (self.phase, call.method) {
+            (Phase::Shut, "exit") => return Ok(Some(Status::Good)),
+            (_, "exit") => return Ok(Some(Status::Bad)),
+            (Phase::Ready, "textDocument/didOpen") => self.opened(call.params, answers)?,
+            (Phase::Ready, "textDocument/didChange") => self.changed(call.params, answers)?,
+            (Phase::Ready, "textDocument/didClose") => self.closed(call.params, answers)?,
+            _ => {}
+        }
+        Ok(None)
+    }
+
+    // ---- texts
+
+    fn opened(&mut self, params: Option<&Value>, answers: &mut Answers) -> Result<(), AllocError> {
+        let Some((uri, text)) = opened_in(params) else {
+            return Ok(());
+        };
+        self.documents.open(uri, text)?;
+        self.tell_all(uri, answers)
+    }
+
+    fn changed(&mut self, params: Option<&Value>, answers: &mut Answers) -> Result<(), AllocError> {
+        let Some((uri, text)) = changed_in(params) else {
+            return Ok(());
+        };
+        if self.documents.change(uri, text)? {
+            self.tell_all(uri, answers)?;
+        }
+        Ok(())
+    }
+
+    fn closed(&mut self, params: Option<&Value>, answers: &mut Answers) -> Result<(), AllocError> {
+        let Some(uri) = document_in(params) else {
+            return Ok(());
+        };
+        if !self.documents.close(uri) {
+            return Ok(());
+        }
+        publish_nothing(self.rt.alloc(), answers, uri);
+        if self.further.is_empty() {
+            return Ok(());
+        }
+        self.tell_each(answers)
+    }
+
+    // Tells what is wrong after this document has another text: with all plans that it is a part of.
+    fn tell_all(&self, uri: &str, answers: &mut Answers) -> Result<(), AllocError> {
+        let Some(number) = self.documents.number_of(uri) else {
+            return Ok(());
+        };
+        let heads = heads_of(self.rt, &self.documents, self.further.as_slice())?;
+        if !heads.contains(&number) {
+            return self.tell_each(answers);
+        }
+        let is_last = heads.last().copied() == Some(number);
+        self.tell(Some(number), is_last, answers)
+    }
+
+    // Tells what is wrong with all plans.
+    fn tell_each(&self, answers: &mut Answers) -> Result<(), AllocError> {
+        let heads = heads_of(self.rt, &self.documents, self.further.as_slice())?;
+        let last = heads.last().copied();
+        for head in heads.iter() {
+            self.tell(Some(*head), last == Some(*head), answers)?;
+        }
+        if last.is_none() {
+            self.tell(None, true, answers)?;
+        }
+        Ok(())
+    }
+
+    // Tells what is wrong with the plan that begins with this document, or with that of the further files alone. Of these it is
+    // told where that is wanted.
+    fn tell(
+        &self,
+        head: Option<usize>,
+        tells_further: bool,
+        answers: &mut Answers,
+    ) -> Result<(), AllocError> {
+        let given = given_by(
+            self.rt,
+            &self.documents,
+            head,
+            self.further.as_slice(),
+            tells_further,
+        )?;
+        let found = wrong_in(self.rt, self.rt.alloc(), given.parts.as_slice())?;
+        publish(self.rt.alloc(), answers, &given, &found);
+        Ok(())
+    }
+
+    // ---- questions
+
+    fn format(
+        &self,
+        id: &Value,
+        call: Call<'_>,
+        answers: &mut Answers,
+    ) -> Result<Option<Fault>, AllocError> {
+        let Some(uri) = document_in(call.params) else {
+            return Ok(Some(BAD_PARAMS));
+        };
+        let alloc = self.rt.alloc();
+        match self.documents.find(uri) {
+            Some(document) => answers.made(id, edits_of(alloc, document)),
+            None => answers.made(id, String::from_str(alloc, NULL)),
+        }
+        Ok(None)
+    }
+
+    fn hover(
+        &self,
+        id: &Value,
+        call: Call<'_>,
+        answers: &mut Answers,
+    ) -> Result<Option<Fault>, AllocError> {
+        let Some(asked) = asked_in(call.params) else {
+            return Ok(Some(BAD_PARAMS));
+        };
+        answers.made(id, self.hover_at(asked));
+        Ok(None)
+    }
+
+    fn define(
+        &self,
+        id: &Value,
+        call: Call<'_>,
+        answers: &mut Answers,
+    ) -> Result<Option<Fault>, AllocError> {
+        let Some(asked) = asked_in(call.params) else {
+            return Ok(Some(BAD_PARAMS));
+        };
+        answers.made(id, self.definition_at(asked));
+        Ok(None)
+    }
+
+    fn hover_at(&self, asked: Asked<'_>) -> Result<String, AllocError> {
+        let alloc = self.rt.alloc();
+        let Some(document) = self.documents.find(asked.uri) else {
+            return String::from_str(alloc, NULL);
+        };
+        let text = document.text.as_bytes();
+        let words = words_in(alloc, text)?;
+        match word_at(words.as_slice(), offset_of(text, asked.position)) {
+            Some(word) => self.hover_on(asked.uri, word),
+            None => String::from_str(alloc, NULL),
+        }
+    }
+
+    fn hover_on(&self, uri: &str, word: Word<'_>) -> Result<String, AllocError> {
+        let given = self.plan_of(uri)?;
+        match hover_of(self.rt, self.rt.alloc(), &given, word)? {
+            Some(text) => hover_text(self.rt.alloc(), text.as_str()),
+            None => String::from_str(self.rt.alloc(), NULL),
+        }
+    }
+
+    fn definition_at(&self, asked: Asked<'_>) -> Result<String, AllocError> {
+        let alloc = self.rt.alloc();
+        let Some(document) = self.documents.find(asked.uri) else {
+            return String::from_str(alloc, NULL);
+        };
+        let text = document.text.as_bytes();
+        let words = words_in(alloc, text)?;
+        match word_at(words.as_slice(), offset_of(text, asked.position)) {
+            Some(word) => self.definition_on(asked.uri, word),
+            None => String::from_str(alloc, NULL),
+        }
+    }
+
+    fn definition_on(&self, uri: &str, word: Word<'_>) -> Result<String, AllocError> {
+        let alloc = self.rt.alloc();
+        let given = self.plan_of(uri)?;
+        match definition_of(alloc, &given, word)? {
+            Some(span) => json(alloc, &location_of(&given, span)),
+            None => String::from_str(alloc, NULL),
+        }
+    }
+
+    // The texts of the plan that a document belongs to: it is the first of them, or one of the further files. Then it belongs to
+    // the plan of the document that was opened last and is none of these.
+    fn plan_of(&self, uri: &str) -> Result<Given, AllocError> {
+        let further = self.further.as_slice();
+        let heads = heads_of(self.rt, &self.documents, further)?;
+        let head = match self.documents.number_of(uri) {
+            Some(number) if heads.contains(&number) => Some(number),
+            _ => heads.last().copied(),
+        };
+        given_by(self.rt, &self.documents, head, further, true)
+    }
+}
+
+// The edits that lay a document out.
+fn edits_of(alloc: Global, document: &Document) -> Result<String, AllocError> {
+    let old = document.text.as_str();
+    match formatted(alloc, old)? {
+        Some(new) => json(alloc, &[edit_of(old, new.as_str())]),
+        None => String::from_str(alloc, "[]"),
+    }
+}
+
+// What is said of a name, as the protocol has it.
+fn hover_text(alloc: Global, words: &str) -> Result<String, AllocError> {
+    let mut text = Text::new(alloc);
+    text.push("{\"contents\":{\"kind\":\"markdown\",\"value\":");
+    text.push_made(json(alloc, &words));
+    text.push("}}");
+    text.finish()
+}
+
+// ---- what messages have in them
+
+// The document that is spoken of.
+fn document_in(params: Option<&Value>) -> Option<&str> {
+    text_in(params?.get("textDocument")?, "uri")
+}
+
+fn opened_in(params: Option<&Value>) -> Option<(&str, &str)> {
+    let text = text_in(params?.get("textDocument")?, "text")?;
+    Some((document_in(params)?, text))
+}
+
+// The whole text that a document has now: that of the last change.
+fn changed_in(params: Option<&Value>) -> Option<(&str, &str)> {
+    let last = params?.get("contentChanges")?.as_array()?.last()?;
+    if last.get("range").is_some() {
+        return None;
+    }
+    Some((document_in(params)?, text_in(last, "text")?))
+}
+
+fn asked_in(params: Option<&Value>) -> Option<Asked<'_>> {
+    let position = params?.get("position")?;
+    Some(Asked {
+        uri: document_in(params)?,
+        position: Position {
+            line: number_in(position, "line")?,
+            character: number_in(position, "character")?,
+        },
+    })
+}

@@ -1,0 +1,231 @@
+// Which texts give the plan that a document belongs to.
+
+use crate::documents::{Document, Documents};
+use crate::places::uri_of;
+use files::{FileId, identity_of};
+use report::{RunError, Watched, read_within};
+use run_parts::devices::reading::READS;
+use std::alloc::{AllocError, Global};
+use std::rt::{Env, Files};
+use std::{env, fs};
+
+/// A further file of a brief, as the command line names it, and its path from the root on.
+#[derive(Drop)]
+pub(crate) struct Further {
+    pub(crate) name: String,
+    pub(crate) path: String,
+}
+
+/// One of the texts that give a plan.
+#[derive(Drop)]
+pub(crate) struct Part {
+    pub(crate) uri: String,
+    /// What people call it.
+    pub(crate) name: String,
+    pub(crate) text: Vec<u8>,
+    /// Whether what is wrong with it is told by this plan, and by no other.
+    pub(crate) is_told: bool,
+}
+
+/// The texts that give a plan, in their order.
+#[derive(Drop)]
+pub(crate) struct Given {
+    pub(crate) parts: Vec<Part>,
+    /// The name of a file that cannot be read.
+    pub(crate) unread: Option<String>,
+}
+
+/// The further files of these names.
+///
+/// # Errors
+///
+/// Where an allocation fails.
+pub(crate) fn further_of<R: Env + AllocGlobal>(
+    rt: &R,
+    names: &[&str],
+) -> Result<Vec<Further>, AllocError> {
+    let alloc = rt.alloc();
+    let mut all = Vec::new(alloc);
+    for name in names {
+        let further = Further {
+            name: String::from_str(alloc, name)?,
+            path: path_from_root(rt, name)?,
+        };
+        if all.push(further).is_err() {
+            return Err(AllocError);
+        }
+    }
+    Ok(all)
+}
+
+// The path from the root on, where it is known in which folder the program runs.
+fn path_from_root<R: Env + AllocGlobal>(rt: &R, name: &str) -> Result<String, AllocError> {
+    let alloc = rt.alloc();
+    if name.starts_with('/') {
+        return String::from_str(alloc, name);
+    }
+    match env::current_dir(rt) {
+        Ok(mut path) => match path.push(name) {
+            Ok(()) => Ok(path.into_string()),
+            Err(_) => Err(AllocError),
+        },
+        Err(_) => String::from_str(alloc, name),
+    }
+}
+
+/// The numbers of the open documents that are none of the further files.
+///
+/// # Errors
+///
+/// Where an allocation fails.
+pub(crate) fn heads_of<R: Files + AllocGlobal>(
+    rt: &R,
+    documents: &Documents,
+    further: &[Further],
+) -> Result<Vec<usize>, AllocError> {
+    let mut heads = Vec::new(rt.alloc());
+    for (number, document) in documents.all().iter().enumerate() {
+        if !is_further(rt, document, further) {
+            heads.push(number)?;
+        }
+    }
+    Ok(heads)
+}
+
+/// Whether a document is one of these files.
+pub(crate) fn is_further<R: Files>(rt: &R, document: &Document, further: &[Further]) -> bool {
+    for one in further {
+        if is_file(rt, document, one) {
+            return true;
+        }
+    }
+    false
+}
+
+// Whether a document is this file: by its path, or as the system knows both.
+fn is_file<R: Files>(rt: &R, document: &Document, further: &Further) -> bool {
+    let Some(path) = &document.path else {
+        return false;
+    };
+    path.as_str() == further.path.as_str()
+        || is_one(
+            identity_of(fs::metadata(rt, path.as_str())),
+            identity_of(fs::metadata(rt, further.path.as_str())),
+        )
+}
+
+fn is_one(one: Option<FileId>, other: Option<FileId>) -> bool {
+    match (one, other) {
+        (Some(one), Some(other)) => one.0 == other.0 && one.1 == other.1,
+        _ => false,
+    }
+}
+
+/// The texts that give a plan: the document of this number, where there is one, and then the further files. These are told of
+/// where that is wanted.
+///
+/// # Errors
+///
+/// Where an allocation fails.
+pub(crate) fn given_by<R: Files + AllocGlobal>(
+    rt: &R,
+    documents: &Documents,
+    head: Option<usize>,
+    further: &[Further],
+    tells_further: bool,
+) -> Result<Given, AllocError> {
+    let alloc = rt.alloc();
+    let mut given = Given {
+        parts: Vec::new(alloc),
+        unread: None,
+    };
+    if let Some(document) = head_among(documents, head) {
+        given.add(part_of(alloc, document, file_name_of(document), true)?)?;
+    }
+    for one in further {
+        match further_part(rt, documents, one, tells_further)? {
+            Some(part) => given.add(part)?,
+            None => given.unread = Some(String::from_str(alloc, one.name.as_str())?),
+        }
+    }
+    Ok(given)
+}
+
+fn head_among(documents: &Documents, head: Option<usize>) -> Option<&Document> {
+    documents.all().get(head?)
+}
+
+impl Given {
+    fn add(&mut self, part: Part) -> Result<(), AllocError> {
+        match self.parts.push(part) {
+            Ok(()) => Ok(()),
+            Err(_) => Err(AllocError),
+        }
+    }
+}
+
+// An open document, which people call so.
+fn part_of(
+    alloc: Global,
+    document: &Document,
+    name: &str,
+    is_told: bool,
+) -> Result<Part, AllocError> {
+    let mut text = Vec::new(alloc);
+    text.extend_from_slice(document.text.as_bytes())?;
+    Ok(Part {
+        uri: String::from_str(alloc, document.uri.as_str())?,
+        name: String::from_str(alloc, name)?,
+        text,
+        is_told,
+    })
+}
+
+// The last part of what names a document.
+fn file_name_of(document: &Document) -> &str {
+    let path = match &document.path {
+        Some(path) => path.as_str(),
+        None => document.uri.as_str(),
+    };
+    match path.rsplit_once('/') {
+        Some((_, name)) => name,
+        None => path,
+    }
+}
+
+// A further file: as it is open, or as it stands on disk. None where it cannot be read.
+fn further_part<R: Files + AllocGlobal>(
+    rt: &R,
+    documents: &Documents,
+    further: &Further,
+    is_told: bool,
+) -> Result<Option<Part>, AllocError> {
+    let alloc = rt.alloc();
+    let name = further.name.as_str();
+    for document in documents.all() {
+        if is_file(rt, document, further) {
+            return Ok(Some(part_of(alloc, document, name, is_told)?));
+        }
+    }
+    let Some(text) = read(rt, further.path.as_str())? else {
+        return Ok(None);
+    };
+    Ok(Some(Part {
+        uri: uri_of(alloc, further.path.as_str())?,
+        name: String::from_str(alloc, name)?,
+        text,
+        is_told,
+    }))
+}
+
+// What the file of this path has, where it can be read.
+fn read<R: Files + AllocGlobal>(rt: &R, path: &str) -> Result<Option<Vec<u8>>, AllocError> {
+    let Ok(file) = fs::open(rt, path) else {
+        return Ok(None);
+    };
+    match read_within(rt.alloc(), &mut Watched::new(file), READS) {
+        Ok(text) => Ok(Some(text)),
+        Err(RunError::NoMemory) => Err(AllocError),
+        Err(_) => Ok(None),
+    }
+}

@@ -1,0 +1,301 @@
+// What is wrong with texts, as the protocol has it.
+
+use crate::answers::{Answers, json};
+use crate::checking::Found;
+use crate::plans::{Given, Part};
+use crate::positions::{Range, position_of, range_of};
+use diagnostics::{Diagnostic, Severity, Span};
+use growing_text::Text;
+use serde::Serialize;
+use std::alloc::{AllocError, Global};
+
+const METHOD: &str = "textDocument/publishDiagnostics";
+
+// So many are told of one document.
+const MOST: usize = 200;
+
+const SOURCE: &str = "twire";
+
+const ERROR: u8 = 1;
+
+const WARNING: u8 = 2;
+
+const INFORMATION: u8 = 3;
+
+/// A part of a document.
+#[derive(Clone, Copy, Serialize)]
+pub(crate) struct Location<'a> {
+    pub(crate) uri: &'a str,
+    pub(crate) range: Range,
+}
+
+#[derive(Clone, Copy, Serialize)]
+struct Beside<'a> {
+    location: Location<'a>,
+    message: &'a str,
+}
+
+#[derive(Drop, Serialize)]
+#[serde(rename_all = "camelCase")]
+struct Told<'a> {
+    range: Range,
+    severity: u8,
+    code: &'static str,
+    source: &'static str,
+    message: &'a str,
+    related_information: Vec<Beside<'a>>,
+}
+
+// What stands at the first place of a diagnostic that is told at its other one.
+const FIRST: &str = "the first of the two";
+
+// A diagnostic that is told at one of its two places.
+#[derive(Clone, Copy)]
+struct Shown<'a> {
+    diagnostic: &'a Diagnostic,
+    span: Span,
+    // whether that is the other one
+    is_other: bool,
+}
+
+/// Says what was found wrong, document by document, of those that are told of here.
+pub(crate) fn publish(alloc: Global, answers: &mut Answers, given: &Given, found: &Found) {
+    let mut file = 0u32;
+    for part in given.parts.iter() {
+        if part.is_told {
+            answers.notify(METHOD, params_of(alloc, given, file, part, found));
+        }
+        file = file.saturating_add(1);
+    }
+}
+
+/// Says that nothing is wrong with a document any more.
+pub(crate) fn publish_nothing(alloc: Global, answers: &mut Answers, uri: &str) {
+    answers.notify(METHOD, params_with(alloc, uri, Text::new(alloc)));
+}
+
+fn params_of(
+    alloc: Global,
+    given: &Given,
+    file: u32,
+    part: &Part,
+    found: &Found,
+) -> Result<String, AllocError> {
+    let mut list = List::new(alloc);
+    if let Some(name) = &given.unread {
+        if file == 0 {
+            list.add_unread(name.as_str(), part);
+        }
+    }
+    for diagnostic in found.all.iter() {
+        list.add_places(diagnostic, given, file, found.is_plan);
+    }
+    params_with(alloc, part.uri.as_str(), list.finish())
+}
+
+fn params_with(alloc: Global, uri: &str, list: Text) -> Result<String, AllocError> {
+    let mut params = Text::new(alloc);
+    params.push("{\"uri\":");
+    params.push_made(json(alloc, &uri));
+    params.push(",\"diagnostics\":[");
+    params.push_made(list.finish());
+    params.push("]}");
+    params.finish()
+}
+
+// The diagnostics of one document.
+#[derive(Drop)]
+struct List {
+    alloc: Global,
+    text: Text,
+    count: usize,
+}
+
+impl List {
+    fn new(alloc: Global) -> List {
+        List {
+            alloc,
+            text: Text::new(alloc),
+            count: 0,
+        }
+    }
+
+    // That a file cannot be read.
+    fn add_unread(&mut self, name: &str, part: &Part) {
+        let alloc = self.alloc;
+        match unread_words(alloc, name) {
+            Ok(message) => {
+                let text = part.text.as_slice();
+                let told = Told {
+                    range: range_of(text, 0, end_of_line(text)),
+                    severity: ERROR,
+                    code: "read",
+                    source: SOURCE,
+                    message: message.as_str(),
+                    related_information: Vec::new(alloc),
+                };
+                self.add(json(alloc, &told));
+            }
+            Err(_) => self.text.cut(),
+        }
+    }
+
+    // A diagnostic at those of its places that are in this file. What is wrong with a plan is told at both.
+    fn add_places(&mut self, diagnostic: &Diagnostic, given: &Given, file: u32, is_plan: bool) {
+        let shown = Shown {
+            diagnostic,
+            span: diagnostic.span,
+            is_other: false,
+        };
+        if diagnostic.span.file == file {
+            self.add_shown(shown, given);
+        }
+        if !is_plan || !is_error(diagnostic.severity) {
+            return;
+        }
+        if let Some(other) = diagnostic.related.first() {
+            if other.span.file == file && !is_same(other.span, diagnostic.span) {
+                self.add_shown(
+                    Shown {
+                        span: other.span,
+                        is_other: true,
+                        ..shown
+                    },
+                    given,
+                );
+            }
+        }
+    }
+
+    fn add_shown(&mut self, shown: Shown<'_>, given: &Given) {
+        if self.count < MOST {
+            let alloc = self.alloc;
+            self.add(told_of(alloc, shown, given));
+        } else {
+            self.count = self.count.saturating_add(1);
+        }
+    }
+
+    fn add(&mut self, told: Result<String, AllocError>) {
+        if self.count != 0 {
+            self.text.push(",");
+        }
+        self.text.push_made(told);
+        self.count = self.count.saturating_add(1);
+    }
+
+    // All of them, and how many more there are.
+    fn finish(mut self) -> Text {
+        let more = self.count.saturating_sub(MOST);
+        if more != 0 {
+            let alloc = self.alloc;
+            self.add(told_more(alloc, more));
+        }
+        self.text
+    }
+}
+
+fn is_error(severity: Severity) -> bool {
+    matches!(severity, Severity::Error)
+}
+
+fn is_same(one: Span, other: Span) -> bool {
+    one.file == other.file && one.start == other.start && one.end == other.end
+}
+
+// How many bytes stand before the end of the first line.
+fn end_of_line(text: &[u8]) -> usize {
+    let mut count = 0usize;
+    for byte in text {
+        if matches!(*byte, b'\n' | b'\r') {
+            break;
+        }
+        count = count.saturating_add(1);
+    }
+    count
+}
+
+fn unread_words(alloc: Global, name: &str) -> Result<String, AllocError> {
+    let mut words = Text::new(alloc);
+    words.push("the file ");
+    words.push(name);
+    words.push(" of --with cannot be read");
+    words.finish()
+}
+
+fn told_more(alloc: Global, more: usize) -> Result<String, AllocError> {
+    let mut words = Text::new(alloc);
+    words.push("there are ");
+    words.push_number(more as u64);
+    words.push(" more");
+    let message = words.finish()?;
+    let told = Told {
+        range: range_of(&[], 0, 0),
+        severity: INFORMATION,
+        code: "more",
+        source: SOURCE,
+        message: message.as_str(),
+        related_information: Vec::new(alloc),
+    };
+    json(alloc, &told)
+}
+
+fn told_of(alloc: Global, shown: Shown<'_>, given: &Given) -> Result<String, AllocError> {
+    let diagnostic = shown.diagnostic;
+    let told = Told {
+        range: location_of(given, shown.span).range,
+        severity: severity_of(diagnostic.severity),
+        code: diagnostic.code,
+        source: SOURCE,
+        message: diagnostic.message.as_str(),
+        related_information: related_of(alloc, shown, given)?,
+    };
+    json(alloc, &told)
+}
+
+fn severity_of(severity: Severity) -> u8 {
+    match severity {
+        Severity::Error => ERROR,
+        Severity::Warning => WARNING,
+    }
+}
+
+// What is told beside it. At the other place of two that is the first one.
+fn related_of<'a>(
+    alloc: Global,
+    shown: Shown<'a>,
+    given: &'a Given,
+) -> Result<Vec<Beside<'a>>, AllocError> {
+    let mut related = Vec::new(alloc);
+    if shown.is_other {
+        related.push(Beside {
+            location: location_of(given, shown.diagnostic.span),
+            message: FIRST,
+        })?;
+        return Ok(related);
+    }
+    for other in shown.diagnostic.related.iter() {
+        related.push(Beside {
+            location: location_of(given, other.span),
+            message: other.message.as_str(),
+        })?;
+    }
+    Ok(related)
+}
+
+/// Where this part of a text stands.
+pub(crate) fn location_of(given: &Given, span: Span) -> Location<'_> {
+    match given.parts.get(span.file as usize) {
+        Some(part) => Location {
+            uri: part.uri.as_str(),
+            range: range_of(part.text.as_slice(), span.start, span.end),
+        },
+        None => Location {
+            uri: "",
+            range: Range {
+                start: position_of(&[], 0),
+                end: position_of(&[], 0),
+            },
+        },
+    }
+}
