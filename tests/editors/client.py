@@ -1,0 +1,456 @@
+# A client of `twire lsp`: each case sends frames, and compares what comes back with what the protocol and
+# docs/COMMAND_LINE.md say. The last line is 'N passed, M failed'.
+import json
+import os
+import select
+import subprocess
+import sys
+import time
+
+TWIRE = sys.argv[1]
+SECONDS = 60
+passed = failed = 0
+
+
+def want(name, wanted, found):
+    global passed, failed
+    if wanted == found:
+        passed += 1
+        return
+    failed += 1
+    print(f'FAILED: {name}: wanted\n{shown(wanted)}\nfound\n{shown(found)}')
+
+
+def shown(value):
+    return json.dumps(value, indent=1, default=str)
+
+
+def frame(body):
+    body = body if isinstance(body, bytes) else json.dumps(body).encode()
+    return b'Content-Length: %d\r\n\r\n' % len(body) + body
+
+
+class Server:
+    def __init__(self, *arguments, folder=None):
+        self.process = subprocess.Popen([TWIRE, 'lsp', *arguments], stdin=subprocess.PIPE, stdout=subprocess.PIPE,
+                                        stderr=subprocess.PIPE, bufsize=0, cwd=folder)
+        self.ids = 0
+        self.rest = b''
+
+    # ---- bytes
+
+    def write(self, data):
+        self.process.stdin.write(data)
+
+    # One message of the server, or None where it has ended.
+    def read(self):
+        head = self.read_until(b'\r\n\r\n')
+        if head is None:
+            return None
+        fields = dict(line.split(b': ', 1) for line in head.split(b'\r\n') if line)
+        size = int(fields[b'Content-Length'])
+        while len(self.rest) < size:
+            if not self.more():
+                return 'half a frame'
+        body, self.rest = self.rest[:size], self.rest[size:]
+        return json.loads(body)
+
+    def read_until(self, mark):
+        while mark not in self.rest:
+            if not self.more():
+                return None
+        head, self.rest = self.rest.split(mark, 1)
+        return head
+
+    def more(self):
+        ready, _, _ = select.select([self.process.stdout], [], [], SECONDS)
+        data = os.read(self.process.stdout.fileno(), 65536) if ready else b''
+        self.rest += data
+        return bool(data)
+
+    # Nothing more is written. The status, and what is left to be read.
+    def end(self):
+        self.process.stdin.close()
+        rest = []
+        while (message := self.read()) is not None:
+            rest.append(message)
+        status = self.process.wait(SECONDS)
+        self.process.stdout.close()
+        self.process.stderr.close()
+        return [status, rest]
+
+    # ---- messages
+
+    def request(self, method, params=None):
+        self.ids += 1
+        message = {'jsonrpc': '2.0', 'id': self.ids, 'method': method}
+        if params is not None:
+            message['params'] = params
+        self.write(frame(message))
+        return self.read()
+
+    def result(self, method, params=None):
+        answer = self.request(method, params)
+        return answer['result'] if isinstance(answer, dict) and 'result' in answer else answer
+
+    def code(self, method, params=None):
+        return self.request(method, params)['error']['code']
+
+    def notify(self, method, params=None):
+        self.write(frame({'jsonrpc': '2.0', 'method': method, 'params': params or {}}))
+
+    def begin(self):
+        self.request('initialize', {'processId': None, 'rootUri': None, 'capabilities': {}})
+        self.notify('initialized')
+        return self
+
+    # What is told of the document after that.
+    def open(self, uri, text):
+        self.notify('textDocument/didOpen', {'textDocument': {'uri': uri, 'languageId': 'brief', 'version': 1, 'text': text}})
+        return self.told(uri)
+
+    def change(self, uri, text):
+        self.notify('textDocument/didChange', {'textDocument': {'uri': uri, 'version': 2}, 'contentChanges': [{'text': text}]})
+        return self.told(uri)
+
+    def told(self, uri):
+        message = self.read()
+        if message and message.get('method') == 'textDocument/publishDiagnostics' and message['params']['uri'] == uri:
+            return message['params']['diagnostics']
+        return message
+
+    def at(self, method, uri, line, character):
+        return self.result(f'textDocument/{method}',
+                           {'textDocument': {'uri': uri}, 'position': {'line': line, 'character': character}})
+
+    def stop(self):
+        self.request('shutdown')
+        self.notify('exit')
+        return self.end()
+
+
+def places(told):
+    return [[one['code'], one['severity'], *spot(one['range'])] for one in told]
+
+
+def spot(range):
+    start, end = range['start'], range['end']
+    return [start['line'], start['character'], end['line'], end['character']]
+
+
+# ---- begin and end
+
+server = Server()
+answer = server.request('initialize', {'processId': None, 'rootUri': None, 'capabilities': {}})
+want('the version of JSON-RPC', '2.0', answer['jsonrpc'])
+want('the number of the request', 1, answer['id'])
+capabilities = answer['result']['capabilities']
+want('whole texts at each change', 1, capabilities['textDocumentSync'])
+want('what is offered', [True] * 3,
+     [capabilities[name] for name in ('hoverProvider', 'definitionProvider', 'documentFormattingProvider')])
+want('units of UTF-16', 'utf-16', capabilities['positionEncoding'])
+want('a second initialize', -32600, server.code('initialize', {'capabilities': {}}))
+want('shutdown', None, server.result('shutdown'))
+want('a request after shutdown', -32600, server.code('textDocument/hover', {}))
+server.notify('exit')
+want('exit after shutdown', [0, []], server.end())
+
+server = Server().begin()
+server.notify('exit')
+want('exit without shutdown', [1, []], server.end())
+want('the input ends without exit', [1, []], Server().begin().end())
+want('the input ends at once', [1, []], Server().end())
+server = Server().begin()
+server.request('shutdown')
+want('the input ends after shutdown, without exit', [1, []], server.end())
+server = Server()
+want('a request before initialize', -32002, server.code('textDocument/hover', {}))
+want('shutdown before initialize', -32002, server.code('shutdown'))
+server.notify('textDocument/didOpen', {'textDocument': {'uri': 'file:///x', 'text': 'x'}})
+server.notify('exit')
+want('a note before initialize', [1, []], server.end())
+server = Server()
+server.notify('exit')
+want('exit before initialize', [1, []], server.end())
+
+# ---- frames
+
+HELLO = {'jsonrpc': '2.0', 'id': 'a', 'method': 'initialize', 'params': {}}
+UNKNOWN = {'jsonrpc': '2.0', 'id': 'b', 'method': 'no/such'}
+
+
+def heard(*parts, pause=0.0, count=None):
+    """The ids and codes of what comes back for these bytes, and the status."""
+    server = Server()
+    for part in parts:
+        server.write(part)
+        if pause:
+            time.sleep(pause)
+    status, rest = server.end()
+    return [status] + [[one.get('id'), one['error']['code'] if 'error' in one else 'ok'] for one in rest]
+
+
+hello, unknown = frame(HELLO), frame(UNKNOWN)
+want('two frames in one write', [1, ['a', 'ok'], ['b', -32601]], heard(hello + unknown))
+want('a frame in many writes', [1, ['a', 'ok']], heard(*[hello[k:k + 7] for k in range(0, len(hello), 7)], pause=0.002))
+body = json.dumps(HELLO).encode()
+want('a name in small letters, and other fields', [1, ['a', 'ok']],
+     heard(b'Content-Type: application/vscode-jsonrpc; charset=utf-8\r\ncontent-length:%d\r\n\r\n' % len(body) + body))
+want('half a head', [2], heard(b'Content-Le'))
+want('half a body', [2, ['a', 'ok']], heard(hello + unknown[:-3]))
+want('a head alone', [2], heard(b'Content-Length: 5\r\n\r\n'))
+want('a length that is too small: the rest of the body is no head', [2, [None, -32700]],
+     heard(b'Content-Length: %d\r\n\r\n' % (len(body) - 5) + body))
+want('a length that is too great takes the next head in, which then has no length', [2, [None, -32700], [None, -32700]],
+     heard(b'Content-Length: %d\r\n\r\n' % (len(body) + 5) + body + unknown))
+for bad in (b'-5', b'', b'abc', b'0x10', b'1 2', b'99999999999999999999999', b'+5', b'5.0'):
+    want(f'a length {bad}', [1, [None, -32700], ['a', 'ok']], heard(b'Content-Length: ' + bad + b'\r\n\r\n' + b'{}' + hello))
+want('no length', [1, [None, -32700], ['a', 'ok']], heard(b'Content-Type: x\r\n\r\n' + hello))
+want('an empty head', [1, [None, -32700], ['a', 'ok']], heard(b'\r\n' + hello))
+want('two lengths', [1, [None, -32700], ['a', 'ok']], heard(b'Content-Length: 2\r\nContent-Length: 3\r\n\r\n{}' + hello))
+want('no length, and nothing after it', [2, [None, -32700]], heard(b'Content-Type: x\r\n\r\n{}'))
+want('a head that is too long', [1, [None, -32700], ['a', 'ok']], heard(b'X: ' + b'y' * 5000 + b'\r\n' + hello))
+want('a head of 4096 bytes and more without an end', [2, [None, -32700]], heard(b'z' * 100000))
+want('a body of no bytes', [1, [None, -32700], ['a', 'ok']], heard(frame(b'') + hello))
+want('a body of 10 MB', [1, ['a', 'ok'], ['b', -32601]],
+     heard(hello + frame({**UNKNOWN, 'params': {'text': 'x' * 10_000_000}})))
+want('a body that is too long', [1, [None, -32600], ['a', 'ok']],
+     heard(frame(b'"' + b'x' * (16 * 1024 * 1024 - 1) + b'"') + hello))
+want('the end in a body that is too long', [2, [None, -32600]], heard(b'Content-Length: 999999999999\r\n\r\n' + b'x' * 1000))
+
+# ---- messages
+
+want('no JSON', [1, [None, -32700], ['a', 'ok']], heard(frame(b'{"jsonrpc": "2.0", "id": 1,') + hello))
+want('no UTF-8', [1, [None, -32700]], heard(frame(b'{"jsonrpc": "2.0", "id": 1, "method": "\xff"}')))
+want('a thousand brackets', [1, [None, -32700]], heard(frame(b'[' * 1000)))
+want('a batch', [1, [None, -32600]], heard(frame([HELLO])))
+for bad in (1, 'x', None, True, []):
+    want(f'{bad} is no request', [1, [None, -32600]], heard(frame(bad)))
+want('no version', [1, ['a', -32600]], heard(frame({'id': 'a', 'method': 'initialize'})))
+want('another version', [1, ['a', -32600]], heard(frame({**HELLO, 'jsonrpc': '1.0'})))
+want('no method', [1, [7, -32600]], heard(frame({'jsonrpc': '2.0', 'id': 7})))
+want('a method that is no text', [1, [7, -32600]], heard(frame({'jsonrpc': '2.0', 'id': 7, 'method': 1})))
+want('an id that is none', [1, [None, -32600]], heard(frame({**HELLO, 'id': [1]})))
+want('the id null', [1, [None, -32600]], heard(frame({**HELLO, 'id': None})))
+want('a response', [1, ['a', 'ok']], heard(hello + frame({'jsonrpc': '2.0', 'id': 1, 'result': None})))
+want('a response with an error', [1, ['a', 'ok']],
+     heard(hello + frame({'jsonrpc': '2.0', 'id': None, 'error': {'code': 1, 'message': 'x'}})))
+server = Server().begin()
+server.notify('no/such')
+server.notify('$/cancelRequest', {'id': 1})
+server.notify('textDocument/didOpen', {'textDocument': 5})
+server.notify('textDocument/didChange', {'textDocument': {'uri': 'file:///no'}, 'contentChanges': [{'text': 'x'}]})
+server.notify('textDocument/didClose', {'textDocument': {'uri': 'file:///no'}})
+want('an unknown request of the protocol', -32601, server.code('$/no'))
+for method in ('hover', 'definition', 'formatting'):
+    want(f'{method} without parameters', -32602, server.code(f'textDocument/{method}'))
+    want(f'{method} with others', -32602, server.code(f'textDocument/{method}', [1, 2]))
+want('a position that is none', -32602,
+     server.code('textDocument/hover', {'textDocument': {'uri': 'file:///x'}, 'position': {'line': -1, 'character': 'x'}}))
+want('a document that is not open', [None] * 3, [
+    server.at('hover', 'file:///no', 0, 0), server.at('definition', 'file:///no', 0, 0),
+    server.result('textDocument/formatting', {'textDocument': {'uri': 'file:///no'}, 'options': {}})])
+want('after all this', [0, []], server.stop())
+
+# ---- what is wrong with a text
+
+BRIEF = 'file:///project/a%20b.brief'
+SAFE = '''brief 1
+device eeprom 0x50 ;
+byte page 0x10 ;
+message set write eeprom page any ;
+message get read eeprom 2 ;
+controller bmc set ;
+controller pch get ;
+'''
+
+server = Server().begin()
+want('a safe brief', [], server.open(BRIEF, SAFE))
+# each refusal, at the token of docs/PLANS.md; a line is one less than there
+REFUSED = [
+    ('P1', SAFE + '# \u00e9\n', [7, 2, 7, 3]),
+    ('P1', SAFE + '# \U0001f600 \u00e9\n', [7, 2, 7, 4]),
+    ('P2', 'brief 2\n', [0, 6, 0, 7]),
+    ('P2', '', [0, 0, 0, 0]),
+    ('P3', SAFE + 'device 5 0x50 ;\n', [7, 7, 7, 8]),
+    ('P4', SAFE + 'message long read eeprom 256 ;\n', [7, 25, 7, 28]),
+    ('P5', SAFE + 'message long write eeprom any*255 any ;\n', [7, 34, 7, 37]),
+    ('P6', SAFE + ''.join(f'controller c{k} ;\n' for k in range(31)), [37, 11, 37, 14]),
+    ('P7', SAFE + 'byte page 0x11 ;\n', [7, 5, 7, 9]),
+    ('P8', SAFE + 'controller third set put ;\n', [7, 21, 7, 24]),
+]
+for code, text, span in REFUSED:
+    want(f'{code} at {span}', [[code, 1, *span]], places(server.change(BRIEF, text)))
+want('mended', [], server.change(BRIEF, SAFE))
+told = server.change(BRIEF, SAFE + 'byte page 0x11 ;\n')
+want('where a name stands already', [[BRIEF, [2, 5, 2, 9]]],
+     [[other['location']['uri'], spot(other['location']['range'])] for other in told[0]['relatedInformation']])
+want('what has said it', 'twire', told[0]['source'])
+
+# lines that end with both, and with a carriage return alone
+want('lines that end with both', [['P8', 1, 7, 21, 7, 24]],
+     places(server.change(BRIEF, (SAFE + 'controller third set put ;\n').replace('\n', '\r\n'))))
+want('lines that end with a carriage return', [['P8', 1, 7, 21, 7, 24]],
+     places(server.change(BRIEF, (SAFE + 'controller third set put ;\n').replace('\n', '\r'))))
+
+UNSAFE = '''brief 1
+device sensor 0x48 ;
+message write_limit write sensor 0x01 any ;
+message read_limit write sensor 0x01 read sensor 1 ;
+controller main write_limit ;
+controller guard read_limit ;
+'''
+told = server.change(BRIEF, UNSAFE)
+want('an unsafe pair, at both messages', [['unsafe', 1, 2, 8, 2, 19], ['unsafe', 1, 3, 8, 3, 18]], places(told))
+want('each with the other one', [[BRIEF, [3, 8, 3, 18]], [BRIEF, [2, 8, 2, 19]]],
+     [[one['relatedInformation'][0]['location']['uri'], spot(one['relatedInformation'][0]['location']['range'])]
+      for one in told])
+want('what happens', True, all(one['message'].startswith(
+    'main/write_limit sends a data bit where guard/read_limit repeats START, after S 48 Wr A 01 A') for one in told))
+want('mended again', [], server.change(BRIEF, UNSAFE + 'never main guard ;\n'))
+
+want('what is likely a mistake', [['unused device', 2, 1, 7, 1, 10]],
+     places(server.change(BRIEF, SAFE.replace('device eeprom', 'device fan 0x2F ; device eeprom'))))
+many = SAFE + ''.join(f'byte b{k} 0x00 ;\n' for k in range(250))
+told = server.change(BRIEF, many)
+want('so many, and how many more', [201, 'there are 50 more', 3], [len(told), told[-1]['message'], told[-1]['severity']])
+
+PLAN = 'file:///project/bus.plan'
+want('a plan that is refused', [['P3', 1, 1, 16, 1, 21]],
+     places(server.open(PLAN, 'plan 1\nmessage m write again stop else stop ;\n')))
+want('a plan that is not', [], server.change(PLAN, 'plan 1\nmessage m write 1010000 stop else stop ;\ncontroller a m ;\n'))
+server.notify('textDocument/didClose', {'textDocument': {'uri': BRIEF}})
+want('closed', [], server.told(BRIEF))
+want('a document that is closed', None, server.at('hover', BRIEF, 3, 9))
+server.notify('textDocument/didClose', {'textDocument': {'uri': PLAN}})
+want('the other one too', [], server.told(PLAN))
+want('the end', [0, []], server.stop())
+
+# ---- where names are given
+
+BOARD = '''brief 1
+device eeprom 0x50 ;
+byte page 0x10 ;
+message get write eeprom page read eeprom 2 ;
+message set write eeprom page*2 any*1..2 else ( read eeprom 1 ) ;
+controller bmc get set set ;
+'''.replace('get set set', 'get set') + '''controller pch get set_1 ;
+interrupt alert eeprom ;
+never bmc/set pch/set_1 ;
+never bmc pch ;
+'''
+server = Server().begin()
+server.open(BRIEF, BOARD)
+
+
+def defined(line, character):
+    found = server.at('definition', BRIEF, line, character)
+    return found and [found['uri'], *spot(found['range'])]
+
+
+def here(*span):
+    return [BRIEF, *span]
+
+
+want('a device after write', here(1, 7, 1, 13), defined(3, 20))
+want('a device after read', here(1, 7, 1, 13), defined(3, 36))
+want('a device of an interrupt', here(1, 7, 1, 13), defined(7, 17))
+want('a device after else', here(1, 7, 1, 13), defined(4, 54))
+want('a byte', here(2, 5, 2, 9), defined(3, 26))
+want('a byte that is repeated', here(2, 5, 2, 9), defined(4, 27))
+want('a message of a controller', here(3, 8, 3, 11), defined(5, 15))
+want('a family', here(4, 8, 4, 11), defined(5, 19))
+want('a message of a family', here(4, 8, 4, 11), defined(6, 20))
+want('the message of a label', here(4, 8, 4, 11), defined(8, 10))
+want('a message of a family in a label', here(4, 8, 4, 11), defined(8, 21))
+want('the controller of a label', here(5, 11, 5, 14), defined(8, 6))
+want('a controller', here(6, 11, 6, 14), defined(9, 11))
+want('at the end of a name', here(6, 11, 6, 14), defined(9, 13))
+want('a name where it is given', here(1, 7, 1, 13), defined(1, 9))
+want('a word of the language', None, defined(3, 14))
+want('an address', None, defined(1, 15))
+want('past the end of the line', None, defined(0, 500))
+want('past the end of the text', None, defined(500, 0))
+
+# ---- what is said of names
+
+
+def said(line, character):
+    found = server.at('hover', BRIEF, line, character)
+    if found is None:
+        return None
+    want('Markdown', 'markdown', found['contents']['kind'])
+    return found['contents']['value']
+
+
+want('a device', 'device `eeprom`: address `0x50`', said(3, 20))
+want('a byte', 'byte `page`: bits `0x10`', said(4, 27))
+want('a controller', None, said(5, 12))
+want('the frames of a message', True, '```text\nS 50 Wr A 10 A Sr 50 Rd A (2 read) NA P\n```\n' in said(3, 9))
+family = said(4, 9)
+want('a family', True, 'S 50 Wr A 10*2 A any A P\n' in family and 'S 50 Wr A 10*2 A any*2 A P\n' in family)
+want('what is done after a refusal', True, '\n  any NA Sr 50 Rd A (1 read) NA P\n' in family)
+want('a message in a label', True, 'S 50 Wr A 10*2 A any A P' in said(8, 21))
+want('few lines', True, len(family.splitlines()) <= 24)
+# two writes to two addresses: the lower one wins
+LOW = '''brief 1
+message low write 0x10 0x01 ;
+message high write 0x11 0x01 ;
+controller a low ;
+controller b high ;
+'''
+server.change(BRIEF, LOW)
+want('who wins', ['- `a/low` against `b`: 1 pair; wins 1', '- `b/high` against `a`: 1 pair; loses 1'],
+     [said(1, 9).splitlines()[-1], said(2, 9).splitlines()[-1]])
+server.change(BRIEF, LOW + 'controller c nothing ;\n')
+want('a message of a text that is refused', None, said(1, 9))
+want('the end after names', [0, []], server.stop())
+
+# ---- several files
+
+os.mkdir('board')
+SHARED = 'brief 1\ndevice eeprom 0x50 ;\nmessage set write eeprom any ;\ncontroller bmc set ;\n'
+OTHER = 'brief 1\nmessage get write eeprom any*2 ;\ncontroller pch get ;\n'
+with open('board/pch one.brief', 'w', encoding='ascii') as file:
+    file.write(OTHER)
+FIRST = 'file://' + os.path.realpath('.') + '/board/shared.brief'
+SECOND = 'file://' + os.path.realpath('.') + '/board/pch%20one.brief'
+server = Server('--with', 'pch one.brief', folder='board').begin()
+# the two write alike up to where one ends
+first = server.open(FIRST, SHARED)
+second = server.told(SECOND)
+want('at the first of two files', [['unsafe', 1, 2, 8, 2, 11]], places(first))
+want('at the second, which is not open', [['unsafe', 1, 1, 8, 1, 11]], places(second))
+want('with the other file', [SECOND, FIRST],
+     [one[0]['relatedInformation'][0]['location']['uri'] for one in (first, second)])
+found = server.at('definition', SECOND, 1, 20)
+want('nothing of a file that is not open', None, found)
+# the second file is opened and changed: what is wrong with the first one goes
+first = server.open(SECOND, OTHER)
+want('both again', 'textDocument/publishDiagnostics', first['method'])
+want('after it was opened', [['unsafe', 1, 1, 8, 1, 11]], places(server.told(SECOND)))
+found = server.at('definition', SECOND, 1, 20)
+want('a device of the first file', [FIRST, [1, 7, 1, 13]], [found['uri'], spot(found['range'])])
+server.notify('textDocument/didChange', {'textDocument': {'uri': SECOND, 'version': 2},
+                                         'contentChanges': [{'text': OTHER.replace('any*2', 'any')}]})
+want('the first one is mended by the second', [], server.told(FIRST))
+want('the second one too', [], server.told(SECOND))
+server.notify('textDocument/didChange', {'textDocument': {'uri': SECOND, 'version': 3},
+                                         'contentChanges': [{'text': OTHER.replace('get ;', 'put ;')}]})
+want('a refusal of the second alone', [], server.told(FIRST))
+want('at its place', [['P8', 1, 2, 15, 2, 18]], places(server.told(SECOND)))
+want('the end of two files', [0, []], server.stop())
+
+server = Server('--with', 'none.brief', folder='board').begin()
+told = server.open(FIRST, SHARED)
+want('a file that is not there', ['read', 1, 0, 0, 0, 7], places(told)[0])
+want('its name', True, 'none.brief' in told[0]['message'])
+want('the end without the file', [0, []], server.stop())
+with subprocess.Popen([TWIRE, 'lsp', '--with', '-'], stdin=subprocess.DEVNULL, stdout=subprocess.PIPE,
+                      stderr=subprocess.PIPE) as process:
+    out, err = process.communicate()
+    want('standard input as a file', [2, b'', b"error: standard input is the editor's, and none of the files"],
+         [process.returncode, out, err.splitlines()[0]] if err else [process.returncode, out, err])
+
+print(f'{passed} passed, {failed} failed')
+sys.exit(1 if failed else 0)
