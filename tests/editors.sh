@@ -1,0 +1,78 @@
+#!/usr/bin/env bash
+# Editors: Neovim over `twire lsp`, and what tools/editors has for vim and for TextMate, over the examples.
+# The last line is 'N passed, M failed', and the exit status is 1 where a case fails. What is not installed is passed over.
+#
+# It runs the launcher at the top of the repository, or the program that TWIRE names.
+set -u
+
+tests=$(dirname -- "$(readlink -f -- "${BASH_SOURCE[0]}")")
+top=${tests%/*}
+twire=$(readlink -f -- "${TWIRE:-$tests/../twire}")
+work=$(mktemp -d)
+trap 'rm -rf -- "$work"' EXIT
+cd -- "$work" || exit 1
+export PYTHONDONTWRITEBYTECODE=1
+
+passed=0
+failed=0
+
+# count FILE: adds what a last line 'N passed, M failed' says, and shows what is before it.
+count() {
+    local last
+    last=$(tail -n 1 "$1")
+    head -n -1 "$1"
+    if [[ $last =~ ^([0-9]+)\ passed,\ ([0-9]+)\ failed$ ]]; then
+        passed=$((passed + BASH_REMATCH[1]))
+        failed=$((failed + BASH_REMATCH[2]))
+    else
+        printf 'FAILED: %s\n' "$last"
+        failed=$((failed + 1))
+    fi
+}
+
+python3 "$tests/editors/grammar.py" "$top" >grammar 2>&1
+count grammar
+
+for editor in vim nvim; do
+    if program=$(type -P "$editor"); then
+        python3 "$tests/editors/syntax.py" "$top" "$program" >syntax 2>&1
+        count syntax
+    else
+        echo "there is no $editor: its syntax files are not tried"
+    fi
+done
+
+if program=$(type -P nvim); then
+    cat >bus.brief <<'END'
+brief 1
+device sensor 0x48 ;
+message write_limit write sensor 0x01 any ;
+message read_limit write sensor 0x01 read sensor 1 ;
+controller main write_limit ;
+controller guard read_limit ;
+END
+    cat >formatted.brief <<'END'
+brief 1
+device sensor 0x48 ;
+message write_limit write sensor 0x01 any ;
+message read_limit  write sensor 0x01 read sensor 1 ;
+controller main  write_limit ;
+controller guard read_limit ;
+never main guard ;
+END
+    TWIRE=$twire BRIEF=$work/bus.brief FORMATTED=$work/formatted.brief XDG_STATE_HOME=$work XDG_CACHE_HOME=$work \
+        timeout 300 "$program" --headless -u NONE -i NONE -n -c "luafile $tests/editors/neovim.lua" >neovim 2>neovim.err </dev/null
+    grep '^FAILED' neovim
+    passed=$((passed + $(grep -c '^ok ' neovim)))
+    failed=$((failed + $(grep -c '^FAILED' neovim)))
+    if (($(grep -c '^ok \|^FAILED' neovim) != 8)); then
+        failed=$((failed + 1))
+        echo "FAILED: Neovim did not come to the end:"
+        cat neovim.err
+    fi
+else
+    echo "there is no nvim: twire lsp is not tried in it"
+fi
+
+printf '%d passed, %d failed\n' "$passed" "$failed"
+((failed == 0))

@@ -1,0 +1,68 @@
+-- Neovim over `twire lsp`: opens a brief, breaks it, mends it, and lays it out. Each case is a line 'ok' or 'FAILED'.
+-- For Neovim 0.7.2: nvim --headless -u NONE -c 'luafile neovim.lua', with the program in TWIRE, and the brief in BRIEF.
+local function want(name, wanted, found)
+  local line = vim.inspect(wanted) == vim.inspect(found) and 'ok ' .. name
+    or 'FAILED: ' .. name .. ': wanted ' .. vim.inspect(wanted) .. ' found ' .. vim.inspect(found)
+  io.stdout:write(line .. '\n')
+end
+
+local function lines()
+  return vim.api.nvim_buf_get_lines(0, 0, -1, false)
+end
+
+-- What is shown: its code, its line from 0 on, and its columns.
+local function shown()
+  local found = {}
+  for _, one in ipairs(vim.diagnostic.get(0)) do
+    table.insert(found, { one.code or one.user_data.lsp.code, one.lnum, one.col, one.end_col })
+  end
+  table.sort(found, function(a, b) return a[2] < b[2] end)
+  return found
+end
+
+-- What is shown once this many are.
+local function shown_when(count)
+  vim.wait(20000, function() return #vim.diagnostic.get(0) == count end, 20)
+  return shown()
+end
+
+local function ask(method, line, character)
+  local params = { textDocument = vim.lsp.util.make_text_document_params(), position = { line = line, character = character } }
+  local answers = vim.lsp.buf_request_sync(0, method, params, 20000)
+  for _, answer in pairs(answers or {}) do return answer.result end
+end
+
+local function run()
+  vim.cmd('edit ' .. vim.fn.fnameescape(vim.env.BRIEF))
+  local status
+  local client = vim.lsp.start_client({
+    name = 'twire', cmd = { vim.env.TWIRE, 'lsp' },
+    on_exit = function(code) status = code end,
+  })
+  vim.lsp.buf_attach_client(0, client)
+  want('an unsafe pair, at both messages', { { 'unsafe', 2, 8, 19 }, { 'unsafe', 3, 8, 18 } }, shown_when(2))
+
+  vim.api.nvim_buf_set_lines(0, 5, 6, false, { 'controller guard read_limt ;' })
+  want('a brief that is broken', { { 'P8', 5, 17, 26 } }, shown_when(1))
+
+  vim.api.nvim_buf_set_lines(0, 5, 6, false, { 'controller guard    read_limit ;', 'never main   guard;' })
+  want('a brief that is mended', {}, shown_when(0))
+
+  local said = ask('textDocument/hover', 3, 10)
+  want('what a message is', true, said ~= nil and said.contents.value:find('S 48 Wr A 01 A Sr 48 Rd A (1 read) NA P', 1, true) ~= nil)
+  local at = ask('textDocument/definition', 5, 22)
+  want('where a message is given', { 3, 8 }, { at.range.start.line, at.range.start.character })
+
+  vim.lsp.buf.formatting_sync(nil, 20000)
+  want('a brief that is laid out', vim.fn.readfile(vim.env.FORMATTED), lines())
+  vim.lsp.buf.formatting_sync(nil, 20000)
+  want('and once more', vim.fn.readfile(vim.env.FORMATTED), lines())
+
+  vim.lsp.stop_client(client)
+  vim.wait(20000, function() return status ~= nil end, 20)
+  want('the status of the server', 0, status)
+end
+
+local fine, why = pcall(run)
+if not fine then io.stdout:write('FAILED: ' .. tostring(why) .. '\n') end
+vim.cmd('qall!')

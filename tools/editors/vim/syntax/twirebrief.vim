@@ -1,0 +1,40 @@
+" Briefs of twire, as docs/PLANS.md has them.
+if exists("b:current_syntax")
+  finish
+endif
+
+syntax case match
+syntax iskeyword @,48-57,_,.,/
+
+" What has no other form is refused as a word.
+syntax match   twireName      "\<\a\w*\>"
+syntax match   twireLabel     "\<\a\w*/\a\w*\>"
+syntax match   twireNumber    "\<\d\+\>"
+syntax match   twireRange     "\<\d\+\.\.\d\+\>"
+syntax match   twireHex       "\<0x[0-9A-Fa-fX]\{2}\>"
+syntax match   twireBits      "\<0b[01x]\{7,8}\>"
+syntax keyword twireItem      brief device byte message controller interrupt never
+syntax keyword twireFrame     write read
+syntax keyword twireTurn      else stop
+syntax keyword twireAny       any
+syntax match   twireSign      "[;()*]"
+syntax match   twireComment   "#.*" contains=twireTodo
+syntax match   twireForeign   "[^\x00-\x7F]" containedin=twireComment
+syntax keyword twireTodo      TODO FIXME XXX contained
+
+highlight default link twireName    Identifier
+highlight default link twireLabel   Identifier
+highlight default link twireNumber  Number
+highlight default link twireRange   Number
+highlight default link twireHex     Number
+highlight default link twireBits    Number
+highlight default link twireItem    Keyword
+highlight default link twireFrame   Statement
+highlight default link twireTurn    Conditional
+highlight default link twireAny     Constant
+highlight default link twireSign    Delimiter
+highlight default link twireComment Comment
+highlight default link twireForeign Error
+highlight default link twireTodo    Todo
+
+let b:current_syntax = "twirebrief"
