@@ -172,5 +172,35 @@ for example in "$tests"/../examples/*.brief "$tests"/../examples/*.plan; do
     fi
 done
 
+# quickfix NAME COMMAND ARG..: vim's list after `:make`, as GUIDE has it, in one that is called so.
+quickfix() {
+    local name=$1
+    shift
+    rm -f list
+    PATH=$work/bin:$PATH timeout 60 "$@" unsafe -c 'set rtp+=$VIMRUNTIME' -c 'compiler gcc' \
+        -c 'set makeprg=twire\ check\ --format\ gcc\ %' -c 'silent make' \
+        -c 'call writefile(map(getqflist(), {_, e -> join([bufname(e.bufnr), e.lnum, e.col, e.type])}), "list")' \
+        -c 'qa!' >/dev/null 2>&1 </dev/null
+    if [[ $(cat list 2>/dev/null) == $'unsafe 4 11 e\nunsafe 5 9 ' ]]; then
+        passed=$((passed + 1))
+    else
+        failed=$((failed + 1))
+        echo "FAILED: the list of $name"
+        cat list
+    fi
+}
+
+mkdir bin && ln -s "$twire" bin/twire
+if command -v nvim >/dev/null; then
+    quickfix "neovim" nvim --headless --clean
+else
+    echo "left out: the list of neovim, which is not installed"
+fi
+if command -v vim >/dev/null; then
+    quickfix "vim" vim -N -u NONE -i NONE -es
+else
+    echo "left out: the list of vim, which is not installed"
+fi
+
 echo "$passed passed, $failed failed"
 ((failed == 0))
