@@ -1,0 +1,206 @@
+#!/usr/bin/env bash
+# Messages of `--format gcc`: their places, words and statuses. The last line is 'N passed, M failed', and the exit status is 1
+# where a case fails.
+#
+# It runs the launcher at the top of the repository, or the program that TWIRE names.
+set -u
+
+tests=$(dirname -- "$(readlink -f -- "${BASH_SOURCE[0]}")")
+twire=$(readlink -f -- "${TWIRE:-$tests/../twire}")
+work=$(mktemp -d)
+trap 'rm -rf -- "$work"' EXIT
+cd -- "$work" || exit 1
+
+passed=0
+failed=0
+
+# expect NAME STATUS OUT ERR COMMAND ARG..: one call of twire with messages.
+expect() {
+    local name=$1 status=$2 out=$3 err=$4
+    shift 4
+    local found_out found_err found_status
+    found_out=$("$twire" "$@" --format gcc 2>err)
+    found_status=$?
+    found_err=$(cat err)
+    if [[ $found_status == "$status" && $found_out == "$out" && $found_err == "$err" ]]; then
+        passed=$((passed + 1))
+    else
+        failed=$((failed + 1))
+        printf 'FAILED: %s: wanted %s, found %s\n%s\n%s\n' "$name" "$status $out $err" "$found_status" "$found_out" "$found_err"
+    fi
+}
+
+# at NAME PLACE CODE: the file `text` is refused there, with this code, and the first line of the messages has both.
+at() {
+    local name=$1 place=$2 code=$3 line
+    "$twire" check text --format gcc >out 2>err
+    local status=$?
+    line=$(head -n 1 err)
+    if [[ $status == 2 && ! -s out && $line == "text:$place: error: "*" [$code]" ]]; then
+        passed=$((passed + 1))
+    else
+        failed=$((failed + 1))
+        printf 'FAILED: %s: wanted text:%s [%s], found %s, %s\n' "$name" "$place" "$code" "$status" "$line"
+    fi
+}
+
+"$twire" --version >/dev/null 2>&1
+
+# ---- refusals of texts: lines and columns in bytes, from 1
+
+printf 'brief 1\ndevice a 0x48 ; # \xc3\xa9\n' >text
+at "P1 in a comment" 2:19 P1
+printf 'plan 3\n' >text
+at "P2 at the number of the version" 1:6 P2
+: >text
+at "P2 of an empty text" 1:1 P2
+printf 'brief 1\r\n\tdevice @ ;\r\n' >text
+at "P3, a tab is one column" 2:9 P3
+printf 'brief 1\nmessage m read 0x48 0 ;\n' >text
+at "P4 at the count" 2:21 P4
+printf 'brief 1\nmessage m read 0x48 255 read 0x48 9 ;\n' >text
+at "P5 at the address that makes it too long" 2:30 P5
+{ echo "brief 1"; for k in {1..33}; do echo "controller c$k ;"; done; } >text
+at "P6 at the name" 34:12 P6
+printf 'brief 1\ndevice a 0x48 ;\ndevice a 0x49 ;\n' >text
+at "P7 at the second" 3:8 P7
+printf 'brief 1\ncontroller c mm ;\n' >text
+at "P8 at the name" 2:14 P8
+
+# ---- their words
+
+printf 'brief 1\nmessage m read 0x48 2\ncontroller c m ;\n' >text
+expect "a missing semicolon stands after the token before it" 2 "" "text:2:22: error: ';' is missing here [P3]" check text
+expect "the same of standard input" 2 "" "<stdin>:2:22: error: ';' is missing here [P3]" check - <text
+expect "the same of standard input by its name" 2 "" "<stdin>:2:22: error: ';' is missing here [P3]" check /dev/stdin <text
+printf 'brief 1\ndevice temp 0x48 ;\n' >first
+printf 'brief 1\nbyte R 0x01 ; device temp 0x49 ;\n' >second
+expect "where it stands already, in another file" 2 "" "second:2:22: error: an earlier device has this name, on line 2 of \"first\" [P7]
+first:2:8: note: it stands here already" check first --with second
+printf 'brief 1\nmessage get read 0x48 1 ;\nmessage set write 0x48 any ;\ncontroller c gets ;\n' >text
+expect "the nearest names on one line" 2 "" \
+    "text:4:14: error: no message before this place has this name; the nearest names of messages: get, set [P8]" check text
+
+# ---- refusals without a place in such a text
+
+expect "a file that is missing" 2 "" "none: error: refused read" check none
+expect "a number of workers" 2 "" "twire: error: refused workers" check first --workers 9
+printf 'brief 1\nmessage get read 0x48 1 ;\ncontroller c get ;\ncontroller d get ;\n' >two
+expect "a token of a dump" 2 "" "text:1:1: error: refused V2 line 1" capture two text
+expect "the same without a plan" 2 "" "text:1:1: error: refused V2 line 1" decode text
+printf '$enddefinitions $end\n' >dump
+expect "a line that a dump does not have" 2 "" "dump: error: refused V1 scl" capture two dump
+printf '$var wire 1 ! scl $end $var wire 1 " sda $end $enddefinitions $end\n#0 1! 1"\n#5\n#3\n' >dump
+expect "a time that goes back" 2 "" "dump:4:1: error: refused V3 line 4" capture two dump
+expect "a file that is not written" 2 "" "twire: error: refused write" expand two -o none/file
+expect "starters" 2 "" "twire: error: refused B2" bench two nobody --certify
+
+# ---- unsafe pairs
+
+cat >unsafe <<'BRIEF'
+brief 1
+device temp 0x48 ;
+byte CONF 0x02 ;
+  message get write temp CONF read temp 1 ;
+message set write temp CONF ;
+controller main get ;
+controller guard set ;
+BRIEF
+expect "both senders" 1 \
+    "unsafe:4:11: error: main/get repeats START where guard/set sends STOP, after S 48 Wr A 02 A: one ends, one repeats START [unsafe]
+unsafe:5:9: note: guard/set sends STOP there" "" check unsafe
+expect "the same with groups, and without a report" 1 \
+    "unsafe:4:11: error: main/get repeats START where guard/set sends STOP, after S 48 Wr A 02 A: one ends, one repeats START [unsafe]
+unsafe:5:9: note: guard/set sends STOP there" "" check unsafe --explain --workers 2
+"$twire" expand unsafe >unsafe.plan
+expect "both in a plan" 1 \
+    "unsafe.plan:2:9: error: main/get repeats START where guard/set sends STOP, after S 48 Wr A 02 A: one ends, one repeats START [unsafe]
+unsafe.plan:3:9: note: guard/set sends STOP there" "" check unsafe.plan
+cat >lengths <<'BRIEF'
+brief 1
+message page write 0x50 any*1..3 ;
+message other write 0x50 any*1..2 ;
+controller a page ;
+controller b other ;
+BRIEF
+# (of the bytes that are open the first wire has 0 in each bit)
+expect "a family is one, both ways" 1 \
+    "lengths:2:9: error: a/page_1 sends STOP where b/other_2 sends a data bit, after S 50 Wr A 00 A: lengths differ [unsafe]
+lengths:3:9: note: b/other_2 sends a data bit there
+lengths:2:9: error: a/page_* sends a data bit where b/other_* sends STOP, after S 50 Wr A 00 A: lengths differ (3 pairs) [unsafe]
+lengths:3:9: note: b/other_* sends STOP there" "" check lengths
+cat >alert <<'BRIEF'
+brief 1
+message ask read 0x48 1 ;
+controller main ask ;
+interrupt pin 0x48 ;
+BRIEF
+expect "an interrupt" 1 \
+    "alert:2:9: error: main/ask hears a target's bit where !pin waits for the answer, after S 48 Rd: an interrupt has the same header [unsafe]
+alert:4:11: note: !pin waits for the answer there" "" check alert
+
+# ---- what is likely a mistake, and nothing
+
+printf 'brief 1\ndevice temp 0x48 ;\ndevice also 0x48 ;\nbyte R 0x01 ;\nmessage m read temp 1 ;\ncontroller c ;\n' >odd
+expect "warnings" 0 "odd:3:8: warning: device 'also' has the address of 'temp', which stands at odd:2 [same address]
+odd:2:8: note: the device with the same address
+odd:3:8: warning: no message and no interrupt names device 'also' [unused device]
+odd:4:6: warning: no message names byte 'R' [unused byte]
+odd:5:9: warning: no controller lists message 'm', which was not looked at [unsent message]
+odd:6:12: warning: controller 'c' lists no message [idle controller]" "" check odd
+expect "strict is status 1 as ever" 1 "odd:3:8: warning: device 'also' has the address of 'temp', which stands at odd:2 [same address]
+odd:2:8: note: the device with the same address
+odd:3:8: warning: no message and no interrupt names device 'also' [unused device]
+odd:4:6: warning: no message names byte 'R' [unused byte]
+odd:5:9: warning: no controller lists message 'm', which was not looked at [unsent message]
+odd:6:12: warning: controller 'c' lists no message [idle controller]" "" check odd --strict
+printf 'brief 1\n# one\r two\n' >odd
+expect "a carriage return stands on its line" 0 "odd:1:1: warning: this brief has no items [empty brief]
+odd:2:1: warning: a carriage return (CR) does not end a comment: what follows it in the comment is not read, up to a line feed [carriage return]" "" check odd
+expect "a safe plan has none" 0 "" "" check two
+expect "other reports are as ever" 0 "accepted safe" "" verify two <("$twire" certify two)
+
+# ---- the forms that tools take: each line is a message or a note with a place
+
+for example in "$tests"/../examples/*.brief "$tests"/../examples/*.plan; do
+    "$twire" check "$example" --format gcc >out 2>&1
+    if grep -qvE '^[^:]+:[0-9]+:[0-9]+: (error|warning|note): .+$' out; then
+        failed=$((failed + 1))
+        echo "FAILED: a line of $example is no message"
+    else
+        passed=$((passed + 1))
+    fi
+done
+
+# quickfix NAME COMMAND ARG..: vim's list after `:make`, as GUIDE has it, in one that is called so.
+quickfix() {
+    local name=$1
+    shift
+    rm -f list
+    PATH=$work/bin:$PATH timeout 60 "$@" unsafe -c 'set rtp+=$VIMRUNTIME' -c 'compiler gcc' \
+        -c 'set makeprg=twire\ check\ --format\ gcc\ %' -c 'silent make' \
+        -c 'call writefile(map(getqflist(), {_, e -> join([bufname(e.bufnr), e.lnum, e.col, e.type])}), "list")' \
+        -c 'qa!' >/dev/null 2>&1 </dev/null
+    if [[ $(cat list 2>/dev/null) == $'unsafe 4 11 e\nunsafe 5 9 ' ]]; then
+        passed=$((passed + 1))
+    else
+        failed=$((failed + 1))
+        echo "FAILED: the list of $name"
+        cat list
+    fi
+}
+
+mkdir bin && ln -s "$twire" bin/twire
+if command -v nvim >/dev/null; then
+    quickfix "neovim" nvim --headless --clean
+else
+    echo "left out: the list of neovim, which is not installed"
+fi
+if command -v vim >/dev/null; then
+    quickfix "vim" vim -N -u NONE -i NONE -es
+else
+    echo "left out: the list of vim, which is not installed"
+fi
+
+echo "$passed passed, $failed failed"
+((failed == 0))
