@@ -10,4 +10,4 @@ mod capturing;
 mod help;
 mod table;
 
-pub use asking::{Asked, Manner, Request, When, read_words};
+pub use asking::{Asked, LaidOut, Manner, Request, When, read_words};

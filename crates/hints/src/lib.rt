@@ -46,7 +46,7 @@ pub use devices::{
 };
 pub use names::first_stand;
 pub use paths::{file_word, shown, visible};
-pub use plans::on_no_brief;
+pub use plans::{on_layout, on_no_brief};
 pub use safety::{Found, on_checked, on_safe};
 pub use starters::{on_starters, unknown_starter};
 pub use texts::{Earlier, RefusedIn, SemicolonAt, missing_semicolon_at, on_text};
