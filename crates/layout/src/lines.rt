@@ -73,10 +73,8 @@ impl<'a> Lines<'a> {
 
     /// The tokens of a line.
     pub(crate) fn tokens_of(&self, line: Line<'_>) -> &[Token<'a>] {
-        self.tokens
-            .as_slice()
-            .get(line.start..line.end)
-            .unwrap_or(&[])
+        let all = self.tokens.as_slice();
+        all.get(line.start..line.end).unwrap_or(&all[..0])
     }
 
     // What stands between two tokens: blanks, comments and ends of lines.

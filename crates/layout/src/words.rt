@@ -33,12 +33,15 @@ fn are_same_with_dots(one: &[u8], other: &[u8]) -> bool
     let most = one.len();
     let mut one = Lexer::new(one, Letters::Plain);
     let mut other = Lexer::new(other, Letters::Plain);
-    for _ in 0..2 {
-        match take_both(&mut one, &mut other) {
-            Comparison::Differs => return false,
-            Comparison::Ends => return true,
-            Comparison::Goes => {}
-        }
+    match take_both(&mut one, &mut other) {
+        Comparison::Differs => return false,
+        Comparison::Ends => return true,
+        Comparison::Goes => {}
+    }
+    match take_both(&mut one, &mut other) {
+        Comparison::Differs => return false,
+        Comparison::Ends => return true,
+        Comparison::Goes => {}
     }
     one.letters = Letters::Dots;
     other.letters = Letters::Dots;
