@@ -1,11 +1,13 @@
 // Whether two texts have the same words.
 
-ghost use Rattle.std.specs.Prelude.{◌≡◌, true};
+ghost use Rattle.std.specs.Prelude.{◌≡◌, true, not, IfOk};
+ghost use Rattle.std.specs.List.{filter};
 ghost use Rattle.lexer.specs.Lexemes.{Alphabet, letters, later, no_dots, dots_after, briefs, Lexemes};
 ghost use Rattle.lexer.specs.Reading.{left_of, with_lexeme};
-ghost use Rattle.layout.specs.SameWords.{Alike, SameBy, SameWords};
+ghost use Rattle.layout.specs.SameWords.{Alike, SameBy, SameBytes, SameWords, is_white};
 
 use lexer::{Letters, Lexeme, Lexer, Symbol};
+use std::alloc::{AllocError, Global};
 
 /// Whether two texts have the same words in each of the languages.
 pub(crate) fn have_same_words(one: &[u8], other: &[u8]) -> bool
@@ -99,4 +101,34 @@ fn compared(one: Lexeme<'_>, other: Lexeme<'_>) -> Comparison
         (Symbol::End, Symbol::End) => Comparison::Ends,
         _ => Comparison::Differs,
     }
+}
+
+// ---- bytes
+
+/// Whether two texts have the same bytes but for white space.
+///
+/// # Errors
+///
+/// Where an allocation fails.
+pub(crate) fn have_same_bytes(alloc: Global, one: &[u8], other: &[u8]) -> Result<bool, AllocError>
+    ensures { IfOk result (λ it. it ≡ true → SameBytes one.now other.now) }
+{
+    let one = without_white_space(alloc, one)?;
+    let other = without_white_space(alloc, other)?;
+    Ok(one.as_slice() == other.as_slice())
+}
+
+fn without_white_space(alloc: Global, text: &[u8]) -> Result<Vec<u8>, AllocError>
+    ensures { IfOk result (λ it. it.items ≡ filter (λ byte. not (is_white byte)) text.now) }
+{
+    text.iter()
+        .copied()
+        .filter(|&byte| !is_white(byte))
+        .collect(alloc)
+}
+
+fn is_white(byte: u8) -> bool
+    ensures { result ≡ is_white byte }
+{
+    matches!(byte, b' ' | b'\t' | b'\r' | b'\n')
 }

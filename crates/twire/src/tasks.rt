@@ -237,7 +237,11 @@ fn format_of(file: &str, laid_out: LaidOut) -> Task<'_> {
     let text = named("FILE", "plan", file);
     match laid_out {
         LaidOut::Shown => rewrite(Rewriting::Format(Layout::Written), text, Form::Plain),
-        LaidOut::InPlace => rewrite(Rewriting::Format(Layout::Changed), text, Form::InPlace(file)),
+        LaidOut::InPlace => rewrite(
+            Rewriting::Format(Layout::Changed),
+            text,
+            Form::InPlace(file),
+        ),
         LaidOut::Compared => rewrite(Rewriting::Format(Layout::Compared), text, Form::Plain),
     }
 }
