@@ -134,6 +134,23 @@ pub enum Request<'a> {
         plan: &'a str,
         output: Option<&'a str>,
     },
+    /// A plan or a brief as it is laid out.
+    Format {
+        file: &'a str,
+        /// What becomes of it.
+        laid_out: LaidOut,
+    },
+}
+
+/// What becomes of a text that is laid out.
+#[derive(Clone, Copy, PartialEq, Eq)]
+pub enum LaidOut {
+    /// It goes to standard output.
+    Shown,
+    /// Its file gets it.
+    InPlace,
+    /// It is compared with the text as it was.
+    Compared,
 }
 
 /// Whether hints and colours are wanted with a run, and how what it says is written.
@@ -180,6 +197,10 @@ const NO_STARTERS: Fault =
 const NOT_BITS: Fault = "the value for '--answers <BITS>' is not of 0 and 1";
 
 const NO_FILE: Fault = "'--wave' wants a file, since the report goes to standard output";
+
+const NOT_IN_PLACE: Fault = "'--in-place' wants a file, and standard input is none";
+
+const NOT_BOTH: Fault = "the argument '--in-place' cannot be used with '--check'";
 
 const INPUT_TWICE: Fault = "standard input can be one of the files, and not two";
 
@@ -342,6 +363,7 @@ fn request_of<'a>(name: &str, matches: &ArgMatches<'a>) -> Result<Request<'a>, F
         }),
         "capture" | "decode" | "signals" | "learn" | "page" => recorded_of(name, matches),
         "bench" => bench_of(matches),
+        "format" => format_of(matches),
         _ => Ok(written_of(name, matches)),
     }
 }
@@ -408,6 +430,18 @@ fn written_of<'a>(name: &str, matches: &ArgMatches<'a>) -> Request<'a> {
         "brief" => Request::Brief { plan, output },
         _ => Request::Print { plan, output },
     }
+}
+
+fn format_of<'a>(matches: &ArgMatches<'a>) -> Result<Request<'a>, Fault> {
+    let file = word(matches, "FILE");
+    let laid_out = match (matches.get_flag("in-place"), matches.get_flag("check")) {
+        (true, true) => return Err(NOT_BOTH),
+        (true, false) if is_input(file) => return Err(NOT_IN_PLACE),
+        (true, false) => LaidOut::InPlace,
+        (false, true) => LaidOut::Compared,
+        (false, false) => LaidOut::Shown,
+    };
+    Ok(Request::Format { file, laid_out })
 }
 
 // What reads a capture.

@@ -379,6 +379,26 @@ these are words of the language: 'refused brief name'.
 
 Exit status: 0 written, 2 refused.";
 
+pub const AFTER_FORMAT_HELP: &str = "\
+The lines stay, and so do the comments. Each item begins at the margin, and what
+goes on on a further line by two blanks. Between two words stands one blank, and
+none around '*' and inside of '( )'. Comments of neighbouring lines stand in one
+column. So does what follows the names of neighbouring items of one kind, each
+on a line of its own, if two blanks or more follow one of these names:
+
+  device eeprom 0x50 ;   # two blanks or more before a comment
+  device fan    0x2F ;   # two or more after the name, so all stand in columns
+
+Words and signs are not changed, so that it means the same. It need not be
+right: only P1, P2 and a character that belongs to no word (P3) are refused.
+
+By itself it writes to standard output. '--in-place' writes the file that it
+read, whole or not at all, and only where it changes. '--check' writes nothing,
+for the checks of a team.
+
+Exit status: 0 written, or nothing to change, 1 '--check' would change it,
+2 refused.";
+
 pub const AFTER_LSP_HELP: &str = "\
 An editor starts this, and speaks the Language Server Protocol with it. It shows
 what is wrong while a plan or a brief is written: a refusal at its place, unsafe

@@ -10,4 +10,4 @@ mod capturing;
 mod help;
 mod table;
 
-pub use asking::{Asked, Format, Manner, Request, When, read_words};
+pub use asking::{Asked, Format, LaidOut, Manner, Request, When, read_words};

@@ -2,8 +2,8 @@
 
 use crate::help::{
     AFTER_BENCH_HELP, AFTER_BRIEF_HELP, AFTER_CAPTURE_HELP, AFTER_CERTIFY_HELP, AFTER_CHECK_HELP,
-    AFTER_DECODE_HELP, AFTER_EXPAND_HELP, AFTER_LEARN_HELP, AFTER_LSP_HELP, AFTER_ORDER_HELP,
-    AFTER_PAGE_HELP, AFTER_PRINT_HELP, AFTER_SIGNALS_HELP, AFTER_VERIFY_HELP,
+    AFTER_DECODE_HELP, AFTER_EXPAND_HELP, AFTER_FORMAT_HELP, AFTER_LEARN_HELP, AFTER_LSP_HELP,
+    AFTER_ORDER_HELP, AFTER_PAGE_HELP, AFTER_PRINT_HELP, AFTER_SIGNALS_HELP, AFTER_VERIFY_HELP,
 };
 
 /// A command of the program.
@@ -140,9 +140,9 @@ pub const FORMAT: Argument = Argument::Choice {
 };
 
 /// The commands, in the order of the help.
-pub const COMMANDS: [Entry; 14] = [
+pub const COMMANDS: [Entry; 15] = [
     CHECK, CERTIFY, VERIFY, ORDER, CAPTURE, DECODE, SIGNALS, LEARN, BENCH, PAGE, EXPAND, PRINT,
-    BRIEF, LSP,
+    BRIEF, LAYOUT, LSP,
 ];
 
 const CHECK: Entry = Entry {
@@ -269,6 +269,14 @@ const BRIEF: Entry = Entry {
     arguments: &[PLAN_TEXT, OUTPUT],
 };
 
+const LAYOUT: Entry = Entry {
+    name: "format",
+    about: "Lay out a plan or a brief, with its comments",
+    usage: None,
+    after_help: AFTER_FORMAT_HELP,
+    arguments: &[TEXT, IN_PLACE, LAID_OUT],
+};
+
 const LSP: Entry = Entry {
     name: "lsp",
     about: "Serve an editor: the Language Server Protocol on standard streams",
@@ -285,6 +293,21 @@ const PLAN: Argument = Argument::Word {
 const PLAN_TEXT: Argument = Argument::Word {
     id: "PLAN",
     help: "The file with the plan; - is standard input",
+};
+
+const TEXT: Argument = Argument::Word {
+    id: "FILE",
+    help: "The file with the plan or the brief; - is standard input",
+};
+
+const IN_PLACE: Argument = Argument::Flag {
+    id: "in-place",
+    help: "Write FILE itself, atomically, where it changes",
+};
+
+const LAID_OUT: Argument = Argument::Flag {
+    id: "check",
+    help: "Write nothing: status 1 where FILE would change",
 };
 
 const BRIEF_FILES: Argument = Argument::Words {

@@ -22,11 +22,13 @@ const LINKS: u32 = 40;
 
 const STANDARD_OUTPUT: &str = "/dev/stdout";
 
-/// Where a report goes: to standard output, or into a path's file.
+/// Where a report goes: to standard output, into a path's file, or into the file that was read.
 #[derive(Clone, Copy)]
 pub enum Form<'a> {
     Plain,
     File(&'a str),
+    /// By its path. Nothing else that has this path is written.
+    InPlace(&'a str),
 }
 
 impl<'a> Form<'a> {
@@ -41,7 +43,7 @@ impl<'a> Form<'a> {
     /// The file that is written, where one is.
     pub fn path(self) -> Option<&'a str> {
         match self {
-            Form::File(path) => Some(path),
+            Form::File(path) | Form::InPlace(path) => Some(path),
             Form::Plain => None,
         }
     }
@@ -52,7 +54,7 @@ impl<'a> Form<'a> {
 pub struct Sheet<'a, 'i, R: Files> {
     rt: &'a R,
     form: Form<'a>,
-    // none of which is written
+    // none of which is written, but where that is the form
     read: FilesRead<'i>,
     target: Target<R::File>,
     error: Option<io::Error>,
@@ -110,10 +112,10 @@ impl<'a, 'i, R: Files + Print + Eprint + Clock + AllocGlobal> Sheet<'a, 'i, R> {
     }
 
     /// Gives the file its name, once the run has ended with its report, and answers how the run ends
-    /// by that. After a run that has not, nothing is left of it. A file that was read is not replaced.
+    /// by that. After a run that has not, nothing is left of it. A file that was read is not replaced, unless it is to be.
     pub fn settle(&mut self, ended: Result<Status, RunError>) -> Result<Status, RunError> {
         let settled = match self.form {
-            Form::File(_) => self.settle_file(ended.is_ok()),
+            Form::File(_) | Form::InPlace(_) => self.settle_file(ended.is_ok()),
             Form::Plain => Ok(()),
         };
         match settled {
@@ -127,7 +129,7 @@ impl<'a, 'i, R: Files + Print + Eprint + Clock + AllocGlobal> Sheet<'a, 'i, R> {
 
     fn settle_file(&mut self, is_whole: bool) -> io::Result<()> {
         match mem::replace(&mut self.target, Target::None) {
-            Target::Part(part) => settle_part(self.rt, &part, self.read, is_whole),
+            Target::Part(part) => settle_part(self.rt, &part, self.form, self.read, is_whole),
             _ => Ok(()),
         }
     }
@@ -135,7 +137,7 @@ impl<'a, 'i, R: Files + Print + Eprint + Clock + AllocGlobal> Sheet<'a, 'i, R> {
     // Where an allocation failed for a file, that is why the run ended.
     fn named(&self, ended: Result<Status, RunError>) -> Result<Status, RunError> {
         match (self.form, &self.error, ended) {
-            (Form::File(_), Some(error), Err(RunError::Write))
+            (Form::File(_) | Form::InPlace(_), Some(error), Err(RunError::Write))
                 if error.kind() == ErrorKind::OutOfMemory => { Err(RunError::NoMemory) }
             _ => ended,
         }
@@ -203,7 +205,7 @@ fn count_of(form: Form<'_>, watcher: Watcher, is_certificate: bool) -> Option<Co
     }
 }
 
-// Looks for what takes the report, which is none of the files that are read.
+// Looks for what takes the report: the file that was read where that is the form, and else none of those that are read.
 fn begin<R: Files + AllocGlobal>(
     rt: &R,
     form: Form<'_>,
@@ -211,7 +213,8 @@ fn begin<R: Files + AllocGlobal>(
 ) -> io::Result<Target<R::File>> {
     match form {
         Form::File(path) => begin_file(rt, path, read),
-        _ => {
+        Form::InPlace(path) => begin_in_place(rt, path, read),
+        Form::Plain => {
             refuse_read(read, identity_of(fs::metadata(rt, STANDARD_OUTPUT)))?;
             Ok(Target::Standard)
         }
@@ -225,6 +228,13 @@ fn refuse_read(read: FilesRead<'_>, file: Option<FileId>) -> io::Result<()> {
     Ok(())
 }
 
+fn refuse_other(read: FilesRead<'_>, file: Option<FileId>) -> io::Result<()> {
+    if read.has(file) {
+        return Ok(());
+    }
+    Err(io::Error::new(ErrorKind::InvalidInput, "it is not the file that was read"))
+}
+
 // Opens what takes the report of this path: a device or a pipe itself, and else a new file in the folder of the path.
 fn begin_file<R: Files + AllocGlobal>(
     rt: &R,
@@ -236,6 +246,21 @@ fn begin_file<R: Files + AllocGlobal>(
         Err(error) if error.kind() == ErrorKind::NotFound => begin_beside(rt, path, None),
         Err(error) => Err(error),
     }
+}
+
+// The same where the path has the file that was read. A device or a pipe is none that could be replaced.
+fn begin_in_place<R: Files + AllocGlobal>(
+    rt: &R,
+    path: &str,
+    read: FilesRead<'_>,
+) -> io::Result<Target<R::File>> {
+    let metadata = OpenOptions::new().write(true).open(rt, path)?.metadata()?;
+    let (is_file, mode) = (metadata.is_file(), metadata.permissions());
+    if !is_file {
+        return Err(io::Error::new(ErrorKind::InvalidInput, "it is no file"));
+    }
+    refuse_other(read, identity_of(Ok(metadata)))?;
+    begin_beside(rt, path, Some(mode))
 }
 
 fn begin_over<R: Files + AllocGlobal>(
@@ -296,11 +321,12 @@ fn is_no_link(kind: ErrorKind) -> bool {
 fn settle_part<R: Files, F: OpenFile>(
     rt: &R,
     part: &Part<F>,
+    form: Form<'_>,
     read: FilesRead<'_>,
     is_whole: bool,
 ) -> io::Result<()> {
     let put = if is_whole {
-        put(rt, part, read)
+        put(rt, part, form, read)
     } else {
         Ok(())
     };
@@ -311,9 +337,18 @@ fn settle_part<R: Files, F: OpenFile>(
 }
 
 // Brings the new file to the disk and gives it its name.
-fn put<R: Files, F: OpenFile>(rt: &R, part: &Part<F>, read: FilesRead<'_>) -> io::Result<()> {
+fn put<R: Files, F: OpenFile>(
+    rt: &R,
+    part: &Part<F>,
+    form: Form<'_>,
+    read: FilesRead<'_>,
+) -> io::Result<()> {
     let path = part.path.as_str();
-    refuse_read(read, identity_of(fs::metadata(rt, path)))?;
+    let there = identity_of(fs::metadata(rt, path));
+    match form {
+        Form::InPlace(_) => refuse_other(read, there)?,
+        _ => refuse_read(read, there)?,
+    }
     part.file.sync_all()?;
     fs::rename(rt, part.name.as_str(), path)
 }

@@ -1,6 +1,8 @@
 // The layout of a text.
 
 use crate::positions::{Range, whole_of};
+use layout::formatted;
+use plan_text::PlanError;
 use serde::Serialize;
 use std::alloc::{AllocError, Global};
 
@@ -17,16 +19,19 @@ pub(crate) struct Edit<'a> {
 /// # Errors
 ///
 /// Where an allocation fails.
-pub(crate) fn formatted(alloc: Global, text: &str) -> Result<Option<String>, AllocError> {
-    // TODO: layout::formatted
-    let _ = (alloc, text);
-    Ok(None)
+pub(crate) fn laid_out(alloc: Global, text: &[u8]) -> Result<Option<Vec<u8>>, AllocError> {
+    match formatted(alloc, text) {
+        Ok(laid_out) if laid_out.as_slice() == text => Ok(None),
+        Ok(laid_out) => Ok(Some(laid_out)),
+        Err(unread) if unread.refused.error == PlanError::NoMemory => Err(AllocError),
+        Err(_) => Ok(None),
+    }
 }
 
 /// The edit that puts this in the place of a whole text.
-pub(crate) fn edit_of<'a>(old: &str, new: &'a str) -> Edit<'a> {
+pub(crate) fn edit_of<'a>(old: &[u8], new: &'a str) -> Edit<'a> {
     Edit {
-        range: whole_of(old.as_bytes()),
+        range: whole_of(old),
         new_text: new,
     }
 }

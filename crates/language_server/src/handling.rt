@@ -4,7 +4,7 @@ use crate::answers::{Answers, json};
 use crate::checking::wrong_in;
 use crate::definitions::definition_of;
 use crate::documents::{Document, Documents};
-use crate::formatting::{edit_of, formatted};
+use crate::formatting::{edit_of, laid_out};
 use crate::hovers::hover_of;
 use crate::naming::{Word, word_at, words_in};
 use crate::plans::{Further, Given, given_by, heads_of};
@@ -331,10 +331,17 @@ impl<'a, R: Files + AllocGlobal + Threads + Sync> Server<'a, R> {
 
 // The edits that lay a document out.
 fn edits_of(alloc: Global, document: &Document) -> Result<String, AllocError> {
-    let old = document.text.as_str();
-    match formatted(alloc, old)? {
-        Some(new) => json(alloc, &[edit_of(old, new.as_str())]),
+    let old = document.text.as_bytes();
+    match laid_out(alloc, old)? {
+        Some(new) => edits_to(alloc, old, new.as_slice()),
         None => String::from_str(alloc, "[]"),
+    }
+}
+
+fn edits_to(alloc: Global, old: &[u8], new: &[u8]) -> Result<String, AllocError> {
+    match str::from_utf8(new) {
+        Ok(new) => json(alloc, &[edit_of(old, new)]),
+        Err(_) => String::from_str(alloc, "[]"),
     }
 }
 

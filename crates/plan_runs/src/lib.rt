@@ -11,4 +11,4 @@ mod rewriting;
 
 pub use checking::{Look, check, order, status_of, verify};
 pub use rehearsals::{Play, bench, bench_alone};
-pub use rewriting::Rewriting;
+pub use rewriting::{Layout, Rewriting};

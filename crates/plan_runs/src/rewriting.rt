@@ -1,7 +1,8 @@
 // Runs that write a text in another form.
 
 use given_plans::{GivenPlan, NoPlan, RefusedText};
-use hints::on_no_brief;
+use hints::{on_layout, on_no_brief};
+use layout::{Unread, formatted};
 use plan_core::Plan;
 use plan_text::{Language, NoBrief, Refused, read_plan_at};
 use report::{Input, Output, RunError, Status, certify_found, read_within};
@@ -18,10 +19,23 @@ pub enum Rewriting {
     Print,
     Brief,
     Expand,
+    Format(Layout),
+}
+
+/// What becomes of a text that is laid out.
+#[derive(Clone, Copy, PartialEq, Eq)]
+pub enum Layout {
+    /// It is written.
+    Written,
+    /// It is written where it is not the text as it was.
+    Changed,
+    /// It is compared with the text as it was.
+    Compared,
 }
 
 impl Rewriting {
-    /// The run: over what gives a plan to certify and to print, and else over briefs to expand or a plan text.
+    /// The run: over what gives a plan to certify and to print, and else over briefs to expand, a plan text, or a text of either
+    /// language to lay out.
     ///
     /// # Errors
     ///
@@ -38,6 +52,7 @@ impl Rewriting {
             Rewriting::Print => print(alloc, sources.find(alloc)?, out)?,
             Rewriting::Brief => write_brief(alloc, &mut sources.first, out)?,
             Rewriting::Expand => print(alloc, sources.find_in_briefs(alloc)?, out)?,
+            Rewriting::Format(layout) => return format(alloc, &mut sources.first, out, layout),
         };
         Ok(Ended {
             status,
@@ -71,18 +86,18 @@ fn write_brief<I: Input, O: Output>(
     match read_plan_at(alloc, text.as_slice()) {
         Ok(plan) => write_brief_of(alloc, &plan, out),
         Err(refused) => {
-            let none = refused_plan(text, refused);
+            let none = refused_text(text, Language::Plan, refused);
             Err(Halt::without_plan(none, Vec::new(alloc), Takes::One))
         }
     }
 }
 
-fn refused_plan(text: Vec<u8>, refused: Refused) -> NoPlan {
+fn refused_text(text: Vec<u8>, language: Language, refused: Refused) -> NoPlan {
     let Refused { error, place } = refused;
     let text = match place {
         Some(place) => Some(RefusedText {
             text,
-            language: Language::Plan,
+            language,
             place,
             file: 0,
         }),
@@ -105,5 +120,43 @@ fn write_brief_of<O: Output>(alloc: Global, plan: &Plan, out: &mut O) -> Result<
             Err(Halt::Said(RunError::from(error), hints))
         }
         Err(error) => Err(Halt::Run(RunError::from(error))),
+    }
+}
+
+// Lays out the text that the reader gives.
+fn format<I: Input, O: Output>(
+    alloc: Global,
+    text: &mut I,
+    out: &mut O,
+    layout: Layout,
+) -> Result<Ended, Halt> {
+    let text = read_within(alloc, text, READS)?;
+    match formatted(alloc, text.as_slice()) {
+        Ok(laid_out) => finish_layout(alloc, text.as_slice(), laid_out.as_slice(), out, layout),
+        Err(Unread { language, refused }) => {
+            let none = refused_text(text, language, refused);
+            Err(Halt::without_plan(none, Vec::new(alloc), Takes::Either))
+        }
+    }
+}
+
+fn finish_layout<O: Output>(
+    alloc: Global,
+    text: &[u8],
+    laid_out: &[u8],
+    out: &mut O,
+    layout: Layout,
+) -> Result<Ended, Halt> {
+    let is_same = text == laid_out;
+    match layout {
+        Layout::Compared if is_same => Ok(Ended::quietly(Status::Good)),
+        Layout::Compared => Ok(Ended {
+            status: Status::Bad,
+            remark: Remark::hints(on_layout(alloc, text, laid_out)),
+        }),
+        Layout::Changed if is_same => Ok(Ended::quietly(Status::Good)),
+        Layout::Changed | Layout::Written => {
+            Ok(Ended::quietly(write_lines(out, laid_out, Status::Good)?))
+        }
     }
 }

@@ -1,13 +1,13 @@
 // What a request comes to: a run over one text or over two, and where its report goes.
 
 use crate::pages::{write_page_alone, write_page_with};
-use command_words::Request;
+use command_words::{LaidOut, Request};
 use dump_runs::{Capture, Lesson, decode, explain_capture, learn, learn_with_names, list_signals};
 use dump_tokens::{Bus, BusLines, Drive, Drives, Limits};
 use explain::Detail;
 use files::{FilesRead, Form};
 use hints::Named;
-use plan_runs::{Look, Play, Rewriting, bench, bench_alone, check, order, verify};
+use plan_runs::{Layout, Look, Play, Rewriting, bench, bench_alone, check, order, verify};
 use report::{Input, Output};
 use run_ends::{About, Canvas, Ended, Extras, Halt, NamedSources, Sources, names_of, no_lines};
 use signals::Likeness;
@@ -177,6 +177,7 @@ pub fn task_of<'a>(request: Request<'a>, drives: &'a [Drive<'a>]) -> Task<'a> {
         Request::Brief { plan, output } => {
             rewrite(Rewriting::Brief, the_plan(plan), Form::of(output))
         }
+        Request::Format { file, laid_out } => format_of(file, laid_out),
     }
 }
 
@@ -230,6 +231,19 @@ fn learn_of<'a>(
 
 fn rewrite<'a>(rewriting: Rewriting, text: Named<'a>, form: Form<'a>) -> Task<'a> {
     Task::One(text, Over::Rewrite(rewriting), form)
+}
+
+fn format_of(file: &str, laid_out: LaidOut) -> Task<'_> {
+    let text = named("FILE", "plan", file);
+    match laid_out {
+        LaidOut::Shown => rewrite(Rewriting::Format(Layout::Written), text, Form::Plain),
+        LaidOut::InPlace => rewrite(
+            Rewriting::Format(Layout::Changed),
+            text,
+            Form::InPlace(file),
+        ),
+        LaidOut::Compared => rewrite(Rewriting::Format(Layout::Compared), text, Form::Plain),
+    }
 }
 
 fn the_brief(path: &str) -> Named<'_> {

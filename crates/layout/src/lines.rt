@@ -1,0 +1,228 @@
+// A text as lines of tokens and comments.
+
+use crate::heads::{Unread, unread_at};
+use lexer::{Letters, Lexeme, Lexer, Symbol};
+use plan_text::Language;
+use std::alloc::Global;
+
+/// A token of a text.
+#[derive(Clone, Copy)]
+pub(crate) struct Token<'a> {
+    pub(crate) bytes: &'a [u8],
+    /// How many tokens of its item stand before it. The first two tokens of a text are an item.
+    pub(crate) number: usize,
+    /// Whether two blanks or more stand before it.
+    pub(crate) is_wide: bool,
+}
+
+impl Token<'_> {
+    /// Whether it stands by itself, as `;` does.
+    pub(crate) fn is_sign(self) -> bool {
+        matches!(self.bytes, b";" | b"(" | b")" | b"*")
+    }
+}
+
+/// A line that is not empty.
+#[derive(Clone, Copy)]
+pub(crate) struct Line<'a> {
+    /// How many tokens of the text stand before it.
+    pub(crate) start: usize,
+    /// How many of them end with it.
+    pub(crate) end: usize,
+    /// The comment at its end, from `#` on and without blanks at its end.
+    pub(crate) comment: Option<&'a [u8]>,
+    /// Whether it begins inside an item.
+    pub(crate) is_inside: bool,
+    /// Whether empty lines stand before it, and other lines before these.
+    pub(crate) is_parted: bool,
+}
+
+/// The lines of a text. From the first part on for which an allocation failed, no more is added.
+#[derive(Drop)]
+pub(crate) struct Lines<'a> {
+    tokens: Vec<Token<'a>>,
+    lines: Vec<Line<'a>>,
+    is_whole: bool,
+    // of the line that is read
+    start: usize,
+    comment: Option<&'a [u8]>,
+    is_inside: bool,
+    is_parted: bool,
+    // how many tokens of the item stand before
+    number: usize,
+}
+
+impl<'a> Lines<'a> {
+    fn new(alloc: Global) -> Lines<'a> {
+        Lines {
+            tokens: Vec::new(alloc),
+            lines: Vec::new(alloc),
+            is_whole: true,
+            start: 0,
+            comment: None,
+            is_inside: false,
+            is_parted: false,
+            number: 0,
+        }
+    }
+
+    /// All lines that are not empty, in order.
+    pub(crate) fn all(&self) -> &[Line<'a>] {
+        self.lines.as_slice()
+    }
+
+    /// The tokens of a line.
+    pub(crate) fn tokens_of(&self, line: Line<'_>) -> &[Token<'a>] {
+        let all = self.tokens.as_slice();
+        all.get(line.start..line.end).unwrap_or(&all[..0])
+    }
+
+    // What stands between two tokens: blanks, comments and ends of lines.
+    fn read_between(&mut self, between: &'a [u8]) {
+        let mut start = 0usize;
+        for (place, byte) in between.iter().enumerate() {
+            if *byte == b'\n' {
+                self.read_blank(between.get(start..place).unwrap_or(&[]));
+                self.end_line();
+                start = place.saturating_add(1);
+            }
+        }
+        self.read_blank(between.get(start..).unwrap_or(&[]));
+    }
+
+    // Blanks, and a comment after them where there is one.
+    fn read_blank(&mut self, bytes: &'a [u8]) {
+        if let Some(comment) = comment_in(bytes) {
+            self.comment = Some(comment);
+        }
+    }
+
+    fn read_token(&mut self, bytes: &'a [u8], is_wide: bool) {
+        let token = Token {
+            bytes,
+            number: self.number,
+            is_wide,
+        };
+        if self.tokens.push(token).is_err() {
+            self.is_whole = false;
+        }
+        let ends_item = bytes == b";".as_slice() || self.tokens.len() == 2;
+        self.number = if ends_item {
+            0
+        } else {
+            self.number.saturating_add(1)
+        };
+    }
+
+    fn end_line(&mut self) {
+        let end = self.tokens.len();
+        if self.start < end || self.comment.is_some() {
+            self.add_line(end);
+            self.is_parted = false;
+        } else {
+            self.is_parted = !self.lines.is_empty();
+        }
+        self.start = end;
+        self.comment = None;
+        self.is_inside = self.number > 0;
+    }
+
+    fn add_line(&mut self, end: usize) {
+        let line = Line {
+            start: self.start,
+            end,
+            comment: self.comment,
+            is_inside: self.is_inside,
+            is_parted: self.is_parted,
+        };
+        if self.lines.push(line).is_err() {
+            self.is_whole = false;
+        }
+    }
+}
+
+/// The lines of this text, which has these letters after its first two tokens.
+///
+/// # Errors
+///
+/// P1 or P3 at the first byte that belongs to no token, and where an allocation fails.
+pub(crate) fn lines_in<'a>(
+    alloc: Global,
+    text: &'a [u8],
+    letters: Letters,
+) -> Result<Lines<'a>, Unread> {
+    let mut lines = Lines::new(alloc);
+    let mut lexer = Lexer::new(text, letters_at_first(letters));
+    for number in 0..text.len().saturating_add(1) {
+        let lexeme = next_in(&mut lexer, number, letters);
+        let spot = lexer.spot();
+        let between = piece(text, spot.before, spot.start);
+        lines.read_between(between);
+        match lexeme.symbol {
+            Symbol::Word(_) | Symbol::Sign(_) => {
+                lines.read_token(piece(text, spot.start, spot.end), between.len() > 1);
+            }
+            Symbol::Stray | Symbol::Foreign => {
+                return Err(unread_at(language_of(letters), text, spot, lexeme.symbol, lexeme.line));
+            }
+            Symbol::End => break,
+        }
+    }
+    lines.end_line();
+    if lines.is_whole {
+        Ok(lines)
+    } else {
+        Err(Unread::memory())
+    }
+}
+
+// The lexeme of this number, from 0 on.
+fn next_in<'a>(lexer: &mut Lexer<'a>, number: usize, letters: Letters) -> Lexeme<'a> {
+    if number == 2 {
+        lexer.letters = letters;
+    }
+    lexer.next()
+}
+
+// `.` is a part of words only after the second token.
+fn letters_at_first(letters: Letters) -> Letters {
+    match letters {
+        Letters::Dots => Letters::Plain,
+        _ => letters,
+    }
+}
+
+fn language_of(letters: Letters) -> Language {
+    match letters {
+        Letters::Brief => Language::Brief,
+        _ => Language::Plan,
+    }
+}
+
+// What stands between two places, each given by how many bytes are left there.
+fn piece(text: &[u8], start: usize, end: usize) -> &[u8] {
+    let start = text.len().saturating_sub(start);
+    let end = text.len().saturating_sub(end);
+    text.get(start..end).unwrap_or(&[])
+}
+
+// The comment in these bytes, without blanks at its end.
+fn comment_in(bytes: &[u8]) -> Option<&[u8]> {
+    for (place, byte) in bytes.iter().enumerate() {
+        if *byte == b'#' {
+            return Some(without_blanks(bytes.get(place..).unwrap_or(&[])));
+        }
+    }
+    None
+}
+
+fn without_blanks(bytes: &[u8]) -> &[u8] {
+    let mut end = bytes.len();
+    for byte in bytes.iter().rev() {
+        if !matches!(*byte, b' ' | b'\t' | b'\r') {
+            break;
+        }
+        end = end.saturating_sub(1);
+    }
+    bytes.get(..end).unwrap_or(bytes)
+}
