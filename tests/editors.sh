@@ -55,7 +55,7 @@ END
 brief 1
 device sensor 0x48 ;
 message write_limit write sensor 0x01 any ;
-message read_limit  write sensor 0x01 read sensor 1 ;
+message read_limit write sensor 0x01 read sensor 1 ;
 controller main  write_limit ;
 controller guard read_limit ;
 never main guard ;

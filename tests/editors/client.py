@@ -406,6 +406,27 @@ server.change(BRIEF, LOW + 'controller c nothing ;\n')
 want('a message of a text that is refused', None, said(1, 9))
 want('the end after names', [0, []], server.stop())
 
+# ---- the layout of a text
+
+server = Server().begin()
+
+
+def laid_out(text):
+    server.open(BRIEF, text)
+    edits = server.result('textDocument/formatting',
+                          {'textDocument': {'uri': BRIEF}, 'options': {'tabSize': 2, 'insertSpaces': True}})
+    return [[one['newText'], *spot(one['range'])] for one in edits]
+
+
+want('one edit of all lines', [['brief 1\ndevice eeprom 0x50 ;\n', 0, 0, 2, 0]], laid_out('brief 1\ndevice   eeprom 0x50;\n'))
+want('and of a last line without an end', [['brief 1\ndevice eeprom 0x50 ;\n', 0, 0, 1, 21]],
+     laid_out('brief 1\ndevice   eeprom 0x50;'))
+want('nothing that is laid out', [], laid_out('brief 1\ndevice eeprom 0x50 ;\n'))
+want('a text that is wrong and has a layout', [['brief 1\ncontroller a b ;\n', 0, 0, 2, 0]],
+     laid_out('brief 1\ncontroller  a  b  ;\n'.replace('  b', ' b')))
+want('a text that is refused', [], laid_out('brief 1\ndevice   eeprom 0x50; # \u00e9\n'))
+want('the end after layouts', [0, []], server.stop())
+
 # ---- several files
 
 os.mkdir('board')

@@ -363,7 +363,7 @@ fn request_of<'a>(name: &str, matches: &ArgMatches<'a>) -> Result<Request<'a>, F
         }),
         "capture" | "decode" | "signals" | "learn" | "page" => recorded_of(name, matches),
         "bench" => bench_of(matches),
-        "format" => format_of(matches),
+        "format" => layout_of(matches),
         _ => Ok(written_of(name, matches)),
     }
 }
@@ -432,7 +432,7 @@ fn written_of<'a>(name: &str, matches: &ArgMatches<'a>) -> Request<'a> {
     }
 }
 
-fn format_of<'a>(matches: &ArgMatches<'a>) -> Result<Request<'a>, Fault> {
+fn layout_of<'a>(matches: &ArgMatches<'a>) -> Result<Request<'a>, Fault> {
     let file = word(matches, "FILE");
     let laid_out = match (matches.get_flag("in-place"), matches.get_flag("check")) {
         (true, true) => return Err(NOT_BOTH),
