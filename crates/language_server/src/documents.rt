@@ -80,11 +80,11 @@ impl Documents {
     /// One is not open any more. Whether it was.
     pub(crate) fn close(&mut self, uri: &str) -> bool {
         match self.number_of(uri) {
-            Some(at) => {
+            Some(at) if at < self.open.len() => {
                 let _closed = self.open.remove(at);
                 true
             }
-            None => false,
+            _ => false,
         }
     }
 }

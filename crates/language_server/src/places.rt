@@ -33,22 +33,40 @@ fn escaped_path(uri: &str) -> Option<&str> {
     }
 }
 
-/// The URI of a path from the root on.
+/// The URI of a path from the root on, without `.` and `..`.
 ///
 /// # Errors
 ///
 /// Where an allocation fails.
 pub(crate) fn uri_of(alloc: Global, path: &str) -> Result<String, AllocError> {
+    let names = names_of(alloc, path)?;
     let mut uri = String::new(alloc);
     uri.push_str(SCHEME)?;
-    utf8_percent_encode(path, kept()).append_to(&mut uri)?;
+    for name in names.iter() {
+        uri.push('/')?;
+        utf8_percent_encode(name, kept()).append_to(&mut uri)?;
+    }
     Ok(uri)
 }
 
-// What has to be escaped in a path.
+// The names that stand in a path, where each `..` takes the one before it away.
+fn names_of(alloc: Global, path: &str) -> Result<Vec<&str>, AllocError> {
+    let mut names = Vec::new(alloc);
+    for name in path.split('/') {
+        match name {
+            "" | "." => {}
+            ".." => {
+                let _ = names.pop();
+            }
+            _ => names.push(name)?,
+        }
+    }
+    Ok(names)
+}
+
+// What has to be escaped in a name of a path.
 fn kept() -> AsciiSet {
     NON_ALPHANUMERIC
-        .remove(b'/')
         .remove(b'-')
         .remove(b'.')
         .remove(b'_')

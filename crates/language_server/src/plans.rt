@@ -9,11 +9,12 @@ use std::alloc::{AllocError, Global};
 use std::rt::{Env, Files};
 use std::{env, fs};
 
-/// A further file of a brief, as the command line names it, and its path from the root on.
+/// A further file of a brief, as the command line names it, and its path from the root on, also as a URI.
 #[derive(Drop)]
 pub(crate) struct Further {
     pub(crate) name: String,
     pub(crate) path: String,
+    pub(crate) uri: String,
 }
 
 /// One of the texts that give a plan.
@@ -47,15 +48,21 @@ pub(crate) fn further_of<R: Env + AllocGlobal>(
     let alloc = rt.alloc();
     let mut all = Vec::new(alloc);
     for name in names {
-        let further = Further {
-            name: String::from_str(alloc, name)?,
-            path: path_from_root(rt, name)?,
-        };
-        if all.push(further).is_err() {
+        let path = path_from_root(rt, name)?;
+        if all.push(further_at(alloc, name, path)?).is_err() {
             return Err(AllocError);
         }
     }
     Ok(all)
+}
+
+fn further_at(alloc: Global, name: &str, path: String) -> Result<Further, AllocError> {
+    let uri = uri_of(alloc, path.as_str())?;
+    Ok(Further {
+        name: String::from_str(alloc, name)?,
+        path,
+        uri,
+    })
 }
 
 // The path from the root on, where it is known in which folder the program runs.
@@ -211,7 +218,7 @@ fn further_part<R: Files + AllocGlobal>(
         return Ok(None);
     };
     Ok(Some(Part {
-        uri: uri_of(alloc, further.path.as_str())?,
+        uri: String::from_str(alloc, further.uri.as_str())?,
         name: String::from_str(alloc, name)?,
         text,
         is_told,

@@ -52,9 +52,7 @@ impl Reading {
             is_return: byte == b'\r',
         }
     }
-}
 
-impl Reading {
     // Whether what stands after so many units of this line begins before this byte: it does also where the line ends there.
     fn ends_at(self, byte: u8, character: u64) -> bool {
         match byte {
