@@ -13,7 +13,9 @@ struct Token {
 struct Line {
     tokens: Vec<Token>,
     comment: Option<String>,
-    is_inside: bool,
+    // how wide the white space is that it begins with
+    margin: usize,
+    is_inner: bool,
 }
 
 // The lines of a text, up to what belongs to no token.
@@ -26,7 +28,8 @@ struct Scan {
 pub fn laid_out(text: &[u8]) -> Result<String, String> {
     let lines = lines_of(text)?;
     let blocks = blocks_of(&lines);
-    let codes: Vec<String> = lines.iter().enumerate().map(|(k, line)| code_of(line, columns_of(&lines, &blocks, k))).collect();
+    let code = |k: usize| " ".repeat(indent_of(&lines, k)) + &code_of(&lines[k], columns_of(&lines, &blocks, k));
+    let codes: Vec<String> = (0..lines.len()).map(code).collect();
     let mut out = String::new();
     let mut is_parted = false;
     for (k, line) in lines.iter().enumerate() {
@@ -40,18 +43,39 @@ pub fn laid_out(text: &[u8]) -> Result<String, String> {
         is_parted = false;
         out.push_str(&codes[k]);
         if let Some(comment) = &line.comment {
-            if line.tokens.is_empty() {
-                out.push_str(if line.is_inside { "  " } else { "" });
-            } else {
-                let width = (0..lines.len()).filter(|other| share_notes(&lines, &codes, k, *other)).map(|k| codes[k].len()).max();
-                let blanks = width.unwrap_or(codes[k].len()) - codes[k].len() + 2;
-                out.push_str(&" ".repeat(blanks));
+            if !line.tokens.is_empty() {
+                out.push_str(&" ".repeat(column_of_note(&lines, &codes, k) - codes[k].len()));
             }
             out.push_str(comment);
         }
         out.push('\n');
     }
     Ok(out)
+}
+
+// How many blanks a line begins with.
+fn indent_of(lines: &[Line], k: usize) -> usize {
+    if !lines[k].is_inner {
+        return 0;
+    }
+    let first_of_all = (0..=k).rev().take_while(|k| lines[*k].is_inner).last().unwrap_or(k);
+    match (first_of_all..=k).find(|k| !lines[*k].tokens.is_empty()) {
+        Some(first) => 2 + lines[k].margin.saturating_sub(lines[first].margin),
+        None => 2,
+    }
+}
+
+// The column in which the comment after the tokens of a line begins, from 0 on.
+fn column_of_note(lines: &[Line], codes: &[String], k: usize) -> usize {
+    let is_note = |k: &usize| lines[*k].comment.is_some() && codes[*k].len() <= 80;
+    let is_end = |k: &usize| lines[*k].tokens.is_empty();
+    let above = (0..=k).rev().take_while(|k| !is_end(k));
+    let below = (k..lines.len()).take_while(|k| !is_end(k));
+    let longest = above.chain(below).filter(is_note).map(|k| codes[k].len()).max();
+    match longest {
+        Some(longest) if is_note(&k) => longest + 2,
+        _ => codes[k].len() + 2,
+    }
 }
 
 impl Line {
@@ -62,7 +86,11 @@ impl Line {
     fn is_row(&self) -> bool {
         let are_words = self.tokens.len() >= 3 && self.tokens[..3].iter().all(|token| !";()*".contains(&token.text));
         let begins = self.tokens.iter().filter(|token| token.number == 0).count();
-        are_words && begins == 1 && self.tokens[0].number == 0 && self.tokens[2].number == 2 && self.tokens[1].text.len() <= 32
+        are_words
+            && begins == 1
+            && self.tokens[0].number == 0
+            && self.tokens[2].number == 2
+            && self.tokens[1].text.len() <= 32
     }
 }
 
@@ -121,6 +149,16 @@ fn scan_line(bytes: &[u8], is_brief: bool, words: &mut Vec<String>, line: &mut L
     let mut rest = bytes;
     loop {
         let gap = rest.iter().take_while(|byte| b" \t\r".contains(byte)).count();
+        if line.tokens.is_empty() {
+            line.margin = rest[..gap]
+                .iter()
+                .map(|byte| match byte {
+                    b' ' => 1,
+                    b'\t' => 2,
+                    _ => 0,
+                })
+                .sum();
+        }
         rest = &rest[gap..];
         let first = *rest.first()?;
         let has_dots = is_brief || words.len() >= 2 && words[1] == "2";
@@ -146,11 +184,11 @@ fn scan_line(bytes: &[u8], is_brief: bool, words: &mut Vec<String>, line: &mut L
     }
 }
 
-// The lines with the numbers of their tokens, and which of them begin inside an item.
+// The lines with the numbers of their tokens, and which of them are inner lines.
 fn numbered(mut lines: Vec<Line>) -> Vec<Line> {
     let (mut all, mut number) = (0, 0);
     for line in &mut lines {
-        line.is_inside = number > 0;
+        line.is_inner = number > 0;
         for token in &mut line.tokens {
             all += 1;
             token.number = number;
@@ -180,7 +218,8 @@ fn columns_of(lines: &[Line], blocks: &[usize], k: usize) -> usize {
     if !lines[k].is_row() {
         return 1;
     }
-    let rows: Vec<&Line> = (0..lines.len()).filter(|other| blocks[*other] == blocks[k]).map(|other| &lines[other]).collect();
+    let rows: Vec<&Line> =
+        (0..lines.len()).filter(|other| blocks[*other] == blocks[k]).map(|other| &lines[other]).collect();
     if rows.iter().all(|row| row.tokens[2].gap < 2) {
         return 1;
     }
@@ -193,7 +232,6 @@ fn code_of(line: &Line, blanks: usize) -> String {
     for (k, token) in line.tokens.iter().enumerate() {
         let before = k.checked_sub(1).map(|k| line.tokens[k].text.as_str());
         let count = match before {
-            None if line.is_inside => 2,
             None | Some("(" | "*") => 0,
             _ if [")", "*"].contains(&token.text.as_str()) => 0,
             _ if k == 2 => blanks,
@@ -203,9 +241,4 @@ fn code_of(line: &Line, blanks: usize) -> String {
         code.push_str(&token.text);
     }
     code
-}
-
-// Whether two lines have notes, and so have all between them.
-fn share_notes(lines: &[Line], codes: &[String], one: usize, other: usize) -> bool {
-    (one.min(other)..=one.max(other)).all(|k| lines[k].comment.is_some() && (1..=80).contains(&codes[k].len()))
 }
