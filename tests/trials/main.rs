@@ -21,6 +21,7 @@ mod drives;
 mod explains;
 mod generated;
 mod json;
+mod layouts;
 mod made_up;
 mod memory;
 mod mutations;
@@ -54,6 +55,7 @@ use desks::Programs;
 use disagreements::Score;
 use drives::try_drives;
 use generated::{try_generated, try_sets};
+use layouts::try_layouts;
 use memory::try_scarce;
 use plainly::try_plainly;
 use quiet::try_quiet;
@@ -152,6 +154,7 @@ fn try_all(orders: &Orders) -> Result<Score, Box<dyn Error>> {
     try_waves(&mut crew, &mut score, &cases, orders.seed, step)?;
     try_vectors(&mut crew, &mut score, orders.seed, step)?;
     try_drives(&mut crew, &mut score, orders.seed, step)?;
+    try_layouts(&mut crew, &mut score, &cases, orders.seed, step)?;
     if takes_refusals {
         try_scarce(&mut crew, &mut score, &cases)?;
         try_quiet(&mut crew, &mut score, &cases)?;

@@ -5,6 +5,12 @@ use lexer::{Letters, Lexeme, Lexer, Symbol};
 use plan_text::Language;
 use std::alloc::Global;
 
+// How many blanks a line begins with that begins inside an item, at least.
+const INDENT: usize = 2;
+
+// How many blanks a tab counts as.
+const TAB: usize = 2;
+
 /// A token of a text.
 #[derive(Clone, Copy)]
 pub(crate) struct Token<'a> {
@@ -31,8 +37,8 @@ pub(crate) struct Line<'a> {
     pub(crate) end: usize,
     /// The comment at its end, from `#` on and without blanks at its end.
     pub(crate) comment: Option<&'a [u8]>,
-    /// Whether it begins inside an item.
-    pub(crate) is_inside: bool,
+    /// How many blanks it begins with.
+    pub(crate) indent: usize,
     /// Whether empty lines stand before it, and other lines before these.
     pub(crate) is_parted: bool,
 }
@@ -48,6 +54,10 @@ pub(crate) struct Lines<'a> {
     comment: Option<&'a [u8]>,
     is_inside: bool,
     is_parted: bool,
+    // how wide the white space is that it begins with
+    margin: usize,
+    // that of the first line with a token, among those that follow one another and begin inside an item
+    first_margin: Option<usize>,
     // how many tokens of the item stand before
     number: usize,
 }
@@ -62,6 +72,8 @@ impl<'a> Lines<'a> {
             comment: None,
             is_inside: false,
             is_parted: false,
+            margin: 0,
+            first_margin: None,
             number: 0,
         }
     }
@@ -92,6 +104,9 @@ impl<'a> Lines<'a> {
 
     // Blanks, and a comment after them where there is one.
     fn read_blank(&mut self, bytes: &'a [u8]) {
+        if self.start == self.tokens.len() {
+            self.margin = width_of(bytes);
+        }
         if let Some(comment) = comment_in(bytes) {
             self.comment = Some(comment);
         }
@@ -125,18 +140,36 @@ impl<'a> Lines<'a> {
         self.start = end;
         self.comment = None;
         self.is_inside = self.number > 0;
+        if !self.is_inside {
+            self.first_margin = None;
+        }
     }
 
     fn add_line(&mut self, end: usize) {
+        let indent = self.indent(end);
         let line = Line {
             start: self.start,
             end,
             comment: self.comment,
-            is_inside: self.is_inside,
+            indent,
             is_parted: self.is_parted,
         };
         if self.lines.push(line).is_err() {
             self.is_whole = false;
+        }
+    }
+
+    // How many blanks the line begins with: inside an item so many more than the first one as it did, and two at least.
+    fn indent(&mut self, end: usize) -> usize {
+        if !self.is_inside {
+            return 0;
+        }
+        if self.start < end && self.first_margin.is_none() {
+            self.first_margin = Some(self.margin);
+        }
+        match self.first_margin {
+            Some(first) => self.margin.saturating_sub(first).saturating_add(INDENT),
+            None => INDENT,
         }
     }
 }
@@ -204,6 +237,20 @@ fn piece(text: &[u8], start: usize, end: usize) -> &[u8] {
     let start = text.len().saturating_sub(start);
     let end = text.len().saturating_sub(end);
     text.get(start..end).unwrap_or(&[])
+}
+
+// How wide the white space is at the front.
+fn width_of(bytes: &[u8]) -> usize {
+    let mut width = 0usize;
+    for byte in bytes {
+        match *byte {
+            b' ' => width = width.saturating_add(1),
+            b'\t' => width = width.saturating_add(TAB),
+            b'\r' => {}
+            _ => break,
+        }
+    }
+    width
 }
 
 // The comment in these bytes, without blanks at its end.

@@ -46,14 +46,10 @@ fn put_line(page: &mut Page, line: Line<'_>, code: &[u8], cell: Cell) {
 // A comment on a line of its own stands where a token would.
 fn blanks_before_comment(line: Line<'_>, code: &[u8], cell: Cell) -> usize {
     if code.is_empty() {
-        indent_of(line)
+        line.indent
     } else {
         cell.blanks().saturating_add(2)
     }
-}
-
-fn indent_of(line: Line<'_>) -> usize {
-    if line.is_inside { 2 } else { 0 }
 }
 
 // ---- names
@@ -136,15 +132,21 @@ fn codes_of(
         let start = codes.len();
         put_tokens(codes, *line, lines.tokens_of(*line), *name);
         let own = codes.len().saturating_sub(start);
-        let shares = line.comment.is_some() && own > 0 && own <= COLUMNS;
-        cells.push(Cell {
-            joins: shares && above && !line.is_parted,
-            ..Cell::alone(own)
-        })?;
-        above = shares;
+        cells.push(note_cell(*line, own, above))?;
+        above = own > 0;
     }
     widen(cells.as_mut_slice());
     Ok(cells)
+}
+
+// So wide is a line before its comment. It stands with the one above where both have tokens.
+fn note_cell(line: Line<'_>, own: usize, above: bool) -> Cell {
+    let has_note = line.comment.is_some() && own <= COLUMNS;
+    Cell {
+        width: if has_note { own } else { 0 },
+        joins: above && own > 0 && !line.is_parted,
+        ..Cell::alone(own)
+    }
 }
 
 // The tokens of a line.
@@ -153,7 +155,7 @@ fn put_tokens(page: &mut Page, line: Line<'_>, tokens: &[Token<'_>], name: Cell)
     for token in tokens {
         let blanks = match before {
             Some(before) => blanks_between(before, *token),
-            None => indent_of(line),
+            None => line.indent,
         };
         page.blanks(blanks);
         if name.is_wide && token.number == 2 {

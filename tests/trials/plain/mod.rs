@@ -18,6 +18,7 @@ pub mod explained;
 pub mod found;
 pub mod generated;
 pub mod groups;
+pub mod layouts;
 pub mod learned;
 pub mod lines;
 mod order;

@@ -1,0 +1,290 @@
+#!/usr/bin/env bash
+# Plans and briefs that are laid out: by the rules of docs/PLANS.md, that they mean the same, and the files that are written.
+# The last line is 'N passed, M failed', and the exit status is 1 where a case fails.
+#
+# It runs the launcher at the top of the repository, or the program that TWIRE names.
+set -u
+
+tests=$(dirname -- "$(readlink -f -- "${BASH_SOURCE[0]}")")
+twire=$(readlink -f -- "${TWIRE:-$tests/../twire}")
+work=$(mktemp -d)
+trap 'chmod -R u+w -- "$work"; rm -rf -- "$work"' EXIT
+cd -- "$work" || exit 1
+
+passed=0
+failed=0
+
+# want NAME WANTED FOUND
+want() {
+    if [[ $2 == "$3" ]]; then
+        passed=$((passed + 1))
+        return
+    fi
+    failed=$((failed + 1))
+    printf 'FAILED: %s: wanted\n%s\nfound\n%s\n' "$1" "$2" "$3"
+}
+
+# same NAME FILE FILE: the two have the same bytes.
+same() {
+    want "$1" "$(od -c "$2")" "$(od -c "$3")"
+}
+
+# said ARG..: what a call says on both streams, and its status.
+said() {
+    local text status
+    text=$("$twire" "$@" 2>&1 </dev/null)
+    status=$?
+    printf '%s' "$text${text:+ }$status"
+}
+
+# laid NAME TEXT WANTED: the text is laid out so, as printf reads the two, and what is laid out stays. So it is as standard
+# input, and --check tells the two apart.
+laid() {
+    printf '%b' "$2" >text
+    printf '%b' "$3" >wanted
+    "$twire" format text >found 2>err
+    want "$1: the status" "0" "$?$(cat err)"
+    same "$1" wanted found
+    "$twire" format - <found >again
+    same "$1: again" wanted again
+    want "$1: what is laid out is not changed" 0 "$(said format --check wanted)"
+    cmp -s text wanted || want "$1: --check" 1 "$(said format --check text)"
+}
+
+# refuses NAME TEXT ERR
+refuses() {
+    printf '%b' "$2" >text
+    cp text before
+    want "$1" "$3 2" "$(said format text)"
+    want "$1: --check" "$3 2" "$(said format --check text)"
+    want "$1: --in-place" "$3 2" "$(said format --in-place text)"
+    same "$1: the file" before text
+}
+
+"$twire" --version >/dev/null 2>&1
+
+# ---- lines
+
+laid "nothing but a head" 'brief 1' 'brief 1\n'
+laid "a plan" 'plan 1\n' 'plan 1\n'
+laid "ends of lines" 'brief 1\r\ndevice a 0x48 ;\r\n' 'brief 1\ndevice a 0x48 ;\n'
+laid "tabs" '\tbrief\t1\t\n\tdevice\ta\t0x48\t;\t' 'brief 1\ndevice a 0x48 ;\n'
+laid "empty lines" '\n\n \nbrief 1\n\n\t\n\ndevice a 0x48 ;\n\n\n' 'brief 1\n\ndevice a 0x48 ;\n'
+laid "empty lines inside an item" 'brief 1\ncontroller a\n\n\nb ;' 'brief 1\ncontroller a\n\n  b ;\n'
+laid "several items on a line" 'brief 1 device a 0x48;device b 0x49 ;' 'brief 1 device a 0x48 ; device b 0x49 ;\n'
+laid "an item on several lines" 'brief 1\n  message m\nwrite 0x48\n      any\n ;\n  device d 0x48 ;' \
+    'brief 1\nmessage m\n  write 0x48\n        any\n   ;\ndevice d 0x48 ;\n'
+laid "a head on two lines" 'brief\n1\n' 'brief\n  1\n'
+laid "an item that begins after another one on its line, and goes on" 'brief 1\ndevice a 0x48 ; message m\nwrite a ;\nbyte b 0x00 ;' \
+    'brief 1\ndevice a 0x48 ; message m\n  write a ;\nbyte b 0x00 ;\n'
+
+# ---- inner lines
+
+laid "inner lines keep their steps" 'brief 1\nmessage m\n    write 0x48 else (\n        read 0x48 1\n    )\n      any\n read 0x48 2 ;' \
+    'brief 1\nmessage m\n  write 0x48 else (\n      read 0x48 1\n  )\n    any\n  read 0x48 2 ;\n'
+laid "tabs before inner lines" 'plan 1\nmessage m\n\twrite 1001000\n\t\t0000000x\n \t \tstop\n\r\telse stop else stop ;' \
+    'plan 1\nmessage m\n  write 1001000\n    0000000x\n      stop\n  else stop else stop ;\n'
+laid "comments among inner lines" 'brief 1\nmessage m\n# a\n            # b\n   write 0x48\n     # c\n# d\n;' \
+    'brief 1\nmessage m\n  # a\n  # b\n  write 0x48\n    # c\n  # d\n  ;\n'
+laid "inner lines of two items" 'brief 1\nmessage m\n    write 0x48 ; message n\n        read 0x48 1 ;\nmessage o\n        read 0x48 2 ;' \
+    'brief 1\nmessage m\n  write 0x48 ; message n\n      read 0x48 1 ;\nmessage o\n  read 0x48 2 ;\n'
+laid "an empty line among inner lines" 'brief 1\nmessage m\n    write 0x48\n\n      any ;' 'brief 1\nmessage m\n  write 0x48\n\n    any ;\n'
+
+# ---- tokens
+
+laid "repetitions" 'brief 1\nmessage m write 0x48 any * 16 any*1 .. 3 0x00 *2 any* 4;' 'brief 1\nmessage m write 0x48 any*16 any*1 .. 3 0x00*2 any*4 ;\n'
+laid "parentheses" 'brief 1\nmessage m write 0x48 else(read 0x48 1)0x01 else ( read 0x48 1 ) ;' \
+    'brief 1\nmessage m write 0x48 else (read 0x48 1) 0x01 else (read 0x48 1) ;\n'
+laid "parentheses on several lines" 'brief 1\nmessage m write 0x48 else (\nread 0x48 1\n)\n* 2 ;' 'brief 1\nmessage m write 0x48 else (\n  read 0x48 1\n  )\n  *2 ;\n'
+laid "labels" 'brief 1\nnever  a/b   c/d;' 'brief 1\nnever a/b c/d ;\n'
+laid "ranges in plans" 'plan 2\nmessage m read 1001000   1..2 stop else stop;' 'plan 2\nmessage m read 1001000 1..2 stop else stop ;\n'
+laid "what the grammar refuses" 'plan 1\n; ;write   read ;; x' 'plan 1\n; ; write read ; ; x\n'
+
+# ---- comments
+
+laid "comments after tokens" 'brief 1# a\ndevice a 0x48 ;#b \t\r\n' 'brief 1          # a\ndevice a 0x48 ;  #b\n'
+laid "comments alone" '   # a\n#\tb\nbrief 1\n    # c\ndevice a 0x48 ;\n  #d' '# a\n#\tb\nbrief 1\n# c\ndevice a 0x48 ;\n#d\n'
+laid "comments inside an item" 'brief 1\nmessage m # a\n# b\nwrite 0x48 # c\n    # d\n;\n#e' \
+    'brief 1\nmessage m  # a\n  # b\n  write 0x48  # c\n      # d\n  ;\n#e\n'
+laid "a comment with a carriage return" 'brief 1 # a\r device b ;\r\n' 'brief 1  # a\r device b ;\n'
+laid "a comment with any character" 'brief 1 #@\\$\0001\0013\0014\0177  ##x\n' 'brief 1  #@\\$\0001\0013\0014\0177  ##x\n'
+laid "comments in one column" 'brief 1\n\ndevice a 0x48 ; # a\nbyte bb 0x00 ; byte c 0x01 ; # b\ndevice d 0x49 ;\ndevice e 0x50 ; # c\n\nbyte f 0x02 ; # d' \
+    'brief 1\n\ndevice a 0x48 ;               # a\nbyte bb 0x00 ; byte c 0x01 ;  # b\ndevice d 0x49 ;\ndevice e 0x50 ;               # c\n\nbyte f 0x02 ;  # d\n'
+long='message mmmmmmmmmmmmmmmmmm write 0x48 0x00 0x00 0x00 0x00 0x00 0x00 0x00 any'
+laid "80 columns before a comment" "brief 1 # a\n$long*2 ; # b\nbyte c 0x00 ;# c" \
+    "brief 1$(printf '%75s' '')# a\n$long*2 ;  # b\nbyte c 0x00 ;$(printf '%69s' '')# c\n"
+laid "81 columns before a comment" "brief 1 # a\n$long*22 ; # b\nbyte c 0x00 ;# c" "brief 1        # a\n$long*22 ;  # b\nbyte c 0x00 ;  # c\n"
+
+# ---- columns after names
+
+laid "no columns" 'brief 1\ndevice a 0x48 ;\ndevice bbb 0x49 ;' 'brief 1\ndevice a 0x48 ;\ndevice bbb 0x49 ;\n'
+laid "columns" 'brief 1\ndevice a  0x48 ;\ndevice bbb 0x49 ;\ndevice cc 0x50 ;' 'brief 1\ndevice a   0x48 ;\ndevice bbb 0x49 ;\ndevice cc  0x50 ;\n'
+laid "columns of names of one length" 'brief 1\ndevice a    0x48 ;\ndevice b\t\t0x49 ;' 'brief 1\ndevice a 0x48 ;\ndevice b 0x49 ;\n'
+laid "a tab is no two blanks" 'brief 1\ndevice a\t0x48 ;\ndevice bbb 0x49 ;' 'brief 1\ndevice a 0x48 ;\ndevice bbb 0x49 ;\n'
+laid "columns end where the kind does" 'brief 1\ndevice a  0x48 ;\ndevice bbb 0x49 ;\nbyte cccc 0x00 ;\nbyte d 0x01 ;' \
+    'brief 1\ndevice a   0x48 ;\ndevice bbb 0x49 ;\nbyte cccc 0x00 ;\nbyte d 0x01 ;\n'
+laid "columns end at an empty line" 'brief 1\ndevice a  0x48 ;\ndevice bbb 0x49 ;\n\ndevice cccc 0x50 ;' \
+    'brief 1\ndevice a   0x48 ;\ndevice bbb 0x49 ;\n\ndevice cccc 0x50 ;\n'
+laid "columns end at a comment alone" 'brief 1\ndevice a  0x48 ;\ndevice bbb 0x49 ;\n#\ndevice cccc 0x50 ;' \
+    'brief 1\ndevice a   0x48 ;\ndevice bbb 0x49 ;\n#\ndevice cccc 0x50 ;\n'
+laid "columns end where two items share a line" 'brief 1\ndevice a  0x48 ;\ndevice bbbb 0x49 ; device c 0x50 ;\ndevice dd 0x51 ;' \
+    'brief 1\ndevice a 0x48 ;\ndevice bbbb 0x49 ; device c 0x50 ;\ndevice dd 0x51 ;\n'
+laid "the first line of a message stands in a column" 'brief 1\nmessage a  write 0x48\nread 0x48 1 ;\nmessage bbb write 0x48 ;\nmessage cc  write 0x48\nany ;' \
+    'brief 1\nmessage a write 0x48\n  read 0x48 1 ;\nmessage bbb write 0x48 ;\nmessage cc  write 0x48\n  any ;\n'
+laid "controllers without messages" 'brief 1\ncontroller a  m ;\ncontroller bbb ;\ncontroller cc m ;' 'brief 1\ncontroller a m ;\ncontroller bbb ;\ncontroller cc m ;\n'
+laid "columns and comments" 'brief 1\ndevice a  0x48 ; # a\ndevice bbb 0b1001xxx ; # b' 'brief 1\ndevice a   0x48 ;       # a\ndevice bbb 0b1001xxx ;  # b\n'
+n32=abcdefghijklmnopqrstuvwxyzabcdef
+laid "a name of 32 characters" "brief 1\ndevice a  0x48 ;\ndevice $n32 0x49 ;" "brief 1\ndevice a$(printf '%32s' '')0x48 ;\ndevice $n32 0x49 ;\n"
+laid "a name of 33 characters" "brief 1\ndevice a  0x48 ;\ndevice g$n32 0x49 ;" "brief 1\ndevice a 0x48 ;\ndevice g$n32 0x49 ;\n"
+laid "columns in a plan" 'plan 1\nmessage a  write 1001000 stop else stop ;\nmessage bb write 1001001 stop else stop ;' \
+    'plan 1\nmessage a  write 1001000 stop else stop ;\nmessage bb write 1001001 stop else stop ;\n'
+
+# ---- refusals
+
+refuses "nothing" '' 'refused P2 line 1'
+refuses "comments alone" '# a\n# b\n' 'refused P2 line 3'
+refuses "another version" '\nplan 3' 'refused P2 line 2'
+refuses "another version of briefs" '\nbrief 2' 'refused P2 line 2'
+refuses "no version" 'brief' 'refused P2 line 1'
+refuses "neither" 'device a 0x48 ;' 'refused P2 line 1'
+refuses "a character" 'brief 1\ndevice a 0x48 ;\n@' 'refused P3 line 3'
+refuses "a character in the place of the version" 'brief\n@' 'refused P3 line 2'
+refuses "a dot in a plan 1" 'plan 1\nmessage m read 1001000 1..2 stop' 'refused P3 line 2'
+refuses "a star in a plan" 'plan 2\n*' 'refused P3 line 2'
+refuses "a byte" 'brief 1\n\0303\0251' 'refused P1 line 2'
+refuses "a byte in a comment" 'brief 1\n\n# \0303\0251\n@' 'refused P1 line 3'
+refuses "a byte in a comment before the head" '# \0303\0251\nplan 1' 'refused P1 line 1'
+refuses "the first of both" 'brief 1\n@ \0303\0251' 'refused P3 line 2'
+
+# As the readers refuse these, with the same hints.
+hinted() {
+    printf '%b' "$2" >text
+    "$twire" check --hints always text 2>wanted
+    "$twire" format --hints always text 2>found
+    same "$1: hints" wanted found
+    "$twire" check --format json text 2>wanted
+    "$twire" format --format json text 2>found
+    same "$1: JSON" wanted found
+}
+
+hinted "a byte" 'brief 1\ndevice a 0x48 ; # \0303\0251\n'
+hinted "neither" '\n  device a 0x48 ;\n'
+hinted "another version" 'plan 3'
+
+want "no file" "refused read 2" "$(said format none)"
+printf 'brief 1\n\n\n' >text
+want "what --check says" "hint: 'twire format' would change it from line 2 on 1" "$(said format --check --hints always text)"
+
+# ---- command lines
+
+unparsed() {
+    want "$1" "error: $2" "$(said format "${@:3}" | head -n 1)"
+    want "$1: the status" 2 "$(said format "${@:3}" | sed -n '$s/.* //p')"
+}
+
+unparsed "in place and --check" "the argument '--in-place' cannot be used with '--check'" --in-place --check text
+unparsed "standard input in place" "'--in-place' wants a file, and standard input is none" --in-place -
+unparsed "standard input in place by its path" "'--in-place' wants a file, and standard input is none" /dev/stdin --in-place
+unparsed "two files" "unexpected argument 'text' found" text text
+unparsed "no file" "the following required arguments were not provided:"
+want "the help" 0 "$("$twire" format --help >found; echo $?)"
+same "the help" "$tests/expected/format_help.txt" found
+
+# ---- files
+
+# in_place NAME STATUS ERR FILE: nothing is on standard output, and nothing is left beside the file.
+in_place() {
+    want "$1" "$3${3:+ }$2" "$(said format --in-place "$4")"
+    want "$1: nothing is left" "" "$(find . -name '*.part')"
+}
+
+printf 'brief 1\n\n\ndevice  a 0x48;' >text
+printf 'brief 1\n\ndevice a 0x48 ;\n' >wanted
+chmod 640 text
+ln -s text link
+mkdir folder
+ln -s ../link folder/far
+in_place "in place" 0 "" text
+same "in place: the file" wanted text
+want "in place: the mode" 640 "$(stat -c %a text)"
+touch -d '2001-02-03 04:05:06' text
+number=$(stat -c '%i %Y' text)
+in_place "nothing to change" 0 "" text
+want "nothing to change: the file" "$number" "$(stat -c '%i %Y' text)"
+printf 'brief 1\n\n\ndevice  a 0x48;' >text
+in_place "through links" 0 "" folder/far
+same "through links: the file" wanted text
+want "through links: the links" "text ../link" "$(readlink link folder/far | xargs)"
+printf 'brief 1\n\n\ndevice  a 0x48;' >text
+ln text second
+in_place "a file of two names" 0 "" text
+same "a file of two names: this one" wanted text
+want "a file of two names: the other one" "device  a 0x48;" "$(sed -n 4p second)"
+mkfifo fifo
+timeout 10 cat second >fifo &
+in_place "a pipe" 2 "refused write" fifo
+wait $!
+want "a pipe stays" fifo "$(find . -type p -printf '%f')"
+
+# A run as root writes everywhere.
+if ((EUID != 0)); then
+    cp second folder/text
+    chmod 444 folder/text
+    in_place "a file that cannot be written" 2 "refused write" folder/text
+    chmod 644 folder/text
+    chmod 555 folder
+    in_place "a folder that cannot be written" 2 "refused write" folder/text
+    chmod 755 folder
+    same "a folder that cannot be written: the file" second folder/text
+fi
+
+# A full disk, as far as a shell can have one: files of at most 1 KiB.
+{ printf 'brief 1\n\n\n'; for ((k = 0; k < 300; k++)); do printf 'device  a%s 0x48;\n' "$k"; done; } >large
+cp large large_before
+want "no room" "refused write 2" "$(ulimit -f 1 && trap '' XFSZ && said format --in-place large)"
+same "no room: the file" large_before large
+want "no room: nothing is left" "" "$(find . -name '*.part')"
+
+# ---- the examples
+
+# kept FILE: what it means and its comments are kept, and it is laid out as it stands.
+kept() {
+    local name=${1##*/} command=expand
+    [[ $name == *.plan ]] && command=print
+    "$twire" format "$1" >found
+    want "$name: the status" 0 $?
+    "$twire" format found >again
+    same "$name: twice is once" found again
+    same "$name: as it stands" "$1" found
+    want "$name: its comments" "$(grep -o '#.*' "$1" | sed 's/[[:blank:]]*$//')" "$(grep -o '#.*' found)"
+    # every line ends in CR LF and begins with a tab, and the blanks are two
+    sed 's/  */  /g; s/^/\t/; s/$/ \r/' "$1" >loose
+    "$twire" $command loose >wanted
+    "$twire" format loose >found
+    "$twire" $command found >again
+    same "$name: it means the same" wanted again
+    "$twire" $command "$1" >again
+    same "$name: as before" wanted again
+}
+
+for file in "$tests"/../examples/*.brief "$tests"/../examples/*.plan; do
+    kept "$file"
+done
+
+# What twire writes is laid out.
+for file in "$tests"/../examples/*.brief; do
+    name=${file##*/}
+    "$twire" expand "$file" >written.plan
+    "$twire" format --check written.plan
+    want "the plan of $name" 0 $?
+    # (`twire brief` writes blanks inside of parentheses)
+    "$twire" brief written.plan | sed 's/( /(/g; s/ )/)/g' >written.brief
+    "$twire" format --check written.brief
+    want "the brief of $name" 0 $?
+done
+"$twire" learn "$tests/../examples/arbitration.vcd" --scl scl --sda sda >learned 2>/dev/null
+"$twire" format --check learned
+want "what is learned" 0 $?
+
+echo "$passed passed, $failed failed"
+((failed == 0))
