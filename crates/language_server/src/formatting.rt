@@ -1,6 +1,6 @@
 // The layout of a text.
 
-use crate::positions::{Range, whole_of};
+use crate::positions::{Lines, Range};
 use layout::formatted;
 use plan_text::PlanError;
 use serde::Serialize;
@@ -29,9 +29,13 @@ pub(crate) fn laid_out(alloc: Global, text: &[u8]) -> Result<Option<Vec<u8>>, Al
 }
 
 /// The edit that puts this in the place of a whole text.
-pub(crate) fn edit_of<'a>(old: &[u8], new: &'a str) -> Edit<'a> {
-    Edit {
-        range: whole_of(old),
+///
+/// # Errors
+///
+/// Where an allocation fails.
+pub(crate) fn edit_of<'a>(alloc: Global, old: &[u8], new: &'a str) -> Result<Edit<'a>, AllocError> {
+    Ok(Edit {
+        range: Lines::of(alloc, old)?.whole(),
         new_text: new,
-    }
+    })
 }

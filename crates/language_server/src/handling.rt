@@ -8,12 +8,13 @@ use crate::formatting::{edit_of, laid_out};
 use crate::hovers::hover_of;
 use crate::naming::{Word, word_at, words_in};
 use crate::plans::{Further, Given, given_by, heads_of};
-use crate::positions::{Position, offset_of};
-use crate::publishing::{location_of, publish, publish_nothing};
+use crate::positions::{Lines, Position};
+use crate::publishing::{location_of, marks_of, publish, publish_nothing};
 use crate::rpc::{
     BAD_PARAMS, BEGUN, Call, Fault, Message, NO_JSON, NO_REQUEST, NOT_BEGUN, SHUT_DOWN, UNKNOWN,
     message_of, number_in, text_in,
 };
+use diagnostics::Span;
 use growing_text::Text;
 use report::Status;
 use serde_json::Value;
@@ -224,8 +225,7 @@ impl<'a, R: Files + AllocGlobal + Threads + Sync> Server<'a, R> {
             tells_further,
         )?;
         let found = wrong_in(self.rt, self.rt.alloc(), given.parts.as_slice())?;
-        publish(self.rt.alloc(), answers, &given, &found);
-        Ok(())
+        publish(self.rt.alloc(), answers, &given, &found)
     }
 
     // ---- questions
@@ -280,7 +280,8 @@ impl<'a, R: Files + AllocGlobal + Threads + Sync> Server<'a, R> {
         };
         let text = document.text.as_bytes();
         let words = words_in(alloc, text)?;
-        match word_at(words.as_slice(), offset_of(text, asked.position)) {
+        let offset = Lines::of(alloc, text)?.offset(asked.position);
+        match word_at(words.as_slice(), offset) {
             Some(word) => self.hover_on(asked.uri, word),
             None => String::from_str(alloc, NULL),
         }
@@ -301,7 +302,8 @@ impl<'a, R: Files + AllocGlobal + Threads + Sync> Server<'a, R> {
         };
         let text = document.text.as_bytes();
         let words = words_in(alloc, text)?;
-        match word_at(words.as_slice(), offset_of(text, asked.position)) {
+        let offset = Lines::of(alloc, text)?.offset(asked.position);
+        match word_at(words.as_slice(), offset) {
             Some(word) => self.definition_on(asked.uri, word),
             None => String::from_str(alloc, NULL),
         }
@@ -311,7 +313,7 @@ impl<'a, R: Files + AllocGlobal + Threads + Sync> Server<'a, R> {
         let alloc = self.rt.alloc();
         let given = self.plan_of(uri)?;
         match definition_of(alloc, &given, word)? {
-            Some(span) => json(alloc, &location_of(&given, span)),
+            Some(span) => span_text(alloc, &given, span),
             None => String::from_str(alloc, NULL),
         }
     }
@@ -340,7 +342,7 @@ fn edits_of(alloc: Global, document: &Document) -> Result<String, AllocError> {
 
 fn edits_to(alloc: Global, old: &[u8], new: &[u8]) -> Result<String, AllocError> {
     match str::from_utf8(new) {
-        Ok(new) => json(alloc, &[edit_of(old, new)]),
+        Ok(new) => json(alloc, &[edit_of(alloc, old, new)?]),
         Err(_) => String::from_str(alloc, "[]"),
     }
 }
@@ -352,6 +354,12 @@ fn hover_text(alloc: Global, words: &str) -> Result<String, AllocError> {
     text.push_made(json(alloc, &words));
     text.push("}}");
     text.finish()
+}
+
+// Where a name is given, as the protocol has it.
+fn span_text(alloc: Global, given: &Given, span: Span) -> Result<String, AllocError> {
+    let marks = marks_of(alloc, given)?;
+    json(alloc, &location_of(marks.as_slice(), span))
 }
 
 // ---- what messages have in them

@@ -1,8 +1,9 @@
 // Places of a text, as the protocol counts them: lines from 0 on, and in a line units of UTF-16.
 
 use serde::Serialize;
+use std::alloc::{AllocError, Global};
 
-/// A place of a text. A line ends with a line feed, a carriage return, or both.
+/// A place of a text.
 #[derive(Clone, Copy, PartialEq, Eq, Serialize)]
 pub(crate) struct Position {
     pub(crate) line: u64,
@@ -16,103 +17,119 @@ pub(crate) struct Range {
     pub(crate) end: Position,
 }
 
-// How far a text was read.
-#[derive(Clone, Copy)]
-struct Reading {
-    at: Position,
-    // whether the last byte was a carriage return
-    is_return: bool,
+/// A text, and where its lines begin. A line ends with a line feed, a carriage return, or both.
+#[derive(Drop)]
+pub(crate) struct Lines<'a> {
+    text: &'a [u8],
+    // how many bytes stand before each line
+    starts: Vec<usize>,
 }
 
-const START: Reading = Reading {
-    at: Position {
-        line: 0,
-        character: 0,
-    },
-    is_return: false,
-};
-
-impl Reading {
-    fn after(self, byte: u8) -> Reading {
-        let Position { line, character } = self.at;
-        let at = match byte {
+impl<'a> Lines<'a> {
+    /// Those of a text.
+    ///
+    /// # Errors
+    ///
+    /// Where an allocation fails.
+    pub(crate) fn of(alloc: Global, text: &'a [u8]) -> Result<Lines<'a>, AllocError> {
+        let mut starts = Vec::new(alloc);
+        starts.push(0usize)?;
+        let mut count = 0usize;
+        let mut is_return = false;
+        for byte in text {
             // a line feed after a carriage return belongs to it
-            b'\n' if self.is_return => Position { line, character: 0 },
-            b'\n' | b'\r' => Position {
-                line: line.saturating_add(1),
-                character: 0,
-            },
-            _ => Position {
-                line,
-                character: character.saturating_add(units_of(byte)),
-            },
-        };
-        Reading {
-            at,
-            is_return: byte == b'\r',
+            if is_return && *byte != b'\n' {
+                starts.push(count)?;
+            }
+            count = count.saturating_add(1);
+            is_return = *byte == b'\r';
+            if *byte == b'\n' {
+                starts.push(count)?;
+            }
+        }
+        if is_return {
+            starts.push(count)?;
+        }
+        Ok(Lines { text, starts })
+    }
+
+    /// The place after so many bytes.
+    pub(crate) fn position(&self, offset: usize) -> Position {
+        let mut start = 0usize;
+        let mut line = 0u64;
+        for (number, begins) in self.starts.iter().enumerate() {
+            if offset < *begins {
+                break;
+            }
+            start = *begins;
+            line = number as u64;
+        }
+        Position {
+            line,
+            character: units_in(self.text.get(start..offset).unwrap_or(&[])),
         }
     }
 
-    // Whether what stands after so many units of this line begins before this byte: it does also where the line ends there.
-    fn ends_at(self, byte: u8, character: u64) -> bool {
-        match byte {
-            // the line before has ended
-            b'\n' if self.is_return => false,
-            b'\n' | b'\r' => true,
-            _ => character <= self.at.character && !is_inner(byte),
+    /// The places after so many bytes, and after so many.
+    pub(crate) fn range(&self, start: usize, end: usize) -> Range {
+        Range {
+            start: self.position(start),
+            end: self.position(end),
         }
     }
+
+    /// The whole text.
+    pub(crate) fn whole(&self) -> Range {
+        self.range(0, self.text.len())
+    }
+
+    /// The first line, without its end.
+    pub(crate) fn first(&self) -> Range {
+        let after = Position {
+            line: 0,
+            character: u64::MAX,
+        };
+        self.range(0, self.offset(after))
+    }
+
+    /// How many bytes stand before this place. One after the end of its line is that end.
+    pub(crate) fn offset(&self, position: Position) -> usize {
+        let Some(start) = self.starts.get(position.line as usize) else {
+            return self.text.len();
+        };
+        let mut offset = *start;
+        let mut units = 0u64;
+        for byte in self.text.get(*start..).unwrap_or(&[]) {
+            let is_reached = position.character <= units && !is_inner(*byte);
+            if is_reached || matches!(*byte, b'\n' | b'\r') {
+                break;
+            }
+            units = units.saturating_add(units_of(*byte));
+            offset = offset.saturating_add(1);
+        }
+        offset
+    }
+}
+
+// How many units of UTF-16 the characters of these bytes have. The end of a line has none.
+fn units_in(bytes: &[u8]) -> u64 {
+    let mut units = 0u64;
+    for byte in bytes {
+        units = units.saturating_add(units_of(*byte));
+    }
+    units
 }
 
 // How many units of UTF-16 a character has that begins with this byte of UTF-8. A byte that begins none has none.
 fn units_of(byte: u8) -> u64 {
     match byte {
-        0x80..=0xbf => 0,
+        b'\n' | b'\r' | 0x80..=0xbf => 0,
         0xf0..=0xff => 2,
         _ => 1,
     }
 }
 
-/// The place after so many bytes of a text.
-pub(crate) fn position_of(text: &[u8], offset: usize) -> Position {
-    let mut reading = START;
-    for byte in text.get(..offset).unwrap_or(text) {
-        reading = reading.after(*byte);
-    }
-    reading.at
-}
-
-/// The places after so many bytes, and after so many.
-pub(crate) fn range_of(text: &[u8], start: usize, end: usize) -> Range {
-    Range {
-        start: position_of(text, start),
-        end: position_of(text, end),
-    }
-}
-
-/// How many bytes of a text stand before this place. One after the end of its line is that end.
-pub(crate) fn offset_of(text: &[u8], position: Position) -> usize {
-    let mut reading = START;
-    let mut offset = 0usize;
-    for byte in text {
-        if reading.at.line == position.line && reading.ends_at(*byte, position.character) {
-            return offset;
-        }
-        reading = reading.after(*byte);
-        offset = offset.saturating_add(1);
-    }
-    offset
-}
-
 // Whether this byte of UTF-8 begins no character.
 fn is_inner(byte: u8) -> bool {
     matches!(byte, 0x80..=0xbf)
-}
-
-/// The whole text.
-pub(crate) fn whole_of(text: &[u8]) -> Range {
-    Range {
-        start: START.at,
-        end: position_of(text, text.len()),
-    }
 }

@@ -2,8 +2,8 @@
 
 use crate::answers::{Answers, json};
 use crate::checking::Found;
-use crate::plans::{Given, Part};
-use crate::positions::{Range, position_of, range_of};
+use crate::plans::Given;
+use crate::positions::{Lines, Position, Range};
 use diagnostics::{Diagnostic, Severity, Span};
 use growing_text::Text;
 use serde::Serialize;
@@ -58,15 +58,56 @@ struct Shown<'a> {
     is_other: bool,
 }
 
+/// One of the texts that give a plan, with its lines.
+#[derive(Drop)]
+pub(crate) struct Marked<'a> {
+    uri: &'a str,
+    lines: Lines<'a>,
+}
+
+/// The texts that give a plan, with their lines.
+///
+/// # Errors
+///
+/// Where an allocation fails.
+pub(crate) fn marks_of(alloc: Global, given: &Given) -> Result<Vec<Marked<'_>>, AllocError> {
+    let mut marks = Vec::new(alloc);
+    for part in given.parts.iter() {
+        let lines = Lines::of(alloc, part.text.as_slice())?;
+        let marked = Marked {
+            uri: part.uri.as_str(),
+            lines,
+        };
+        if marks.push(marked).is_err() {
+            return Err(AllocError);
+        }
+    }
+    Ok(marks)
+}
+
 /// Says what was found wrong, document by document, of those that are told of here.
-pub(crate) fn publish(alloc: Global, answers: &mut Answers, given: &Given, found: &Found) {
+///
+/// # Errors
+///
+/// Where an allocation fails.
+pub(crate) fn publish(
+    alloc: Global,
+    answers: &mut Answers,
+    given: &Given,
+    found: &Found,
+) -> Result<(), AllocError> {
+    let marks = marks_of(alloc, given)?;
     let mut file = 0u32;
     for part in given.parts.iter() {
         if part.is_told {
-            answers.notify(METHOD, params_of(alloc, given, file, part, found));
+            answers.notify(
+                METHOD,
+                params_of(alloc, given, marks.as_slice(), file, found),
+            );
         }
         file = file.saturating_add(1);
     }
+    Ok(())
 }
 
 /// Says that nothing is wrong with a document any more.
@@ -77,20 +118,24 @@ pub(crate) fn publish_nothing(alloc: Global, answers: &mut Answers, uri: &str) {
 fn params_of(
     alloc: Global,
     given: &Given,
+    marks: &[Marked<'_>],
     file: u32,
-    part: &Part,
     found: &Found,
 ) -> Result<String, AllocError> {
     let mut list = List::new(alloc);
-    if let Some(name) = &given.unread {
-        if file == 0 {
-            list.add_unread(name.as_str(), part);
+    let uri = match marks.get(file as usize) {
+        Some(marked) => {
+            if let (0, Some(name)) = (file, &given.unread) {
+                list.add_unread(name.as_str(), marked.lines.first());
+            }
+            marked.uri
         }
-    }
+        None => "",
+    };
     for diagnostic in found.all.iter() {
-        list.add_places(diagnostic, given, file, found.is_plan);
+        list.add_places(diagnostic, marks, file, found.is_plan);
     }
-    params_with(alloc, part.uri.as_str(), list.finish())
+    params_with(alloc, uri, list.finish())
 }
 
 fn params_with(alloc: Global, uri: &str, list: Text) -> Result<String, AllocError> {
@@ -121,13 +166,12 @@ impl List {
     }
 
     // That a file cannot be read.
-    fn add_unread(&mut self, name: &str, part: &Part) {
+    fn add_unread(&mut self, name: &str, range: Range) {
         let alloc = self.alloc;
         match unread_words(alloc, name) {
             Ok(message) => {
-                let text = part.text.as_slice();
                 let told = Told {
-                    range: range_of(text, 0, end_of_line(text)),
+                    range,
                     severity: ERROR,
                     code: "read",
                     source: SOURCE,
@@ -141,14 +185,20 @@ impl List {
     }
 
     // A diagnostic at those of its places that are in this file. What is wrong with a plan is told at both.
-    fn add_places(&mut self, diagnostic: &Diagnostic, given: &Given, file: u32, is_plan: bool) {
+    fn add_places(
+        &mut self,
+        diagnostic: &Diagnostic,
+        marks: &[Marked<'_>],
+        file: u32,
+        is_plan: bool,
+    ) {
         let shown = Shown {
             diagnostic,
             span: diagnostic.span,
             is_other: false,
         };
         if diagnostic.span.file == file {
-            self.add_shown(shown, given);
+            self.add_shown(shown, marks);
         }
         if !is_plan || !is_error(diagnostic.severity) {
             return;
@@ -161,16 +211,16 @@ impl List {
                         is_other: true,
                         ..shown
                     },
-                    given,
+                    marks,
                 );
             }
         }
     }
 
-    fn add_shown(&mut self, shown: Shown<'_>, given: &Given) {
+    fn add_shown(&mut self, shown: Shown<'_>, marks: &[Marked<'_>]) {
         if self.count < MOST {
             let alloc = self.alloc;
-            self.add(told_of(alloc, shown, given));
+            self.add(told_of(alloc, shown, marks));
         } else {
             self.count = self.count.saturating_add(1);
         }
@@ -203,18 +253,6 @@ fn is_same(one: Span, other: Span) -> bool {
     one.file == other.file && one.start == other.start && one.end == other.end
 }
 
-// How many bytes stand before the end of the first line.
-fn end_of_line(text: &[u8]) -> usize {
-    let mut count = 0usize;
-    for byte in text {
-        if matches!(*byte, b'\n' | b'\r') {
-            break;
-        }
-        count = count.saturating_add(1);
-    }
-    count
-}
-
 fn unread_words(alloc: Global, name: &str) -> Result<String, AllocError> {
     let mut words = Text::new(alloc);
     words.push("the file ");
@@ -230,7 +268,7 @@ fn told_more(alloc: Global, more: usize) -> Result<String, AllocError> {
     words.push(" more");
     let message = words.finish()?;
     let told = Told {
-        range: range_of(&[], 0, 0),
+        range: NOWHERE,
         severity: INFORMATION,
         code: "more",
         source: SOURCE,
@@ -240,15 +278,15 @@ fn told_more(alloc: Global, more: usize) -> Result<String, AllocError> {
     json(alloc, &told)
 }
 
-fn told_of(alloc: Global, shown: Shown<'_>, given: &Given) -> Result<String, AllocError> {
+fn told_of(alloc: Global, shown: Shown<'_>, marks: &[Marked<'_>]) -> Result<String, AllocError> {
     let diagnostic = shown.diagnostic;
     let told = Told {
-        range: location_of(given, shown.span).range,
+        range: location_of(marks, shown.span).range,
         severity: severity_of(diagnostic.severity),
         code: diagnostic.code,
         source: SOURCE,
         message: diagnostic.message.as_str(),
-        related_information: related_of(alloc, shown, given)?,
+        related_information: related_of(alloc, shown, marks)?,
     };
     json(alloc, &told)
 }
@@ -264,38 +302,47 @@ fn severity_of(severity: Severity) -> u8 {
 fn related_of<'a>(
     alloc: Global,
     shown: Shown<'a>,
-    given: &'a Given,
+    marks: &'a [Marked<'a>],
 ) -> Result<Vec<Beside<'a>>, AllocError> {
     let mut related = Vec::new(alloc);
     if shown.is_other {
         related.push(Beside {
-            location: location_of(given, shown.diagnostic.span),
+            location: location_of(marks, shown.diagnostic.span),
             message: FIRST,
         })?;
         return Ok(related);
     }
     for other in shown.diagnostic.related.iter() {
         related.push(Beside {
-            location: location_of(given, other.span),
+            location: location_of(marks, other.span),
             message: other.message.as_str(),
         })?;
     }
     Ok(related)
 }
 
-/// Where this part of a text stands.
-pub(crate) fn location_of(given: &Given, span: Span) -> Location<'_> {
-    match given.parts.get(span.file as usize) {
-        Some(part) => Location {
-            uri: part.uri.as_str(),
-            range: range_of(part.text.as_slice(), span.start, span.end),
+// The beginning of a text.
+const NOWHERE: Range = Range {
+    start: Position {
+        line: 0,
+        character: 0,
+    },
+    end: Position {
+        line: 0,
+        character: 0,
+    },
+};
+
+/// Where this part of one of these texts stands.
+pub(crate) fn location_of<'a>(marks: &'a [Marked<'a>], span: Span) -> Location<'a> {
+    match marks.get(span.file as usize) {
+        Some(marked) => Location {
+            uri: marked.uri,
+            range: marked.lines.range(span.start, span.end),
         },
         None => Location {
             uri: "",
-            range: Range {
-                start: position_of(&[], 0),
-                end: position_of(&[], 0),
-            },
+            range: NOWHERE,
         },
     }
 }
