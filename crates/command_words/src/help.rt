@@ -380,11 +380,12 @@ these are words of the language: 'refused brief name'.
 Exit status: 0 written, 2 refused.";
 
 pub const AFTER_FORMAT_HELP: &str = "\
-The lines stay, and so do the comments. Each item begins at the margin, and what
-goes on on a further line by two blanks. Between two words stands one blank, and
-none around '*' and inside of '( )'. Comments of neighbouring lines stand in one
-column. So does what follows the names of neighbouring items of one kind, each
-on a line of its own, if two blanks or more follow one of these names:
+The lines stay, and so do the comments. Each item begins at the margin, and its
+further lines with two blanks and with the steps that they had. Between two
+words stands one blank, and none around '*' and inside of '( )'. Comments after
+words stand in one column, up to the next empty line. So does what follows the
+names of neighbouring items of one kind, each on a line of its own, if two
+blanks or more follow one of these names:
 
   device eeprom 0x50 ;   # two blanks or more before a comment
   device fan    0x2F ;   # two or more after the name, so all stand in columns
