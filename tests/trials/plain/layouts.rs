@@ -58,10 +58,11 @@ pub fn laid_out(text: &[u8]) -> Result<String, String> {
 
 // Whether it is a `plan 2` with a dot right after the `2`.
 fn is_joined(lines: &[Line]) -> bool {
-    let tokens: Vec<&Token> = lines.iter().flat_map(|line| &line.tokens).take(3).collect();
-    match tokens.as_slice() {
-        [first, second, third] => {
-            first.text == "plan" && second.text == "2" && third.gap == 0 && third.text.starts_with('.')
+    let tokens = lines.iter().flat_map(|line| line.tokens.iter().enumerate());
+    match tokens.take(3).collect::<Vec<_>>().as_slice() {
+        [(_, first), (_, second), (place, third)] => {
+            let follows = *place > 0 && third.gap == 0 && third.text.starts_with('.');
+            first.text == "plan" && second.text == "2" && follows
         }
         _ => false,
     }
