@@ -1,6 +1,6 @@
 // The texts that are open in the editor.
 
-use crate::places::path_of;
+use crate::uris::path_of;
 use std::alloc::{AllocError, Global};
 
 /// A text that is open.

@@ -4,7 +4,7 @@
 //! `diagnostics` has it.
 //!
 //! `frames` cuts the input into frames, `rpc` says what one of them asks, and `answers` writes what is said. `serving` is the
-//! loop, and `handling` does what is asked. `documents` has the texts that are open, `places` their files, and `plans` says
+//! loop, and `handling` does what is asked. `documents` has the texts that are open, `uris` their files, and `plans` says
 //! which texts give a plan. `checking` finds what is wrong with them, and `publishing` writes it. `naming` finds the names of
 //! a text, `definitions` where these are given, and `hovers` what is said of them; `frame_rows` has the frames of a message in
 //! bytes, `winners` who wins. `positions` counts as the protocol does.
@@ -20,12 +20,12 @@ mod frames;
 mod handling;
 mod hovers;
 mod naming;
-mod places;
 mod plans;
 mod positions;
 mod publishing;
 mod rpc;
 mod serving;
+mod uris;
 mod winners;
 
 pub use serving::serve;

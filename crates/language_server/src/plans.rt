@@ -1,7 +1,7 @@
 // Which texts give the plan that a document belongs to.
 
 use crate::documents::{Document, Documents};
-use crate::places::uri_of;
+use crate::uris::uri_of;
 use files::{FileId, identity_of};
 use report::{RunError, Watched, read_within};
 use run_parts::devices::reading::READS;
