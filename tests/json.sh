@@ -422,8 +422,8 @@ run "likely mistakes of a plan text" 0 '{"kind":"plan","safe":true,"pairs":0,"un
 alike check first.brief --with second.brief
 
 run "a file in place of a report stays" 0 "plan 1" "" print --format json - <<<'plan 2'
-run "no third form" 2 "" "error: invalid value 'xml' for '--format <HOW>'
-  [possible values: text, json]
+run "no further form" 2 "" "error: invalid value 'xml' for '--format <HOW>'
+  [possible values: text, json, gcc]
 
 For more information, try '--help'." check --format xml "$two"
 "$twire" check --format json --color always "$two" >coloured
