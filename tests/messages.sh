@@ -163,10 +163,16 @@ expect "other reports are as ever" 0 "accepted safe" "" verify two <("$twire" ce
 # ---- the forms that tools take: each line is a message or a note with a place
 
 for example in "$tests"/../examples/*.brief "$tests"/../examples/*.plan; do
+    "$twire" check "$example" >report 2>&1
+    status=$?
     "$twire" check "$example" --format gcc >out 2>&1
-    if grep -qvE '^[^:]+:[0-9]+:[0-9]+: (error|warning|note): .+$' out; then
+    found=$?
+    errors=$(grep -cE '^[^:]+:[0-9]+:[0-9]+: error: .+$' out)
+    others=$(grep -cvE '^[^:]+:[0-9]+:[0-9]+: (error|warning|note): .+$' out)
+    # (the messages have an error where the report says that the plan is unsafe, and nowhere else)
+    if ((found != status || found > 1 || others != 0 || (errors != 0) != (status == 1))); then
         failed=$((failed + 1))
-        echo "FAILED: a line of $example is no message"
+        echo "FAILED: the messages of $example: status $found, $errors errors, $others other lines"
     else
         passed=$((passed + 1))
     fi
