@@ -10,6 +10,7 @@ use drives::Driving;
 use dump_tokens::{Bus, BusLines, Drives, Limits, Quiet, Window};
 use explain::{CaptureLines, DecodeLines, Layout, Paint, Seen, Selection};
 use given_plans::GivenPlan;
+use lessons::{BriefBefore, Learned, Likeness, Sights, brief_of};
 use objects::{CaptureObjects, DecodeObjects, write_signals};
 use plan_core::Plan;
 use plan_words::PlanWords;
@@ -18,10 +19,7 @@ use report::{
 };
 use run_ends::{Canvas, Ended, Halt, Recorded, Remark, Sources, Style, write_wave};
 use run_parts::write_lines;
-use signals::{
-    BriefBefore, Dump, Learned, Likeness, Listed, Recorder, Sights, SignalDump, brief_of,
-    needs_picking,
-};
+use signals::{Dump, Listed, Recorder, SignalDump, needs_picking};
 use std::alloc::Global;
 use std::rt::Files;
 use std::thread::Threads;

@@ -6,8 +6,7 @@
 //! who keeps the two lines as they are `recorded`. `listing` has what `twire signals` finds: the signals (`codes` finds them
 //! again by their codes), their levels by time stamps (`levels`), what these show that last (`lasting`, with `waiting` for those
 //! that have still to), and the pairs that are the two lines of a bus (`buses`, among `candidates`, with `masks` for sets of
-//! signals). What a dump says, and why it is refused, is decided by the reader of `vcd_read` alone. `lessons` is what `twire
-//! learn` makes of the transactions of a dump: a brief.
+//! signals). What a dump says, and why it is refused, is decided by the reader of `vcd_read` alone.
 #![tactic(auto)]
 
 mod beginning;
@@ -19,7 +18,6 @@ mod definitions;
 mod dumps;
 mod fits;
 mod lasting;
-mod lessons;
 mod levels;
 mod listing;
 mod masks;
@@ -32,7 +30,6 @@ pub use beginning::{Again, read_beginning};
 pub use definitions::{Found, Header, Listing};
 pub use dumps::Dump;
 pub use fits::{Fit, base_of, fit_of};
-pub use lessons::{BriefBefore, Learned, Likeness, Sights, brief_of};
 pub use listing::{Listed, Pair, Signal, SignalDump, bus_options};
 pub use masks::MOST as CANDIDATES;
 pub use picking::{Line, Picked, Sought, needs_picking, pick, pick_with};

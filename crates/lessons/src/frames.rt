@@ -1,10 +1,10 @@
 // The frames of a message, as a brief has them.
 
-use crate::lessons::before::BriefBefore;
-use crate::lessons::counts::{Counts, count_of};
-use crate::lessons::paths::Sent;
-use crate::lessons::trees::{After, Node, Tree};
-use crate::lessons::words::push_data;
+use crate::before::BriefBefore;
+use crate::counts::{Counts, count_of};
+use crate::paths::Sent;
+use crate::trees::{After, Node, Tree};
+use crate::words::push_data;
 use growing_text::{Lines, Text};
 use std::alloc::{AllocError, Global};
 

@@ -1,5 +1,5 @@
 use Rattle.std.proofs.Common.{length}
-use Rattle.signals.proofs.lessons.had.+path_from.Given as goal
+use Rattle.lessons.proofs.had.+path_from.Given as goal
 
 -- the steps that are left
 abbrev pub decreases-path_from : goal.decreases-path_from

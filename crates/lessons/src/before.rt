@@ -1,6 +1,6 @@
 // The brief that what is learned is given after: which transactions its messages explain, and the names that it has.
 
-use crate::lessons::paths::NoPath;
+use crate::paths::NoPath;
 use brief_text::Origins;
 use capture_check::{Transaction, explain};
 use message_tree::{Address, Pattern};

@@ -1,10 +1,10 @@
 // Which controllers there are, and what each of them lists.
 
-use crate::lessons::families::Item;
-use crate::lessons::naming::Name;
-use crate::lessons::seen::{Sights, bit_of};
-use crate::lessons::trees::Tree;
-use crate::lessons::words::plain_word;
+use crate::families::Item;
+use crate::naming::Name;
+use crate::seen::{Sights, bit_of};
+use crate::trees::Tree;
+use crate::words::plain_word;
 use growing_text::{Lines, Text};
 use std::alloc::{AllocError, Global};
 

@@ -1,9 +1,9 @@
 use Rattle.std.proofs.Common.{rules, arith, filter, map, take, ap, ◌∙◌}
 use Rattle.std.proofs.lemmas.List.{take_all, append-nil}
 use Rattle.std.proofs.lemmas.List.Elements.{filter_more}
-use Rattle.signals.specs.Paths.{is_had}
-use Rattle.signals.proofs.lessons.had.those_had.Goals as goal
-use Rattle.signals.proofs.lessons.had.those_had.Goals.{then-is_had+in_ok-push, else-is_had}
+use Rattle.lessons.specs.Paths.{is_had}
+use Rattle.lessons.proofs.had.those_had.Goals as goal
+use Rattle.lessons.proofs.had.those_had.Goals.{then-is_had+in_ok-push, else-is_had}
 
 pub loop-number-preserved : goal.loop-number-preserved
 loop-number-preserved c =

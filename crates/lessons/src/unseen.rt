@@ -1,9 +1,9 @@
 // The answers that never came.
 
-use crate::lessons::families::Item;
-use crate::lessons::paths::Sent;
-use crate::lessons::trees::{After, Likeness, Node, Tree};
-use crate::lessons::words::push_never;
+use crate::families::Item;
+use crate::paths::Sent;
+use crate::trees::{After, Likeness, Node, Tree};
+use crate::words::push_never;
 use growing_text::Lines;
 use std::alloc::{AllocError, Global};
 

@@ -1,7 +1,7 @@
 // Paths and messages in words.
 
-use crate::lessons::paths::{NoPath, Sent, Step};
-use crate::lessons::trees::Node;
+use crate::paths::{NoPath, Sent, Step};
+use crate::trees::Node;
 use growing_text::{Lines, Text};
 use std::alloc::{AllocError, Global};
 

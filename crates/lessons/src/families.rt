@@ -1,9 +1,9 @@
 // Messages that differ only in how many data bytes end them, as families. Those that differ only in how many bytes a read has are
 // one message by `counts`.
 
-use crate::lessons::counts::{Counts, join_counts};
-use crate::lessons::frames::{Part, push_frames};
-use crate::lessons::trees::{Run, Tree};
+use crate::counts::{Counts, join_counts};
+use crate::frames::{Part, push_frames};
+use crate::trees::{Run, Tree};
 use growing_text::Lines;
 use std::alloc::{AllocError, Global};
 

@@ -1,8 +1,8 @@
 // Data that was the same each time: that is no rule of the bus, as far as a dump shows.
 
-use crate::lessons::paths::Sent;
-use crate::lessons::trees::{Node, Tree};
-use crate::lessons::words::push_data;
+use crate::paths::Sent;
+use crate::trees::{Node, Tree};
+use crate::words::push_data;
 use growing_text::{Lines, Text};
 use std::alloc::{AllocError, Global};
 

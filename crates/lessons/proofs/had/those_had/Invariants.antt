@@ -1,6 +1,6 @@
 use Rattle.std.proofs.Common.{◌≡◌, filter, map, take}
-use Rattle.signals.specs.Paths.{is_had}
-use Rattle.signals.proofs.lessons.had.those_had.Given as goal
+use Rattle.lessons.specs.Paths.{is_had}
+use Rattle.lessons.proofs.had.those_had.Given as goal
 
 -- those so far that the message has
 abbrev pub invariant-loop-number : goal.invariant-loop-number

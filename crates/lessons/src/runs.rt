@@ -1,12 +1,12 @@
 // From what was seen to the brief.
 
-use crate::lessons::before::Room;
-use crate::lessons::families::{families_of, messages_of};
-use crate::lessons::had::those_had;
-use crate::lessons::paths::NoPath;
-use crate::lessons::seen::{Sight, Sights};
-use crate::lessons::trees::{Likeness, Tree};
-use crate::lessons::writing::written;
+use crate::before::Room;
+use crate::families::{families_of, messages_of};
+use crate::had::those_had;
+use crate::paths::NoPath;
+use crate::seen::{Sight, Sights};
+use crate::trees::{Likeness, Tree};
+use crate::writing::written;
 use run_parts::Status;
 use std::alloc::{AllocError, Global};
 

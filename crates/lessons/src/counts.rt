@@ -1,8 +1,8 @@
 // Messages that differ only in how many bytes one read has, as one message.
 
-use crate::lessons::families::Item;
-use crate::lessons::paths::Sent;
-use crate::lessons::trees::{After, Tree};
+use crate::families::Item;
+use crate::paths::Sent;
+use crate::trees::{After, Tree};
 use std::alloc::{AllocError, Global};
 
 /// How many bytes the read at a place of a message has: from so many to so many.

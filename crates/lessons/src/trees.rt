@@ -1,6 +1,6 @@
 // Paths put together into messages.
 
-use crate::lessons::paths::{Sent, Step};
+use crate::paths::{Sent, Step};
 use std::alloc::{AllocError, Global};
 
 /// How far data bytes after the register of a write make messages differ.

@@ -1,9 +1,9 @@
 // The names of messages.
 
-use crate::lessons::before::BriefBefore;
-use crate::lessons::families::Item;
-use crate::lessons::paths::Sent;
-use crate::lessons::trees::{After, Tree};
+use crate::before::BriefBefore;
+use crate::families::Item;
+use crate::paths::Sent;
+use crate::trees::{After, Tree};
 use growing_text::Text;
 use std::alloc::{AllocError, Global};
 

@@ -1,7 +1,7 @@
 // The different paths that a capture has shown.
 
-use crate::lessons::before::{BriefBefore, Explained, Room, room_alone};
-use crate::lessons::paths::{NoPath, Step, key_of, path_of};
+use crate::before::{BriefBefore, Explained, Room, room_alone};
+use crate::paths::{NoPath, Step, key_of, path_of};
 use capture_check::{Transaction, Until};
 use decoding::TransactionSink;
 use drives::{Driving, Drove};

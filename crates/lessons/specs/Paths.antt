@@ -1,12 +1,12 @@
 -- Which paths a message has that was seen on a bus: what `twire learn` says that it was made of.
 use Rattle.std.specs.Prelude.{ℕ, Bool, true, false, ◌&&◌, ◌||◌, ◌==◌, bit_and, bit_xor, List, [], ◌∷◌, Option, Some, None}
 use Rattle.std.specs.Prelude.{is_none, slice_get}
-use Rattle.signals.specs.declared.lessons.trees.After.{After}
-use Rattle.signals.specs.declared.lessons.trees.After.TheVariants.{Unseen, Stop, On}
-use Rattle.signals.specs.declared.lessons.trees.Node.{Node}
-use Rattle.signals.specs.declared.lessons.paths.Sent.{Sent}
-use Rattle.signals.specs.declared.lessons.paths.Sent.TheVariants.{Write, Register, Data, Read}
-use Rattle.signals.specs.declared.lessons.paths.Step.{Step}
+use Rattle.lessons.specs.declared.trees.After.{After}
+use Rattle.lessons.specs.declared.trees.After.TheVariants.{Unseen, Stop, On}
+use Rattle.lessons.specs.declared.trees.Node.{Node}
+use Rattle.lessons.specs.declared.paths.Sent.{Sent}
+use Rattle.lessons.specs.declared.paths.Sent.TheVariants.{Write, Register, Data, Read}
+use Rattle.lessons.specs.declared.paths.Step.{Step}
 
 abbrev pub same_count : Option ℕ → Option ℕ → Bool
 same_count None None = true

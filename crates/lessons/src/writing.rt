@@ -1,14 +1,14 @@
 // Messages, written as a brief.
 
-use crate::lessons::alike::push_alike;
-use crate::lessons::families::Item;
-use crate::lessons::frames::{Part, push_frames, push_run};
-use crate::lessons::listing::{Controller, controllers_of, push_controllers};
-use crate::lessons::naming::{Name, names_of};
-use crate::lessons::seen::{Odd, Sight, Sights};
-use crate::lessons::trees::Tree;
-use crate::lessons::unseen::push_unseen;
-use crate::lessons::words::{plain_word, push_path, why};
+use crate::alike::push_alike;
+use crate::families::Item;
+use crate::frames::{Part, push_frames, push_run};
+use crate::listing::{Controller, controllers_of, push_controllers};
+use crate::naming::{Name, names_of};
+use crate::seen::{Odd, Sight, Sights};
+use crate::trees::Tree;
+use crate::unseen::push_unseen;
+use crate::words::{plain_word, push_path, why};
 use dump_tokens::Scale;
 use growing_text::{Lines, Text};
 use std::alloc::{AllocError, Global};

@@ -1,10 +1,10 @@
 // Which paths a message has: what is told above a message, and counted as explained, is what this finds.
 
 ghost use Rattle.std.specs.Prelude.{◌≡◌, IfOk, filter, map};
-ghost use Rattle.signals.specs.Paths.{may_send, has_path, path_from, after_answer, is_had};
+ghost use Rattle.lessons.specs.Paths.{may_send, has_path, path_from, after_answer, is_had};
 
-use crate::lessons::paths::{Sent, Step};
-use crate::lessons::trees::{After, Node};
+use crate::paths::{Sent, Step};
+use crate::trees::{After, Node};
 use std::alloc::{AllocError, Global};
 
 // Whether a message with these places has the path: from its first place on, each step is what may be sent there, its answer

@@ -1,0 +1,32 @@
+//! A brief of what a recorded bus has shown: a message for each sequence of bytes that was seen, with what was done after
+//! refusals, and one controller that has them all.
+//!
+//! `paths` reads the marks of a transaction as a path through a message, `seen` keeps each path once, `trees` puts paths
+//! together into messages, `families` messages of neighbouring lengths, and `counts` those of neighbouring counts. `naming` names
+//! these, `listing` shares them out among controllers, and `writing` writes them: their frames by `frames`, the answers that never
+//! came by `unseen`, data that was always the same by `alike`. `before` has what a brief says that is given first. `runs` goes from
+//! what was seen to the brief. What a brief means is decided by `brief_text`, and what explains a capture by `capture_check`.
+//! `had` finds which paths a message has, by contract, and only those are told as what it was made of; of the rest is proved that
+//! it is safe.
+#![tactic(auto)]
+
+mod alike;
+mod before;
+mod counts;
+mod families;
+mod frames;
+mod had;
+mod listing;
+mod naming;
+mod paths;
+mod runs;
+mod seen;
+mod trees;
+mod unseen;
+mod words;
+mod writing;
+
+pub use before::BriefBefore;
+pub use runs::{Learned, brief_of};
+pub use seen::Sights;
+pub use trees::Likeness;
