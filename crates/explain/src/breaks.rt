@@ -1,6 +1,8 @@
 // Where a line of a certificate does not prove its pair.
 
-use crate::sending::{pass, pass_own};
+use crate::broken::Wires;
+use crate::meetings::Side;
+use crate::sending::{own_bit, pass, pass_own};
 use message_tree::{Bit, Item};
 use places::{Offered, Place};
 use plan_core::Plan;
@@ -41,27 +43,36 @@ pub enum Reason {
     UnknownWord,
 }
 
-/// The first such word of the proof of a pair. None where each of its words proves something.
+/// The first such word of the proof of a pair, and what both send up to there. None where each of its words proves something.
+///
+/// # Errors
+///
+/// Where an allocation fails.
 pub(crate) fn break_of(
     alloc: Global,
     plan: &Plan,
     pair: (u32, u32),
     line: &[u8],
-) -> Result<Option<Break>, AllocError> {
+) -> Result<Option<(Break, (Side, Side))>, AllocError> {
     let mut left = Left::new(alloc);
     if let Some(both) = start_of(plan, pair) {
         left.push(both);
     }
     let found = first_break(&mut left, line);
-    if left.is_whole {
-        Ok(found)
-    } else {
-        Err(AllocError)
+    if !left.is_whole {
+        return Err(AllocError);
+    }
+    match found {
+        Some(found) => {
+            let sides = left.wires.sides(alloc, plan, pair, found.slot)?;
+            Ok(Some((found, sides)))
+        }
+        None => Ok(None),
     }
 }
 
-/// The two of a pair of the plan, before their first slot.
-pub(crate) fn start_of(plan: &Plan, pair: (u32, u32)) -> Option<Both<'_>> {
+// The two of a pair of the plan, before their first slot.
+fn start_of(plan: &Plan, pair: (u32, u32)) -> Option<Both<'_>> {
     let (first, second) = pair;
     if plan.participants() <= first || plan.participants() <= second {
         return None;
@@ -70,6 +81,7 @@ pub(crate) fn start_of(plan: &Plan, pair: (u32, u32)) -> Option<Both<'_>> {
         first: Place::start(plan.sends(first)),
         second: Place::start(plan.sends(second)),
         slot: 0,
+        last: None,
         are_reads: false,
     })
 }
@@ -78,7 +90,7 @@ fn first_break(left: &mut Left<'_>, line: &[u8]) -> Option<Break> {
     let mut number = 0u32;
     for word in line.split(is_blank) {
         number = number.saturating_add(1);
-        let mut both = left.both.pop()?;
+        let mut both = left.pop()?;
         if let Some(reason) = unproved(left, &mut both, word) {
             return Some(Break {
                 word: number,
@@ -90,15 +102,15 @@ fn first_break(left: &mut Left<'_>, line: &[u8]) -> Option<Break> {
     None
 }
 
-/// Whether words of a proof end there.
-pub(crate) fn is_blank(byte: &u8) -> bool {
+fn is_blank(byte: &u8) -> bool {
     *byte == b' '
 }
 
-// What further words are to prove, the next one last.
+// What further words are to prove, the next one last, and what both send up to where the walk is.
 #[derive(Drop)]
 struct Left<'a> {
     both: Vec<Both<'a>>,
+    wires: Wires,
     // whether there was memory for all of it
     is_whole: bool,
 }
@@ -107,6 +119,7 @@ impl<'a> Left<'a> {
     fn new(alloc: Global) -> Left<'a> {
         Left {
             both: Vec::new(alloc),
+            wires: Wires::new(alloc),
             is_whole: true,
         }
     }
@@ -116,6 +129,15 @@ impl<'a> Left<'a> {
             self.is_whole = false;
         }
     }
+
+    // The next two, with the wires up to them.
+    fn pop(&mut self) -> Option<Both<'a>> {
+        let both = self.both.pop()?;
+        if let Some(item) = both.last {
+            self.wires.put(both.slot.saturating_sub(1), item, item);
+        }
+        Some(both)
+    }
 }
 
 // Why a word does not prove what it stands for, where it does not. What further words are to prove is left to them. Where two
@@ -123,7 +145,7 @@ impl<'a> Left<'a> {
 fn unproved<'a>(left: &mut Left<'a>, both: &mut Both<'a>, word: &[u8]) -> Option<Reason> {
     if both.are_reads {
         let mut ended = *both;
-        let is_ended = ended.pass_reads();
+        let is_ended = ended.pass_reads(&mut left.wires);
         match word {
             b"R" if is_ended => return Some(Reason::ReadsMayMeet),
             b"R" => return None,
@@ -145,8 +167,13 @@ fn unproved<'a>(left: &mut Left<'a>, both: &mut Both<'a>, word: &[u8]) -> Option
 // Two bytes that are written, or two headers of reads: what follows both answers is left.
 fn push_answers<'a>(left: &mut Left<'a>, both: Both<'a>, are_reads: bool) -> bool {
     let mut refused = both;
-    let mut acknowledged = both;
-    if !refused.pass_byte(true) || !acknowledged.pass_byte(false) {
+    if !refused.pass_bits(&mut left.wires) {
+        return false;
+    }
+    let mut acknowledged = refused;
+    if !refused.pass(&mut left.wires, Item::Heard(true))
+        || !acknowledged.pass(&mut left.wires, Item::Heard(false))
+    {
         return false;
     }
     acknowledged.are_reads = are_reads;
@@ -158,7 +185,7 @@ fn push_answers<'a>(left: &mut Left<'a>, both: Both<'a>, are_reads: bool) -> boo
 // Two repeated STARTs: the frames after them are left.
 fn push_frames<'a>(left: &mut Left<'a>, both: Both<'a>) -> bool {
     let mut next = both;
-    let is_passed = next.pass(Item::Again);
+    let is_passed = next.pass(&mut left.wires, Item::Again);
     left.push(next);
     is_passed
 }
@@ -167,45 +194,54 @@ fn listens(place: Place<'_>) -> bool {
     place.offered() == Offered::Listen
 }
 
-/// Two senders at one place, which the next words are to prove.
+// Two senders at one place, which the next words are to prove.
 #[derive(Clone, Copy, Drop)]
-pub(crate) struct Both<'a> {
-    pub(crate) first: Place<'a>,
-    pub(crate) second: Place<'a>,
-    pub(crate) slot: u32,
+struct Both<'a> {
+    first: Place<'a>,
+    second: Place<'a>,
+    slot: u32,
+    // the item of the slot before
+    last: Option<Item>,
     // whether they are two reads of which each has been acknowledged
     are_reads: bool,
 }
 
 impl Both<'_> {
-    /// Goes on by an item of one slot, where it may come next in both.
-    pub(crate) fn pass(&mut self, item: Item) -> bool {
+    // Goes on by an item of one slot, where it may come next in both.
+    fn pass(&mut self, wires: &mut Wires, item: Item) -> bool {
+        wires.put(self.slot, item, item);
         self.slot = self.slot.saturating_add(1);
+        self.last = Some(item);
         self.are_reads = false;
         pass(&mut self.first, item) && pass(&mut self.second, item)
     }
 
-    /// Goes on by a byte that each sends and this answer to it.
-    pub(crate) fn pass_byte(&mut self, answer: bool) -> bool {
-        self.slot = self.slot.saturating_add(9);
-        self.are_reads = false;
-        pass_byte(&mut self.first, answer) && pass_byte(&mut self.second, answer)
+    // Goes on by the bits of a byte that each sends.
+    fn pass_bits(&mut self, wires: &mut Wires) -> bool {
+        for _ in 0..BITS {
+            wires.put(self.slot, own_bit(self.first), own_bit(self.second));
+            self.slot = self.slot.saturating_add(1);
+            if !pass_own(&mut self.first) || !pass_own(&mut self.second) {
+                return false;
+            }
+        }
+        true
     }
 
-    /// Goes on by a number of bytes with which both reads may end, where there is one.
-    pub(crate) fn pass_reads(&mut self) -> bool {
+    // Goes on by a number of bytes with which both reads may end, where there is one.
+    fn pass_reads(&mut self, wires: &mut Wires) -> bool {
         for _ in 0..BYTES {
             for _ in 0..BITS {
-                if !self.pass(Item::Heard(false)) {
+                if !self.pass(wires, Item::Heard(false)) {
                     return false;
                 }
             }
             let mut ended = *self;
-            if ended.pass(Item::Sent(true)) {
+            if ended.pass(wires, Item::Sent(true)) {
                 *self = ended;
                 return true;
             }
-            if !self.pass(Item::Sent(false)) {
+            if !self.pass(wires, Item::Sent(false)) {
                 return false;
             }
         }
@@ -225,25 +261,16 @@ impl Both<'_> {
     }
 }
 
-fn pass_byte(place: &mut Place<'_>, answer: bool) -> bool {
-    pass_bits(place, BITS) && pass(place, Item::Heard(answer))
-}
-
-// Goes on by so many bits of its own.
-fn pass_bits(place: &mut Place<'_>, bits: u32) -> bool {
-    for _ in 0..bits {
-        if !pass_own(place) {
-            return false;
-        }
-    }
-    true
-}
-
 // The bit with this number of the byte that begins here, where it is known.
 fn known_bit(start: Place<'_>, bit: u8) -> Option<bool> {
-    let mut place = start;
-    if BITS <= u32::from(bit) || !pass_bits(&mut place, u32::from(bit)) {
+    if BITS <= u32::from(bit) {
         return None;
+    }
+    let mut place = start;
+    for _ in 0..bit {
+        if !pass_own(&mut place) {
+            return None;
+        }
     }
     match place.offered() {
         Offered::Bit(Bit::Zero) => Some(false),

@@ -5,8 +5,8 @@ use crate::faults::{bus_row, row_of, tell_item};
 use crate::glitches::{Cut, Cuts};
 use crate::labels::Labels;
 use crate::leaving::{Leaves, NEAREST, bytes_until, mark_words, nearest, offer_words};
-use crate::rows::{ALIKE, BYTES, ends_byte, tell_rows};
-use crate::words::bytes_of;
+use crate::rows::{ALIKE, BYTES, tell_rows};
+use crate::words::{Bytes, row_of_marks};
 use capture_check::{Mark, Transaction, Until};
 use growing_text::{Lines, Text};
 use plan_core::Plan;
@@ -65,11 +65,11 @@ fn tell_rows_of(
         }
     }
     let said = if sent.is_empty() { BYTES } else { ALIKE };
-    let bus = bus_until(alloc, bytes_of(alloc, marks)?, sent.first())?;
+    let bus = bus_until(alloc, row_of_marks(alloc, marks)?, sent.first())?;
     let mut rows = Vec::new(alloc);
-    rows.push(bus_row(bus.as_str()))?;
+    rows.push(bus_row(&bus))?;
     for (bytes, near) in &sent {
-        rows.push(row_of(labels.of(near.participant), bytes.as_str(), near.offered))?;
+        rows.push(row_of(labels.of(near.participant), bytes, near.offered))?;
     }
     tell_rows(lines, rows.as_slice(), said);
     Ok(())
@@ -79,30 +79,19 @@ fn tell_rows_of(
 // after it.
 fn bus_until(
     alloc: Global,
-    bus: String,
-    furthest: Option<&(String, Leaves)>,
-) -> Result<String, AllocError> {
+    bus: Bytes,
+    furthest: Option<&(Bytes, Leaves)>,
+) -> Result<Bytes, AllocError> {
     let Some((bytes, _)) = furthest else {
         return Ok(bus);
     };
-    let shown = bytes.as_str().split(' ').count();
-    let mut text = Text::new(alloc);
-    let mut more = 0usize;
-    for (k, word) in bus.as_str().split(' ').enumerate() {
-        if shown < k {
-            more = more.saturating_add(usize::from(ends_byte(word)));
-        } else {
-            text.push(if k == 0 { "" } else { " " });
-            text.push(word);
-        }
-    }
-    if bus.len() <= SHORT || more < FEW {
+    let shown = bytes.count().saturating_add(1);
+    let all = bus.first(bus.count());
+    let more = all.bytes.saturating_sub(bus.first(shown).bytes);
+    if all.columns <= SHORT || more < FEW {
         return Ok(bus);
     }
-    text.push(" .. ");
-    text.push_number(more as u64);
-    text.push(" bytes more");
-    text.finish()
+    bus.until(alloc, shown, more)
 }
 
 /// What is said below a transaction after which so many bits came on the free bus, as if its STOP had been none.

@@ -104,8 +104,8 @@ fn tell_two_rows(
 
 fn tell_sides(lines: &mut Lines, labels: (&str, &str), first: &Side, second: &Side) {
     let rows = [
-        row_of(labels.0, first.bytes.as_str(), first.next),
-        row_of(labels.1, second.bytes.as_str(), second.next),
+        row_of(labels.0, &first.bytes, first.next),
+        row_of(labels.1, &second.bytes, second.next),
     ];
     tell_rows(lines, &rows, BYTES);
 }

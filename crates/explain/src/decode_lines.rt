@@ -62,7 +62,7 @@ impl<'a, O: Output> DecodeLines<'a, O> {
         });
         let empty = Text::new(self.written.alloc);
         let text = mem::replace(&mut self.written.text, empty);
-        self.written.text = with_bytes(text, transaction.marks.as_slice());
+        self.written.text = with_bytes(self.written.alloc, text, transaction.marks.as_slice());
         self.written.text.push("\n");
     }
 

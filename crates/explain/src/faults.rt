@@ -8,6 +8,7 @@ use crate::mends::{GroupMends, Mends, Never};
 use crate::rewritten::tell_families;
 use crate::rows::{ALIKE, Row, tell_rows};
 use crate::sending::deed;
+use crate::words::Bytes;
 use growing_text::{Lines, Text};
 use places::Offered;
 use plan_core::Plan;
@@ -48,9 +49,9 @@ fn tell_sides(alloc: Global, lines: &mut Lines, labels: (&str, &str), meeting: &
         ..
     } = meeting;
     let rows = [
-        bus_row(bus.as_str()),
-        row_of(labels.0, first.bytes.as_str(), first.next),
-        row_of(labels.1, second.bytes.as_str(), second.next),
+        bus_row(bus),
+        row_of(labels.0, &first.bytes, first.next),
+        row_of(labels.1, &second.bytes, second.next),
     ];
     tell_rows(lines, &rows, ALIKE);
     tell_reason(alloc, lines, meeting);
@@ -59,7 +60,7 @@ fn tell_sides(alloc: Global, lines: &mut Lines, labels: (&str, &str), meeting: &
 }
 
 /// The row of the bytes on the bus.
-pub(crate) fn bus_row(words: &str) -> Row<'_> {
+pub(crate) fn bus_row(words: &Bytes) -> Row<'_> {
     Row {
         title: "bus",
         words,
@@ -68,7 +69,7 @@ pub(crate) fn bus_row(words: &str) -> Row<'_> {
 }
 
 /// The row of a participant: what it sends, and what it offers next.
-pub(crate) fn row_of<'a>(title: &'a str, words: &'a str, next: Offered) -> Row<'a> {
+pub(crate) fn row_of<'a>(title: &'a str, words: &'a Bytes, next: Offered) -> Row<'a> {
     Row {
         title,
         words,

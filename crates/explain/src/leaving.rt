@@ -1,7 +1,7 @@
 // Who goes along with a transaction that nobody explains, and where.
 
 use crate::sending::{pass, push_offered, push_rest};
-use crate::words::Words;
+use crate::words::{Bytes, Words};
 use capture_check::Mark;
 use message_tree::{Bit, Item};
 use places::{Offered, Place};
@@ -69,7 +69,7 @@ pub(crate) fn bytes_until(
     plan: &Plan,
     leaves: Leaves,
     marks: &[Mark],
-) -> Result<String, AllocError> {
+) -> Result<Bytes, AllocError> {
     let mut words = Words::new(alloc);
     if leaves.participant < plan.participants() {
         let mut place = Place::start(plan.sends(leaves.participant));
@@ -83,7 +83,7 @@ pub(crate) fn bytes_until(
         }
         push_rest(&mut words, place);
     }
-    words.finish()
+    words.row()
 }
 
 // The item that leaves this mark, by whoever drives the bit.

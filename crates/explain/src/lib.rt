@@ -82,4 +82,4 @@ pub use sending::deed;
 pub use tallies::{Explains, Others, Tallies};
 pub use tracks::{Track, WireTracks, tracks_of};
 pub use unchecked::{is_all_checked, unsent_in};
-pub use words::bytes_of;
+pub use words::{Bytes, bytes_of};

@@ -1,7 +1,7 @@
 // Where the two of an unsafe pair meet.
 
 use crate::sending::{Followed, follow_wire};
-use crate::words::Words;
+use crate::words::{Bytes, Words};
 use message_tree::Item;
 use places::Offered;
 use plan_core::Plan;
@@ -20,7 +20,7 @@ pub enum Rule {
 /// may send either bit, as first and last ones, and what it does next.
 #[derive(Drop)]
 pub struct Side {
-    pub bytes: String,
+    pub bytes: Bytes,
     pub open: Vec<(usize, usize)>,
     pub next: Offered,
 }
@@ -29,7 +29,7 @@ pub struct Side {
 #[derive(Drop)]
 pub struct Meeting {
     pub slot: usize,
-    pub bus: String,
+    pub bus: Bytes,
     pub first: Side,
     pub second: Side,
 }
@@ -68,12 +68,12 @@ pub fn meeting_of(
 }
 
 /// The bytes of a wire, from its START on.
-pub(crate) fn bytes_of(alloc: Global, wire: &[Item]) -> Result<String, AllocError> {
+pub(crate) fn bytes_of(alloc: Global, wire: &[Item]) -> Result<Bytes, AllocError> {
     let mut words = Words::new(alloc);
     for item in wire {
         words.item(*item);
     }
-    words.finish()
+    words.row()
 }
 
 /// What a participant does along this wire, and next.
@@ -85,7 +85,7 @@ pub(crate) fn side_of(
 ) -> Result<Side, AllocError> {
     let mut words = Words::new(alloc);
     let Followed { open, next } = follow_wire(alloc, plan, p, wire, &mut words);
-    let bytes = words.finish()?;
+    let bytes = words.row()?;
     Ok(Side {
         bytes,
         open: open.finish()?,

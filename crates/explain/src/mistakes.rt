@@ -5,7 +5,6 @@ ghost use Rattle.plan_core.specs.PlanContents.{plan_contents};
 ghost use Rattle.plan_core.specs.Pairs.{pairs_of};
 
 use crate::breaks::{Break, break_of};
-use crate::broken::sides_at;
 use crate::meetings::Side;
 use cert_check::Answer;
 use certificate::{CertError, CertFault, Fault, Head, read_head};
@@ -83,14 +82,14 @@ fn misproved_pair(alloc: Global, plan: &Plan, cert: &[u8], pair: u32) -> Result<
     requires { pair < length (pairs_of (plan_contents plan.now)) }
 {
     let participants = plan.pair(pair);
-    let mut found = None;
-    let mut sides = None;
-    if let Some(proof) = proof_line(cert, pair) {
-        found = break_of(alloc, plan, participants, proof)?;
-        if let Some(it) = found {
-            sides = Some(sides_at(alloc, plan, participants, proof, it)?);
-        }
-    }
+    let broken = match proof_line(cert, pair) {
+        Some(proof) => break_of(alloc, plan, participants, proof)?,
+        None => None,
+    };
+    let (found, sides) = match broken {
+        Some((found, sides)) => (Some(found), Some(sides)),
+        None => (None, None),
+    };
     Ok(Mistake::Pair {
         pair,
         participants,

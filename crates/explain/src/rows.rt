@@ -1,6 +1,7 @@
 // Rows that stand one below the other: the bytes on the bus, and those of participants.
 
 use crate::below::{begin_titled, room_after};
+use crate::words::{Bytes, Extent};
 use growing_text::Lines;
 
 // How many columns titles have at most that stand beside the words of rows.
@@ -24,7 +25,7 @@ const NEXT: &str = "next:";
 #[derive(Clone, Copy)]
 pub(crate) struct Row<'a> {
     pub(crate) title: &'a str,
-    pub(crate) words: &'a str,
+    pub(crate) words: &'a Bytes,
     pub(crate) next: Option<&'static str>,
 }
 
@@ -36,31 +37,12 @@ struct Shape {
     shown: usize,
 }
 
-// Words that are left out: how many columns they have, and how many acknowledges are among them.
-#[derive(Clone, Copy)]
-struct LeftOut {
-    columns: usize,
-    bytes: usize,
-}
-
-impl LeftOut {
-    fn add(&mut self, word: &str) {
-        self.columns = self.columns.saturating_add(word.len()).saturating_add(1);
-        self.bytes = self.bytes.saturating_add(usize::from(ends_byte(word)));
-    }
-
-    // How many columns fewer a row has without them, where a line says how many bytes they are.
-    fn gain(&self) -> usize {
-        let digits = self.bytes.checked_ilog10().unwrap_or(0) as usize;
-        self.columns
-            .saturating_sub(digits)
-            .saturating_sub(".. 1 bytes alike .. ".len())
-    }
-}
-
-/// Whether a byte ends with this word, its acknowledge.
-pub(crate) fn ends_byte(word: &str) -> bool {
-    matches!(word, "A" | "NA" | "A/NA")
+// How many columns fewer a row has without these words, where a line says how many bytes they are.
+fn gain(left: Extent) -> usize {
+    let digits = left.bytes.checked_ilog10().unwrap_or(0) as usize;
+    left.columns
+        .saturating_sub(digits)
+        .saturating_sub(".. 1 bytes alike .. ".len())
 }
 
 impl Row<'_> {
@@ -74,7 +56,7 @@ impl Row<'_> {
 
     // The first word that is shown after those that are left out: that of all rows, and its own one where it ends before that.
     fn shown_in(&self, shape: Shape) -> usize {
-        if self.words.split(' ').count() < shape.shown {
+        if self.words.count() < shape.shown {
             self.first_shown(room_after(shape.columns)).unwrap_or(KEPT)
         } else {
             shape.shown
@@ -83,43 +65,37 @@ impl Row<'_> {
 
     // How many columns its words have where some are left out up to this one.
     fn width(&self, shown: usize) -> usize {
-        self.words.len().saturating_sub(self.left_out(shown).gain())
+        self.columns().saturating_sub(gain(self.left_out(shown)))
+    }
+
+    fn columns(&self) -> usize {
+        self.words.as_str().len()
     }
 
     // What is left out of it up to this word.
-    fn left_out(&self, shown: usize) -> LeftOut {
-        let mut left = LeftOut {
-            columns: 0,
-            bytes: 0,
-        };
-        for (k, word) in self.words.split(' ').enumerate() {
-            if KEPT <= k && k < shown {
-                left.add(word);
-            }
+    fn left_out(&self, shown: usize) -> Extent {
+        let kept = self.words.first(KEPT);
+        let end = self.words.first(shown);
+        Extent {
+            columns: end.columns.saturating_sub(kept.columns),
+            bytes: end.bytes.saturating_sub(kept.bytes),
         }
-        left
     }
 
     // The first word after those that are left out, so that the row has room: KEPT where none is, and nothing where it never
     // has. Whole bytes are left out.
     fn first_shown(&self, room: usize) -> Option<usize> {
-        let columns = self.words.len().saturating_add(self.after());
+        let columns = self.columns().saturating_add(self.after());
         if columns <= room {
             return Some(KEPT);
         }
-        let mut left = LeftOut {
-            columns: 0,
-            bytes: 0,
-        };
-        let mut is_end = false;
-        for (k, word) in self.words.split(' ').enumerate() {
-            if is_end && columns.saturating_sub(left.gain()) <= room {
+        let mut bytes = 0usize;
+        for k in KEPT..self.words.count() {
+            let left = self.left_out(k);
+            if bytes < left.bytes && columns.saturating_sub(gain(left)) <= room {
                 return Some(k);
             }
-            if KEPT <= k {
-                left.add(word);
-                is_end = ends_byte(word);
-            }
+            bytes = left.bytes;
         }
         None
     }
@@ -191,9 +167,9 @@ fn shown_in(rows: &[Row<'_>], room: usize) -> Option<usize> {
 
 // A row, without the words up to the one that is shown. What comes next stands after so many columns of words.
 fn tell_row(lines: &mut Lines, row: Row<'_>, shown: usize, width: usize, said: &str) {
-    for (k, word) in row.words.split(' ').enumerate() {
+    for k in 0..row.words.count() {
         if k < KEPT || shown <= k {
-            lines.word(word);
+            lines.word(row.words.word(k));
         } else if k == KEPT {
             lines.word("..");
             lines.number(row.left_out(shown).bytes as u64, "");

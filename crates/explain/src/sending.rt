@@ -60,10 +60,14 @@ pub(crate) fn pass(place: &mut Place<'_>, item: Item) -> bool {
     false
 }
 
-/// Goes on by a bit of its own, an open one as 0.
+/// A bit of its own, an open one as 0.
+pub(crate) fn own_bit(place: Place<'_>) -> Item {
+    Item::Sent(place.offered() == Offered::Bit(Bit::One))
+}
+
+/// Goes on by a bit of its own.
 pub(crate) fn pass_own(place: &mut Place<'_>) -> bool {
-    let bit = place.offered() == Offered::Bit(Bit::One);
-    pass(place, Item::Sent(bit))
+    pass(place, own_bit(*place))
 }
 
 /// Adds a bit of its own as the message has it, and anything else as the wire has it.

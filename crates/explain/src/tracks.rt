@@ -2,6 +2,7 @@
 
 use crate::meetings::bytes_of;
 use crate::sending::pass;
+use crate::words::Bytes;
 use bench_run::{Rehearsal, filled};
 use message_tree::Item;
 use places::Place;
@@ -11,7 +12,7 @@ use std::alloc::{AllocError, Global};
 /// A rehearsal, looked at: the bytes of its wire, and what each starter puts.
 #[derive(Drop)]
 pub struct WireTracks {
-    pub bytes: String,
+    pub bytes: Bytes,
     pub tracks: Vec<Track>,
 }
 

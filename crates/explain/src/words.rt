@@ -5,10 +5,91 @@ use growing_text::Text;
 use message_tree::{Bit, Item};
 use std::alloc::{AllocError, Global};
 
+/// What a bus or a participant does from a START on, as a text of words with a blank between them.
+#[derive(Drop)]
+pub struct Bytes {
+    text: String,
+    // what the words have up to each of them
+    ends: Vec<Extent>,
+}
+
+/// How many columns words have, and how many bytes end with one of them, their acknowledge.
+#[derive(Clone, Copy)]
+pub(crate) struct Extent {
+    pub(crate) columns: usize,
+    pub(crate) bytes: usize,
+}
+
+impl Bytes {
+    /// The text.
+    pub fn as_str(&self) -> &str {
+        self.text.as_str()
+    }
+
+    /// How many words there are.
+    pub(crate) fn count(&self) -> usize {
+        self.ends.len()
+    }
+
+    /// What so many words at the beginning have, and all where there are not as many.
+    pub(crate) fn first(&self, words: usize) -> Extent {
+        let ends = self.ends.as_slice();
+        match ends.get(..words).unwrap_or(ends).last() {
+            Some(end) => *end,
+            None => Extent {
+                columns: 0,
+                bytes: 0,
+            },
+        }
+    }
+
+    /// The word with this number, from 0 on.
+    pub(crate) fn word(&self, number: usize) -> &str {
+        let from = match number {
+            0 => 0,
+            _ => self.first(number).columns.saturating_add(1),
+        };
+        let end = self.first(number.saturating_add(1)).columns;
+        self.as_str().get(from..end).unwrap_or("")
+    }
+
+    /// So many words at the beginning, and after them how many bytes come then.
+    ///
+    /// # Errors
+    ///
+    /// Where an allocation fails.
+    pub(crate) fn until(
+        &self,
+        alloc: Global,
+        words: usize,
+        more: usize,
+    ) -> Result<Bytes, AllocError> {
+        let mut shown = Words::of_byte(alloc, false);
+        shown.is_row = true;
+        let end = self.first(words).columns;
+        shown.text.push(self.as_str().get(..end).unwrap_or(""));
+        for end in self.ends.iter().take(words) {
+            shown.push_end(*end);
+        }
+        shown.word(" ..");
+        shown.text.push(" ");
+        shown.text.push_number(more as u64);
+        shown.end_word();
+        shown.word(" bytes");
+        shown.word(" more");
+        shown.row()
+    }
+}
+
 /// What a bus or a participant does from a START on, byte by byte.
 #[derive(Drop)]
 pub(crate) struct Words {
     text: Text,
+    // of a row, what its words have up to each of them
+    ends: Vec<Extent>,
+    is_row: bool,
+    // how many bytes have ended
+    bytes: usize,
     // Of the bits since the last whole byte: their values, and a 1 for each that is open.
     value: u8,
     open: u8,
@@ -23,45 +104,80 @@ pub(crate) struct Words {
 ///
 /// Where an allocation fails.
 pub fn bytes_of(alloc: Global, marks: &[Mark]) -> Result<String, AllocError> {
-    with_bytes(Text::new(alloc), marks).finish()
+    with_bytes(alloc, Text::new(alloc), marks).finish()
 }
 
 /// The text with the bytes of a transaction after it.
-pub(crate) fn with_bytes(text: Text, marks: &[Mark]) -> Text {
-    let mut words = Words::after(text);
-    for mark in marks {
-        words.mark(*mark);
-    }
-    words.end_byte(true);
+pub(crate) fn with_bytes(alloc: Global, text: Text, marks: &[Mark]) -> Text {
+    let mut words = Words::of_byte(alloc, true);
+    words.text = text;
+    words.word("S");
+    words.marks(marks);
     let Words { text, .. } = words;
     text
 }
 
-impl Words {
-    /// A START.
-    pub(crate) fn new(alloc: Global) -> Words {
-        Words::after(Text::new(alloc))
-    }
+/// The bytes of a transaction in a row.
+///
+/// # Errors
+///
+/// Where an allocation fails.
+pub(crate) fn row_of_marks(alloc: Global, marks: &[Mark]) -> Result<Bytes, AllocError> {
+    let mut words = Words::new(alloc);
+    words.marks(marks);
+    words.row()
+}
 
-    // A START after this text.
-    fn after(text: Text) -> Words {
-        let mut words = Words::in_text(text, true);
-        words.text.push("S");
+impl Words {
+    /// A START, of a row.
+    pub(crate) fn new(alloc: Global) -> Words {
+        let mut words = Words::of_byte(alloc, true);
+        words.is_row = true;
+        words.word("S");
         words
     }
 
     /// No START: a single byte follows.
     pub(crate) fn of_byte(alloc: Global, is_header: bool) -> Words {
-        Words::in_text(Text::new(alloc), is_header)
-    }
-
-    fn in_text(text: Text, is_header: bool) -> Words {
         Words {
-            text,
+            text: Text::new(alloc),
+            ends: Vec::new(alloc),
+            is_row: false,
+            bytes: 0,
             value: 0,
             open: 0,
             bits: 0,
             is_header,
+        }
+    }
+
+    // All that a recorded wire showed after its START.
+    fn marks(&mut self, marks: &[Mark]) {
+        for mark in marks {
+            self.mark(*mark);
+        }
+        self.end_byte(true);
+    }
+
+    // A word, after the blank before it.
+    fn word(&mut self, word: &str) {
+        self.text.push(word);
+        self.end_word();
+    }
+
+    // The text is at the end of a word.
+    fn end_word(&mut self) {
+        if self.is_row {
+            self.push_end(Extent {
+                columns: self.text.len(),
+                bytes: self.bytes,
+            });
+        }
+    }
+
+    fn push_end(&mut self, end: Extent) {
+        if self.ends.push(end).is_err() {
+            self.text.cut();
         }
     }
 
@@ -70,7 +186,8 @@ impl Words {
         if self.bits == 8 {
             self.end_byte(false);
             self.is_header = false;
-            self.text.push(acknowledge(bit));
+            self.bytes = self.bytes.saturating_add(1);
+            self.word(acknowledge(bit));
             return;
         }
         self.value = self.value << 1 | u8::from(bit == Bit::One);
@@ -82,19 +199,19 @@ impl Words {
     pub(crate) fn again(&mut self) {
         self.end_byte(true);
         self.is_header = true;
-        self.text.push(" Sr");
+        self.word(" Sr");
     }
 
     /// A STOP.
     pub(crate) fn stop(&mut self) {
         self.end_byte(true);
-        self.text.push(" P");
+        self.word(" P");
     }
 
     /// An interrupt waits for the answer to its header.
     pub(crate) fn claim(&mut self) {
         self.end_byte(false);
-        self.text.push(" (waits)");
+        self.word(" (waits)");
     }
 
     /// What a slot of a wire has.
@@ -121,6 +238,15 @@ impl Words {
         self.bits != 0 && self.bits != 8
     }
 
+    /// All words, of what may go on, in a row.
+    pub(crate) fn row(mut self) -> Result<Bytes, AllocError> {
+        self.end_byte(false);
+        Ok(Bytes {
+            text: self.text.finish()?,
+            ends: self.ends,
+        })
+    }
+
     /// All words, of what may go on.
     pub(crate) fn finish(mut self) -> Result<String, AllocError> {
         self.end_byte(false);
@@ -140,6 +266,7 @@ impl Words {
         }
         if self.is_header && self.bits == 8 {
             self.push_bits(self.value >> 1, self.open >> 1, 7);
+            self.end_word();
             self.text
                 .push(if self.value & 1 == 1 { " Rd" } else { " Wr" });
         } else {
@@ -148,6 +275,7 @@ impl Words {
         if is_cut {
             self.text.push("(cut)");
         }
+        self.end_word();
         self.value = 0;
         self.open = 0;
         self.bits = 0;
