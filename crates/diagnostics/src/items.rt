@@ -1,6 +1,7 @@
 // Where the names of items stand.
 
 use crate::values::Span;
+use hints::names_in;
 use plan_core::Participant;
 use plan_text::Language;
 use plan_text::given::Names;
@@ -93,12 +94,5 @@ fn interrupt_name(words: PlanWords<'_>, p: u32) -> &str {
     match plan.participant(p) {
         Participant::Interrupt(interrupt) => plan.interrupt_name(interrupt).as_str(),
         Participant::Sending { .. } => "",
-    }
-}
-
-fn names_in(alloc: Global, language: Language, text: &[u8]) -> Result<Names<'_>, AllocError> {
-    match language {
-        Language::Plan => plan_text::given::names_in(alloc, text),
-        Language::Brief => brief_text::names_in(alloc, text),
     }
 }
