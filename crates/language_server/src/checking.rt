@@ -5,7 +5,6 @@ ghost use Rattle.plan_core.specs.PlanContents.{plan_contents};
 ghost use Rattle.verdicts.specs.Faults.{AreFaults, fault_list};
 
 use crate::plans::Part;
-use brief_text::Origins;
 use diagnostics::{Diagnostic, diagnose_check, diagnose_refusal};
 use given_plans::GivenPlan;
 use hints::Named;
@@ -138,7 +137,7 @@ fn wrong_in_plan<R: Threads + Sync>(
     let GivenPlan { plan, origins } = given;
     let checked = checked(rt, alloc, plan)?;
     let words = texts.words(&checked.plan, &origins);
-    let odd = odd_in(alloc, &checked.plan, &origins, texts.texts.as_slice())?;
+    let odd = oddities(alloc, &checked.plan, &origins, texts.texts.as_slice())?;
     wrong_in_checked(
         alloc,
         &checked,
@@ -179,16 +178,4 @@ fn wrong_in_checked(
         all: diagnose_check(alloc, words, checked, odd, texts)?,
         is_plan: true,
     })
-}
-
-fn odd_in<'a>(
-    alloc: Global,
-    plan: &Plan,
-    origins: &'a Option<Origins>,
-    texts: &[Vec<u8>],
-) -> Result<Vec<Oddity<'a>>, AllocError> {
-    match origins {
-        Some(origins) => oddities(alloc, plan, origins, texts),
-        None => Ok(Vec::new(alloc)),
-    }
 }
