@@ -1,6 +1,7 @@
 // Where the names of items stand.
 
 use crate::values::Span;
+use hints::names_in;
 use plan_core::Participant;
 use plan_text::Language;
 use plan_text::given::Names;
@@ -62,26 +63,28 @@ impl<'a> Items<'a> {
         Ok(())
     }
 
-    /// Where the item of this kind stands that gives this name: the name. Where there is none, the beginning of the first text.
-    pub(crate) fn named(&self, kind: Kind, name: &str) -> Span {
+    /// Where the item of this kind stands that gives this name: the name.
+    pub(crate) fn named(&self, kind: Kind, name: &str) -> Option<Span> {
         for one in self.given.iter() {
             if one.kind == kind && one.name == name.as_bytes() {
-                return one.span;
+                return Some(one.span);
             }
         }
-        Span {
+        None
+    }
+
+    /// Where what a participant sends stands: its message, or the interrupt that it is. Where no item gives its name, the beginning
+    /// of the first text.
+    pub(crate) fn sender(&self, words: PlanWords<'_>, p: u32) -> Span {
+        let named = match words.message_of(p) {
+            Some(message) => self.named(Kind::Message, words.message_name(message)),
+            None => self.named(Kind::Interrupt, interrupt_name(words, p)),
+        };
+        named.unwrap_or(Span {
             file: 0,
             start: 0,
             end: 0,
-        }
-    }
-
-    /// Where what a participant sends stands: its message, or the interrupt that it is.
-    pub(crate) fn sender(&self, words: PlanWords<'_>, p: u32) -> Span {
-        match words.message_of(p) {
-            Some(message) => self.named(Kind::Message, words.message_name(message)),
-            None => self.named(Kind::Interrupt, interrupt_name(words, p)),
-        }
+        })
     }
 }
 
@@ -93,12 +96,5 @@ fn interrupt_name(words: PlanWords<'_>, p: u32) -> &str {
     match plan.participant(p) {
         Participant::Interrupt(interrupt) => plan.interrupt_name(interrupt).as_str(),
         Participant::Sending { .. } => "",
-    }
-}
-
-fn names_in(alloc: Global, language: Language, text: &[u8]) -> Result<Names<'_>, AllocError> {
-    match language {
-        Language::Plan => plan_text::given::names_in(alloc, text),
-        Language::Brief => brief_text::names_in(alloc, text),
     }
 }

@@ -31,15 +31,20 @@ pub(crate) fn push_odd(
     Ok(())
 }
 
+// The name of what is meant, and else the whole line.
 fn span_of(words: PlanWords<'_>, oddity: Oddity<'_>, items: &Items<'_>, texts: &[Vec<u8>]) -> Span {
-    match oddity {
-        Oddity::EmptyBrief(spot) | Oddity::CarriageReturn(spot) => line_of(spot, texts),
+    let named = match oddity {
+        Oddity::EmptyBrief(_) | Oddity::CarriageReturn(_) => None,
         Oddity::SameAddress(_, device)
         | Oddity::ReservedAddress(device)
         | Oddity::UnusedDevice(device) => items.named(Kind::Device, device.name.as_str()),
         Oddity::UnusedByte(byte) => items.named(Kind::Byte, byte.name.as_str()),
         Oddity::Unsent { first, .. } => items.named(Kind::Message, words.message_name(first)),
         Oddity::Idle { controller, .. } => items.named(Kind::Controller, words.name(controller)),
+    };
+    match named {
+        Some(span) => span,
+        None => line_of(oddity.spot(), texts),
     }
 }
 
@@ -49,9 +54,13 @@ fn related_of(
     items: &Items<'_>,
 ) -> Result<Vec<Related>, AllocError> {
     let mut related = Vec::new(alloc);
-    if let Oddity::SameAddress(first, _) = oddity {
+    let first = match oddity {
+        Oddity::SameAddress(first, _) => items.named(Kind::Device, first.name.as_str()),
+        _ => None,
+    };
+    if let Some(span) = first {
         related.push(Related {
-            span: items.named(Kind::Device, first.name.as_str()),
+            span,
             message: format!(in alloc; "the device with the same address")?,
         })?;
     }

@@ -44,7 +44,7 @@ pub use devices::{
     Named, on_closed_input, on_fault, on_memory, on_no_answers, on_no_timescale, on_no_waves,
     on_opening, on_reading, on_workers, on_writing,
 };
-pub use names::{Stand, first_stand};
+pub use names::{Stand, first_stand, names_in};
 pub use odd::on_oddity;
 pub use paths::{file_word, shown, visible};
 pub use plans::{on_layout, on_no_brief};

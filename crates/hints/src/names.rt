@@ -20,7 +20,12 @@ fn called(kind: Kind) -> &'static str {
     }
 }
 
-fn names_in(alloc: Global, language: Language, text: &[u8]) -> Result<Names<'_>, AllocError> {
+/// The names of the items of a text of this language, up to its end or to what is no token.
+///
+/// # Errors
+///
+/// Where an allocation fails.
+pub fn names_in(alloc: Global, language: Language, text: &[u8]) -> Result<Names<'_>, AllocError> {
     match language {
         Language::Plan => plan_text::given::names_in(alloc, text),
         Language::Brief => brief_text::names_in(alloc, text),

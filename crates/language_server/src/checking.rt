@@ -5,16 +5,14 @@ ghost use Rattle.plan_core.specs.PlanContents.{plan_contents};
 ghost use Rattle.verdicts.specs.Faults.{AreFaults, fault_list};
 
 use crate::plans::Part;
-use brief_text::Origins;
-use diagnostics::{Diagnostic, diagnose_check, diagnose_refusal};
+use diagnostics::{Diagnostic, diagnose_check};
 use given_plans::GivenPlan;
 use hints::Named;
 use lint::{Oddity, oddities};
 use plan_core::Plan;
-use plan_text::PlanError;
 use plan_words::{BriefFiles, PlanWords};
 use report::{Checked, NoGate, RunError, Watched, check_found};
-use run_ends::{Halt, NamedSources, RefusedSource, Sources};
+use run_ends::{Halt, NamedSources, Sources};
 use std::alloc::{AllocError, Global};
 use std::thread::Threads;
 
@@ -92,7 +90,11 @@ pub(crate) fn wrong_in<R: Threads + Sync>(
     match texts.find(alloc) {
         Ok(given) => wrong_in_plan(rt, alloc, given, &texts),
         Err(Halt::Text(RunError::Plan(error), Some(source))) => {
-            refusal_of(alloc, error, &source, named(&texts))
+            let diagnostic = source.diagnose(alloc, error, named(&texts))?;
+            Ok(Found {
+                all: vec![in alloc; diagnostic]?,
+                is_plan: false,
+            })
         }
         Err(_) => Err(AllocError),
     }
@@ -110,25 +112,6 @@ fn named<'a>(texts: &Texts<'a>) -> NamedSources<'a> {
     }
 }
 
-fn refusal_of(
-    alloc: Global,
-    error: PlanError,
-    source: &RefusedSource,
-    named: NamedSources<'_>,
-) -> Result<Found, AllocError> {
-    let earlier = source.earlier(alloc, named)?;
-    let refused = source.refused_in(error, source.file(named), earlier.as_slice());
-    let mut all = Vec::new(alloc);
-    let diagnostic = diagnose_refusal(alloc, refused, source.refused.file)?;
-    if all.push(diagnostic).is_err() {
-        return Err(AllocError);
-    }
-    Ok(Found {
-        all,
-        is_plan: false,
-    })
-}
-
 fn wrong_in_plan<R: Threads + Sync>(
     rt: &R,
     alloc: Global,
@@ -138,7 +121,7 @@ fn wrong_in_plan<R: Threads + Sync>(
     let GivenPlan { plan, origins } = given;
     let checked = checked(rt, alloc, plan)?;
     let words = texts.words(&checked.plan, &origins);
-    let odd = odd_in(alloc, &checked.plan, &origins, texts.texts.as_slice())?;
+    let odd = oddities(alloc, &checked.plan, &origins, texts.texts.as_slice())?;
     wrong_in_checked(
         alloc,
         &checked,
@@ -179,16 +162,4 @@ fn wrong_in_checked(
         all: diagnose_check(alloc, words, checked, odd, texts)?,
         is_plan: true,
     })
-}
-
-fn odd_in<'a>(
-    alloc: Global,
-    plan: &Plan,
-    origins: &'a Option<Origins>,
-    texts: &[Vec<u8>],
-) -> Result<Vec<Oddity<'a>>, AllocError> {
-    match origins {
-        Some(origins) => oddities(alloc, plan, origins, texts),
-        None => Ok(Vec::new(alloc)),
-    }
 }

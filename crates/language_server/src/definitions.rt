@@ -1,43 +1,45 @@
 // Where names are given.
 
 use crate::naming::{Word, given_in, words_in};
-use crate::plans::{Given, Part};
+use crate::plans::Given;
 use diagnostics::Span;
 use std::alloc::{AllocError, Global};
 
-/// The name that stands at this place, and where it is given in these texts.
+/// A name where an item gives it, in the text of this number.
+#[derive(Clone, Copy)]
+pub(crate) struct Definition<'a> {
+    file: u32,
+    pub(crate) word: Word<'a>,
+}
+
+impl Definition<'_> {
+    /// Where the name stands.
+    pub(crate) fn span(self) -> Span {
+        Span {
+            file: self.file,
+            start: self.word.start,
+            end: self.word.end,
+        }
+    }
+}
+
+/// Where these texts give the name to what this is the name of.
 ///
 /// # Errors
 ///
 /// Where an allocation fails.
-pub(crate) fn definition_of(
+pub(crate) fn definition_of<'a>(
     alloc: Global,
-    given: &Given,
+    given: &'a Given,
     name: Word<'_>,
-) -> Result<Option<Span>, AllocError> {
+) -> Result<Option<Definition<'a>>, AllocError> {
     let mut file = 0u32;
     for part in given.parts.iter() {
-        if let Some(span) = span_in(alloc, part, file, name)? {
-            return Ok(Some(span));
+        let words = words_in(alloc, part.text.as_slice())?;
+        if let Some(word) = given_in(words.as_slice(), name) {
+            return Ok(Some(Definition { file, word }));
         }
         file = file.saturating_add(1);
     }
     Ok(None)
-}
-
-fn span_in(
-    alloc: Global,
-    part: &Part,
-    file: u32,
-    name: Word<'_>,
-) -> Result<Option<Span>, AllocError> {
-    let words = words_in(alloc, part.text.as_slice())?;
-    match given_in(words.as_slice(), name) {
-        Some(own) => Ok(Some(Span {
-            file,
-            start: own.start,
-            end: own.end,
-        })),
-        None => Ok(None),
-    }
 }

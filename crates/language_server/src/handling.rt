@@ -14,7 +14,6 @@ use crate::rpc::{
     BAD_PARAMS, BEGUN, Call, Fault, Message, NO_JSON, NO_REQUEST, NOT_BEGUN, SHUT_DOWN, UNKNOWN,
     message_of, number_in, text_in,
 };
-use diagnostics::Span;
 use growing_text::Text;
 use report::Status;
 use serde_json::Value;
@@ -44,6 +43,13 @@ const CAPABILITIES: &str =
 \"serverInfo\":{\"name\":\"twire\"}}";
 
 const NULL: &str = "null";
+
+// What is asked of a name.
+#[derive(Clone, Copy)]
+enum Question {
+    Hover,
+    Definition,
+}
 
 // A place of a document.
 #[derive(Clone, Copy)]
@@ -126,8 +132,12 @@ impl<'a, R: Files + AllocGlobal + Threads + Sync> Server<'a, R> {
                 Ok(None)
             }
             (Phase::Ready, "textDocument/formatting") => self.format(id, call, answers),
-            (Phase::Ready, "textDocument/hover") => self.hover(id, call, answers),
-            (Phase::Ready, "textDocument/definition") => self.define(id, call, answers),
+            (Phase::Ready, "textDocument/hover") => {
+                self.tell_name(Question::Hover, id, call, answers)
+            }
+            (Phase::Ready, "textDocument/definition") => {
+                self.tell_name(Question::Definition, id, call, answers)
+            }
             (Phase::Ready, _) => Ok(Some(UNKNOWN)),
         }
     }
@@ -247,8 +257,10 @@ impl<'a, R: Files + AllocGlobal + Threads + Sync> Server<'a, R> {
         Ok(None)
     }
 
-    fn hover(
+    // Answers what is asked of the name at a place of a document.
+    fn tell_name(
         &self,
+        question: Question,
         id: &Value,
         call: Call<'_>,
         answers: &mut Answers,
@@ -256,24 +268,11 @@ impl<'a, R: Files + AllocGlobal + Threads + Sync> Server<'a, R> {
         let Some(asked) = asked_in(call.params) else {
             return Ok(Some(BAD_PARAMS));
         };
-        answers.made(id, self.hover_at(asked));
+        answers.made(id, self.told_at(question, asked));
         Ok(None)
     }
 
-    fn define(
-        &self,
-        id: &Value,
-        call: Call<'_>,
-        answers: &mut Answers,
-    ) -> Result<Option<Fault>, AllocError> {
-        let Some(asked) = asked_in(call.params) else {
-            return Ok(Some(BAD_PARAMS));
-        };
-        answers.made(id, self.definition_at(asked));
-        Ok(None)
-    }
-
-    fn hover_at(&self, asked: Asked<'_>) -> Result<String, AllocError> {
+    fn told_at(&self, question: Question, asked: Asked<'_>) -> Result<String, AllocError> {
         let alloc = self.rt.alloc();
         let Some(document) = self.documents.find(asked.uri) else {
             return String::from_str(alloc, NULL);
@@ -282,39 +281,16 @@ impl<'a, R: Files + AllocGlobal + Threads + Sync> Server<'a, R> {
         let words = words_in(alloc, text)?;
         let offset = Lines::of(alloc, text)?.offset(asked.position);
         match word_at(words.as_slice(), offset) {
-            Some(word) => self.hover_on(asked.uri, word),
+            Some(word) => self.told_of(question, asked.uri, word),
             None => String::from_str(alloc, NULL),
         }
     }
 
-    fn hover_on(&self, uri: &str, word: Word<'_>) -> Result<String, AllocError> {
+    fn told_of(&self, question: Question, uri: &str, word: Word<'_>) -> Result<String, AllocError> {
         let given = self.plan_of(uri)?;
-        match hover_of(self.rt, self.rt.alloc(), &given, word)? {
-            Some(text) => hover_text(self.rt.alloc(), text.as_str()),
-            None => String::from_str(self.rt.alloc(), NULL),
-        }
-    }
-
-    fn definition_at(&self, asked: Asked<'_>) -> Result<String, AllocError> {
-        let alloc = self.rt.alloc();
-        let Some(document) = self.documents.find(asked.uri) else {
-            return String::from_str(alloc, NULL);
-        };
-        let text = document.text.as_bytes();
-        let words = words_in(alloc, text)?;
-        let offset = Lines::of(alloc, text)?.offset(asked.position);
-        match word_at(words.as_slice(), offset) {
-            Some(word) => self.definition_on(asked.uri, word),
-            None => String::from_str(alloc, NULL),
-        }
-    }
-
-    fn definition_on(&self, uri: &str, word: Word<'_>) -> Result<String, AllocError> {
-        let alloc = self.rt.alloc();
-        let given = self.plan_of(uri)?;
-        match definition_of(alloc, &given, word)? {
-            Some(span) => span_text(alloc, &given, span),
-            None => String::from_str(alloc, NULL),
+        match question {
+            Question::Hover => hover_on(self.rt, &given, word),
+            Question::Definition => definition_on(self.rt.alloc(), &given, word),
         }
     }
 
@@ -348,7 +324,16 @@ fn edits_to(alloc: Global, old: &[u8], new: &[u8]) -> Result<String, AllocError>
 }
 
 // What is said of a name, as the protocol has it.
-fn hover_text(alloc: Global, words: &str) -> Result<String, AllocError> {
+fn hover_on<R: AllocGlobal + Threads + Sync>(
+    rt: &R,
+    given: &Given,
+    name: Word<'_>,
+) -> Result<String, AllocError> {
+    let alloc = rt.alloc();
+    let Some(words) = hover_of(rt, alloc, given, name)? else {
+        return String::from_str(alloc, NULL);
+    };
+    let words = words.as_str();
     let mut text = Text::new(alloc);
     text.push("{\"contents\":{\"kind\":\"markdown\",\"value\":");
     text.push_made(json(alloc, &words));
@@ -357,9 +342,12 @@ fn hover_text(alloc: Global, words: &str) -> Result<String, AllocError> {
 }
 
 // Where a name is given, as the protocol has it.
-fn span_text(alloc: Global, given: &Given, span: Span) -> Result<String, AllocError> {
+fn definition_on(alloc: Global, given: &Given, name: Word<'_>) -> Result<String, AllocError> {
+    let Some(definition) = definition_of(alloc, given, name)? else {
+        return String::from_str(alloc, NULL);
+    };
     let marks = marks_of(alloc, given)?;
-    json(alloc, &location_of(marks.as_slice(), span))
+    json(alloc, &location_of(marks.as_slice(), definition.span()))
 }
 
 // ---- what messages have in them

@@ -1,11 +1,11 @@
 // What is said of a name, as Markdown.
 
 use crate::checking::{Texts, checked, names_after_first, texts_of};
+use crate::definitions::definition_of;
 use crate::frame_rows::push_rows;
-use crate::naming::{Word, given_in, words_in};
-use crate::plans::{Given, Part};
+use crate::naming::Word;
+use crate::plans::Given;
 use crate::winners::push_winners;
-use brief_text::Origins;
 use given_plans::GivenPlan;
 use growing_text::Text;
 use order::{Order, order_of, scores_of};
@@ -48,24 +48,8 @@ fn value_hover(
     what: &'static str,
     value: &'static str,
 ) -> Result<Option<String>, AllocError> {
-    for part in given.parts.iter() {
-        if let Some(text) = value_in(alloc, part, name, what, value)? {
-            return Ok(Some(text));
-        }
-    }
-    Ok(None)
-}
-
-fn value_in(
-    alloc: Global,
-    part: &Part,
-    name: Word<'_>,
-    what: &'static str,
-    value: &'static str,
-) -> Result<Option<String>, AllocError> {
-    let words = words_in(alloc, part.text.as_slice())?;
-    match given_in(words.as_slice(), name) {
-        Some(own) => Ok(Some(value_text(alloc, own, what, value)?)),
+    match definition_of(alloc, given, name)? {
+        Some(definition) => Ok(Some(value_text(alloc, definition.word, what, value)?)),
         None => Ok(None),
     }
 }
@@ -114,7 +98,7 @@ fn hover_in_plan<R: Threads + Sync>(
     let GivenPlan { plan, origins } = given;
     let checked = checked(rt, alloc, plan)?;
     let words = texts.words(&checked.plan, &origins);
-    let messages = named_so(alloc, words, &origins, name)?;
+    let messages = named_so(alloc, words, name)?;
     if messages.is_empty() {
         return Ok(None);
     }
@@ -122,37 +106,17 @@ fn hover_in_plan<R: Threads + Sync>(
 }
 
 // The messages of the plan with this name, or those of the family with it.
-fn named_so(
-    alloc: Global,
-    words: PlanWords<'_>,
-    origins: &Option<Origins>,
-    name: &[u8],
-) -> Result<Vec<u32>, AllocError> {
+fn named_so(alloc: Global, words: PlanWords<'_>, name: &[u8]) -> Result<Vec<u32>, AllocError> {
     let mut messages = Vec::new(alloc);
     let plan = words.plan();
     for message in 0..plan.messages() {
         if plan.message_name(message).as_str().as_bytes() == name
-            || is_of_family(words, origins, message, name)
+            || words.message_name(message).as_bytes() == name
         {
             messages.push(message)?;
         }
     }
     Ok(messages)
-}
-
-fn is_of_family(
-    words: PlanWords<'_>,
-    origins: &Option<Origins>,
-    message: u32,
-    name: &[u8],
-) -> bool {
-    match (origins, words.family_of(message)) {
-        (Some(origins), Some(number)) => match origins.families.get(number) {
-            Some(family) => family.name.as_str().as_bytes() == name,
-            None => false,
-        },
-        _ => false,
-    }
 }
 
 fn hover_on(

@@ -200,11 +200,11 @@ impl List {
         if diagnostic.span.file == file {
             self.add_shown(shown, marks);
         }
-        if !is_plan || !is_error(diagnostic.severity) {
+        if !is_plan || diagnostic.severity != Severity::Error {
             return;
         }
         if let Some(other) = diagnostic.related.first() {
-            if other.span.file == file && !is_same(other.span, diagnostic.span) {
+            if other.span.file == file && other.span != diagnostic.span {
                 self.add_shown(
                     Shown {
                         span: other.span,
@@ -243,14 +243,6 @@ impl List {
         }
         self.text
     }
-}
-
-fn is_error(severity: Severity) -> bool {
-    matches!(severity, Severity::Error)
-}
-
-fn is_same(one: Span, other: Span) -> bool {
-    one.file == other.file && one.start == other.start && one.end == other.end
 }
 
 fn unread_words(alloc: Global, name: &str) -> Result<String, AllocError> {

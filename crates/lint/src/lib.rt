@@ -55,7 +55,7 @@ impl Oddity<'_> {
     }
 }
 
-/// What is likely a mistake in the briefs of these texts, which mean this plan: first of the texts, then of devices,
+/// What is likely a mistake in the briefs of these texts, where briefs mean this plan: first of the texts, then of devices,
 /// bytes, messages, and controllers, each in the order of the briefs.
 ///
 /// # Errors
@@ -64,10 +64,13 @@ impl Oddity<'_> {
 pub fn oddities<'a>(
     alloc: Global,
     plan: &Plan,
-    origins: &'a Origins,
+    origins: &'a Option<Origins>,
     texts: &[Vec<u8>],
 ) -> Result<Vec<Oddity<'a>>, AllocError> {
     let mut found = Vec::new(alloc);
+    let Some(origins) = origins else {
+        return Ok(found);
+    };
     push_texts(alloc, &mut found, texts)?;
     push_devices(&mut found, origins.devices.as_slice())?;
     push_bytes(&mut found, origins.bytes.as_slice())?;

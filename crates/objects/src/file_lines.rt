@@ -1,6 +1,5 @@
 // Where participants of a plan stand in the briefs that mean it.
 
-use brief_text::Spot;
 use plan_words::{FileLine, PlanWords};
 use serde::Serialize;
 use std::alloc::{AllocError, Global};
@@ -31,8 +30,8 @@ pub(crate) fn both_at(
     if !words.has_briefs() {
         return Ok(None);
     }
-    let first = item_at(alloc, words, both.0)?;
-    let second = item_at(alloc, words, both.1)?;
+    let first = line_of(alloc, words.item_at(both.0))?;
+    let second = line_of(alloc, words.item_at(both.1))?;
     Ok(Some((first, second)))
 }
 
@@ -46,13 +45,13 @@ pub(crate) fn one_at(
     words: PlanWords<'_>,
     p: u32,
 ) -> Result<Option<OneAt>, AllocError> {
-    let Some(item) = words.item_at(p) else {
+    let Some(item) = line_of(alloc, words.item_at(p))? else {
         return Ok(None);
     };
     let mut places = Vec::new(alloc);
-    places.push(line_of(alloc, item)?)?;
-    if let Some(controller) = words.controller_at(p) {
-        places.push(line_of(alloc, controller)?)?;
+    places.push(item)?;
+    if let Some(controller) = line_of(alloc, words.controller_at(p))? {
+        places.push(controller)?;
     }
     Ok(Some(places))
 }
@@ -79,7 +78,7 @@ pub(crate) fn all_at(
 }
 
 fn written_at(alloc: Global, words: PlanWords<'_>, p: u32) -> Result<String, AllocError> {
-    let place = item_at(alloc, words, p)?;
+    let place = line_of(alloc, words.item_at(p))?;
     match serde_json::to_string(alloc, &place) {
         Ok(text) => Ok(text),
         // (out of memory: every key is a text)
@@ -87,29 +86,20 @@ fn written_at(alloc: Global, words: PlanWords<'_>, p: u32) -> Result<String, All
     }
 }
 
-/// A place in the briefs.
-pub(crate) fn line_at(
+/// A place in the briefs, where there is one.
+///
+/// # Errors
+///
+/// Where an allocation fails.
+pub(crate) fn line_of(
     alloc: Global,
-    words: PlanWords<'_>,
-    spot: Spot,
+    place: Option<FileLine<'_>>,
 ) -> Result<Option<At>, AllocError> {
-    match words.at(spot) {
-        Some(place) => Ok(Some(line_of(alloc, place)?)),
-        None => Ok(None),
-    }
-}
-
-fn item_at(alloc: Global, words: PlanWords<'_>, p: u32) -> Result<Option<At>, AllocError> {
-    match words.item_at(p) {
-        Some(place) => Ok(Some(line_of(alloc, place)?)),
-        None => Ok(None),
-    }
-}
-
-fn line_of(alloc: Global, place: FileLine<'_>) -> Result<At, AllocError> {
-    let FileLine { file, line } = place;
-    Ok(At {
+    let Some(FileLine { file, line }) = place else {
+        return Ok(None);
+    };
+    Ok(Some(At {
         file: String::from_str(alloc, file)?,
         line,
-    })
+    }))
 }

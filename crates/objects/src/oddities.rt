@@ -1,6 +1,6 @@
 // Objects of what is likely a mistake in briefs.
 
-use crate::file_lines::{At, line_at};
+use crate::file_lines::{At, line_of};
 use lint::Oddity;
 use object_lines::ObjectLines;
 use plan_core::Plan;
@@ -39,12 +39,12 @@ fn add_oddity(
 ) -> Result<(), AllocError> {
     let alloc = lines.alloc;
     let code = oddity.code();
-    let place = line_at(alloc, words, oddity.spot())?;
+    let place = line_of(alloc, words.at(oddity.spot()))?;
     match oddity {
         Oddity::EmptyBrief(_) | Oddity::CarriageReturn(_) => add(lines, code, &[], &[place]),
         Oddity::SameAddress(first, second) => {
             let names = [second.name.as_str(), first.name.as_str()];
-            let places = [place, line_at(alloc, words, first.spot)?];
+            let places = [place, line_of(alloc, words.at(first.spot))?];
             add(lines, code, &names, &places);
         }
         Oddity::ReservedAddress(device) | Oddity::UnusedDevice(device) => {

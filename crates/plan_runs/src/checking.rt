@@ -104,7 +104,7 @@ fn tell_found<R: Files + Print + Eprint + Clock + AllocGlobal, O: Output>(
 ) -> Result<Ended, Halt>
     requires { AreFaults (plan_contents checked.now.plan) (fault_list checked.now.faults) }
 {
-    let odd = odd_in(rt.alloc(), &checked.plan, origins, texts)?;
+    let odd = oddities(rt.alloc(), &checked.plan, origins, texts)?;
     tell_all(
         rt,
         checked,
@@ -192,19 +192,6 @@ fn judged(status: Status, plan: &Plan, strict: bool) -> Status {
     match status {
         Status::Good if strict && !is_all_checked(plan) => Status::Bad,
         _ => status,
-    }
-}
-
-// What is likely a mistake in the briefs that mean this plan, where briefs do.
-fn odd_in<'a>(
-    alloc: Global,
-    plan: &Plan,
-    origins: &'a Option<Origins>,
-    texts: &[Vec<u8>],
-) -> Result<Vec<Oddity<'a>>, AllocError> {
-    match origins {
-        Some(origins) => oddities(alloc, plan, origins, texts),
-        None => Ok(Vec::new(alloc)),
     }
 }
 

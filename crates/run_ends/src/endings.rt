@@ -2,6 +2,7 @@
 
 use crate::inputs::NamedSources;
 use capture_check::Rises;
+use diagnostics::{Diagnostic, diagnose_refusal};
 use dump_tokens::Window;
 use explain::Seen;
 use given_plans::{NoPlan, RefusedText};
@@ -64,12 +65,12 @@ pub enum Takes {
 
 impl RefusedSource {
     /// The name of its file, where several give the plan.
-    pub fn file<'a>(&self, named: NamedSources<'a>) -> Option<&'a str> {
+    pub(crate) fn file<'a>(&self, named: NamedSources<'a>) -> Option<&'a str> {
         named.path(self.refused.file)
     }
 
     /// The texts before it, with the names of their files.
-    pub fn earlier<'a>(
+    pub(crate) fn earlier<'a>(
         &'a self,
         alloc: Global,
         named: NamedSources<'a>,
@@ -89,7 +90,7 @@ impl RefusedSource {
     }
 
     /// The same for hints.
-    pub fn refused_in<'a>(
+    pub(crate) fn refused_in<'a>(
         &'a self,
         error: PlanError,
         file: Option<&'a str>,
@@ -104,6 +105,22 @@ impl RefusedSource {
             earlier,
             takes_either: self.takes == Takes::Either,
         }
+    }
+
+    /// What is wrong with it, as a value with its place.
+    ///
+    /// # Errors
+    ///
+    /// Where an allocation fails.
+    pub fn diagnose(
+        &self,
+        alloc: Global,
+        error: PlanError,
+        named: NamedSources<'_>,
+    ) -> Result<Diagnostic, AllocError> {
+        let earlier = self.earlier(alloc, named)?;
+        let refused = self.refused_in(error, self.file(named), earlier.as_slice());
+        diagnose_refusal(alloc, refused, self.refused.file)
     }
 
     // What is known of the refusal. Where there is no memory for what stands already, that is not told.

@@ -3,11 +3,11 @@
 use crate::endings::{RefusedSource, Remark};
 use crate::inputs::{Inputs, NamedSources};
 use crate::voices::{Voice, refused};
-use diagnostics::{Diagnostic, Messages, diagnose_refusal, push_file};
+use diagnostics::{Messages, push_file};
 use growing_text::Text;
 use object_lines::Detail;
 use plan_text::PlanError;
-use plan_words::{BriefFiles, called};
+use plan_words::called;
 use report::RunError;
 use std::alloc::{AllocError, Global};
 use vcd_read::{VcdError, Wrong};
@@ -45,25 +45,14 @@ fn text_message(
     source: &RefusedSource,
     named: NamedSources<'_>,
 ) -> Result<String, AllocError> {
-    let earlier = source.earlier(alloc, named)?;
-    let refused = source.refused_in(error, source.file(named), earlier.as_slice());
-    let diagnostic = diagnose_refusal(alloc, refused, source.refused.file)?;
-    message_of(alloc, source, &diagnostic, named.files())
-}
-
-fn message_of(
-    alloc: Global,
-    source: &RefusedSource,
-    diagnostic: &Diagnostic,
-    files: BriefFiles<'_>,
-) -> Result<String, AllocError> {
-    let mut messages = Messages::new(alloc, files);
+    let diagnostic = source.diagnose(alloc, error, named)?;
+    let mut messages = Messages::new(alloc, named.files());
     for text in source.before.iter() {
         messages.add(alloc, text.as_slice())?;
     }
     messages.add(alloc, source.refused.text.as_slice())?;
     let mut text = Text::new(alloc);
-    messages.push(&mut text, diagnostic);
+    messages.push(&mut text, &diagnostic);
     text.finish()
 }
 
