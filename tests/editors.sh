@@ -70,6 +70,25 @@ END
         echo "FAILED: Neovim did not come to the end:"
         cat neovim.err
     fi
+
+    # By the guide's text there is one server for all buffers, also where one of them is read again.
+    sed -n '/^\*\*Neovim\*\*/,/^\*\*Vim\*\*/s/^    //p' "$top/docs/GUIDE.md" | sed "s|/path/to/twire|$top|" >init.lua
+    cp bus.brief other.brief
+    mkdir bin
+    ln -s "$twire" bin/twire
+    servers='vim.wait(20000, function() return #vim.lsp.get_active_clients() > 0 end, 20)
+        vim.wait(500)
+        local here = 0
+        for _ in pairs(vim.lsp.buf_get_clients(0)) do here = here + 1 end
+        io.stdout:write(#vim.lsp.get_active_clients() .. " servers, " .. here .. " here, K is " .. vim.bo.filetype .. vim.fn.maparg("K", "n"):sub(1, 5))'
+    found=$(PATH=$work/bin:$PATH XDG_STATE_HOME=$work XDG_CACHE_HOME=$work timeout 60 "$program" --headless -u init.lua -i NONE -n bus.brief \
+        -c edit -c 'edit other.brief' -c edit -c "lua $servers" -c 'qa!' 2>&1 </dev/null)
+    if [[ $found == "1 servers, 1 here, K is twirebrief"* && $found != *twirebrief ]]; then
+        passed=$((passed + 1))
+    else
+        failed=$((failed + 1))
+        echo "FAILED: the guide's text for Neovim: $found"
+    fi
 else
     echo "there is no nvim: twire lsp is not tried in it"
 fi

@@ -37,6 +37,16 @@ said() {
     printf '%s' "$text${text:+ }$status"
 }
 
+# changes: what --check says of the file `text`, where `wanted` is what it is laid out as: by the first line at which the two differ.
+changes() {
+    local differ line
+    differ=$(LC_ALL=C cmp text wanted 2>&1)
+    line=${differ##* }
+    # (where one of them ends after a whole line, they differ on the next one)
+    [[ $differ != *"EOF on"* || $differ == *"in line"* ]] || line=$((line + 1))
+    echo "text:$line: 'twire format --in-place' would change it from here on 1"
+}
+
 # laid NAME TEXT WANTED: the text is laid out so, as printf reads the two, and what is laid out stays. So it is as standard
 # input, and --check tells the two apart.
 laid() {
@@ -48,7 +58,7 @@ laid() {
     "$twire" format - <found >again
     same "$1: again" wanted again
     want "$1: what is laid out is not changed" 0 "$(said format --check wanted)"
-    cmp -s text wanted || want "$1: --check" 1 "$(said format --check text)"
+    cmp -s text wanted || want "$1: --check" "$(changes)" "$(said format --check text)"
 }
 
 # refuses NAME TEXT ERR
@@ -175,7 +185,8 @@ hinted "another version" 'plan 3'
 
 want "no file" "refused read 2" "$(said format none)"
 printf 'brief 1\n\n\n' >text
-want "what --check says" "hint: 'twire format' would change it from line 2 on 1" "$(said format --check --hints always text)"
+want "what --check says" "text:2: 'twire format --in-place' would change it from here on 1" "$(said format --check --hints always text)"
+want "what it says of standard input" "<stdin>:2: 'twire format --in-place' would change it from here on" "$("$twire" format --check - <text)"
 
 # ---- command lines
 

@@ -75,11 +75,11 @@ expect "the same of standard input" 2 "" "<stdin>:2:22: error: ';' is missing he
 expect "the same of standard input by its name" 2 "" "<stdin>:2:22: error: ';' is missing here [P3]" check /dev/stdin <text
 printf 'brief 1\ndevice temp 0x48 ;\n' >first
 printf 'brief 1\nbyte R 0x01 ; device temp 0x49 ;\n' >second
-expect "where it stands already, in another file" 2 "" "second:2:22: error: an earlier device has this name, on line 2 of \"first\" [P7]
+expect "where it stands already, in another file" 2 "" "second:2:22: error: 'temp': an earlier device has this name, on line 2 of \"first\" [P7]
 first:2:8: note: it stands here already" check first --with second
 printf 'brief 1\nmessage get read 0x48 1 ;\nmessage set write 0x48 any ;\ncontroller c gets ;\n' >text
 expect "the nearest names on one line" 2 "" \
-    "text:4:14: error: no message before this place has this name; the nearest names of messages: get, set [P8]" check text
+    "text:4:14: error: 'gets': no message before this place has this name; the nearest names of messages: get, set [P8]" check text
 
 # ---- refusals without a place in such a text
 
@@ -148,16 +148,24 @@ odd:3:8: warning: no message and no interrupt names device 'also' [unused device
 odd:4:6: warning: no message names byte 'R' [unused byte]
 odd:5:9: warning: no controller lists message 'm', which was not looked at [unsent message]
 odd:6:12: warning: controller 'c' lists no message [idle controller]" "" check odd
-expect "strict is status 1 as ever" 1 "odd:3:8: warning: device 'also' has the address of 'temp', which stands at odd:2 [same address]
+expect "what a strict check fails for is an error" 1 "odd:3:8: warning: device 'also' has the address of 'temp', which stands at odd:2 [same address]
 odd:2:8: note: the device with the same address
 odd:3:8: warning: no message and no interrupt names device 'also' [unused device]
 odd:4:6: warning: no message names byte 'R' [unused byte]
-odd:5:9: warning: no controller lists message 'm', which was not looked at [unsent message]
-odd:6:12: warning: controller 'c' lists no message [idle controller]" "" check odd --strict
+odd:5:9: error: no controller lists message 'm', which was not looked at [unsent message]
+odd:6:12: warning: controller 'c' lists no message [idle controller]
+odd:1:1: error: no two participants may start together, so nothing was checked [no pair]" "" check odd --strict
+printf 'plan 1\nmessage n read 1001000 1 stop else stop ;\nmessage m read 1001000 1 stop else stop ;\ncontroller a m ;\ncontroller b m ;\n' >unlisted
+expect "a plan of which not all is looked at" 0 "" "" check unlisted
+expect "the same strictly" 1 "unlisted:2:9: error: no controller lists message 'n', which was not looked at [unsent message]" "" check unlisted --strict
+sed -i '/controller b/d' unlisted
+expect "a plan without pairs, strictly" 1 "unlisted:1:1: error: no two participants may start together, so nothing was checked [no pair]
+unlisted:2:9: error: no controller lists message 'n', which was not looked at [unsent message]" "" check unlisted --strict
 printf 'brief 1\n# one\r two\n' >odd
 expect "a carriage return stands on its line" 0 "odd:1:1: warning: this brief has no items [empty brief]
 odd:2:1: warning: a carriage return (CR) does not end a comment: what follows it in the comment is not read, up to a line feed [carriage return]" "" check odd
 expect "a safe plan has none" 0 "" "" check two
+expect "a safe plan has none, strictly" 0 "" "" check two --strict
 expect "other reports are as ever" 0 "accepted safe" "" verify two <("$twire" certify two)
 
 # ---- the forms that tools take: each line is a message or a note with a place
@@ -183,8 +191,8 @@ quickfix() {
     local name=$1
     shift
     rm -f list
-    PATH=$work/bin:$PATH timeout 60 "$@" unsafe -c 'set rtp+=$VIMRUNTIME' -c 'compiler gcc' \
-        -c 'set makeprg=twire\ check\ --format\ gcc\ %' -c 'silent make' \
+    PATH=$work/bin:$PATH timeout 60 "$@" unsafe -c 'set rtp+=$VIMRUNTIME' -c 'compiler! gcc' \
+        -c 'set makeprg=twire\ check\ --format\ gcc\ %:S' -c 'silent make' \
         -c 'call writefile(map(getqflist(), {_, e -> join([bufname(e.bufnr), e.lnum, e.col, e.type])}), "list")' \
         -c 'qa!' >/dev/null 2>&1 </dev/null
     if [[ $(cat list 2>/dev/null) == $'unsafe 4 11 e\nunsafe 5 9 ' ]]; then

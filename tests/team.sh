@@ -64,30 +64,39 @@ cd bus || exit 1
 git init -q
 block sh >checks.sh
 block gitattributes >.gitattributes
-printf 'brief 1\ndevice eeprom 0x50 ;  device sensor 0x48 ;\nbyte settings 0x01 ;\nmessage get write sensor settings read sensor 1 ;\n' >devices.brief
+printf 'brief 1\ndevice eeprom 0x50 ;  device sensor 0x48 ;\nbyte settings 0x01 ;\n' >devices.brief
 printf 'brief 1\nmessage set write sensor settings any ;\ncontroller bmc set ;\n' >bmc.brief
 printf 'brief 1\nmessage load write eeprom any read eeprom 16 ;\ncontroller pch load ;\n' >pch.brief
 briefs="devices.brief bmc.brief pch.brief"
-twire expand $briefs -o bus.plan
-twire certify bus.plan -o bus.cert
-git add .
-git commit -q -m "The bus"
+expand="twire expand $briefs -o bus.plan"
+certify="twire certify bus.plan -o bus.cert"
 
-# checks NAME STATUS LAST: what the script ends with: its status, and its last line.
+# checks NAME STATUS LINE: what the script ends with: its status, and its last line, or its first one where all is well.
 checks() {
     local text status
     text=$(sh checks.sh 2>&1)
     status=$?
+    ((status == 0)) && text=$(head -n 1 <<<"$text")
     want "$1" "$2: $3" "$status: $(tail -n 1 <<<"$text")"
 }
 
-# advised NAME: does what the last line of the checks says behind its colon, which is a command, and the checks pass.
-advised() {
+# advice: what the last line of the checks says behind its colon, which is a command.
+advice() {
     local line
     line=$(sh checks.sh 2>&1 | tail -n 1)
-    line=${line#checks: *: }
-    bash -c "${line%%, and see*}" >/dev/null
+    echo "${line#checks: *: }"
+}
+
+# advised NAME: does what the last line says, and the checks pass.
+advised() {
+    bash -c "$(advice)" >/dev/null
     checks "$1, after what the line says" 0 "accepted safe"
+}
+
+# rewritten: writes the plan and the certificate once more.
+rewritten() {
+    $expand
+    $certify
 }
 
 again() {
@@ -96,20 +105,29 @@ again() {
 
 want "the script is there" "#!/bin/sh" "$(head -n 1 checks.sh)"
 want "what the shell finds wrong" "" "$(sh -n checks.sh 2>&1)"
-checks "the first commit" 0 "accepted safe"
+checks "no plan yet" 1 "checks: there is no bus.plan: $expand"
+bash -c "$(advice)"
+checks "no certificate yet" 1 "checks: there is no bus.cert: $certify"
+advised "no certificate yet"
+git add .
+git commit -q -m "The bus"
+want "all that the script says" "accepted safe
+safe: 1 pairs
+    where targets acknowledge, decided in the header: 1, later: 0,
+    at a read's end: 0; alike to the end: 0" "$(cd / && sh "$work/bus/checks.sh" 2>&1)"
 
 # ---- the mistakes
 
 sed -i 's/any read eeprom 16/any read eeprom 32/' pch.brief
-checks "a stale plan" 1 "checks: bus.plan is not what the briefs mean: twire expand $briefs -o bus.plan"
+checks "a stale plan" 1 "checks: bus.plan is not what the briefs mean: $expand"
 advised "a stale plan"
 want "which file that changed" " M bus.plan
  M pch.brief" "$(git status --short)"
 again
 
-fits="checks: bus.cert does not fit bus.plan: twire certify bus.plan -o bus.cert, and see that twire check bus.plan says safe"
+fits="checks: bus.cert does not fit bus.plan: $certify"
 printf 'message look read eeprom 8 ;\ncontroller host look ;\n' >>pch.brief
-twire expand $briefs -o bus.plan
+$expand
 checks "a stale certificate" 1 "$fits"
 advised "a stale certificate"
 again
@@ -120,15 +138,32 @@ advised "a certificate of another plan"
 again
 
 # both start alike, and then one repeats START while the other sends data
-sed -i 's/^controller bmc set ;/controller bmc set ;\ncontroller host get ;/' bmc.brief
-twire expand $briefs -o bus.plan
-twire certify bus.plan -o bus.cert
-checks "an unsafe plan" 1 "checks: the plan is not safe: twire check bus.plan --explain says where, and what mends it"
-want "what its line names" "unsafe: 1 of 3 pairs" "$(twire check bus.plan | tail -n 1)"
+printf 'message get write sensor settings read sensor 1 ;\ncontroller host get ;\n' >>bmc.brief
+rewritten
+checks "an unsafe plan" 1 "checks: the plan is not safe, and this says what mends it: twire check devices.brief --with bmc.brief --with pch.brief --explain"
+want "what its line says" "    see bmc.brief:2 and bmc.brief:4
+unsafe: 1 of 3 pairs" "$(bash -c "$(advice)" | grep -E '^    see|^unsafe')"
 again
 
+sed -i 's/^controller pch load ;/controller pch ;/' pch.brief
+rewritten
+checks "a message in no controller" 1 "checks: not all was looked at: let a controller list each message"
+want "the line above it" "    not checked: 1 message that no controller lists: load (pch.brief:2)" \
+    "$(sh checks.sh 2>&1 | grep 'that no controller')"
+again
+
+printf 'controller spare load ;\nnever bmc pch ;\n' >>pch.brief
+rewritten
+want "pairs that never keeps apart" "    not checked: 1 of 3 pairs, which 'never' keeps apart" "$(sh checks.sh 2>&1 | tail -n 1)"
+again
+
+printf 'brief 1\n' >fan.brief
+checks "a brief that the script does not name" 1 "checks: checks.sh does not name fan.brief: put it among its briefs, or into another folder"
+again
+
+refused="checks: the briefs are refused: mend the place shown above, or their order in checks.sh (what a file uses stands before it)"
 sed -i 's/^briefs=.*/briefs="bmc.brief devices.brief pch.brief"/' checks.sh
-checks "the wrong order" 1 "checks: the briefs are refused: mend the line above, or their order in checks.sh (what a file uses stands before it)"
+checks "the wrong order" 1 "$refused"
 want "the refusal above it" "refused P8 line 2" "$(sh checks.sh 2>&1 | grep -o '^refused P8 line 2')"
 again
 
@@ -136,32 +171,51 @@ sed -i 's/^briefs=.*/briefs="devices.brief bcm.brief pch.brief"/' checks.sh
 checks "a name that is mistyped" 1 "checks: there is no bcm.brief: put it there, or mend its name in checks.sh"
 again
 
-git rm -q bus.cert
-checks "no certificate" 1 "checks: there is no bus.cert: put it there, or mend its name in checks.sh"
+sed -i 's/sensor 0x48/sensor 0x4G/' devices.brief
+checks "a mistyped address" 1 "$refused"
 again
 
-sed -i 's/sensor 0x48/sensor 0x4G/' devices.brief
-checks "a mistyped address" 1 "checks: the briefs are refused: mend the line above, or their order in checks.sh (what a file uses stands before it)"
-again
+mkdir "$work/one"
+ln -s "$work/twire/bin/twire" "$work/one/twire"
+PATH=$work/one:${PATH#*:} checks "a program that is missing" 1 "checks: there is no program twire-verify: put it on PATH"
 
 # Checkouts on Windows: with the lines of the guide, and with the script's alone.
 git clone -q -c core.autocrlf=true . "$work/windows"
 cd "$work/windows" || exit 1
 checks "a checkout of Windows" 0 "accepted safe"
+
+# returns FILE COMMAND: the file has carriage returns, and what the line says mends it.
+returns() {
+    checks "ends of lines of Windows: $1" 1 "checks: $1 has ends of lines of Windows, so put '*.${1#*.} text eol=lf' into .gitattributes: $2"
+    echo "*.${1#*.} text eol=lf" >>.gitattributes
+    bash -c "$(advice)" >/dev/null
+}
+
 cd "$work/bus" || exit 1
 git checkout -q -b forgotten
-echo "checks.sh -text" >.gitattributes
+echo "checks.sh text eol=lf" >.gitattributes
 git commit -q -a -m "Some ends of lines"
 git clone -q -c core.autocrlf=true . "$work/forgotten"
 git checkout -q main
 cd "$work/forgotten" || exit 1
-for file in devices.brief bmc.brief pch.brief bus.plan bus.cert; do
-    checks "a checkout of Windows that has changed $file" 1 "checks: $file has the ends of lines of Windows: add '*.${file#*.} -text' to .gitattributes, delete $file, and git checkout $file"
-    echo "*.${file#*.} -text" >>.gitattributes
-    rm "$file"
-    git checkout -q -- "$file"
-done
+returns bus.plan "$expand"
+returns bus.cert "$certify"
 checks "a checkout of Windows, after what the lines say" 0 "accepted safe"
+git add . 2>/dev/null
+want "what has changed there" "M  .gitattributes" "$(git status --short)"
+
+# The same in the repository itself.
+cd "$work/bus" || exit 1
+git checkout -q forgotten
+sed -i 's/$/\r/' bus.plan bus.cert
+git commit -q -a -m "Ends of lines of Windows"
+returns bus.plan "$expand"
+returns bus.cert "$certify"
+git commit -q -a -m "And back"
+git clone -q . "$work/mended"
+git checkout -q main
+cd "$work/mended" || exit 1
+checks "ends of lines of Windows, once they are mended" 0 "accepted safe"
 cd "$work/bus" || exit 1
 
 # ---- the workflow
@@ -174,7 +228,7 @@ cd "$work/server" || exit 1
 while IFS= read -r step; do
     want "a step of the workflow: $step" 0 "$(PATH=/usr/local/bin:/usr/bin:/bin bash -e -c "$step" >"$work/said" 2>&1 </dev/null; echo $?)"
 done <"$work/steps"
-want "what its last step says" "accepted safe" "$(cat "$work/said")"
+want "what its last step says" "accepted safe" "$(head -n 1 "$work/said")"
 # (it may be a link to the launcher, which stays as it is)
 rm twire/bin/twire-verify && echo "another program" >twire/bin/twire-verify
 want "a changed program, by its sums" 1 "$(bash -e -c "$(sed -n 2p "$work/steps")" >/dev/null 2>&1; echo $?)"

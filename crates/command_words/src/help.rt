@@ -33,7 +33,8 @@ plan written from it: 'twire help expand' shows the language.
 Exit status:
   0  the plan is safe, or was accepted as safe; a capture is explained; a bench
      was played; a plan or a brief was written (or help was asked for)
-  1  the plan is not safe, or was accepted as unsafe; a capture is not explained
+  1  the plan is not safe, or was accepted as unsafe; a capture is not
+     explained; 'format --check' would change a text
   2  refused: the command line, the plan, the brief, the certificate, the
      capture, the starters of a bench, a file, or out of memory";
 
@@ -394,8 +395,8 @@ Words and signs are not changed, so that it means the same. It need not be
 right: only P1, P2 and a character that belongs to no word (P3) are refused.
 
 By itself it writes to standard output. '--in-place' writes the file that it
-read, whole or not at all, and only where it changes. '--check' writes nothing,
-for the checks of a team.
+read, whole or not at all, and only where it changes. '--check' writes the line
+from which on it would change, for the checks of a team.
 
 Exit status: 0 written, or nothing to change, 1 '--check' would change it,
 2 refused.";
@@ -408,7 +409,7 @@ in bytes and who wins, finds where a name is given, and lays a text out.
 
 With '--with FILE' each document is the first of several briefs, and the files
 follow in this order: as they are open in the editor, or else on disk. Neovim
-starts it in the folder of the project by
+starts it once, in the folder of the project, and attaches buffers to it:
 
   vim.lsp.start_client({ cmd = { 'twire', 'lsp', '--with', 'pch.brief' } })
 

@@ -307,7 +307,7 @@ const IN_PLACE: Argument = Argument::Flag {
 
 const LAID_OUT: Argument = Argument::Flag {
     id: "check",
-    help: "Write nothing: status 1 where FILE would change",
+    help: "Say where FILE would change, with status 1",
 };
 
 const BRIEF_FILES: Argument = Argument::Words {

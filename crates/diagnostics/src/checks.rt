@@ -6,6 +6,7 @@ ghost use Rattle.verdicts.specs.Faults.{AreFaults, fault_list};
 use crate::items::Items;
 use crate::lints::push_odd;
 use crate::meetings::push_unsafe;
+use crate::unchecked::push_unchecked;
 use crate::values::Diagnostic;
 use explain::{Grouped, grouped_of};
 use lint::Oddity;
@@ -14,7 +15,7 @@ use report::Checked;
 use std::alloc::{AllocError, Global};
 
 /// What is wrong with the plan that was checked, which these texts give: its unsafe pairs, those that are alike together, in the
-/// order of their groups; and what is likely a mistake.
+/// order of their groups; what is likely a mistake; and for a strict check, what was not looked at.
 ///
 /// # Errors
 ///
@@ -24,12 +25,13 @@ pub fn diagnose_check(
     words: PlanWords<'_>,
     checked: &Checked,
     odd: &[Oddity<'_>],
+    strict: bool,
     texts: &[Vec<u8>],
 ) -> Result<Vec<Diagnostic>, AllocError>
     requires { AreFaults (plan_contents checked.now.plan) (fault_list checked.now.faults) }
 {
     let groups = grouped_of(alloc, &checked.plan, words, &checked.faults, 0)?;
-    diagnose_groups(alloc, words, checked, &groups, odd, texts)
+    diagnose_groups(alloc, words, checked, &groups, odd, strict, texts)
 }
 
 fn diagnose_groups(
@@ -38,11 +40,15 @@ fn diagnose_groups(
     checked: &Checked,
     groups: &Grouped,
     odd: &[Oddity<'_>],
+    strict: bool,
     texts: &[Vec<u8>],
 ) -> Result<Vec<Diagnostic>, AllocError> {
     let items = Items::of(alloc, words, texts)?;
     let mut found = Vec::new(alloc);
     push_unsafe(alloc, &mut found, words, checked, groups, &items)?;
-    push_odd(alloc, &mut found, words, odd, &items, texts)?;
+    push_odd(alloc, &mut found, words, odd, strict, &items, texts)?;
+    if strict {
+        push_unchecked(alloc, &mut found, words, &items)?;
+    }
     Ok(found)
 }

@@ -1,6 +1,6 @@
 // Where the names of items stand.
 
-use crate::values::Span;
+use crate::values::{BEGINNING, Span};
 use hints::names_in;
 use plan_core::Participant;
 use plan_text::Language;
@@ -80,11 +80,7 @@ impl<'a> Items<'a> {
             Some(message) => self.named(Kind::Message, words.message_name(message)),
             None => self.named(Kind::Interrupt, interrupt_name(words, p)),
         };
-        named.unwrap_or(Span {
-            file: 0,
-            start: 0,
-            end: 0,
-        })
+        named.unwrap_or(BEGINNING)
     }
 }
 

@@ -1,7 +1,7 @@
 //! What is wrong in the texts that give a plan, as values with places: for compilers' messages, and for editors.
 //!
-//! `refusals` has that of a text which is refused, `meetings` those of unsafe pairs, `lints` those of what is likely a mistake;
-//! `items` knows where names stand. `gcc` writes them as compilers do. Nothing here decides anything.
+//! `refusals` has that of a text which is refused, `meetings` those of unsafe pairs, `lints` those of what is likely a mistake,
+//! `unchecked` those of what a strict check fails for; `items` knows where names stand. `gcc` writes them as compilers do. Nothing here decides anything.
 #![tactic(auto)]
 
 mod checks;
@@ -10,6 +10,7 @@ mod items;
 mod lints;
 mod meetings;
 mod refusals;
+mod unchecked;
 mod values;
 
 pub use checks::diagnose_check;

@@ -9,19 +9,20 @@ use plan_text::places::Kind;
 use plan_words::PlanWords;
 use std::alloc::{AllocError, Global};
 
-/// Adds one for each of these.
+/// Adds one for each of these. For a strict check it is an error that a message was not looked at.
 pub(crate) fn push_odd(
     alloc: Global,
     found: &mut Vec<Diagnostic>,
     words: PlanWords<'_>,
     odd: &[Oddity<'_>],
+    strict: bool,
     items: &Items<'_>,
     texts: &[Vec<u8>],
 ) -> Result<(), AllocError> {
     for oddity in odd {
         let said = on_oddity(alloc, words, *oddity)?;
         found.push(Diagnostic {
-            severity: Severity::Warning,
+            severity: severity_of(*oddity, strict),
             code: oddity.code(),
             span: span_of(words, *oddity, items, texts),
             message: one_line(alloc, &said)?,
@@ -29,6 +30,13 @@ pub(crate) fn push_odd(
         })?;
     }
     Ok(())
+}
+
+fn severity_of(oddity: Oddity<'_>, strict: bool) -> Severity {
+    match oddity {
+        Oddity::Unsent { .. } if strict => Severity::Error,
+        _ => Severity::Warning,
+    }
 }
 
 // The name of what is meant, and else the whole line.

@@ -1,7 +1,8 @@
 // What is wrong with a text that is refused.
 
 use crate::values::{Diagnostic, Related, Severity, Span, one_line};
-use hints::{RefusedIn, cause_of, first_stand};
+use growing_text::Text;
+use hints::{Cause, RefusedIn, cause_of, first_stand};
 use plan_text::PlanError;
 use std::alloc::{AllocError, Global};
 
@@ -25,9 +26,22 @@ pub fn diagnose_refusal(
             start: cause.start,
             end: cause.end,
         },
-        message: one_line(alloc, &cause.said)?,
+        message: words_of(alloc, refused, &cause)?,
         related: earlier_of(alloc, refused)?,
     })
+}
+
+// What is said of it: of a name that is unknown, or stands already, after the name.
+fn words_of(alloc: Global, refused: RefusedIn<'_>, cause: &Cause) -> Result<String, AllocError> {
+    let mut text = Text::new(alloc);
+    if let PlanError::Twice(_) | PlanError::Unknown(_) = refused.error {
+        let name = refused.text.get(cause.start..cause.end).unwrap_or(&[]);
+        text.push("'");
+        text.push(str::from_utf8(name).unwrap_or(""));
+        text.push("': ");
+    }
+    text.push_made(one_line(alloc, &cause.said));
+    text.finish()
 }
 
 fn earlier_of(alloc: Global, refused: RefusedIn<'_>) -> Result<Vec<Related>, AllocError> {

@@ -19,11 +19,18 @@ pub struct Span {
     pub end: usize,
 }
 
+/// The beginning of the first text.
+pub(crate) const BEGINNING: Span = Span {
+    file: 0,
+    start: 0,
+    end: 0,
+};
+
 /// Something that is wrong.
 #[derive(Drop)]
 pub struct Diagnostic {
     pub severity: Severity,
-    /// `P1` to `P8`, `unsafe`, or the name of what is likely a mistake.
+    /// `P1` to `P8`, `unsafe`, `no pair`, or the name of what is likely a mistake.
     pub code: &'static str,
     pub span: Span,
     /// One line.

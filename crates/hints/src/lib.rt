@@ -47,7 +47,7 @@ pub use devices::{
 pub use names::{Stand, first_stand, names_in};
 pub use odd::on_oddity;
 pub use paths::{file_word, shown, visible};
-pub use plans::{on_layout, on_no_brief};
+pub use plans::on_no_brief;
 pub use safety::{Found, on_checked, on_safe};
 pub use starters::{on_starters, unknown_starter};
 pub use texts::{Cause, Earlier, RefusedIn, SemicolonAt, cause_of, missing_semicolon_at, on_text};

@@ -15,25 +15,3 @@ pub fn on_no_brief(alloc: Global, plan: &Plan) -> Result<Hints, AllocError> {
     }
     lines.finish()
 }
-
-/// What to say of a text that is not laid out as this one, which has the same words.
-pub fn on_layout(alloc: Global, text: &[u8], laid_out: &[u8]) -> Result<Hints, AllocError> {
-    let mut lines = Lines::new(alloc);
-    let line = first_other_line(text, laid_out);
-    lines.say(format_args!("'twire format' would change it from line {line} on"));
-    lines.finish()
-}
-
-// The first line at which the two differ, from 1 on.
-fn first_other_line(text: &[u8], other: &[u8]) -> u64 {
-    let mut line = 1u64;
-    for (one, other) in text.iter().zip(other.iter()) {
-        if *one != *other {
-            break;
-        }
-        if *one == b'\n' {
-            line = line.saturating_add(1);
-        }
-    }
-    line
-}

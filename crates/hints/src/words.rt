@@ -117,7 +117,7 @@ fn reason_of(expected: Expected, word: &str) -> Option<&'static str> {
         }
         Expected::Further(_) => reason_of_further(word),
         Expected::Times { ranges } if is_range(word) => Some(if ranges {
-            "with this range a message would have a name of more than 32 characters"
+            "with this range a message would have a name of more than 32 characters: shorten its name"
         } else {
             "a message has one range, and this would be its second"
         }),

@@ -159,7 +159,7 @@ fn wrong_in_checked(
     requires { AreFaults (plan_contents checked.now.plan) (fault_list checked.now.faults) }
 {
     Ok(Found {
-        all: diagnose_check(alloc, words, checked, odd, texts)?,
+        all: diagnose_check(alloc, words, checked, odd, false, texts)?,
         is_plan: true,
     })
 }

@@ -133,7 +133,7 @@ fn tell_all<R: Files + Print + Eprint + Clock + AllocGlobal, O: Output>(
 {
     let alloc = rt.alloc();
     let status = match extras.format {
-        Format::Messages => write_messages(alloc, checked, words, odd, texts, out)?,
+        Format::Messages => write_messages(alloc, checked, words, odd, look.strict, texts, out)?,
         _ => tell_checked(
             alloc,
             checked,
@@ -160,12 +160,13 @@ fn write_messages<O: Output>(
     checked: &Checked,
     words: PlanWords<'_>,
     odd: &[Oddity<'_>],
+    strict: bool,
     texts: &[Vec<u8>],
     out: &mut O,
 ) -> Result<Status, RunError>
     requires { AreFaults (plan_contents checked.now.plan) (fault_list checked.now.faults) }
 {
-    let found = diagnose_check(alloc, words, checked, odd, texts)?;
+    let found = diagnose_check(alloc, words, checked, odd, strict, texts)?;
     let lines = message_lines(alloc, words, found.as_slice(), texts)?;
     write_lines(out, lines.as_bytes(), status_of(checked))
 }

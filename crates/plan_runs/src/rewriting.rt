@@ -1,7 +1,9 @@
 // Runs that write a text in another form.
 
+use diagnostics::push_file;
 use given_plans::{GivenPlan, NoPlan, RefusedText};
-use hints::{on_layout, on_no_brief};
+use growing_text::Text;
+use hints::on_no_brief;
 use layout::{Unread, formatted};
 use plan_core::Plan;
 use plan_text::{Language, NoBrief, Refused, read_plan_at};
@@ -10,7 +12,7 @@ use run_ends::{Ended, Halt, Remark, Sources, Takes};
 use run_parts::devices::reading::READS;
 use run_parts::write_lines;
 use spellings::{brief_of, print_found};
-use std::alloc::Global;
+use std::alloc::{AllocError, Global};
 
 /// A run that writes a text in another form.
 #[derive(Clone, Copy)]
@@ -52,7 +54,10 @@ impl Rewriting {
             Rewriting::Print => print(alloc, sources.find(alloc)?, out)?,
             Rewriting::Brief => write_brief(alloc, &mut sources.first, out)?,
             Rewriting::Expand => print(alloc, sources.find_in_briefs(alloc)?, out)?,
-            Rewriting::Format(layout) => return format(alloc, &mut sources.first, out, layout),
+            Rewriting::Format(layout) => {
+                let file = sources.files.of(0).unwrap_or("");
+                return format(alloc, file, &mut sources.first, out, layout);
+            }
         };
         Ok(Ended {
             status,
@@ -123,16 +128,24 @@ fn write_brief_of<O: Output>(alloc: Global, plan: &Plan, out: &mut O) -> Result<
     }
 }
 
-// Lays out the text that the reader gives.
+// Lays out the text that the reader gives, of the file with this name.
 fn format<I: Input, O: Output>(
     alloc: Global,
+    file: &str,
     text: &mut I,
     out: &mut O,
     layout: Layout,
 ) -> Result<Ended, Halt> {
     let text = read_within(alloc, text, READS)?;
     match formatted(alloc, text.as_slice()) {
-        Ok(laid_out) => finish_layout(alloc, text.as_slice(), laid_out.as_slice(), out, layout),
+        Ok(laid_out) => finish_layout(
+            alloc,
+            file,
+            text.as_slice(),
+            laid_out.as_slice(),
+            out,
+            layout,
+        ),
         Err(Unread { language, refused }) => {
             let none = refused_text(text, language, refused);
             Err(Halt::without_plan(none, Vec::new(alloc), Takes::Either))
@@ -142,6 +155,7 @@ fn format<I: Input, O: Output>(
 
 fn finish_layout<O: Output>(
     alloc: Global,
+    file: &str,
     text: &[u8],
     laid_out: &[u8],
     out: &mut O,
@@ -150,13 +164,37 @@ fn finish_layout<O: Output>(
     let is_same = text == laid_out;
     match layout {
         Layout::Compared if is_same => Ok(Ended::quietly(Status::Good)),
-        Layout::Compared => Ok(Ended {
-            status: Status::Bad,
-            remark: Remark::hints(on_layout(alloc, text, laid_out)),
-        }),
+        Layout::Compared => {
+            let line = change_line(alloc, file, first_other_line(text, laid_out))?;
+            Ok(Ended::quietly(write_lines(out, line.as_bytes(), Status::Bad)?))
+        }
         Layout::Changed if is_same => Ok(Ended::quietly(Status::Good)),
         Layout::Changed | Layout::Written => {
             Ok(Ended::quietly(write_lines(out, laid_out, Status::Good)?))
         }
     }
+}
+
+// What is said of a file that would change from this line on.
+fn change_line(alloc: Global, file: &str, from: u64) -> Result<String, AllocError> {
+    let mut line = Text::new(alloc);
+    push_file(&mut line, file);
+    line.push(":");
+    line.push_number(from);
+    line.push(": 'twire format --in-place' would change it from here on\n");
+    line.finish()
+}
+
+// The first line at which the two differ, from 1 on.
+fn first_other_line(text: &[u8], other: &[u8]) -> u64 {
+    let mut line = 1u64;
+    for (one, other) in text.iter().zip(other.iter()) {
+        if *one != *other {
+            break;
+        }
+        if *one == b'\n' {
+            line = line.saturating_add(1);
+        }
+    }
+    line
 }

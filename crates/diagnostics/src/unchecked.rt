@@ -1,0 +1,53 @@
+// What a strict check fails for, beside what is unsafe.
+
+use crate::items::Items;
+use crate::values::{BEGINNING, Diagnostic, Severity, Span};
+use explain::unsent_in;
+use plan_text::places::Kind;
+use plan_words::PlanWords;
+use std::alloc::{AllocError, Global};
+
+/// Adds that there are no pairs, and in a plan text each message that no controller lists. (Those of briefs are among the likely
+/// mistakes.)
+pub(crate) fn push_unchecked(
+    alloc: Global,
+    found: &mut Vec<Diagnostic>,
+    words: PlanWords<'_>,
+    items: &Items<'_>,
+) -> Result<(), AllocError> {
+    if words.plan().pair_count() == 0 {
+        let said = format!(in alloc;
+            "no two participants may start together, so nothing was checked"
+        )?;
+        push_error(alloc, found, "no pair", BEGINNING, said)?;
+    }
+    if words.has_briefs() {
+        return Ok(());
+    }
+    for message in &unsent_in(alloc, words.plan())? {
+        let name = words.message_name(*message);
+        let span = items.named(Kind::Message, name).unwrap_or(BEGINNING);
+        let said = format!(in alloc;
+            "no controller lists message '{name}', which was not looked at"
+        )?;
+        push_error(alloc, found, "unsent message", span, said)?;
+    }
+    Ok(())
+}
+
+fn push_error(
+    alloc: Global,
+    found: &mut Vec<Diagnostic>,
+    code: &'static str,
+    span: Span,
+    message: String,
+) -> Result<(), AllocError> {
+    found.push(Diagnostic {
+        severity: Severity::Error,
+        code,
+        span,
+        message,
+        related: Vec::new(alloc),
+    })?;
+    Ok(())
+}

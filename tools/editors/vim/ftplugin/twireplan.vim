@@ -1,0 +1,2 @@
+" Comments of twire.
+setlocal comments=:# commentstring=#\ %s
