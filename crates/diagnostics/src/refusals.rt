@@ -34,7 +34,7 @@ pub fn diagnose_refusal(
 // What is said of it: of a name that is unknown, or stands already, after the name.
 fn words_of(alloc: Global, refused: RefusedIn<'_>, cause: &Cause) -> Result<String, AllocError> {
     let mut text = Text::new(alloc);
-    if let PlanError::Twice(_) | PlanError::Unknown(_) = refused.error {
+    if matches!(refused.error, PlanError::Twice(_) | PlanError::Unknown(_)) {
         let name = refused.text.get(cause.start..cause.end).unwrap_or(&[]);
         text.push("'");
         text.push(str::from_utf8(name).unwrap_or(""));

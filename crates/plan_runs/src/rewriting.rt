@@ -11,7 +11,7 @@ use report::{Input, Output, RunError, Status, certify_found, read_within};
 use run_ends::{Ended, Halt, Remark, Sources, Takes};
 use run_parts::devices::reading::READS;
 use run_parts::write_lines;
-use spellings::{brief_of, print_found};
+use spellings::{brief_of, brief_word, print_found};
 use std::alloc::{AllocError, Global};
 
 /// A run that writes a text in another form.
@@ -121,7 +121,7 @@ fn write_brief_of<O: Output>(alloc: Global, plan: &Plan, out: &mut O) -> Result<
             Ok(status)
         }
         Err(error @ NoBrief::Name) => {
-            let hints = on_no_brief(alloc, plan)?;
+            let hints = on_no_brief(alloc, brief_word(plan))?;
             Err(Halt::Said(RunError::from(error), hints))
         }
         Err(error) => Err(Halt::Run(RunError::from(error))),
