@@ -4,7 +4,8 @@
 #
 #     tools/surface >tests/expected/surface.txt
 #
-# The last line is 'N passed, M failed', and the exit status is 1 where a case fails. It needs no program.
+# And that each mutant which the gate does not try (tests/mutants) still changes something. The last line is 'N passed, M failed',
+# and the exit status is 1 where a case fails. It needs no program.
 set -u
 
 tests=$(dirname -- "$(readlink -f -- "${BASH_SOURCE[0]}")")
@@ -66,6 +67,23 @@ want "the copy is listed as the sources are"
 sed -i '1i // a comment, and lines below one another\n\n' copy/crates/report/src/lines.rt copy/crates/report/src/checks.rt
 copy/tools/surface | cmp -s found -
 want "a comment does not show"
+
+# A mutant is a file, and pairs of an old line and a new one, of which the old one stands in the file once.
+for edit in "$tests"/mutants/*/*.edit; do
+    crate=${edit%/*}
+    crate=$here/crates/${crate##*/}
+    changes=0
+    while IFS= read -r line; do
+        case $line in
+            "file: "*) file=$crate/${line#file: } ;;
+            "old: "*) [[ $(grep -cF -- "${line#old: }" "$file") == 1 ]] && changes=$((changes + 1)) ;;
+            "new: "*) changes=$((changes + 1)) ;;
+            *) changes=0 && break ;;
+        esac
+    done <"$edit"
+    ((changes > 0 && changes % 2 == 0))
+    want "what a mutant changes: $edit"
+done
 
 echo "$passed passed, $failed failed"
 ((failed == 0))
