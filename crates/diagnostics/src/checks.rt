@@ -8,9 +8,9 @@ use crate::lints::push_odd;
 use crate::meetings::push_unsafe;
 use crate::unchecked::push_unchecked;
 use crate::values::Diagnostic;
-use explain::{Grouped, grouped_of};
 use lint::Oddity;
 use plan_words::PlanWords;
+use remedies::{Grouped, grouped_of};
 use report::Checked;
 use std::alloc::{AllocError, Global};
 

@@ -2,11 +2,13 @@
 
 use crate::items::Items;
 use crate::values::{Diagnostic, Related, Severity};
+use bus_rows::{Meeting, meeting_of};
 use certificate::Fault;
-use explain::{Alike, Grouped, Meeting, meeting_of, why_unsafe};
+use explain::why_unsafe;
 use growing_text::Text;
 use places::Offered;
 use plan_words::PlanWords;
+use remedies::{Alike, Grouped};
 use report::Checked;
 use std::alloc::{AllocError, Global};
 

@@ -4,11 +4,11 @@ use crate::driven::{
     decode_driven, driving_of, judging_of, open_driven, refuse_no_names, refuse_others,
     refuse_unknown,
 };
+use bus_rows::Paint;
 use capture_check::Rises;
 use decoding::Explaining;
 use drives::Driving;
 use dump_tokens::{Bus, BusLines, Drives, Limits, Quiet, Window};
-use explain::{CaptureLines, DecodeLines, Layout, Paint, Seen, Selection};
 use given_plans::GivenPlan;
 use lessons::{BriefBefore, Learned, Likeness, Sights, brief_of};
 use objects::{CaptureObjects, DecodeObjects, write_signals};
@@ -24,6 +24,7 @@ use std::alloc::Global;
 use std::rt::Files;
 use std::thread::Threads;
 use std::time::Clock;
+use transaction_lines::{CaptureLines, DecodeLines, Layout, Seen, Selection};
 use waves::wave_of_recording;
 
 /// A capture that is asked for.

@@ -1,10 +1,8 @@
 // Lines below the wire of a rehearsal.
 
-use crate::below::{begin, begin_titled, pad, room_after};
 use crate::cells::{Cell, cells_of};
-use crate::labels::Labels;
-use crate::rows::{ALIKE, beside};
 use crate::tracks::Track;
+use bus_rows::{ALIKE, Labels, begin, begin_titled, beside, pad, room_after};
 use growing_text::{Lines, Text};
 use message_tree::Item;
 use std::alloc::{AllocError, Global};

@@ -1,8 +1,7 @@
 // Where a line of a certificate does not prove its pair.
 
 use crate::broken::Wires;
-use crate::meetings::Side;
-use crate::sending::{own_bit, pass, pass_own};
+use bus_rows::{Side, own_bit, pass, pass_own};
 use message_tree::{Bit, Item};
 use places::{Offered, Place};
 use plan_core::Plan;

@@ -1,6 +1,6 @@
 // What the two of a pair send up to a word of its proof.
 
-use crate::meetings::{Side, side_of};
+use bus_rows::{Side, side_of};
 use message_tree::Item;
 use plan_core::Plan;
 use std::alloc::{AllocError, Global};

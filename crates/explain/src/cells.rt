@@ -1,7 +1,6 @@
 // The parts of a wire that stand side by side: bytes, acknowledges, and single slots.
 
-use crate::below::{pad, put};
-use crate::words::Words;
+use bus_rows::{Words, pad, put};
 use growing_text::Text;
 use message_tree::Item;
 use std::alloc::{AllocError, Global};

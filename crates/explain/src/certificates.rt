@@ -1,12 +1,9 @@
 // Lines below the answer to a certificate.
 
-use crate::below::{begin, say, say_all};
 use crate::breaks::{Break, Reason};
-use crate::faults::{row_of, tell_places};
 use crate::group_lines::{tell_alone, tell_two};
-use crate::meetings::Side;
 use crate::mistakes::Mistake;
-use crate::rows::{BYTES, tell_rows};
+use bus_rows::{BYTES, Side, begin, row_of, say, say_all, tell_places, tell_rows};
 use growing_text::{Lines, Text};
 use plan_words::PlanWords;
 use std::alloc::{AllocError, Global};

@@ -1,23 +1,15 @@
 // Lines of unsafe pairs, and below the count of them.
 
-use crate::below::{begin, say, say_all};
-use crate::groups::Grouped;
-use crate::keeping::Kept;
-use crate::meetings::{Meeting, Rule, Side};
-use crate::mends::{GroupMends, Mends, Never};
 use crate::rewritten::tell_families;
-use crate::rows::{ALIKE, Row, tell_rows};
-use crate::sending::deed;
-use crate::words::Bytes;
+use bus_rows::{
+    ALIKE, Meeting, Rule, Side, begin, bus_row, deed, row_of, say_all, tell_places, tell_rows,
+};
 use growing_text::{Lines, Text};
-use places::Offered;
 use plan_core::Plan;
-use plan_words::{FileLine, PlanWords};
+use plan_words::PlanWords;
+use remedies::{GroupMends, Grouped, Kept, Mends, Never};
 use std::alloc::{AllocError, Global};
 use verdicts::Faults;
-
-// How many columns a place has at most that stands on a line between `see` and `and`.
-const PLACE: usize = 68;
 
 // How many ranges of slots are named.
 const RANGES: usize = 6;
@@ -57,24 +49,6 @@ fn tell_sides(alloc: Global, lines: &mut Lines, labels: (&str, &str), meeting: &
     tell_reason(alloc, lines, meeting);
     tell_open(alloc, lines, labels.0, first);
     tell_open(alloc, lines, labels.1, second);
-}
-
-/// The row of the bytes on the bus.
-pub(crate) fn bus_row(words: &Bytes) -> Row<'_> {
-    Row {
-        title: "bus",
-        words,
-        next: None,
-    }
-}
-
-/// The row of a participant: what it sends, and what it offers next.
-pub(crate) fn row_of<'a>(title: &'a str, words: &'a Bytes, next: Offered) -> Row<'a> {
-    Row {
-        title,
-        words,
-        next: Some(deed(next)),
-    }
 }
 
 fn tell_reason(alloc: Global, lines: &mut Lines, meeting: &Meeting) {
@@ -117,87 +91,6 @@ fn push_ranges(words: &mut Text, ranges: &[(usize, usize)]) {
         words.push_number(ranges.len().saturating_sub(RANGES) as u64);
         words.push(" more");
     }
-}
-
-/// Where the message of a participant stands in a brief, or the interrupt that it is, if it does.
-pub(crate) fn tell_item(alloc: Global, lines: &mut Lines, words: PlanWords<'_>, p: u32) {
-    if let Some(place) = words.item_at(p) {
-        if tell_one(alloc, lines, place).is_err() {
-            lines.cut();
-        }
-    }
-}
-
-/// Where the messages of two participants stand in briefs, or the interrupts that they are, if they do.
-pub(crate) fn tell_places(
-    alloc: Global,
-    lines: &mut Lines,
-    words: PlanWords<'_>,
-    both: (u32, u32),
-) {
-    let told = match (words.item_at(both.0), words.item_at(both.1)) {
-        (Some(first), Some(second)) if first != second => tell_two(alloc, lines, first, second),
-        (Some(only), _) | (None, Some(only)) => tell_one(alloc, lines, only),
-        (None, None) => Ok(()),
-    };
-    if told.is_err() {
-        lines.cut();
-    }
-}
-
-fn tell_one(alloc: Global, lines: &mut Lines, place: FileLine<'_>) -> Result<(), AllocError> {
-    let place = spelled(alloc, place)?;
-    if is_long(place.as_str()) {
-        say(lines, "see this line:");
-        tell_place(lines, place.as_str());
-        return Ok(());
-    }
-    begin(lines);
-    lines.word("see");
-    lines.word(place.as_str());
-    lines.end();
-    Ok(())
-}
-
-// The second place has a line of its own where both have no room on one.
-fn tell_two(
-    alloc: Global,
-    lines: &mut Lines,
-    first: FileLine<'_>,
-    second: FileLine<'_>,
-) -> Result<(), AllocError> {
-    let first = spelled(alloc, first)?;
-    let second = spelled(alloc, second)?;
-    if is_long(first.as_str()) {
-        say(lines, "see these lines:");
-        tell_place(lines, first.as_str());
-        tell_place(lines, second.as_str());
-        return Ok(());
-    }
-    begin(lines);
-    lines.word("see");
-    lines.word(first.as_str());
-    lines.word("and");
-    lines.word(second.as_str());
-    lines.end();
-    Ok(())
-}
-
-// A place on a line of its own.
-fn tell_place(lines: &mut Lines, place: &str) {
-    begin(lines);
-    lines.word(place);
-    lines.end();
-}
-
-fn is_long(place: &str) -> bool {
-    PLACE < place.chars().count()
-}
-
-fn spelled(alloc: Global, place: FileLine<'_>) -> Result<String, AllocError> {
-    let mut text = Text::new(alloc);
-    place.push_to(&mut text);
-    text.finish()
 }
 
 fn push_range(words: &mut Text, range: (usize, usize)) {

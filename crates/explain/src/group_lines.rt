@@ -1,14 +1,13 @@
 // Lines of a group of unsafe pairs, and of one pair by itself.
 
-use crate::below::{begin, say_all};
 use crate::faults::{tell_group_mends, tell_pair};
-use crate::groups::Grouped;
-use crate::meetings::{Meeting, meeting_of};
+use bus_rows::{Meeting, begin, meeting_of, say_all};
 use causes::Group;
 use certificate::Fault;
 use growing_text::{Lines, Text};
 use message_tree::Kind;
 use plan_words::PlanWords;
+use remedies::Grouped;
 use std::alloc::{AllocError, Global};
 
 /// What is said of an unsafe pair that stands by itself: its number, what is said of it, and why it is unsafe.

@@ -5,7 +5,7 @@ ghost use Rattle.plan_core.specs.PlanContents.{plan_contents};
 ghost use Rattle.plan_core.specs.Pairs.{pairs_of};
 
 use crate::breaks::{Break, break_of};
-use crate::meetings::Side;
+use bus_rows::Side;
 use cert_check::Answer;
 use certificate::{CertError, CertFault, Fault, Head, read_head};
 use plan_core::Plan;

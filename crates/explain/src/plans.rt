@@ -1,8 +1,8 @@
 // Lines below the report on a safe plan.
 
-use crate::below::begin;
-use crate::safety::{Decided, Safety};
+use bus_rows::begin;
 use growing_text::{Lines, Text};
+use remedies::{Decided, Safety};
 use std::alloc::{AllocError, Global};
 
 /// What is said below `safe: N pairs`: where the two of each pair part while targets acknowledge.

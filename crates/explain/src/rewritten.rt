@@ -1,13 +1,12 @@
 // Messages of a brief that could be written as one family: their names are alike but for a number, and each writes one byte more
 // than the one before it.
 
-use crate::below::{begin, say_all};
-use crate::families::{name_of, stem_of};
-use crate::mends::{both_of, controller_of};
+use bus_rows::{begin, say_all};
 use growing_text::{Lines, Text};
 use message_tree::{Address, Bit, Frame, Pattern, Payload, Tail};
 use plan_core::Plan;
 use plan_words::PlanWords;
+use remedies::{both_of, controller_of, name_of, stem_of};
 use std::alloc::{AllocError, Global};
 use verdicts::Faults;
 

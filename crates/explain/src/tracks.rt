@@ -1,9 +1,7 @@
 // What each starter puts along the wire of a rehearsal.
 
-use crate::meetings::bytes_of;
-use crate::sending::pass;
-use crate::words::Bytes;
 use bench_run::{Rehearsal, filled};
+use bus_rows::{Bytes, bytes_of_wire, pass};
 use message_tree::Item;
 use places::Place;
 use plan_core::Plan;
@@ -33,7 +31,7 @@ pub struct Track {
 /// Where an allocation fails.
 pub fn tracks_of(alloc: Global, rehearsal: &Rehearsal) -> Result<WireTracks, AllocError> {
     let wire = rehearsal.played.wire.as_slice();
-    let bytes = bytes_of(alloc, wire)?;
+    let bytes = bytes_of_wire(alloc, wire)?;
     let plan = rehearsal.accepted.plan();
     let tracks = all_tracks(alloc, plan, &rehearsal.starters, wire, rehearsal.fill)?;
     Ok(WireTracks { bytes, tracks })

@@ -1,10 +1,10 @@
 // What a check did not look at: messages that no controller lists, and pairs that `never` leaves out.
 
-use crate::below::{begin, say};
-use crate::mends::kept_apart;
+use bus_rows::{begin, say};
 use growing_text::{Lines, Text};
 use plan_core::Plan;
 use plan_words::{FileLine, PlanWords};
+use remedies::kept_apart;
 use std::alloc::{AllocError, Global};
 
 // How many messages are named, those of one family once.

@@ -2,8 +2,9 @@
 
 use crate::file_lines::{OneAt, one_at};
 use bench_run::Rehearsal;
+use bus_rows::{Labels, labels_of};
 use certificate::push_wire;
-use explain::{Labels, Track, labels_of, tracks_of};
+use explain::{Track, tracks_of};
 use object_lines::ObjectLines;
 use plan_words::PlanWords;
 use report::{Output, RunError};

@@ -3,16 +3,17 @@
 use crate::file_lines::{OneAt, one_at};
 use crate::transactions::{Moment, Seen, Times, seen_of, times_of, too_few_of};
 use crate::written::Written;
+use bus_rows::{Labels, labels_of};
 use capture_check::Transaction;
 use decoding::{Ending, ExplainedSink};
 use drives::{Does, Judged, Judging};
 use dump_tokens::Scale;
-use explain::{Explains, Labels, Layout, Others, Selection, Tallies, labels_of};
 use plan_core::Plan;
 use plan_words::PlanWords;
 use run_parts::{Output, RunError};
 use serde::Serialize;
 use std::alloc::{AllocError, Global};
+use transaction_lines::{Explains, Layout, Others, Selection, Tallies};
 
 // A transaction, and who explains it.
 #[derive(Drop, Serialize)]

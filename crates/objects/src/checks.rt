@@ -2,17 +2,16 @@
 
 use crate::file_lines::all_at;
 use crate::oddities::add_oddities;
+use bus_rows::{Labels, Meeting, Rule, labels_of, meeting_of};
 use causes::{Group, Place};
 use certificate::Fault;
-use explain::{
-    Detail, GroupMends, Grouped, Labels, Meeting, Mends, Never, Parting, Reasons, Rule, Safety,
-    labels_of, meeting_of, unsent_in,
-};
+use explain::{Detail, unsent_in};
 use growing_text::Text;
 use lint::Oddity;
 use object_lines::ObjectLines;
 use plan_core::Plan;
 use plan_words::PlanWords;
+use remedies::{GroupMends, Grouped, Mends, Never, Parting, Reasons, Safety};
 use report::{Checked, Output, RunError};
 use serde::Serialize;
 use std::alloc::{AllocError, Global};

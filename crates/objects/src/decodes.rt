@@ -3,13 +3,14 @@
 use crate::captures::Count;
 use crate::transactions::{Moment, Times, times_of};
 use crate::written::Written;
+use bus_rows::bytes_of;
 use capture_check::Transaction;
 use decoding::TransactionSink;
-use explain::{Addresses, Calls, Selection, bytes_of};
 use growing_text::Text;
 use run_parts::{Output, RunError};
 use serde::Serialize;
 use std::alloc::{AllocError, Global};
+use transaction_lines::{Addresses, Calls, Selection};
 
 // A transaction, in bytes.
 #[derive(Drop, Serialize)]

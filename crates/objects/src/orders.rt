@@ -1,7 +1,7 @@
 // Objects of who wins.
 
 use crate::file_lines::{BothAt, OneAt, both_at, one_at};
-use explain::labels_of;
+use bus_rows::labels_of;
 use object_lines::ObjectLines;
 use order::{Order, Outcomes, Scores, Slots, Total};
 use plan_words::PlanWords;

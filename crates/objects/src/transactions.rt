@@ -1,14 +1,15 @@
 // What objects say of a transaction.
 
 use crate::file_lines::{OneAt, one_at};
+use bus_rows::{Labels, bytes_of};
 use capture_check::{Mark, Transaction, Until};
 use dump_tokens::Scale;
-use explain::{Cuts, Labels, Leaves, Selection, bytes_of, nearest};
 use message_tree::Bit;
 use places::Offered;
 use plan_words::PlanWords;
 use serde::Serialize;
 use std::alloc::{AllocError, Global};
+use transaction_lines::{Cuts, Leaves, Selection, nearest};
 
 /// A time: in steps of the dump, or in parts of a second.
 #[derive(Drop, Serialize)]

@@ -1,7 +1,9 @@
 // The groups of the unsafe pairs, as the page has them.
 
+use bus_rows::{Meeting, deed, meeting_of};
 use causes::Group;
-use explain::{Grouped, Meeting, deed, meeting_of, why_unsafe};
+use explain::why_unsafe;
+use remedies::Grouped;
 use report::Checked;
 use serde::{Described, Serialize, Serializer};
 use std::alloc::{AllocError, Global};

@@ -10,10 +10,10 @@ use crate::recording::Recording;
 use crate::senders::SENDERS;
 use crate::style::STYLE;
 use crate::times::TIMES;
-use explain::Grouped;
 use memchr::{memchr, memchr3};
 use order::Order;
 use plan_words::PlanWords;
+use remedies::Grouped;
 use report::Checked;
 use std::alloc::{AllocError, Global};
 

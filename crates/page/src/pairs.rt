@@ -2,7 +2,7 @@
 
 use crate::ways::Run;
 use certificate::{Fault, push_wire};
-use explain::Grouped;
+use remedies::Grouped;
 use serde::{Described, Serialize, Serializer};
 use std::alloc::{AllocError, Global};
 use verdicts::Faults;

@@ -1,12 +1,12 @@
 // Who takes part, as the page has it: all names, and what each participant sends.
 
 use crate::nodes::{Node, address, nodes_of};
-use explain::Grouped;
 use growing_text::Text;
 use message_tree::Address;
 use order::{Order, Total};
 use plan_core::{Participant, Plan};
 use plan_words::PlanWords;
+use remedies::Grouped;
 use serde::{Described, Serialize, Serializer};
 use std::alloc::{AllocError, Global};
 

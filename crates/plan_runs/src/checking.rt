@@ -6,13 +6,11 @@ ghost use Rattle.verdicts.specs.Faults.{AreFaults, fault_list};
 
 use crate::drawings::draw_fault;
 use brief_text::Origins;
+use bus_rows::{Paint, called_by};
 use cert_check::{Answer, Judged, check_certificate_at};
 use certificate::Refusal;
 use diagnostics::{Diagnostic, Messages, diagnose_check};
-use explain::{
-    Detail, Mistake, Paint, Reasons, called_by, count_groups, explain_answer, explain_check,
-    is_all_checked, kept_apart, mistake_of, reasons_of,
-};
+use explain::{Detail, Mistake, explain_answer, explain_check, is_all_checked, mistake_of};
 use files::Comparing;
 use given_plans::GivenPlan;
 use growing_text::Text;
@@ -22,6 +20,7 @@ use objects::{write_answer, write_check, write_order, write_scores};
 use order::{Called, Order, order_of, order_report, order_summary, scores_of};
 use plan_core::Plan;
 use plan_words::{PlanWords, sides_of};
+use remedies::{Reasons, count_groups, kept_apart, reasons_of};
 use report::{
     Answered, Checked, Input, NoGate, Output, RunError, Status, answer_line, check_found,
     check_report, read_within, status_of_answer, verify_found,

@@ -5,7 +5,6 @@ use crate::extras::Extras;
 use crate::inputs::{Inputs, NamedSources};
 use crate::voices::{Voice, refused_drive, refused_timescale, say};
 use dump_tokens::BusLines;
-use explain::Seen;
 use growing_text::Text;
 use hints::{
     Hints, Named, Names, file_word, on_bytes, on_choice, on_closed_input, on_dump, on_fault,
@@ -17,6 +16,7 @@ use report::{Probe, RunError, Status};
 use std::alloc::{AllocError, Global};
 use std::io::{self, Read, Seek};
 use std::time::Clock;
+use transaction_lines::Seen;
 
 /// What hints say of a run beside its files.
 #[derive(Clone, Copy)]

@@ -4,7 +4,6 @@ use crate::inputs::NamedSources;
 use capture_check::Rises;
 use diagnostics::{Diagnostic, diagnose_refusal};
 use dump_tokens::Window;
-use explain::Seen;
 use given_plans::{NoPlan, RefusedText};
 use hints::{Earlier, Hints, RefusedIn, first_stand, missing_semicolon_at};
 use object_lines::{Detail, EarlierAt, TextDetail};
@@ -12,6 +11,7 @@ use plan_text::PlanError;
 use report::{RunError, Status};
 use std::alloc::{AllocError, Global};
 use std::io;
+use transaction_lines::Seen;
 use vcd_read::Wrong;
 
 /// A run that has ended with its report: its status, and what is to be said to people.

@@ -2,7 +2,7 @@
 
 use crate::styles::{Format, Style};
 use crate::voices::Voice;
-use explain::Paint;
+use bus_rows::Paint;
 use files::Watcher;
 
 /// What people get beside the exact report: hints, colours in the report and in hints, and how far a long run is. How reports,

@@ -1,6 +1,6 @@
 // How what a run finds is written.
 
-use explain::Paint;
+use bus_rows::Paint;
 
 /// How reports, refusals and hints are written.
 #[derive(Clone, Copy, PartialEq, Eq)]

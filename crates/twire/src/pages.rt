@@ -3,11 +3,11 @@
 ghost use Rattle.plan_core.specs.PlanContents.{plan_contents};
 ghost use Rattle.verdicts.specs.Faults.{AreFaults, fault_list};
 
+use bus_rows::Paint;
 use capture_check::{Rises, Transaction};
 use decoding::{ExplainedSink, Explaining};
 use dump_runs::{halted, open};
 use dump_tokens::Bus;
-use explain::{CaptureLines, Grouped, Layout, Paint, Selection, grouped_of};
 use given_plans::GivenPlan;
 use order::{order_of, order_report};
 use page::{Page, Recording, Texts, page_of};
@@ -15,6 +15,7 @@ use plan_core::Plan;
 use plan_runs::status_of;
 use plan_text::print_plan;
 use plan_words::PlanWords;
+use remedies::{Grouped, grouped_of};
 use report::{
     Checked, Input, NoGate, Output, RunError, Status, Watched, check_found, check_report,
 };
@@ -24,6 +25,7 @@ use signals::{Dump, Recorder};
 use std::alloc::Global;
 use std::str;
 use std::thread::Threads;
+use transaction_lines::{CaptureLines, Layout, Selection};
 
 /// Writes the page of a plan.
 pub fn write_page_alone<R: AllocGlobal + Threads + Sync, I: Input, O: Output>(

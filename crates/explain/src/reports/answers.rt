@@ -2,8 +2,8 @@
 
 use crate::certificates::below_mistake;
 use crate::mistakes::Mistake;
-use crate::paints::Paint;
 use crate::reports::write_block;
+use bus_rows::Paint;
 use cert_check::Answer;
 use growing_text::Text;
 use plan_words::PlanWords;

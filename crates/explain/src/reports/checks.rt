@@ -2,18 +2,15 @@
 
 use crate::faults::below_unsafe;
 use crate::group_lines::{above_rest, of_group, of_rest};
-use crate::groups::Grouped;
-use crate::meetings::meeting_of;
-use crate::mends::both_of;
-use crate::paints::Paint;
 use crate::plans::below_safe;
-use crate::reasons::Reasons;
 use crate::reports::{BLOCK, write_block};
 use crate::unchecked::below_checked;
+use bus_rows::{Paint, meeting_of};
 use certificate::Fault;
 use growing_text::Text;
 use plan_core::Plan;
 use plan_words::PlanWords;
+use remedies::{Grouped, Reasons, both_of};
 use report::{Checked, Output, RunError, push_count, push_fault};
 use std::alloc::{AllocError, Global};
 use std::mem;

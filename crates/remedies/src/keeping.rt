@@ -28,7 +28,7 @@ pub struct Kept {
 /// # Errors
 ///
 /// Where an allocation fails.
-pub(crate) fn kept_by(
+pub fn kept_by(
     alloc: Global,
     words: PlanWords<'_>,
     groups: &Groups,
@@ -52,7 +52,7 @@ pub(crate) fn kept_by(
 
 /// The groups of a plan's participants.
 #[derive(Drop)]
-pub(crate) struct Groups {
+pub struct Groups {
     // for each participant the first one of its group
     firsts: Vec<u32>,
 }
@@ -81,7 +81,7 @@ impl Groups {
 }
 
 /// The groups of the plan's participants, in these words of it.
-pub(crate) fn groups_of(alloc: Global, words: PlanWords<'_>) -> Result<Groups, AllocError> {
+pub fn groups_of(alloc: Global, words: PlanWords<'_>) -> Result<Groups, AllocError> {
     let participants = words.plan().participants();
     let mut families = Vec::with_capacity(alloc, participants as usize)?;
     let mut firsts = Vec::with_capacity(alloc, participants as usize)?;

@@ -3,7 +3,7 @@
 // each wire to a fault goes through it.
 
 use crate::mends::both_of;
-use crate::sending::{Ranges, pass};
+use bus_rows::{Ranges, pass};
 use causes::Group;
 use message_tree::{Bit, Item, Kind};
 use places::{Offered, Place};
@@ -31,7 +31,7 @@ pub struct Parting {
 
 /// Tries the groups of a plan, each two senders once.
 #[derive(Drop)]
-pub(crate) struct Trial<'a> {
+pub struct Trial<'a> {
     plan: &'a Plan,
     // for the place of each two senders whether they were tried
     known: Vec<bool>,
@@ -59,7 +59,7 @@ struct Tried {
 }
 
 impl<'a> Trial<'a> {
-    pub(crate) fn new(alloc: Global, plan: &'a Plan) -> Result<Trial<'a>, AllocError> {
+    pub fn new(alloc: Global, plan: &'a Plan) -> Result<Trial<'a>, AllocError> {
         Ok(Trial {
             plan,
             known: vec![in alloc; false; plan.sender_places()]?,
@@ -70,7 +70,7 @@ impl<'a> Trial<'a> {
 
     /// What mends each pair of a group, of which these are the numbers and the places among the faults. None where there are too many
     /// slots to look at.
-    pub(crate) fn parting(
+    pub fn parting(
         &mut self,
         alloc: Global,
         faults: &Faults,
@@ -176,7 +176,7 @@ fn slots_of(faults: &Faults, group: Group) -> usize {
 }
 
 /// Whether an interrupt waits there for the answer to its header.
-pub(crate) fn has_claim(group: Group) -> bool {
+pub fn has_claim(group: Group) -> bool {
     group.cause.first.kind == Kind::Claim || group.cause.second.kind == Kind::Claim
 }
 

@@ -1,6 +1,6 @@
 // Lines for people of who drove the bus in a transaction.
 
-use crate::below::{begin, say, say_all};
+use bus_rows::{begin, say, say_all};
 use drives::{Does, Judged, Judging, Verdict};
 use growing_text::{Lines, Text};
 use std::alloc::{AllocError, Global};

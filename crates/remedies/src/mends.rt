@@ -50,7 +50,7 @@ pub struct Never {
 /// # Errors
 ///
 /// Where an allocation fails.
-pub(crate) fn mends_of(
+pub fn mends_of(
     alloc: Global,
     plan: &Plan,
     words: PlanWords<'_>,
@@ -86,7 +86,7 @@ fn all_of(alloc: Global, faults: &Faults) -> Result<Vec<u32>, AllocError> {
 // ---- groups
 
 /// What mends the first so many of these groups of the plan's unsafe pairs, in these words of it.
-pub(crate) fn mends_of_groups(
+pub fn mends_of_groups(
     alloc: Global,
     words: PlanWords<'_>,
     faults: &Faults,
@@ -212,7 +212,7 @@ fn is_named(between: &[(u32, u32)], c: u32, d: u32) -> bool {
 // ---- what keeps the pairs apart
 
 // Whether this controller of the plan is one of the brief, of which no label is named.
-pub(crate) fn is_whole(words: PlanWords<'_>, c: u32) -> bool {
+pub fn is_whole(words: PlanWords<'_>, c: u32) -> bool {
     for d in 0..words.plan().controllers() {
         if c != d && words.is_one(c, d) {
             return false;
@@ -286,13 +286,13 @@ fn interrupted_in(alloc: Global, plan: &Plan, faults: &Faults) -> Result<Vec<u32
 }
 
 // Interrupts come after all sendings, so where a pair has one its second participant is one.
-pub(crate) fn has_interrupt(plan: &Plan, pair: u32) -> bool {
+pub fn has_interrupt(plan: &Plan, pair: u32) -> bool {
     let (_, second) = both_of(plan, pair);
     controller_of(plan, second).is_none()
 }
 
 // The two of a pair.
-pub(crate) fn both_of(plan: &Plan, pair: u32) -> (u32, u32) {
+pub fn both_of(plan: &Plan, pair: u32) -> (u32, u32) {
     if pair < plan.pair_count() {
         plan.pair(pair)
     } else {
@@ -301,7 +301,7 @@ pub(crate) fn both_of(plan: &Plan, pair: u32) -> (u32, u32) {
 }
 
 // The controller of a participant that is no interrupt.
-pub(crate) fn controller_of(plan: &Plan, p: u32) -> Option<u32> {
+pub fn controller_of(plan: &Plan, p: u32) -> Option<u32> {
     if plan.participants() <= p {
         return None;
     }
@@ -330,7 +330,7 @@ fn pairs_of(plan: &Plan, c: u32, d: u32) -> u64 {
     sendings(plan, c).saturating_mul(sendings(plan, d))
 }
 
-pub(crate) fn sendings(plan: &Plan, c: u32) -> u64 {
+pub fn sendings(plan: &Plan, c: u32) -> u64 {
     if c < plan.controllers() {
         plan.controller_messages(c).len() as u64
     } else {
@@ -338,7 +338,7 @@ pub(crate) fn sendings(plan: &Plan, c: u32) -> u64 {
     }
 }
 
-pub(crate) fn is_never(plan: &Plan, c: u32, d: u32) -> bool {
+pub fn is_never(plan: &Plan, c: u32, d: u32) -> bool {
     for k in 0..plan.nevers() {
         let (first, second) = plan.never(k);
         if (first == c && second == d) || (first == d && second == c) {

@@ -1,7 +1,6 @@
 // Who goes along with a transaction that nobody explains, and where.
 
-use crate::sending::{pass, push_offered, push_rest};
-use crate::words::{Bytes, Words};
+use bus_rows::{Bytes, Words, pass, push_offered, push_rest};
 use capture_check::Mark;
 use message_tree::{Bit, Item};
 use places::{Offered, Place};

@@ -10,7 +10,7 @@ use plan_words::PlanWords;
 use std::alloc::{AllocError, Global};
 
 /// The family of each message of a plan, in these words of it.
-pub(crate) fn families_of(
+pub fn families_of(
     alloc: Global,
     plan: &Plan,
     words: PlanWords<'_>,
@@ -95,7 +95,7 @@ fn are_alike(one: &str, other: &str) -> bool {
 }
 
 /// What stands before the number at the end of a name.
-pub(crate) fn stem_of(name: &str) -> Option<&str> {
+pub fn stem_of(name: &str) -> Option<&str> {
     let mut stem = 0usize;
     for (at, byte) in name.bytes().enumerate() {
         if !byte.is_ascii_digit() {
@@ -109,7 +109,7 @@ pub(crate) fn stem_of(name: &str) -> Option<&str> {
 }
 
 /// The name of a message, and nothing for a number that is none.
-pub(crate) fn name_of(plan: &Plan, m: u32) -> &str {
+pub fn name_of(plan: &Plan, m: u32) -> &str {
     if m < plan.messages() {
         plan.message_name(m).as_str()
     } else {
@@ -118,7 +118,7 @@ pub(crate) fn name_of(plan: &Plan, m: u32) -> &str {
 }
 
 /// What the family of a message is called: `page_*`, or the name of the message where it is alone in it.
-pub(crate) fn called_of(
+pub fn called_of(
     alloc: Global,
     plan: &Plan,
     families: &[Family],
@@ -130,7 +130,7 @@ pub(crate) fn called_of(
 }
 
 /// What a participant is called with all of its family: `bmc/page_*`, or its label where the family has it alone.
-pub(crate) fn party_of(
+pub fn party_of(
     alloc: Global,
     words: PlanWords<'_>,
     families: &[Family],

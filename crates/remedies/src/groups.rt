@@ -4,9 +4,9 @@ ghost use Rattle.plan_core.specs.PlanContents.{plan_contents};
 ghost use Rattle.verdicts.specs.Faults.{AreFaults, fault_list};
 
 use crate::families::{called_of, families_of, party_of};
-use crate::labels::{Labels, called_by};
 use crate::mends::{GroupMends, both_of, mends_of_groups};
 use crate::partings::has_claim;
+use bus_rows::{Labels, called_by};
 use causes::{Family, Group, Groups, groups_of};
 use plan_core::Plan;
 use plan_words::PlanWords;
@@ -166,7 +166,7 @@ impl Grouped {
 
     /// Whether it was tried of all groups without an interrupt that the same shape from the slot of its fault on mends each pair.
     /// Then each known bit before that slot does too, since all faults of a pair lie behind it.
-    pub(crate) fn have_shapes(&self) -> bool {
+    pub fn have_shapes(&self) -> bool {
         for g in 0..self.groups.len() {
             if !has_claim(self.groups.get(g)) && !is_shape(self.mends.get(g)) {
                 return false;

@@ -56,7 +56,7 @@ pub fn meeting_of(
     participants: (u32, u32),
     wire: &[Item],
 ) -> Result<Meeting, AllocError> {
-    let bus = bytes_of(alloc, wire)?;
+    let bus = bytes_of_wire(alloc, wire)?;
     let first = side_of(alloc, plan, participants.0, wire)?;
     let second = side_of(alloc, plan, participants.1, wire)?;
     Ok(Meeting {
@@ -68,7 +68,7 @@ pub fn meeting_of(
 }
 
 /// The bytes of a wire, from its START on.
-pub(crate) fn bytes_of(alloc: Global, wire: &[Item]) -> Result<Bytes, AllocError> {
+pub fn bytes_of_wire(alloc: Global, wire: &[Item]) -> Result<Bytes, AllocError> {
     let mut words = Words::new(alloc);
     for item in wire {
         words.item(*item);
@@ -77,12 +77,7 @@ pub(crate) fn bytes_of(alloc: Global, wire: &[Item]) -> Result<Bytes, AllocError
 }
 
 /// What a participant does along this wire, and next.
-pub(crate) fn side_of(
-    alloc: Global,
-    plan: &Plan,
-    p: u32,
-    wire: &[Item],
-) -> Result<Side, AllocError> {
+pub fn side_of(alloc: Global, plan: &Plan, p: u32, wire: &[Item]) -> Result<Side, AllocError> {
     let mut words = Words::new(alloc);
     let Followed { open, next } = follow_wire(alloc, plan, p, wire, &mut words);
     let bytes = words.row()?;

@@ -1,7 +1,7 @@
 // How often each participant explains a transaction.
 
-use crate::labels::Labels;
 use crate::selecting::{Seen, Selection};
+use bus_rows::Labels;
 use capture_check::{Transaction, Until};
 use growing_text::Text;
 use plan_core::Plan;

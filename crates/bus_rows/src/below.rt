@@ -9,13 +9,13 @@ const MARGIN: &str = "   ";
 const WIDE_MARGIN: &str = "                           ";
 
 /// Begins a line.
-pub(crate) fn begin(lines: &mut Lines) {
+pub fn begin(lines: &mut Lines) {
     lines.begin(MARGIN, MARGIN);
 }
 
 /// Begins a line with a title. The words of the line stand in the columns after so many; a title for which these do not
 /// suffice has a line of its own.
-pub(crate) fn begin_titled(lines: &mut Lines, title: &str, columns: usize) {
+pub fn begin_titled(lines: &mut Lines, title: &str, columns: usize) {
     let margin = WIDE_MARGIN
         .get(..columns.saturating_add(MARGIN.len()))
         .unwrap_or(WIDE_MARGIN);
@@ -31,21 +31,21 @@ pub(crate) fn begin_titled(lines: &mut Lines, title: &str, columns: usize) {
 }
 
 /// These words, on as many lines as they need.
-pub(crate) fn say(lines: &mut Lines, words: &str) {
+pub fn say(lines: &mut Lines, words: &str) {
     begin(lines);
     lines.words(words);
     lines.end();
 }
 
 /// The same with words that were gathered.
-pub(crate) fn say_all(lines: &mut Lines, words: Text) {
+pub fn say_all(lines: &mut Lines, words: Text) {
     begin(lines);
     lines.words_made(words.finish());
     lines.end();
 }
 
 /// How many columns are left on a line after the margin and so many more.
-pub(crate) fn room_after(columns: usize) -> usize {
+pub fn room_after(columns: usize) -> usize {
     COLUMNS
         .saturating_sub(MARGIN.len())
         .saturating_sub(1)
@@ -53,14 +53,14 @@ pub(crate) fn room_after(columns: usize) -> usize {
 }
 
 /// Spaces up to so many bytes.
-pub(crate) fn pad(text: &mut Text, columns: usize) {
+pub fn pad(text: &mut Text, columns: usize) {
     for _ in text.len()..columns {
         text.push(" ");
     }
 }
 
 /// Adds a part in the columns after so many, if it says anything.
-pub(crate) fn put(text: &mut Text, columns: usize, part: &str) {
+pub fn put(text: &mut Text, columns: usize, part: &str) {
     if !part.is_empty() {
         pad(text, columns);
         text.push(part);

@@ -15,9 +15,9 @@ pub struct Bytes {
 
 /// How many columns words have, and how many bytes end with one of them, their acknowledge.
 #[derive(Clone, Copy)]
-pub(crate) struct Extent {
-    pub(crate) columns: usize,
-    pub(crate) bytes: usize,
+pub struct Extent {
+    pub columns: usize,
+    pub bytes: usize,
 }
 
 impl Bytes {
@@ -27,12 +27,12 @@ impl Bytes {
     }
 
     /// How many words there are.
-    pub(crate) fn count(&self) -> usize {
+    pub fn count(&self) -> usize {
         self.ends.len()
     }
 
     /// What so many words at the beginning have, and all where there are not as many.
-    pub(crate) fn first(&self, words: usize) -> Extent {
+    pub fn first(&self, words: usize) -> Extent {
         let ends = self.ends.as_slice();
         match ends.get(..words).unwrap_or(ends).last() {
             Some(end) => *end,
@@ -44,7 +44,7 @@ impl Bytes {
     }
 
     /// The word with this number, from 0 on.
-    pub(crate) fn word(&self, number: usize) -> &str {
+    pub fn word(&self, number: usize) -> &str {
         let from = match number {
             0 => 0,
             _ => self.first(number).columns.saturating_add(1),
@@ -58,12 +58,7 @@ impl Bytes {
     /// # Errors
     ///
     /// Where an allocation fails.
-    pub(crate) fn until(
-        &self,
-        alloc: Global,
-        words: usize,
-        more: usize,
-    ) -> Result<Bytes, AllocError> {
+    pub fn until(&self, alloc: Global, words: usize, more: usize) -> Result<Bytes, AllocError> {
         let mut shown = Words::of_byte(alloc, false);
         shown.is_row = true;
         let end = self.first(words).columns;
@@ -83,7 +78,7 @@ impl Bytes {
 
 /// What a bus or a participant does from a START on, byte by byte.
 #[derive(Drop)]
-pub(crate) struct Words {
+pub struct Words {
     text: Text,
     // of a row, what its words have up to each of them
     ends: Vec<Extent>,
@@ -108,7 +103,7 @@ pub fn bytes_of(alloc: Global, marks: &[Mark]) -> Result<String, AllocError> {
 }
 
 /// The text with the bytes of a transaction after it.
-pub(crate) fn with_bytes(alloc: Global, text: Text, marks: &[Mark]) -> Text {
+pub fn with_bytes(alloc: Global, text: Text, marks: &[Mark]) -> Text {
     let mut words = Words::of_byte(alloc, true);
     words.text = text;
     words.word("S");
@@ -122,7 +117,7 @@ pub(crate) fn with_bytes(alloc: Global, text: Text, marks: &[Mark]) -> Text {
 /// # Errors
 ///
 /// Where an allocation fails.
-pub(crate) fn row_of_marks(alloc: Global, marks: &[Mark]) -> Result<Bytes, AllocError> {
+pub fn row_of_marks(alloc: Global, marks: &[Mark]) -> Result<Bytes, AllocError> {
     let mut words = Words::new(alloc);
     words.marks(marks);
     words.row()
@@ -130,7 +125,7 @@ pub(crate) fn row_of_marks(alloc: Global, marks: &[Mark]) -> Result<Bytes, Alloc
 
 impl Words {
     /// A START, of a row.
-    pub(crate) fn new(alloc: Global) -> Words {
+    pub fn new(alloc: Global) -> Words {
         let mut words = Words::of_byte(alloc, true);
         words.is_row = true;
         words.word("S");
@@ -138,7 +133,7 @@ impl Words {
     }
 
     /// No START: a single byte follows.
-    pub(crate) fn of_byte(alloc: Global, is_header: bool) -> Words {
+    pub fn of_byte(alloc: Global, is_header: bool) -> Words {
         Words {
             text: Text::new(alloc),
             ends: Vec::new(alloc),
@@ -182,7 +177,7 @@ impl Words {
     }
 
     /// A bit of a byte, or the acknowledge after eight of them.
-    pub(crate) fn bit(&mut self, bit: Bit) {
+    pub fn bit(&mut self, bit: Bit) {
         if self.bits == 8 {
             self.end_byte(false);
             self.is_header = false;
@@ -196,26 +191,26 @@ impl Words {
     }
 
     /// A repeated START.
-    pub(crate) fn again(&mut self) {
+    pub fn again(&mut self) {
         self.end_byte(true);
         self.is_header = true;
         self.word(" Sr");
     }
 
     /// A STOP.
-    pub(crate) fn stop(&mut self) {
+    pub fn stop(&mut self) {
         self.end_byte(true);
         self.word(" P");
     }
 
     /// An interrupt waits for the answer to its header.
-    pub(crate) fn claim(&mut self) {
+    pub fn claim(&mut self) {
         self.end_byte(false);
         self.word(" (waits)");
     }
 
     /// What a slot of a wire has.
-    pub(crate) fn item(&mut self, item: Item) {
+    pub fn item(&mut self, item: Item) {
         match item {
             Item::Sent(bit) | Item::Heard(bit) => self.bit(known(bit)),
             Item::Again => self.again(),
@@ -225,7 +220,7 @@ impl Words {
     }
 
     /// What a recorded wire showed.
-    pub(crate) fn mark(&mut self, mark: Mark) {
+    pub fn mark(&mut self, mark: Mark) {
         match mark {
             Mark::Level(bit) => self.bit(known(bit)),
             Mark::Again => self.again(),
@@ -234,12 +229,12 @@ impl Words {
     }
 
     /// Whether a byte is begun and not all its eight bits are there.
-    pub(crate) fn is_within_byte(&self) -> bool {
+    pub fn is_within_byte(&self) -> bool {
         self.bits != 0 && self.bits != 8
     }
 
     /// All words, of what may go on, in a row.
-    pub(crate) fn row(mut self) -> Result<Bytes, AllocError> {
+    pub fn row(mut self) -> Result<Bytes, AllocError> {
         self.end_byte(false);
         Ok(Bytes {
             text: self.text.finish()?,
@@ -248,7 +243,7 @@ impl Words {
     }
 
     /// All words, of what may go on.
-    pub(crate) fn finish(mut self) -> Result<String, AllocError> {
+    pub fn finish(mut self) -> Result<String, AllocError> {
         self.end_byte(false);
         self.text.finish()
     }
@@ -300,7 +295,7 @@ impl Words {
 }
 
 /// The bit as one that is known.
-pub(crate) fn known(bit: bool) -> Bit {
+pub fn known(bit: bool) -> Bit {
     if bit { Bit::One } else { Bit::Zero }
 }
 

@@ -1,12 +1,11 @@
 // Lines for people below those of transactions.
 
-use crate::below::{begin, say_all};
-use crate::faults::{bus_row, row_of, tell_item};
 use crate::glitches::{Cut, Cuts};
-use crate::labels::Labels;
 use crate::leaving::{Leaves, NEAREST, bytes_until, mark_words, nearest, offer_words};
-use crate::rows::{ALIKE, BYTES, tell_rows};
-use crate::words::{Bytes, row_of_marks};
+use bus_rows::{
+    ALIKE, BYTES, Bytes, Labels, begin, bus_row, row_of, row_of_marks, say_all, tell_item,
+    tell_rows,
+};
 use capture_check::{Mark, Transaction, Until};
 use growing_text::{Lines, Text};
 use plan_core::Plan;

@@ -18,7 +18,7 @@ pub enum Paint {
 
 impl Paint {
     /// Adds a line that was made elsewhere, with so many of its bytes in the colour of this verdict: those after so many others.
-    pub(crate) fn push_verdict(
+    pub fn push_verdict(
         self,
         text: &mut Text,
         line: Result<String, AllocError>,
@@ -34,7 +34,7 @@ impl Paint {
 
 impl Paint {
     /// Adds a word in the colour of this verdict.
-    pub(crate) fn push_word(self, text: &mut Text, word: &str, is_safe: bool) {
+    pub fn push_word(self, text: &mut Text, word: &str, is_safe: bool) {
         match self {
             Paint::Plain => text.push(word),
             Paint::Colored => push_colored(text, word, (0, word.len()), is_safe),

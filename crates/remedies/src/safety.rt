@@ -33,7 +33,7 @@ pub struct Decided {
 /// # Errors
 ///
 /// Where an allocation fails.
-pub(crate) fn safety_of(alloc: Global, words: PlanWords<'_>) -> Result<Safety, AllocError> {
+pub fn safety_of(alloc: Global, words: PlanWords<'_>) -> Result<Safety, AllocError> {
     let plan = words.plan();
     let decided = decided_in(alloc, plan)?;
     Ok(Safety {

@@ -1,8 +1,10 @@
 // Rows that stand one below the other: the bytes on the bus, and those of participants.
 
 use crate::below::{begin_titled, room_after};
+use crate::sending::deed;
 use crate::words::{Bytes, Extent};
 use growing_text::Lines;
+use places::Offered;
 
 // How many columns titles have at most that stand beside the words of rows.
 const BESIDE: usize = 24;
@@ -13,20 +15,39 @@ const ABOVE: usize = 5;
 // How many words at the beginning of a row are never left out: START, address, direction and acknowledge.
 const KEPT: usize = 4;
 
-/// What is said of bytes that are left out, after how many they are: of those that all rows have, and of others.
-pub(crate) const ALIKE: &str = "bytes alike ..";
+/// What is said of bytes that are left out, after how many they are, where all rows have them.
+pub const ALIKE: &str = "bytes alike ..";
 
-pub(crate) const BYTES: &str = "bytes ..";
+/// The same of other bytes.
+pub const BYTES: &str = "bytes ..";
 
 // What stands before what comes next.
 const NEXT: &str = "next:";
 
 /// A row: its title, its words, and what a participant does next.
 #[derive(Clone, Copy)]
-pub(crate) struct Row<'a> {
-    pub(crate) title: &'a str,
-    pub(crate) words: &'a Bytes,
-    pub(crate) next: Option<&'static str>,
+pub struct Row<'a> {
+    pub title: &'a str,
+    pub words: &'a Bytes,
+    pub next: Option<&'static str>,
+}
+
+/// The row of the bytes on the bus.
+pub fn bus_row(words: &Bytes) -> Row<'_> {
+    Row {
+        title: "bus",
+        words,
+        next: None,
+    }
+}
+
+/// The row of a participant: what it sends, and what it offers next.
+pub fn row_of<'a>(title: &'a str, words: &'a Bytes, next: Offered) -> Row<'a> {
+    Row {
+        title,
+        words,
+        next: Some(deed(next)),
+    }
 }
 
 // How rows are written: in how many columns their titles stand, and which word is the first one after those that are left out,
@@ -104,7 +125,7 @@ impl Row<'_> {
 /// The rows, each on one line, with their words beside the titles. Where one of them has no room, a count with this stands for
 /// bytes after its first one, for the same ones in each row: what all send alike stays one below the other. Long titles have
 /// lines of their own, and so have shorter ones where the rows have no room beside them.
-pub(crate) fn tell_rows(lines: &mut Lines, rows: &[Row<'_>], said: &str) {
+pub fn tell_rows(lines: &mut Lines, rows: &[Row<'_>], said: &str) {
     let shape = shape_of(rows);
     let width = aligned(rows, shape);
     for row in rows {
@@ -151,7 +172,7 @@ fn columns_for(rows: &[Row<'_>]) -> usize {
 
 /// The columns of titles of which the longest has so many, two blanks among them: so many at least, and as many where that
 /// would be more than `most`.
-pub(crate) fn beside(longest: usize, least: usize, most: usize) -> usize {
+pub fn beside(longest: usize, least: usize, most: usize) -> usize {
     let columns = longest.saturating_add(2).max(least);
     if columns <= most { columns } else { least }
 }

@@ -2,13 +2,12 @@
 
 use crate::captures::{after_transaction, below_transaction};
 use crate::drove::{below_drives, drives_line};
-use crate::labels::{Labels, called_by, labels_of};
 use crate::moments::push_times;
-use crate::paints::Paint;
 use crate::pulse_lines::pulse_line;
 use crate::selecting::Selection;
 use crate::tallies::{Tallies, push_stopped};
 use crate::written::Written;
+use bus_rows::{Labels, Paint, called_by, labels_of};
 use capture_check::{Transaction, Until};
 use decoding::{Ending, ExplainedSink};
 use drives::Judging;

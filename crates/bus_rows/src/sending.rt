@@ -8,15 +8,15 @@ use std::alloc::{AllocError, Global};
 
 /// What a participant does along a wire, and next.
 #[derive(Drop)]
-pub(crate) struct Followed {
+pub struct Followed {
     /// The slots of the wire in which it may send either bit.
-    pub(crate) open: Ranges,
-    pub(crate) next: Offered,
+    pub open: Ranges,
+    pub next: Offered,
 }
 
 /// Follows a participant, which the plan has, as far as it goes along with the wire. It adds its bytes, up to the end of the
 /// one in which the wire ends.
-pub(crate) fn follow_wire(
+pub fn follow_wire(
     alloc: Global,
     plan: &Plan,
     p: u32,
@@ -52,7 +52,7 @@ impl Followed {
 }
 
 /// Goes on by an item, and says whether that may come next: else the place stays.
-pub(crate) fn pass(place: &mut Place<'_>, item: Item) -> bool {
+pub fn pass(place: &mut Place<'_>, item: Item) -> bool {
     if place.offered().allows(item) {
         *place = place.after(item);
         return true;
@@ -61,17 +61,17 @@ pub(crate) fn pass(place: &mut Place<'_>, item: Item) -> bool {
 }
 
 /// A bit of its own, an open one as 0.
-pub(crate) fn own_bit(place: Place<'_>) -> Item {
+pub fn own_bit(place: Place<'_>) -> Item {
     Item::Sent(place.offered() == Offered::Bit(Bit::One))
 }
 
 /// Goes on by a bit of its own.
-pub(crate) fn pass_own(place: &mut Place<'_>) -> bool {
+pub fn pass_own(place: &mut Place<'_>) -> bool {
     pass(place, own_bit(*place))
 }
 
 /// Adds a bit of its own as the message has it, and anything else as the wire has it.
-pub(crate) fn push_offered(words: &mut Words, offered: Offered, item: Item) {
+pub fn push_offered(words: &mut Words, offered: Offered, item: Item) {
     match offered {
         Offered::Bit(bit) => words.bit(bit),
         _ => words.item(item),
@@ -79,7 +79,7 @@ pub(crate) fn push_offered(words: &mut Words, offered: Offered, item: Item) {
 }
 
 /// Adds what the participant does next: a byte up to its end.
-pub(crate) fn push_rest(words: &mut Words, place: Place<'_>) {
+pub fn push_rest(words: &mut Words, place: Place<'_>) {
     let mut place = place;
     for _ in 0..8 {
         match place.offered() {
@@ -97,14 +97,14 @@ pub(crate) fn push_rest(words: &mut Words, place: Place<'_>) {
 
 /// Ranges of slots, as first and last ones. That an allocation failed for one of them is told by `finish`.
 #[derive(Drop)]
-pub(crate) struct Ranges {
+pub struct Ranges {
     ranges: Vec<(usize, usize)>,
     is_whole: bool,
 }
 
 impl Ranges {
     /// None.
-    pub(crate) fn new(alloc: Global) -> Ranges {
+    pub fn new(alloc: Global) -> Ranges {
         Ranges {
             ranges: Vec::new(alloc),
             is_whole: true,
@@ -112,7 +112,7 @@ impl Ranges {
     }
 
     /// Adds a slot after all others.
-    pub(crate) fn add(&mut self, slot: usize) {
+    pub fn add(&mut self, slot: usize) {
         if let Some((_, last)) = self.ranges.last_mut() {
             if last.saturating_add(1) == slot {
                 *last = slot;
@@ -125,7 +125,7 @@ impl Ranges {
     }
 
     /// All of them.
-    pub(crate) fn finish(self) -> Result<Vec<(usize, usize)>, AllocError> {
+    pub fn finish(self) -> Result<Vec<(usize, usize)>, AllocError> {
         if self.is_whole {
             Ok(self.ranges)
         } else {

@@ -1,0 +1,85 @@
+// Lines that say where what participants send stands in briefs.
+
+use crate::below::{begin, say};
+use growing_text::{Lines, Text};
+use plan_words::{FileLine, PlanWords};
+use std::alloc::{AllocError, Global};
+
+// How many columns a place has at most that stands on a line between `see` and `and`.
+const PLACE: usize = 68;
+
+/// Where the message of a participant stands in a brief, or the interrupt that it is, if it does.
+pub fn tell_item(alloc: Global, lines: &mut Lines, words: PlanWords<'_>, p: u32) {
+    if let Some(place) = words.item_at(p) {
+        if tell_one(alloc, lines, place).is_err() {
+            lines.cut();
+        }
+    }
+}
+
+/// Where the messages of two participants stand in briefs, or the interrupts that they are, if they do.
+pub fn tell_places(alloc: Global, lines: &mut Lines, words: PlanWords<'_>, both: (u32, u32)) {
+    let told = match (words.item_at(both.0), words.item_at(both.1)) {
+        (Some(first), Some(second)) if first != second => tell_two(alloc, lines, first, second),
+        (Some(only), _) | (None, Some(only)) => tell_one(alloc, lines, only),
+        (None, None) => Ok(()),
+    };
+    if told.is_err() {
+        lines.cut();
+    }
+}
+
+fn tell_one(alloc: Global, lines: &mut Lines, place: FileLine<'_>) -> Result<(), AllocError> {
+    let place = spelled(alloc, place)?;
+    if is_long(place.as_str()) {
+        say(lines, "see this line:");
+        tell_place(lines, place.as_str());
+        return Ok(());
+    }
+    begin(lines);
+    lines.word("see");
+    lines.word(place.as_str());
+    lines.end();
+    Ok(())
+}
+
+// The second place has a line of its own where both have no room on one.
+fn tell_two(
+    alloc: Global,
+    lines: &mut Lines,
+    first: FileLine<'_>,
+    second: FileLine<'_>,
+) -> Result<(), AllocError> {
+    let first = spelled(alloc, first)?;
+    let second = spelled(alloc, second)?;
+    if is_long(first.as_str()) {
+        say(lines, "see these lines:");
+        tell_place(lines, first.as_str());
+        tell_place(lines, second.as_str());
+        return Ok(());
+    }
+    begin(lines);
+    lines.word("see");
+    lines.word(first.as_str());
+    lines.word("and");
+    lines.word(second.as_str());
+    lines.end();
+    Ok(())
+}
+
+// A place on a line of its own.
+fn tell_place(lines: &mut Lines, place: &str) {
+    begin(lines);
+    lines.word(place);
+    lines.end();
+}
+
+fn is_long(place: &str) -> bool {
+    PLACE < place.chars().count()
+}
+
+fn spelled(alloc: Global, place: FileLine<'_>) -> Result<String, AllocError> {
+    let mut text = Text::new(alloc);
+    place.push_to(&mut text);
+    text.finish()
+}
