@@ -2,9 +2,6 @@
 
 use crate::lines::Lines;
 use crate::marking::first_line;
-use dump_tokens::reading::part;
-use std::alloc::Global;
-use std::io::{Read, Seek};
 
 /// How many of the first bytes of a file are looked at.
 pub const LOOKED_AT: usize = 4_096;
@@ -67,12 +64,6 @@ pub fn push_kind(lines: &mut Lines, found: Option<Kind>, expected: Kind) {
         Some(kind) if kind != expected => lines.say(kind.words()),
         _ => {}
     }
-}
-
-/// The first bytes of a file, where it can be read once more.
-pub fn head_of_file<F: Read + Seek>(alloc: Global, file: &mut Option<F>) -> Option<Vec<u8>> {
-    let file = file.as_mut()?;
-    part(alloc, file, 0, LOOKED_AT).ok()
 }
 
 // What files begin with that are packed by several programs: bzip2, xz, zstd and 7-Zip.

@@ -6,7 +6,7 @@
 //! already or which are nearest, and `wording` what the other refusals mean. `certs` shows the place in a certificate, and
 //! `starters` looks for labels in the plan. `safety` says what a safe plan leaves out, `summaries` how many unsafe pairs are
 //! seen in groups, `odd` what is likely a mistake in briefs, `plans` why a plan has no brief, and `devices` which file failed.
-//! What is said of dumps stands in `captures`.
+//! What is said of dumps is a crate of its own, `dump_hints`, which puts its hints together by the parts below.
 //!
 //! `values` has the hints, and writes them as lines: it puts the word `hint:` before each, and breaks sentences for 80 columns.
 //! `lines` puts hints together from parts, `marking` shows a place in its line, and `paths` writes names of files as a shell takes
@@ -15,7 +15,6 @@
 //! to one that is not there.
 #![tactic(auto)]
 
-mod captures;
 mod certs;
 mod devices;
 mod expected;
@@ -35,15 +34,15 @@ mod values;
 mod wording;
 mod words;
 
-pub use captures::{
-    Names, on_bytes, on_choice, on_denied_line, on_dump, on_no_controller, on_no_line, on_no_name,
-    on_recording, on_rises, on_same_line, on_signals, on_silence, on_unexplained,
-};
 pub use certs::on_certificate;
 pub use devices::{
     Named, on_closed_input, on_fault, on_memory, on_no_answers, on_no_timescale, on_no_waves,
     on_opening, on_reading, on_workers, on_writing,
 };
+pub use kinds::{Kind, LOOKED_AT, is_binary, kind_of, push_kind};
+pub use likeness::Nearest;
+pub use lines::Lines;
+pub use marking::{first_line, push_marked, push_name, push_quoted};
 pub use names::{Stand, first_stand, names_in};
 pub use odd::on_oddity;
 pub use paths::{file_word, shown, visible};

@@ -4,12 +4,15 @@ use crate::endings::{Recorded, Remark};
 use crate::extras::Extras;
 use crate::inputs::{Inputs, NamedSources};
 use crate::voices::{Voice, refused_drive, refused_timescale, say};
+use dump_hints::{
+    Names, on_bytes, on_choice, on_dump, on_recording, on_rises, on_signals, on_silence,
+    on_unexplained,
+};
 use dump_tokens::BusLines;
 use growing_text::Text;
 use hints::{
-    Hints, Named, Names, file_word, on_bytes, on_choice, on_closed_input, on_dump, on_fault,
-    on_memory, on_no_timescale, on_opening, on_reading, on_recording, on_rises, on_signals,
-    on_silence, on_text, on_unexplained, on_workers, on_writing,
+    Hints, Named, file_word, on_closed_input, on_fault, on_memory, on_no_timescale, on_opening,
+    on_reading, on_text, on_workers, on_writing,
 };
 use plan_text::PlanError;
 use report::{Probe, RunError, Status};

@@ -1,8 +1,6 @@
 // Captures in other formats, each with the command that makes a dump of it.
 
-use crate::kinds::Kind;
-use crate::lines::Lines;
-use crate::marking::first_line;
+use hints::{Kind, Lines, first_line};
 
 /// A format of captures that is no dump.
 #[derive(Clone, Copy, PartialEq, Eq)]

@@ -1,10 +1,9 @@
 // After a report on a capture that has no transaction, or of which nobody explains one.
 
-use crate::captures::choosing::push_twins;
-use crate::captures::looking::{Beginning, Clock, Levels, Seen, Wholes, look};
-use crate::captures::naming::{BREAKS_OFF, Names, breaks_off, scale_of};
-use crate::lines::Lines;
-use crate::values::Hints;
+use crate::choosing::push_twins;
+use crate::looking::{Beginning, Clock, Levels, Seen, Wholes, look};
+use crate::naming::{BREAKS_OFF, Names, breaks_off, scale_of};
+use hints::{Hints, Lines};
 use std::alloc::{AllocError, Global};
 use std::io::{Read, Seek};
 

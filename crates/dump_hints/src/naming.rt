@@ -1,10 +1,8 @@
 // The names of the signals of a dump, for those who gave one that is not there.
 
-use crate::captures::scoping::push_scopes;
-use crate::likeness::Nearest;
-use crate::lines::Lines;
-use crate::marking::push_name;
+use crate::scoping::push_scopes;
 use dump_tokens::{Scale, Time};
+use hints::{Lines, Nearest, push_name};
 use run_parts::Watched;
 use signals::{
     Found, Listing, Picked, base_of, bus_options, fit_of, needs_picking, pick, read_beginning,

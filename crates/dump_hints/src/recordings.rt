@@ -1,10 +1,9 @@
 // After a list of signals, after a capture in bytes, and after a brief or a page of it.
 
-use crate::captures::choosing::push_twins;
-use crate::captures::naming::Names;
-use crate::captures::silence::{push_exchanged, push_lost_clock, push_passed};
-use crate::lines::Lines;
-use crate::values::Hints;
+use crate::choosing::push_twins;
+use crate::naming::Names;
+use crate::silence::{push_exchanged, push_lost_clock, push_passed};
+use hints::{Hints, Lines};
 use run_parts::Watched;
 use signals::{CANDIDATES, Found, Listing, read_beginning};
 use std::alloc::{AllocError, Global};

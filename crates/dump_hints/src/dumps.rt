@@ -1,13 +1,11 @@
 // After the refusal of a dump.
 
-use crate::captures::converting::{format_of, push_format};
-use crate::captures::naming::{Names, push_names};
-use crate::captures::opening::find_opened;
-use crate::captures::wording::{push_dump, push_token, push_unended};
-use crate::kinds::{Kind, head_of_file, is_binary, kind_of, push_kind};
-use crate::lines::Lines;
-use crate::marking::push_marked;
-use crate::values::Hints;
+use crate::converting::{format_of, push_format};
+use crate::naming::{Names, push_names};
+use crate::opening::find_opened;
+use crate::wording::{push_dump, push_token, push_unended};
+use dump_tokens::reading::part;
+use hints::{Hints, Kind, LOOKED_AT, Lines, is_binary, kind_of, push_kind, push_marked};
 use std::alloc::{AllocError, Global};
 use std::io::{Read, Seek};
 use vcd_read::{Opened, Place, VcdError, Wrong};
@@ -82,6 +80,12 @@ fn front_of<F: Read + Seek>(
         bytes,
         is_of_file: false,
     })
+}
+
+// The first bytes of a file, where it can be read once more.
+fn head_of_file<F: Read + Seek>(alloc: Global, file: &mut Option<F>) -> Option<Vec<u8>> {
+    let file = file.as_mut()?;
+    part(alloc, file, 0, LOOKED_AT).ok()
 }
 
 // The token, marked in its line, and what is wrong with it.

@@ -1,9 +1,8 @@
 // After a report on a capture whose samples are too far apart.
 
-use crate::captures::naming::Names;
-use crate::lines::Lines;
-use crate::values::Hints;
+use crate::naming::Names;
 use capture_check::Rises;
+use hints::{Hints, Lines};
 use std::alloc::{AllocError, Global};
 
 // How often SCL has to rise before anything is said of it.

@@ -1,9 +1,7 @@
 // After the refusal of a line that was to be what a controller pulls.
 
-use crate::lines::Lines;
-use crate::marking::push_name;
-use crate::values::Hints;
 use dump_tokens::Drive;
+use hints::{Hints, Lines, push_name};
 use std::alloc::{AllocError, Global};
 
 /// What to say where no signal of the dump fits the line.

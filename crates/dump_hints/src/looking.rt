@@ -1,6 +1,6 @@
 // What a capture shows of the two lines, as they are given and with the two exchanged.
 
-use crate::captures::naming::{Names, reader_of};
+use crate::naming::{Names, reader_of};
 use capture_check::{Follower, Mark, Transaction, Until, Watch, What};
 use dump_tokens::reading::{Reading, read_again};
 use dump_tokens::{Scale, Time};

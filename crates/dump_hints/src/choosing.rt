@@ -1,10 +1,8 @@
 // Names that several signals of a dump have, and how one of them is chosen.
 
-use crate::captures::naming::{Names, is_named, word_of};
-use crate::captures::silence::push_passed;
-use crate::lines::Lines;
-use crate::marking::{push_name, push_quoted};
-use crate::values::Hints;
+use crate::naming::{Names, is_named, word_of};
+use crate::silence::push_passed;
+use hints::{Hints, Lines, push_name, push_quoted};
 use run_parts::Watched;
 use signals::{Found, Listing, read_beginning};
 use std::alloc::{AllocError, Global};

@@ -1,6 +1,6 @@
 // What is wrong, in words.
 
-use crate::lines::Lines;
+use hints::Lines;
 use vcd_read::{Expected, Opened, Place, VcdError};
 
 /// Says why this token cannot stand in its place, and what could.

@@ -1,8 +1,7 @@
 // The scopes in which the name of a line stands, for those who gave another.
 
-use crate::captures::naming::{Names, is_named, word_of};
-use crate::lines::Lines;
-use crate::marking::push_name;
+use crate::naming::{Names, is_named, word_of};
+use hints::{Lines, push_name};
 use run_parts::Watched;
 use signals::{Found, Listing, read_beginning};
 use std::alloc::{AllocError, Global};
