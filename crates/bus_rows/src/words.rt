@@ -163,10 +163,16 @@ impl Words {
     // The text is at the end of a word.
     fn end_word(&mut self) {
         if self.is_row {
-            self.push_end(Extent {
-                columns: self.text.len(),
-                bytes: self.bytes,
-            });
+            let end = self.extent();
+            self.push_end(end);
+        }
+    }
+
+    // What it has.
+    fn extent(&self) -> Extent {
+        Extent {
+            columns: self.text.len(),
+            bytes: self.bytes,
         }
     }
 
