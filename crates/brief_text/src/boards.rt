@@ -21,9 +21,9 @@ ghost use Rattle.brief_text.specs.Judging.{part_refusal, first_refusal, second_r
 use crate::lint::Uses;
 use crate::meanings::member_text;
 use crate::naming::{Named, copied};
-use crate::origins::Spot;
 use crate::syntax::{Lengths, NameFound, Party, Value};
 use message_tree::{Address, Pattern};
+use origins::Spot;
 use plan_core::limits::{MOST_CONTROLLERS, MOST_MESSAGES, MOST_SENDINGS};
 use plan_core::{BuildError, Builder, Name};
 use plan_text::PlanError;

@@ -10,7 +10,7 @@ ghost use Rattle.brief_text.specs.Together.{together, Follows};
 
 use crate::boards::Board;
 use crate::items::read_text;
-use crate::origins::Origins;
+use origins::Origins;
 use plan_core::Plan;
 use plan_text::{PlanError, Refused};
 use std::alloc::{AllocError, Global};

@@ -2,34 +2,12 @@
 // of it.
 
 use crate::naming::copied;
-use crate::origins::Spot;
 use crate::syntax::{DataSyntax, FrameSyntax, NameFound, TailSyntax, Value};
 use indexmap::IndexMap;
 use message_tree::{Address, Pattern};
+use origins::{Device, NamedByte, Spot};
 use plan_core::Name;
 use std::alloc::{AllocError, Global};
-
-/// A device of briefs.
-#[derive(Drop)]
-pub struct Device {
-    pub name: Name,
-    pub address: Address,
-    /// Where it stands.
-    pub spot: Spot,
-    /// Whether a message or an interrupt names it.
-    pub is_used: bool,
-}
-
-/// A data byte of briefs that has a name.
-#[derive(Drop)]
-pub struct NamedByte {
-    pub name: Name,
-    pub bits: Pattern,
-    /// Where it stands.
-    pub spot: Spot,
-    /// Whether a message names it.
-    pub is_used: bool,
-}
 
 /// What is declared, in the order of the briefs.
 #[derive(Drop)]

@@ -15,9 +15,9 @@ ghost use Rattle.brief_text.specs.Standing.{brief_frame, brief_bytes, brief_tail
 
 use crate::boards::Board;
 use crate::naming::{copied as named_alike, spelled};
-use crate::origins::Spot;
 use crate::syntax::{DataSyntax, FrameSyntax, Lengths, NameFound, Often, TailSyntax};
 use message_tree::{Frame, Pattern, Payload, Tail};
+use origins::Spot;
 use plan_core::Name;
 use plan_core::limits::MOST_MESSAGES;
 use std::alloc::{AllocError, Global};

@@ -17,8 +17,8 @@ ghost use Rattle.brief_text.specs.Parting.{part, apart, names_of};
 
 use crate::boards::{Board, Listing, Never};
 use crate::naming::copied;
-use crate::origins::{ControllerOrigin, FamilyOrigin, Origins, Spot};
 use crate::syntax::Party;
+use origins::{ControllerOrigin, FamilyOrigin, Origins, Spot};
 use plan_core::{BuildError, Builder, Name, Plan};
 use std::alloc::{AllocError, Global};
 
@@ -56,7 +56,11 @@ impl Board {
         let mut controllers = Vec::new(self.alloc);
         for part in self.parts()?.as_slice() {
             let party = part.party.copied(self.alloc)?;
-            controllers.push(ControllerOrigin::new(party, part.spot))?;
+            controllers.push(ControllerOrigin {
+                controller: party.controller,
+                label: party.label,
+                spot: part.spot,
+            })?;
         }
         Ok(Origins {
             controllers,

@@ -2,7 +2,7 @@
 
 use crate::items::Items;
 use crate::values::{Diagnostic, Related, Severity, Span, one_line};
-use brief_text::Spot;
+use origins::Spot;
 use hints::on_oddity;
 use lint::Oddity;
 use plan_text::places::Kind;

@@ -12,7 +12,8 @@ ghost use Rattle.run_parts.specs.RunErrors.{run_error};
 ghost use Rattle.run_parts.specs.Runs.{ReadsText, HaltsAtText};
 ghost use Rattle.run_parts.specs.declared.errors.RunError.TheVariants.{NoMemory};
 
-use brief_text::{Briefs, Origins};
+use brief_text::Briefs;
+use origins::Origins;
 use plan_core::Plan;
 use plan_text::{Language, Place, PlanError, Refused, read_plan_at};
 use run_parts::devices::reading::READS;

@@ -1,7 +1,7 @@
 // The brief that what is learned is given after: which transactions its messages explain, and the names that it has.
 
 use crate::paths::NoPath;
-use brief_text::Origins;
+use origins::Origins;
 use capture_check::{Transaction, explain};
 use message_tree::{Address, Pattern};
 use plan_core::limits::{MOST_CONTROLLERS, MOST_MESSAGES, MOST_SENDINGS};

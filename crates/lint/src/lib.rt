@@ -1,8 +1,9 @@
 //! What is allowed in briefs, and is likely a mistake. Nothing of it decides anything, and no clause speaks of it.
 #![tactic(auto)]
 
-use brief_text::{Device, NamedByte, Origins, Spot, names_in};
+use brief_text::names_in;
 use message_tree::{Address, Bit};
+use origins::{Device, NamedByte, Origins, Spot};
 use plan_core::Plan;
 use std::alloc::{AllocError, Global};
 

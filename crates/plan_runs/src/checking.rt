@@ -5,7 +5,7 @@ ghost use Rattle.plan_core.specs.PlanContents.{plan_contents};
 ghost use Rattle.verdicts.specs.Faults.{AreFaults, fault_list};
 
 use crate::drawings::draw_fault;
-use brief_text::Origins;
+use origins::Origins;
 use bus_rows::{Paint, called_by};
 use cert_check::{Answer, Judged, check_certificate_at};
 use certificate::Refusal;

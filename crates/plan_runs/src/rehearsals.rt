@@ -6,7 +6,7 @@ ghost use Rattle.bench_run.specs.Outcomes.{HasWinners};
 use crate::checking::{remark_on_answer, tell_answer};
 use crate::drawings::draw_outcome;
 use bench_run::{NoGate, Outcome, Rehearsal, outcome_report, rehearse, status_of_outcome};
-use brief_text::Origins;
+use origins::Origins;
 use bus_bench::opening::MOST_SLOTS;
 use bus_rows::Paint;
 use explain::{explain_answer, explain_rehearsal, mistake_of};

@@ -7,8 +7,8 @@
 
 mod sides;
 
-use brief_text::{ControllerOrigin, FamilyOrigin, Origins, Spot};
 use growing_text::Text;
+use origins::{ControllerOrigin, FamilyOrigin, Origins, Spot};
 use plan_core::{Name, Participant, Plan};
 pub use sides::{Sides, sides_of};
 use std::alloc::{AllocError, Global};

@@ -1,7 +1,8 @@
 // What a run is over.
 
 use crate::endings::{Halt, Takes};
-use brief_text::{Briefs, Origins};
+use brief_text::Briefs;
+use origins::Origins;
 use given_plans::{Further, GivenPlan, GivenText, find_further, find_given, given_by};
 use plan_core::Plan;
 use plan_words::{BriefFiles, PlanWords};

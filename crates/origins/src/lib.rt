@@ -1,7 +1,8 @@
-// Where what stands in a plan comes from: for people, who know the briefs and not the plan.
+//! Where what stands in a plan comes from: for people, who know the briefs and not the plan. These are values alone, so who
+//! only speaks of briefs does not stand on what reads them. No clause speaks of them.
+#![tactic(auto)]
 
-use crate::lint::{Device, NamedByte};
-use crate::syntax::Party;
+use message_tree::{Address, Pattern};
 use plan_core::Name;
 
 /// A place in briefs.
@@ -32,6 +33,28 @@ pub struct FamilyOrigin {
     pub messages: Vec<Name>,
 }
 
+/// A device of briefs.
+#[derive(Drop)]
+pub struct Device {
+    pub name: Name,
+    pub address: Address,
+    /// Where it stands.
+    pub spot: Spot,
+    /// Whether a message or an interrupt names it.
+    pub is_used: bool,
+}
+
+/// A data byte of briefs that has a name.
+#[derive(Drop)]
+pub struct NamedByte {
+    pub name: Name,
+    pub bits: Pattern,
+    /// Where it stands.
+    pub spot: Spot,
+    /// Whether a message names it.
+    pub is_used: bool,
+}
+
 /// Where the controllers, the messages and the interrupts of a plan come from, by their numbers in the plan.
 #[derive(Drop)]
 pub struct Origins {
@@ -45,14 +68,4 @@ pub struct Origins {
     /// The devices and the data bytes with names, in the order of the briefs.
     pub devices: Vec<Device>,
     pub bytes: Vec<NamedByte>,
-}
-
-impl ControllerOrigin {
-    pub(crate) fn new(party: Party, spot: Spot) -> Self {
-        ControllerOrigin {
-            controller: party.controller,
-            label: party.label,
-            spot,
-        }
-    }
 }
