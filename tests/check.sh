@@ -390,16 +390,18 @@ hint: the line ends before its proof does"
 printf '%s\n' "cert 1" "pairs 1" "B B . ." >short.cert
 run "hints on a proof that is too short" verify safe.plan short.cert --hints always
 want 2 "wrong C1 line 1" "hint: the lines of this certificate end in CR LF, and are to end in LF alone
-hint: git leaves certificates as they are by this line in .gitattributes:
-hint:   *.cert -text"
+hint: have it written again by 'twire certify PLAN -o CERT'; git keeps its LF by
+hint: this line in .gitattributes:
+hint:   *.cert text eol=lf"
 sed 's/$/\r/' safe.cert >returns.cert
 run "hints on a certificate with CR LF" verify safe.plan returns.cert --hints always
 want 2 "wrong C1 line 1
     a plan that was changed wants a new certificate: twire certify PLAN" "$(cat want_err)"
 run "hints on a certificate with CR LF, explained" verify safe.plan returns.cert --explain --hints always
 want 2 "wrong C1 line 1" "hint: the lines of this certificate end in CR LF, and are to end in LF alone
-hint: git leaves certificates as they are by this line in .gitattributes:
-hint:   *.cert -text"
+hint: have it written again by 'twire certify PLAN -o CERT'; git keeps its LF by
+hint: this line in .gitattributes:
+hint:   *.cert text eol=lf"
 run "hints on a certificate from standard input" verify safe.plan - --hints always <returns.cert
 want 2 "wrong C3 line 3" "hint: line 3 of the certificate:
 hint:   .. S S S S S S S S S S S S S S S S S S S S S S S S S S S S S S S S S S .
