@@ -2,9 +2,9 @@
 
 use crate::items::Items;
 use crate::values::{Diagnostic, Related, Severity, Span, one_line};
-use origins::Spot;
 use hints::on_oddity;
 use lint::Oddity;
+use origins::Spot;
 use plan_text::places::Kind;
 use plan_words::PlanWords;
 use std::alloc::{AllocError, Global};

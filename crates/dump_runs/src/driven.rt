@@ -1,6 +1,5 @@
 // Dumps that have for each controller what it pulls itself.
 
-use crate::recordings::open;
 use brief_text::is_brief_word;
 use decoding::{Ending, TransactionSink};
 use drives::{Drivers, Driving, Judging};
@@ -9,7 +8,7 @@ use dump_tokens::{Bus, Drive, Drives};
 use hints::Hints;
 use plan_core::{Name, NameError, Participant, Plan};
 use plan_words::PlanWords;
-use run_ends::Halt;
+use run_ends::{Halt, open_dump};
 use run_parts::{Input, RunError};
 use signals::{Dump, Sought};
 use std::alloc::{AllocError, Global};
@@ -24,7 +23,7 @@ pub(crate) fn open_driven<'v, 'a, J: Input>(
     drives: Drives<'a>,
 ) -> Result<Dump<'v, 'a, J>, Halt> {
     if drives.is_empty() {
-        return open(alloc, vcd, bus);
+        return open_dump(alloc, vcd, bus);
     }
     let dump = Dump::open_with(alloc, vcd, bus, sought(alloc, drives)?)?;
     if bus.has_unit() && dump.lacks_scale() {

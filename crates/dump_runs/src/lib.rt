@@ -6,5 +6,5 @@ mod driven;
 mod recordings;
 
 pub use recordings::{
-    Capture, Lesson, decode, explain_capture, halted, learn, learn_with_names, list_signals, open,
+    Capture, Lesson, decode, explain_capture, learn, learn_with_names, list_signals,
 };

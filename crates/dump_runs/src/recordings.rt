@@ -17,7 +17,9 @@ use plan_words::PlanWords;
 use report::{
     CaptureCounts, CaptureReport, Input, Output, RunError, Status, Telling, live_capture,
 };
-use run_ends::{Canvas, Ended, Halt, Recorded, Remark, Sources, Style, write_wave};
+use run_ends::{
+    Canvas, Ended, Halt, Recorded, Remark, Sources, Style, halted, open_dump, write_wave,
+};
 use run_parts::write_lines;
 use signals::{Dump, Listed, Recorder, SignalDump, needs_picking};
 use std::alloc::Global;
@@ -73,24 +75,6 @@ impl Capture<'_> {
             stops: self.stops,
         }
     }
-}
-
-/// The dump. Where a time has a unit it has to say what its numbers count; that it has no such line is for its reader to say.
-pub fn open<'v, 'a, J: Input>(
-    alloc: Global,
-    vcd: &'v mut J,
-    bus: Bus<'a>,
-) -> Result<Dump<'v, 'a, J>, Halt> {
-    let dump = Dump::open(alloc, vcd, bus)?;
-    if bus.has_unit() && dump.lacks_scale() {
-        return Err(Halt::NoTimescale);
-    }
-    Ok(dump)
-}
-
-/// Why a run over this dump ends without its report.
-pub fn halted<J: Input>(mut dump: Dump<'_, '_, J>, error: RunError) -> Halt {
-    Halt::Dump(error, dump.take_wrong())
 }
 
 // ---- capture
@@ -354,7 +338,7 @@ pub fn decode<R: Files + Print + Eprint + Clock + AllocGlobal, J: Input, O: Outp
     canvas: Option<Canvas<'_, '_>>,
 ) -> Result<Ended, Halt> {
     let alloc = rt.alloc();
-    let mut dump = open(alloc, vcd, bus)?;
+    let mut dump = open_dump(alloc, vcd, bus)?;
     let selection = Selection::new(bus.view, dump.scale());
     let mut tap = match canvas {
         Some(_) => Some(Recorder::new(alloc, dump.scl(), dump.sda())?),

@@ -45,7 +45,9 @@ fn push_refusal(lines: &mut Lines, fault: CertFault, refusal: &Refusal) {
 
 fn push_carriage_returns(lines: &mut Lines) {
     lines.say("the lines of this certificate end in CR LF, and are to end in LF alone");
-    lines.say("have it written again by 'twire certify PLAN -o CERT'; git keeps its LF by this line in .gitattributes:");
+    lines.say(
+        "have it written again by 'twire certify PLAN -o CERT'; git keeps its LF by this line in .gitattributes:",
+    );
     lines.detail("*.cert text eol=lf");
 }
 

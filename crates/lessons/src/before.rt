@@ -1,9 +1,9 @@
 // The brief that what is learned is given after: which transactions its messages explain, and the names that it has.
 
 use crate::paths::NoPath;
-use origins::Origins;
 use capture_check::{Transaction, explain};
 use message_tree::{Address, Pattern};
+use origins::Origins;
 use plan_core::limits::{MOST_CONTROLLERS, MOST_MESSAGES, MOST_SENDINGS};
 use plan_core::{Builder, Name, Participant, Plan};
 use std::alloc::{AllocError, Global};

@@ -5,7 +5,6 @@ ghost use Rattle.plan_core.specs.PlanContents.{plan_contents};
 ghost use Rattle.verdicts.specs.Faults.{AreFaults, fault_list};
 
 use crate::drawings::draw_fault;
-use origins::Origins;
 use bus_rows::{Paint, called_by};
 use cert_check::{Answer, Judged, check_certificate_at};
 use certificate::Refusal;
@@ -18,12 +17,13 @@ use hints::{Found, Hints, on_certificate, on_checked, on_safe};
 use lint::{Oddity, oddities};
 use objects::{write_answer, write_check, write_order, write_scores};
 use order::{Called, Order, order_of, order_report, order_summary, scores_of};
+use origins::Origins;
 use plan_core::Plan;
 use plan_words::{PlanWords, sides_of};
 use remedies::{Reasons, count_groups, kept_apart, reasons_of};
 use report::{
     Answered, Checked, Input, NoGate, Output, RunError, Status, answer_line, check_found,
-    check_report, read_within, status_of_answer, verify_found,
+    check_report, read_within, status_of, status_of_answer, verify_found,
 };
 use run_ends::{Canvas, Ended, Extras, Format, Halt, Remark, Sources, Style};
 use run_parts::devices::reading::READS;
@@ -167,7 +167,7 @@ fn write_messages<O: Output>(
 {
     let found = diagnose_check(alloc, words, checked, odd, strict, texts)?;
     let lines = message_lines(alloc, words, found.as_slice(), texts)?;
-    write_lines(out, lines.as_bytes(), status_of(checked))
+    write_lines(out, lines.as_bytes(), status_of(checked.faults.is_safe()))
 }
 
 fn message_lines(
@@ -292,7 +292,7 @@ fn write_checked<O: Output>(
     style: Style,
     out: &mut O,
 ) -> Result<Status, RunError> {
-    let status = status_of(checked);
+    let status = status_of(checked.faults.is_safe());
     match style {
         Style::Objects => write_check(alloc, checked, words, odd, reasons, detail, out)?,
         Style::Lines(Paint::Plain) if reasons.is_none() => {
@@ -302,15 +302,6 @@ fn write_checked<O: Output>(
         Style::Lines(paint) => explain_check(alloc, checked, words, reasons, detail, paint, out)?,
     }
     Ok(status)
-}
-
-/// The status of a run over a plan that was checked.
-pub fn status_of(checked: &Checked) -> Status {
-    if checked.faults.is_safe() {
-        Status::Good
-    } else {
-        Status::Bad
-    }
 }
 
 // ---- verify
@@ -427,7 +418,7 @@ fn order_plan<R: AllocGlobal + Threads + Sync, I: Input, O: Output>(
     let checked = check_found(rt, rt.alloc(), plan, 1, &NoGate)?;
     let words = plans.words(&checked.plan, origins);
     write_orders(rt.alloc(), words, &checked, out, explain, style)?;
-    Ok(Ended::quietly(status_of(&checked)))
+    Ok(Ended::quietly(status_of(checked.faults.is_safe())))
 }
 
 fn write_orders<O: Output>(

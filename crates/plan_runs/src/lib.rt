@@ -9,6 +9,6 @@ mod drawings;
 mod rehearsals;
 mod rewriting;
 
-pub use checking::{Look, check, order, status_of, verify};
+pub use checking::{Look, check, order, verify};
 pub use rehearsals::{Play, bench, bench_alone};
 pub use rewriting::{Layout, Rewriting};

@@ -71,8 +71,8 @@ pub fn run_check_with<R: Threads + Sync, I: Input, O: Output, G: Gate + Sync>(
     write_lines(out, report.as_bytes(), status_of(checked.faults.is_safe()))
 }
 
-// The status of a run over a plan that is safe, or is not.
-pub(crate) fn status_of(is_safe: bool) -> Status
+/// The status of a run over a plan that is safe, or is not.
+pub fn status_of(is_safe: bool) -> Status
     ensures { (plan : Contents) → (IsTrue is_safe ↔ IsSafe plan) → Judges result plan }
 {
     if is_safe { Status::Good } else { Status::Bad }

@@ -16,7 +16,7 @@ pub mod telling;
 pub use captures::{run_capture, run_capture_of};
 pub use certificates::{certify_found, run_certify};
 pub use checked::{check_found, check_plan};
-pub use checks::{run_check, run_check_with};
+pub use checks::{run_check, run_check_with, status_of};
 pub use faulty::{FaultyReader, FaultyWriter};
 pub use found::Checked;
 pub use lines::{check_report, push_count, push_fault};

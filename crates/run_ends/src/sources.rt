@@ -2,8 +2,8 @@
 
 use crate::endings::{Halt, Takes};
 use brief_text::Briefs;
-use origins::Origins;
 use given_plans::{Further, GivenPlan, GivenText, find_further, find_given, given_by};
+use origins::Origins;
 use plan_core::Plan;
 use plan_words::{BriefFiles, PlanWords};
 use report::{Input, RunError};

@@ -1,7 +1,6 @@
 //! Checks message plans of controllers and targets that share one two-wire bus.
 #![tactic(auto)]
 
-mod pages;
 mod runs;
 mod tasks;
 mod versions;

@@ -1,4 +1,6 @@
-// The run that writes a page. Each value and each text of it has a function that owns it, and the next one borrows it.
+//! The run that writes a page, over a plan and perhaps a dump. Each value and each text of it has a function that owns it, and
+//! the next one borrows it.
+#![tactic(auto)]
 
 ghost use Rattle.plan_core.specs.PlanContents.{plan_contents};
 ghost use Rattle.verdicts.specs.Faults.{AreFaults, fault_list};
@@ -6,20 +8,18 @@ ghost use Rattle.verdicts.specs.Faults.{AreFaults, fault_list};
 use bus_rows::Paint;
 use capture_check::{Rises, Transaction};
 use decoding::{ExplainedSink, Explaining};
-use dump_runs::{halted, open};
 use dump_tokens::Bus;
 use given_plans::GivenPlan;
 use order::{order_of, order_report};
 use page::{Page, Recording, Texts, page_of};
 use plan_core::Plan;
-use plan_runs::status_of;
 use plan_text::print_plan;
 use plan_words::PlanWords;
 use remedies::{Grouped, grouped_of};
 use report::{
-    Checked, Input, NoGate, Output, RunError, Status, Watched, check_found, check_report,
+    Checked, Input, NoGate, Output, RunError, Status, Watched, check_found, check_report, status_of,
 };
-use run_ends::{Ended, Halt, Recorded, Remark, Sources};
+use run_ends::{Ended, Halt, Recorded, Remark, Sources, halted, open_dump};
 use run_parts::write_lines;
 use signals::{Dump, Recorder};
 use std::alloc::Global;
@@ -38,7 +38,7 @@ pub fn write_page_alone<R: AllocGlobal + Threads + Sync, I: Input, O: Output>(
     let checked = check_found(rt, rt.alloc(), plan, 1, &NoGate)?;
     let words = plans.words(&checked.plan, &origins);
     write_page(rt.alloc(), title, &checked, words, None, out)?;
-    Ok(Ended::quietly(status_of(&checked)))
+    Ok(Ended::quietly(status_of(checked.faults.is_safe())))
 }
 
 /// Writes the page of a plan and of a capture.
@@ -62,7 +62,7 @@ pub fn write_page_with<R: AllocGlobal + Threads + Sync, I: Input, J: Input, O: O
     };
     write_page(rt.alloc(), title, &checked, words, Some(capture), out)?;
     Ok(Ended {
-        status: worse(status_of(&checked), seen),
+        status: worse(status_of(checked.faults.is_safe()), seen),
         remark: Remark::Recording(Recorded::Other, rises),
     })
 }
@@ -82,7 +82,7 @@ fn recording_of<R: AllocGlobal + Threads + Sync, J: Input, O: Output>(
     report: &mut O,
     bus: Bus<'_>,
 ) -> Result<(Recording, Status, Rises), Halt> {
-    let mut dump = open(rt.alloc(), vcd, bus)?;
+    let mut dump = open_dump(rt.alloc(), vcd, bus)?;
     let selection = Selection::new(bus.view, dump.scale());
     let recorder = Recorder::new(rt.alloc(), dump.scl(), dump.sda())?;
     match record(rt, words, &mut dump, report, selection, recorder) {

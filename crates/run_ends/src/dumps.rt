@@ -1,0 +1,25 @@
+// The dump of a run: how it is opened, and why a run over it ends without its report.
+
+use crate::endings::Halt;
+use dump_tokens::Bus;
+use report::{Input, RunError};
+use signals::Dump;
+use std::alloc::Global;
+
+/// The dump. Where a time has a unit it has to say what its numbers count; that it has no such line is for its reader to say.
+pub fn open_dump<'v, 'a, J: Input>(
+    alloc: Global,
+    vcd: &'v mut J,
+    bus: Bus<'a>,
+) -> Result<Dump<'v, 'a, J>, Halt> {
+    let dump = Dump::open(alloc, vcd, bus)?;
+    if bus.has_unit() && dump.lacks_scale() {
+        return Err(Halt::NoTimescale);
+    }
+    Ok(dump)
+}
+
+/// Why a run over this dump ends without its report.
+pub fn halted<J: Input>(mut dump: Dump<'_, '_, J>, error: RunError) -> Halt {
+    Halt::Dump(error, dump.take_wrong())
+}
