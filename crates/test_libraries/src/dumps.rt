@@ -1,6 +1,5 @@
 // Dumps, fed whole and in pieces.
 
-mod readers;
 mod rows;
 mod texts;
 mod wrong;

@@ -1,7 +1,7 @@
-//! Tests of what no command shows, through the public calls of the libraries: single calls and their values, messages, plans
-//! and places that no text of a plan reaches, dumps and certificates in pieces, the queue, threads, trees of any depth. What
-//! is a command with its files is a case of the trials (`tests/cases`). The tests stand apart from the libraries, which are
-//! then proved once and not once more with their tests.
+//! Tests of what no command shows, through the public calls of the libraries: single calls and their values, messages and
+//! plans that no text of a plan reaches, dumps and certificates in pieces, runs over streams that fail, the queue, threads,
+//! trees of any depth. What is a command with its files is a case of the trials (`tests/cases`). The tests stand apart from
+//! the libraries, which are then proved once and not once more with their tests.
 #![tactic(auto)]
 
 #[cfg(test)]
@@ -13,8 +13,6 @@ mod captures;
 #[cfg(test)]
 mod certificates;
 #[cfg(test)]
-mod cursor;
-#[cfg(test)]
 mod debugging;
 #[cfg(test)]
 mod dumps;
@@ -23,11 +21,7 @@ mod gates;
 #[cfg(test)]
 mod limits;
 #[cfg(test)]
-mod live;
-#[cfg(test)]
 mod messages;
-#[cfg(test)]
-mod pieces;
 #[cfg(test)]
 mod plans;
 #[cfg(test)]
@@ -37,10 +31,6 @@ mod refusals;
 #[cfg(test)]
 mod rehearsals;
 #[cfg(test)]
-mod seats;
-#[cfg(test)]
 mod streams;
-#[cfg(test)]
-mod unsafe_groups;
 #[cfg(test)]
 mod workers;

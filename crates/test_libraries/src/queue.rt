@@ -1,4 +1,3 @@
-// Queues, with all their seats in one thread, and with each in a thread of its own.
+// Queues, with all their seats in one thread. In threads of their own they are under the workers.
 
 mod one_thread;
-mod threads;

@@ -1,17 +1,22 @@
 // Where certificates are refused, and what could stand there, as docs/CERTIFICATES.md has it: the same however they are
-// cut.
+// cut. And the calls that answer without a place.
 
-use crate::pieces::SAFE;
-use cert_check::{Checker, FeedError, Judged, check_certificate_at};
-use certificate::{Expected, Last, Next, Place, Refusal};
+use cert_check::{Answer, Checker, FeedError, Judged, check_certificate};
+use certificate::{CertFault, Expected, Last, Next, Place, Refusal};
 use plan_core::Plan;
-use plan_text::{PlanError, read_plan};
+use plan_text::read_plan;
 use std::alloc::Global;
+use std::test::Fail;
+
+// Three writers, of which the last two may send the same byte.
+const SAFE: &str =
+    "plan 1\nmessage m write 1001000 11110000 stop else stop else stop ;\nmessage n write 1001000 11001111 stop else stop else stop ;\nmessage o write 1001000 1100xxxx stop else stop else stop ;\ncontroller a m ;\ncontroller b n ;\ncontroller c o ;\n";
 
 // A text, the line that is refused, how many of its bytes stand before the place, what stands there, and what could.
 type Case = (&'static str, u64, usize, &'static str, Expected);
 
-const OF_HEADS: [Case; 14] = [
+static REFUSED: [Case; 39] = [
+    // heads
     ("", 1, 0, "", Expected::Version),
     ("cert 2\npairs 0\n", 1, 0, "cert 2", Expected::Version),
     ("cert 1\r\npairs 0\n", 1, 0, "cert 1\r", Expected::Version),
@@ -38,9 +43,7 @@ const OF_HEADS: [Case; 14] = [
     ),
     ("cert 1\npairs 1", 2, 7, "", Expected::LineFeed(Last::Pairs)),
     ("cert 1\npairs  1\n", 2, 6, " ", Expected::Number),
-];
-
-const OF_FAULTS: [Case; 12] = [
+    // faults
     ("cert 1\nfault 0\n", 2, 7, "", Expected::Space(Next::Wire)),
     (
         "cert 1\nfault 4294967296 10010000l stop data\n",
@@ -113,9 +116,7 @@ const OF_FAULTS: [Case; 12] = [
         "P0 .",
         Expected::End,
     ),
-];
-
-const OF_PROOFS: [Case; 13] = [
+    // proofs
     ("cert 1\npairs 1\n\n", 3, 0, "", Expected::Node),
     ("cert 1\npairs 0\nQ7 .\n", 3, 0, "Q7", Expected::Node),
     ("cert 1\npairs 1\nP8\n", 3, 1, "8", Expected::Bit),
@@ -195,25 +196,20 @@ fn is_refused(alloc: Global, plan: &Plan, cert: &[u8], place: Place, marked: &[u
         let is_right = match in_pieces(alloc, plan, cert, *bytes) {
             Ok(
                 Judged {
+                    answer,
                     refusal: Some(refusal),
-                    ..
                 },
-            ) => is_at(&refusal, place, marked),
+            ) => {
+                answer == Answer::Wrong(CertFault::Format(place.line))
+                    && is_at(&refusal, place, marked)
+            }
             _ => false,
         };
         if !is_right {
             return false;
         }
     }
-    match check_certificate_at(alloc, plan, cert) {
-        Ok(
-            Judged {
-                refusal: Some(refusal),
-                ..
-            },
-        ) => is_at(&refusal, place, marked),
-        _ => false,
-    }
+    true
 }
 
 fn place_of(line: u64, start: usize, size: usize, expected: Option<Expected>) -> Place {
@@ -227,8 +223,8 @@ fn place_of(line: u64, start: usize, size: usize, expected: Option<Expected>) ->
 }
 
 // The first of these texts that is refused elsewhere, or not.
-fn first_wrong(alloc: Global, plan: &Plan, cases: &[Case]) -> Option<&'static str> {
-    for (text, line, start, marked, expected) in cases {
+fn first_wrong(alloc: Global, plan: &Plan) -> Option<&'static str> {
+    for (text, line, start, marked, expected) in &REFUSED {
         let place = place_of(*line, *start, marked.len(), Some(*expected));
         if !is_refused(alloc, plan, text.as_bytes(), place, marked.as_bytes()) {
             return Some(*text);
@@ -237,81 +233,54 @@ fn first_wrong(alloc: Global, plan: &Plan, cases: &[Case]) -> Option<&'static st
     None
 }
 
-fn wrong_of(alloc: Global, cases: &[Case]) -> Result<Option<&'static str>, PlanError> {
-    let plan = read_plan(alloc, SAFE.as_bytes())?;
-    Ok(first_wrong(alloc, &plan, cases))
+#[test]
+fn certificates_are_refused_at_a_place(rt: HostRuntime) -> Result<(), Fail> {
+    let plan = read_plan(rt.alloc(), SAFE.as_bytes())?;
+    assert!(rt; first_wrong(rt.alloc(), &plan) == None);
+    Ok(())
+}
+
+// The form of the text comes before its number of proofs, and that before its proofs.
+static ANSWERED: [(&str, Answer); 7] = [
+    ("cert 1\npairs 3\nB P2 .\nB P2 .\nB B . . .\n", Answer::Safe),
+    (
+        "cert 1\npairs 3\nB P2 .\nB P1 .\nB B . . .\n",
+        Answer::Wrong(CertFault::Pair(1)),
+    ),
+    (
+        "cert 1\npairs 3\nB P1 .\nB P2 .\nB B . . .",
+        Answer::Wrong(CertFault::Format(5)),
+    ),
+    (
+        "cert 1\npairs 3\nB P1 .\nB P2 .\n",
+        Answer::Wrong(CertFault::Count),
+    ),
+    (
+        "cert 1\npairs 4\nB P2 .\nB P2 .\nB B . . .\nR\n",
+        Answer::Wrong(CertFault::Count),
+    ),
+    (
+        "cert 1\npairs 4\nB P2 .\nB P2 .\nB B . . .\nR \n",
+        Answer::Wrong(CertFault::Format(6)),
+    ),
+    (
+        "cert 1\nfault 0 10010000l stop data\n",
+        Answer::Wrong(CertFault::Pair(0)),
+    ),
+];
+
+// The answer for a certificate that comes at once.
+fn ended(alloc: Global, plan: &Plan, cert: &[u8]) -> Result<Answer, FeedError> {
+    let checker = Checker::new(alloc, plan)?.feed(alloc, plan, cert)?;
+    checker.end(alloc, plan)
 }
 
 #[test]
-fn heads_are_refused_at_a_place(rt: HostRuntime) {
-    assert!(rt; wrong_of(rt.alloc(), &OF_HEADS) == Ok(None));
-}
-
-#[test]
-fn faults_are_refused_at_a_place(rt: HostRuntime) {
-    assert!(rt; wrong_of(rt.alloc(), &OF_FAULTS) == Ok(None));
-}
-
-#[test]
-fn proofs_are_refused_at_a_place(rt: HostRuntime) {
-    assert!(rt; wrong_of(rt.alloc(), &OF_PROOFS) == Ok(None));
-}
-
-// Whether a node below so many others on its path is refused, which is this token.
-fn is_too_deep(alloc: Global, token: &str) -> Result<bool, PlanError> {
-    let plan = read_plan(alloc, SAFE.as_bytes())?;
-    let mut text = String::new(alloc);
-    text.push_str("cert 1\npairs 3\nB P2 .\n")?;
-    for _ in 0..512 {
-        text.push_str("S ")?;
+fn certificates_are_answered_without_a_place(rt: HostRuntime) -> Result<(), Fail> {
+    let plan = read_plan(rt.alloc(), SAFE.as_bytes())?;
+    for (cert, answer) in &ANSWERED {
+        assert!(rt; ended(rt.alloc(), &plan, cert.as_bytes()) == Ok(*answer));
+        assert!(rt; check_certificate(rt.alloc(), &plan, cert.as_bytes()) == Ok(*answer));
     }
-    text.push_str(token)?;
-    text.push_str(" .\n")?;
-    let place = place_of(4, 1024, token.len(), None);
-    Ok(is_refused(alloc, &plan, text.as_bytes(), place, token.as_bytes()))
-}
-
-#[test]
-fn a_node_too_deep_is_refused_as_a_whole(rt: HostRuntime) {
-    assert!(rt; is_too_deep(rt.alloc(), "S") == Ok(true));
-    assert!(rt; is_too_deep(rt.alloc(), "P7") == Ok(true));
-}
-
-// Whether the answer for a text of a certificate has no place.
-fn has_no_place(alloc: Global, cert: &str) -> Result<bool, PlanError> {
-    let plan = read_plan(alloc, SAFE.as_bytes())?;
-    Ok(match check_certificate_at(alloc, &plan, cert.as_bytes()) {
-        Ok(judged) => judged.refusal.is_none(),
-        Err(_) => false,
-    })
-}
-
-#[test]
-fn what_has_the_form_has_no_place(rt: HostRuntime) {
-    let alloc = rt.alloc();
-    assert!(rt; has_no_place(alloc, "cert 1\npairs 3\nB P2 .\nB P2 .\nB B . . .\n") == Ok(true));
-    assert!(rt; has_no_place(alloc, "cert 1\npairs 3\n.\n.\n.\n") == Ok(true));
-    assert!(rt; has_no_place(alloc, "cert 1\npairs 2\n") == Ok(true));
-    assert!(rt; has_no_place(alloc, "cert 1\nfault 0 1 stop data\n") == Ok(true));
-}
-
-// Whether a text that begins so is handed out from its beginning on, where its first line is refused.
-fn has_front(alloc: Global, text: &str, front: &str) -> Result<bool, PlanError> {
-    let plan = read_plan(alloc, SAFE.as_bytes())?;
-    Ok(match in_pieces(alloc, &plan, text.as_bytes(), 3) {
-        Ok(
-            Judged {
-                refusal: Some(refusal),
-                ..
-            },
-        ) => refusal.front.as_slice() == front.as_bytes(),
-        _ => false,
-    })
-}
-
-#[test]
-fn the_front_of_another_text_is_handed_out(rt: HostRuntime) {
-    let alloc = rt.alloc();
-    assert!(rt; has_front(alloc, "plan 1\nmessage m", "plan 1\nmessage m") == Ok(true));
-    assert!(rt; has_front(alloc, "cert 1\nplan 1\n", "") == Ok(true));
+    Ok(())
 }

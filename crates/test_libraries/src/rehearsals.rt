@@ -101,18 +101,12 @@ impl Gate for Flags {
 }
 
 #[test]
-fn all_starters_play_at_the_same_time(rt: HostRuntime) {
+fn all_starters_play_at_the_same_time_and_call_the_gate_round_each_slot(rt: HostRuntime) {
     let gate = Flags::new(3);
     assert!(rt; is_played(&rt, rt.alloc(), &gate));
     assert!(rt;
         gate.first.was_raised_by(3) && gate.later.was_raised_by(3) && gate.last.was_raised_by(2)
     );
-}
-
-#[test]
-fn the_gate_is_called_once_round_each_slot(rt: HostRuntime) {
-    let gate = Flags::new(1);
-    assert!(rt; is_played(&rt, rt.alloc(), &gate));
     // The wire has 19 slots, and a/m loses in slot 11.
     assert_eq!(rt; gate.before.load(Ordering::SeqCst), 12 + 19 + 19);
     assert_eq!(rt; gate.after.load(Ordering::SeqCst), 12 + 19 + 19);

@@ -1,15 +1,13 @@
 // Runs over streams that fail: a reader at each of its calls, and a writer after each number of bytes.
 
 use bench_run::{NoGate, run_bench};
-use plan_text::PlanError;
 use report::{
-    FaultyReader, FaultyWriter, RunError, Status, read_within, run_capture, run_certify, run_check,
-    run_verify,
+    FaultyReader, FaultyWriter, Probe, RunError, Status, find_plan, live_capture, read_within,
+    run_capture, run_certify, run_check, run_verify,
 };
 use spellings::{run_brief, run_expand, run_print};
 use std::alloc::{AllocError, Global};
 use std::sync::Wait;
-use std::test::Fail;
 use std::thread::Threads;
 use std::time::Clock;
 
@@ -22,6 +20,7 @@ enum Run {
     Expand,
     Brief,
     Capture,
+    Live,
     Bench,
 }
 
@@ -57,7 +56,11 @@ const DUMP: &str = "$var wire 1 ! scl $end $var wire 1 % sda $end $enddefinition
 #0 1! 1% #5 0% #7 x% #9 1%
 ";
 
-const CASES: [Case; 8] = [
+const UNENDED: &str = "$var wire 1 ! scl $end $var wire 1 % sda $end $enddefinitions $end
+#0 1! 1% #5 0%
+";
+
+static CASES: [Case; 9] = [
     Case {
         run: Run::Check,
         first: TWO_WRITERS,
@@ -100,6 +103,13 @@ const CASES: [Case; 8] = [
         second: DUMP,
         report: "5-7 cut\n0 transactions, 0 unexplained\n",
     },
+    // nothing is written of it before its end
+    Case {
+        run: Run::Live,
+        first: TWO_WRITERS,
+        second: UNENDED,
+        report: "5- unfinished\n0 transactions, 0 unexplained\n",
+    },
     Case {
         run: Run::Bench,
         first: THREE_WRITERS,
@@ -129,6 +139,24 @@ fn streams_of(
     }
 }
 
+// A capture that is told while it is read: one transaction, which goes on at the end.
+fn ends_live<R: Threads + Sync>(
+    rt: &R,
+    alloc: Global,
+    plan: &mut FaultyReader<'_>,
+    vcd: &mut FaultyReader<'_>,
+    out: &mut FaultyWriter,
+) -> Result<Status, RunError> {
+    let plan = find_plan(alloc, plan)?;
+    let (scl, sda) = (Probe::Named("scl"), Probe::Named("sda"));
+    let counts = live_capture(rt, alloc, &plan, vcd, out, scl, sda, 0, &mut None)?;
+    if counts.transactions == 1 && counts.stopped == 0 && counts.unexplained == 0 {
+        Ok(counts.status)
+    } else {
+        Ok(Status::Refused)
+    }
+}
+
 fn ends<R: Threads + Wait + Clock + Sync>(
     rt: &R,
     alloc: Global,
@@ -146,6 +174,7 @@ fn ends<R: Threads + Wait + Clock + Sync>(
         Run::Expand => run_expand(alloc, first, out),
         Run::Brief => run_brief(alloc, first, out),
         Run::Capture => run_capture(rt, alloc, first, second, out, "scl", "sda"),
+        Run::Live => ends_live(rt, alloc, first, second, out),
         Run::Bench => run_bench(
             rt,
             alloc,
@@ -215,24 +244,6 @@ fn a_reader_that_fails_at_any_call_is_read_and_nothing_is_written(rt: HostRuntim
             assert!(rt; is_unread_at_each_call(&rt, rt.alloc(), case, *piece));
         }
     }
-}
-
-// A plan that is refused is refused before the next reader is called.
-#[test]
-fn a_refused_plan_is_answered_where_the_next_reader_would_fail(
-    rt: HostRuntime,
-) -> Result<(), Fail> {
-    for run in &[Run::Verify, Run::Capture, Run::Bench] {
-        let mut streams = Streams {
-            first: FaultyReader::new(b"plan 1\nq", 1, 0),
-            second: FaultyReader::new(b"", 1, 1),
-            out: FaultyWriter::new(rt.alloc(), 1, true)?,
-        };
-        let ended = ends(&rt, rt.alloc(), *run, &mut streams);
-        assert!(rt; ended == Err(RunError::Plan(PlanError::Unexpected(2))));
-        assert!(rt; streams.second.fails_in == 1 && streams.out.taken.is_empty());
-    }
-    Ok(())
 }
 
 fn is_read(alloc: Global, text: &[u8], calls: u32, wanted: Option<RunError>) -> bool {

@@ -14,6 +14,9 @@ use verdicts::{Gate, MOST_WORKERS, NoGate, TableError, faults, faults_with, tabl
 /// How often each plan is checked with workers that yield at random.
 const RUNS: u32 = 200;
 
+/// In how many of these runs all verdicts are compared too.
+const TABLES: u32 = 28;
+
 // Eight controllers that each send the same five messages.
 const FORTY: &str = "\
 plan 1
@@ -63,11 +66,17 @@ fn are_same(alone: Option<String>, shared: Option<String>) -> bool {
 }
 
 // All verdicts, by one thread and by so many workers.
-fn are_tables_same<R: Threads + Sync>(rt: &R, alloc: Global, plan: &Plan, workers: u32) -> bool {
+fn are_tables_same<R: Threads + Sync, G: Gate + Sync>(
+    rt: &R,
+    alloc: Global,
+    plan: &Plan,
+    workers: u32,
+    gate: &G,
+) -> bool {
     let alone = text_of(alloc, table(alloc, plan));
     are_same(
         alone,
-        text_of(alloc, table_with(rt, alloc, plan, workers, &NoGate)),
+        text_of(alloc, table_with(rt, alloc, plan, workers, gate)),
     )
 }
 
@@ -87,18 +96,6 @@ fn are_faults_same<R: Threads + Sync, G: Gate + Sync>(
 }
 
 #[test]
-fn workers_find_what_one_thread_finds(rt: HostRuntime) -> Result<(), Fail> {
-    for text in &[FORTY, CLASHING] {
-        let plan = read_plan(rt.alloc(), text.as_bytes())?;
-        for workers in &[1u32, 2, 8] {
-            assert!(rt; are_tables_same(&rt, rt.alloc(), &plan, *workers));
-            assert!(rt; are_faults_same(&rt, rt.alloc(), &plan, *workers, &NoGate));
-        }
-    }
-    Ok(())
-}
-
-#[test]
 fn workers_that_yield_at_random_find_the_same(rt: HostRuntime) -> Result<(), Fail> {
     let gate = Yields::new();
     for text in &[FORTY, CLASHING] {
@@ -106,6 +103,8 @@ fn workers_that_yield_at_random_find_the_same(rt: HostRuntime) -> Result<(), Fai
         for run in 0..RUNS {
             let workers = 2 + run % (MOST_WORKERS - 1);
             assert!(rt; are_faults_same(&rt, rt.alloc(), &plan, workers, &gate));
+            // 700 pairs or 252, each of which one worker takes from the queue
+            assert!(rt; run >= TABLES || are_tables_same(&rt, rt.alloc(), &plan, workers, &gate));
         }
     }
     Ok(())
@@ -160,15 +159,10 @@ impl Gate for Flags {
     }
 }
 
-// 40 participants of 8 controllers are 700 pairs, and five messages have 25 places of two senders.
+// 40 participants of 8 controllers are 700 pairs.
 fn meet_at_tables<R: Threads + Sync>(rt: &R, alloc: Global, plan: &Plan, workers: u32) -> bool {
     let flags = Flags::new(workers);
     table_with(rt, alloc, plan, workers, &flags).is_ok() && flags.have_met(700)
-}
-
-fn meet_at_faults<R: Threads + Sync>(rt: &R, alloc: Global, plan: &Plan, workers: u32) -> bool {
-    let flags = Flags::new(workers);
-    faults_with(rt, alloc, plan, workers, &flags).is_ok() && flags.have_met(25)
 }
 
 // No worker, and more than eight, are refused.
@@ -178,11 +172,10 @@ fn are_refused<R: Threads + Sync>(rt: &R, alloc: Global, plan: &Plan, workers: u
 }
 
 #[test]
-fn one_to_eight_workers_walk_and_compare_at_the_same_time(rt: HostRuntime) -> Result<(), Fail> {
+fn two_to_eight_workers_walk_at_the_same_time(rt: HostRuntime) -> Result<(), Fail> {
     let plan = read_plan(rt.alloc(), FORTY.as_bytes())?;
     for workers in &[2u32, 8] {
         assert!(rt; meet_at_tables(&rt, rt.alloc(), &plan, *workers));
-        assert!(rt; meet_at_faults(&rt, rt.alloc(), &plan, *workers));
     }
     for workers in &[0u32, 9] {
         assert!(rt; are_refused(&rt, rt.alloc(), &plan, *workers));
@@ -190,6 +183,7 @@ fn one_to_eight_workers_walk_and_compare_at_the_same_time(rt: HostRuntime) -> Re
     Ok(())
 }
 
+// Five messages have 25 places of two senders.
 fn meet_in_a_check<R: Threads + Sync>(rt: &R, alloc: Global, workers: u32) -> bool {
     let flags = Flags::new(workers);
     let mut page = Watched::new(Vec::new(alloc));

@@ -1,27 +1,78 @@
-// Captures, and what they say.
+// The samples of dumps and their refusals, the same however a dump is cut.
 
-use super::readers::{in_pieces, is_named, other_answer};
-use super::texts::{DEFINITIONS, KINDS, Kind, Row};
+use super::texts::{CHANGES, DEFINITIONS, Row, WHOLE};
+use growing_text::Text;
 use std::alloc::{AllocError, Global};
-use std::test::Fail;
-use vcd_read::{Reader, VcdError};
+use vcd_read::{Level, Reader, Sample, VcdError};
 
-// What a row is answered, where it is not answered so.
-fn wrong(alloc: Global, definitions: &str, row: &Row) -> Result<Option<String>, AllocError> {
-    let (text, answer) = *row;
-    let dump = format!(in alloc; "{definitions}{text}")?;
-    match other_answer(alloc, dump.as_bytes(), answer)? {
-        Some(other) => Ok(Some(format!(in alloc; "{text}: {other}")?)),
-        None => Ok(None),
+fn letter(level: Level) -> &'static str {
+    match level {
+        Level::Low => "L",
+        Level::High => "H",
+        Level::Unknown => "U",
     }
 }
 
-// The first row that is not answered so, with what it is answered.
-fn wrong_row(alloc: Global, kind: Kind) -> Result<Option<String>, AllocError> {
-    for row in kind.rows() {
-        let wrong = wrong(alloc, kind.definitions(), row)?;
-        if wrong.is_some() {
-            return Ok(wrong);
+fn push_samples(line: &mut Text, samples: &[Sample]) {
+    for sample in samples {
+        if !line.is_empty() {
+            line.push(" ");
+        }
+        line.push_number(sample.time);
+        line.push(letter(sample.scl));
+        line.push(letter(sample.sda));
+    }
+}
+
+// The first refusal, after the samples before it, which are cleared after each piece.
+fn feed_pieces(
+    reader: &mut Reader,
+    line: &mut Text,
+    dump: &[u8],
+    bytes: usize,
+) -> Result<(), VcdError> {
+    for piece in dump.chunks(bytes.max(1)) {
+        reader.feed(piece)?;
+        push_samples(line, reader.samples());
+        reader.clear_samples();
+    }
+    Ok(())
+}
+
+fn end_of(reader: Reader) -> Result<Vec<Sample>, VcdError> {
+    match reader.end() {
+        Ok(samples) => Ok(samples),
+        Err(refused) => Err(refused.error),
+    }
+}
+
+// What a reader answers for a dump in pieces of so many bytes: a word for each sample, or the refusal, which it then
+// answers for any other piece.
+fn answer(alloc: Global, dump: &[u8], bytes: usize) -> Result<String, AllocError> {
+    let mut reader = Reader::new(alloc, "scl", "sda")?;
+    let mut line = Text::new(alloc);
+    let fed = feed_pieces(&mut reader, &mut line, dump, bytes);
+    let is_same = fed.is_ok() || reader.feed(b"\n#0 $end ") == fed;
+    match fed.and(end_of(reader)) {
+        Ok(samples) => push_samples(&mut line, samples.as_slice()),
+        Err(refusal) if is_same => return format!(in alloc; "{refusal}"),
+        Err(_) => line.push("another answer"),
+    }
+    line.finish()
+}
+
+// The first row behind these definitions that is answered otherwise, whole, byte by byte or in other pieces.
+fn wrong_row(
+    alloc: Global,
+    definitions: &str,
+    rows: &'static [Row],
+) -> Result<Option<&'static str>, AllocError> {
+    for (text, wanted) in rows {
+        let dump = format!(in alloc; "{definitions}{text}")?;
+        for bytes in &[1, 2, 7, 65_536] {
+            if answer(alloc, dump.as_bytes(), *bytes)?.as_str() != *wanted {
+                return Ok(Some(*text));
+            }
         }
     }
     Ok(None)
@@ -29,69 +80,6 @@ fn wrong_row(alloc: Global, kind: Kind) -> Result<Option<String>, AllocError> {
 
 #[test]
 fn dumps_have_their_samples_or_their_refusals(rt: HostRuntime) {
-    for kind in &KINDS {
-        assert_eq!(rt; wrong_row(rt.alloc(), *kind), Ok(None));
-    }
-}
-
-const NAMED: &str =
-    "$var wire 1 a clk $end $var wire 1 b dat $end $enddefinitions $end 1a 0b #3 xa";
-
-const NAMES: [(&str, &str, &str); 7] = [
-    ("clk", "dat", "0HL 3UL"),
-    ("dat", "clk", "0LH 3LU"),
-    ("clk", "clk", "0HH 3UU"),
-    ("clk", "scl", "V1 sda"),
-    ("", "dat", "V1 scl"),
-    ("clk dat", "dat", "V1 scl"),
-    ("CLK", "dat", "V1 scl"),
-];
-
-#[test]
-fn lines_of_other_names(rt: HostRuntime) {
-    for (scl, sda, answer) in &NAMES {
-        assert!(rt;
-            is_named(rt.alloc(), scl, sda, NAMED.as_bytes(), answer) == Ok(true),
-            "{scl}, {sda}"
-        );
-    }
-}
-
-// A time that goes back is refused with the white space behind it, and so is all that comes after.
-fn is_refused_behind(reader: &mut Reader) -> bool {
-    let refused = Err(VcdError::TimeBack(8));
-    reader.feed(DEFINITIONS.as_bytes()).is_ok()
-        && reader.feed(b"#5 0! #").is_ok()
-        && reader.samples().is_empty()
-        && reader.feed(b"7 1! #6").is_ok()
-        && reader.samples().len() == 1
-        && reader.feed(b"").is_ok()
-        && reader.feed(b"\n") == refused
-        && reader.feed(b"0!") == refused
-}
-
-fn refused_behind(alloc: Global) -> Result<Option<VcdError>, AllocError> {
-    let mut reader = Reader::new(alloc, "scl", "sda")?;
-    let is_refused = is_refused_behind(&mut reader);
-    Ok(match reader.end() {
-        Err(refused) if is_refused => Some(refused.error),
-        _ => None,
-    })
-}
-
-#[test]
-fn a_refusal_comes_with_the_white_space_behind_its_token(rt: HostRuntime) {
-    assert!(rt; refused_behind(rt.alloc()) == Ok(Some(VcdError::TimeBack(8))));
-}
-
-// Without a refused allocation each piece is fed once; 'rt try --test --fail-alloc N' refuses the Nth.
-fn is_fed_again(alloc: Global) -> Result<bool, AllocError> {
-    let dump = format!(in alloc; "{DEFINITIONS}#3 1! 1\" #4 0!")?;
-    Ok(in_pieces(alloc, dump.as_bytes(), 40)?.as_str() == "3HH 4LH")
-}
-
-#[test]
-fn a_piece_is_fed_again_after_want_of_memory(rt: HostRuntime) -> Result<(), Fail> {
-    assert!(rt; is_fed_again(rt.alloc())?);
-    Ok(())
+    assert_eq!(rt; wrong_row(rt.alloc(), DEFINITIONS, &CHANGES), Ok(None));
+    assert_eq!(rt; wrong_row(rt.alloc(), "", &WHOLE), Ok(None));
 }

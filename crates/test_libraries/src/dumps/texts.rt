@@ -13,53 +13,6 @@ $enddefinitions $end
 /// A dump, or what stands behind its definitions, and its samples or its refusal.
 pub type Row = (&'static str, &'static str);
 
-/// What rows of dumps are about.
-#[derive(Clone, Copy)]
-pub enum Kind {
-    Captures,
-    Times,
-    Scalars,
-    Vectors,
-    Commands,
-    WhiteSpace,
-    Whole,
-    BrokenDefinitions,
-}
-
-pub const KINDS: [Kind; 8] = [
-    Kind::Captures,
-    Kind::Times,
-    Kind::Scalars,
-    Kind::Vectors,
-    Kind::Commands,
-    Kind::WhiteSpace,
-    Kind::Whole,
-    Kind::BrokenDefinitions,
-];
-
-impl Kind {
-    /// What stands before the text of each row.
-    pub fn definitions(self) -> &'static str {
-        match self {
-            Kind::Whole | Kind::BrokenDefinitions => "",
-            _ => DEFINITIONS,
-        }
-    }
-
-    pub fn rows(self) -> &'static [Row] {
-        match self {
-            Kind::Captures => &CAPTURES,
-            Kind::Times => &TIMES,
-            Kind::Scalars => &SCALARS,
-            Kind::Vectors => &VECTORS,
-            Kind::Commands => &COMMANDS,
-            Kind::WhiteSpace => &WHITE_SPACE,
-            Kind::Whole => &WHOLE,
-            Kind::BrokenDefinitions => &BROKEN_DEFINITIONS,
-        }
-    }
-}
-
 /// A write header that target 1001000 acknowledges, and a STOP.
 const ACKNOWLEDGED: &str = "#0 1! 1\"
 #10 0\" #15 0!
@@ -107,8 +60,9 @@ const REFUSED_SAMPLES: &str =
 
 const CUT_SAMPLES: &str = "0HH 10HL 15LL 16LH 20HH 25LH 26LL 30HL 35LL 40HL 45LL";
 
-/// What stands on line 8 and after, and the samples or the refusal: whole captures.
-static CAPTURES: [Row; 7] = [
+/// What stands on line 8 and after, and the samples or the refusal.
+pub static CHANGES: [Row; 74] = [
+    // whole captures
     (ACKNOWLEDGED, ACKNOWLEDGED_SAMPLES),
     (REFUSED, REFUSED_SAMPLES),
     (CUT, CUT_SAMPLES),
@@ -119,10 +73,7 @@ static CAPTURES: [Row; 7] = [
         "#0 1! 1\" #5 0\" #7 x\" #9 1\" #12 0\" #14 1\"",
         "0HH 5HL 7HU 9HH 12HL 14HH",
     ),
-];
-
-/// The same: times.
-static TIMES: [Row; 20] = [
+    // times
     ("#5\n#4", "V3 line 9"),
     ("#5 #4", "V3 line 8"),
     ("#5 1! #4 1\"", "V3 line 8"),
@@ -146,10 +97,7 @@ static TIMES: [Row; 20] = [
     ("#-1", "V2 line 8"),
     ("#1.5", "V2 line 8"),
     ("#1x", "V2 line 8"),
-];
-
-/// The same: scalar changes.
-static SCALARS: [Row; 12] = [
+    // scalar changes
     (
         "#1 0! #2 1! #3 z! #4 x! #5 Z! #6 X! #7 0!",
         "1LU 2HU 4UU 5HU 6UU 7LU",
@@ -165,10 +113,7 @@ static SCALARS: [Row; 12] = [
     ("1!\u{7f}", "V2 line 8"),
     ("1\u{1}", "V2 line 8"),
     ("1é", "V2 line 8"),
-];
-
-/// The same: vectors, real numbers and strings.
-static VECTORS: [Row; 17] = [
+    // vectors, real numbers and strings
     ("b1 ! B0 \"", "0HL"),
     ("b0x1z ! bX10 \" #1 B1Zx !", "0HL 1UL"),
     ("b1 $end b0 #5", ""),
@@ -186,10 +131,7 @@ static VECTORS: [Row; 17] = [
     ("b1", "V4 line 8"),
     ("#1\nb1\n", "V4 line 9"),
     ("r1", "V4 line 8"),
-];
-
-/// The same: blocks and commands.
-static COMMANDS: [Row; 15] = [
+    // blocks and commands
     ("$dumpvars 1! 1\" $end #3 0!", "0HH 3LH"),
     (
         "$dumpall 1! #2 0! $end $dumpoff x! x\" $end #3 $dumpon 1! $end",
@@ -211,17 +153,14 @@ static COMMANDS: [Row; 15] = [
         "0UH",
     ),
     ("$comment\n\n$ends", "V4 line 8"),
-];
-
-/// The same: white space.
-static WHITE_SPACE: [Row; 3] = [
+    // white space
     ("1!\u{b}1\"\u{c}#1\t0!\r\n2", "V2 line 9"),
     ("1!\u{1c}1\"", "V2 line 8"),
     ("\n \r\t\u{b}\u{c}\n#", "V2 line 10"),
 ];
 
 /// Whole dumps, and their samples or refusals.
-static WHOLE: [Row; 43] = [
+pub static WHOLE: [Row; 48] = [
     ("", "V1 scl"),
     (" \n", "V1 scl"),
     ("#0", "V2 line 1"),
@@ -317,10 +256,7 @@ $var wire 1 b sda $end $upscope $end $enddefinitions $end 0a 1ab 1b",
         "$var wire 1 a scl $end $var wire 1 b sda $end $enddefinitions x y $end 1a $enddefinitions 0a $end 1b",
         "0HH",
     ),
-];
-
-/// Dumps whose seven lines of definitions are cut short or changed.
-static BROKEN_DEFINITIONS: [Row; 5] = [
+    // seven lines of definitions, cut short or changed
     ("$timescale\n", "V4 line 1"),
     (
         "$timescale\n1 us $end\n$scope module top $end\n$var wire 1 ! scl $end\n",
