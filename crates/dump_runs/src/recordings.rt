@@ -8,10 +8,10 @@ use bus_rows::Paint;
 use capture_check::Rises;
 use decoding::Explaining;
 use drives::Driving;
+use dump_objects::{CaptureObjects, DecodeObjects, write_signals};
 use dump_tokens::{Bus, BusLines, Drives, Limits, Quiet, Window};
 use given_plans::GivenPlan;
 use lessons::{BriefBefore, Learned, Likeness, Sights, brief_of};
-use objects::{CaptureObjects, DecodeObjects, write_signals};
 use plan_core::Plan;
 use plan_words::PlanWords;
 use report::{

@@ -1,12 +1,10 @@
-//! JSON, one object a line: how objects are gathered and written, and those of what goes to standard error.
+//! JSON, one object a line: how objects are gathered and written, and what several have.
 //!
-//! `writing` gathers them, `refusals` has the objects of refusals and hints.
+//! `writing` gathers them, `file_lines` says where participants of a plan stand in briefs.
 #![tactic(auto)]
 
-mod refusals;
+mod file_lines;
 mod writing;
 
-pub use refusals::{
-    Detail, EarlierAt, TextDetail, drive_object, hint_objects, refusal_object, timescale_object,
-};
+pub use file_lines::{At, BothAt, OneAt, all_at, both_at, line_of, one_at};
 pub use writing::ObjectLines;

@@ -1,11 +1,10 @@
 // Objects of a rehearsal.
 
-use crate::file_lines::{OneAt, one_at};
 use bench_run::Rehearsal;
 use bus_rows::{Labels, labels_of};
 use certificate::push_wire;
 use explain::{Track, tracks_of};
-use object_lines::ObjectLines;
+use object_lines::{ObjectLines, OneAt, one_at};
 use plan_words::PlanWords;
 use report::{Output, RunError};
 use serde::Serialize;

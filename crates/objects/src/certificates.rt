@@ -1,11 +1,10 @@
 // Objects of the answer to a certificate.
 
-use crate::file_lines::{BothAt, both_at};
 use bus_rows::label_of;
 use cert_check::Answer;
 use certificate::{CertFault, Expected, Refusal};
 use explain::{Break, Mistake, Reason};
-use object_lines::ObjectLines;
+use object_lines::{BothAt, ObjectLines, both_at};
 use plan_words::PlanWords;
 use report::{Output, RunError};
 use serde::Serialize;

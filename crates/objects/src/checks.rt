@@ -1,6 +1,5 @@
 // Objects of a check.
 
-use crate::file_lines::all_at;
 use crate::oddities::add_oddities;
 use bus_rows::{Labels, Meeting, Rule, labels_of, meeting_of};
 use causes::{Group, Place};
@@ -8,7 +7,7 @@ use certificate::Fault;
 use explain::{Detail, unsent_in};
 use growing_text::Text;
 use lint::Oddity;
-use object_lines::ObjectLines;
+use object_lines::{ObjectLines, all_at};
 use plan_core::Plan;
 use plan_words::PlanWords;
 use remedies::{GroupMends, Grouped, Mends, Never, Parting, Reasons, Safety};

@@ -1,26 +1,16 @@
-//! What runs find as JSON, one object a line, for programs.
+//! What runs over plans find as JSON, one object a line, for programs.
 //!
-//! `written` writes them as they come. `checks`, `certificates`, `benches` and `orders` have the objects of what
-//! commands over plans find, `captures`, `decodes` (`transactions` for both) and `listed` those of what a dump shows: each is a
-//! plain struct, made of a value.
+//! `checks`, `certificates`, `benches` and `orders` have the objects of what commands find: each is a plain struct, made of a
+//! value. `oddities` has those of what is likely a mistake.
 #![tactic(auto)]
 
 mod benches;
-mod captures;
 mod certificates;
 mod checks;
-mod decodes;
-mod file_lines;
-mod listed;
 mod oddities;
 mod orders;
-mod transactions;
-mod written;
 
 pub use benches::write_rehearsal;
-pub use captures::CaptureObjects;
 pub use certificates::write_answer;
 pub use checks::write_check;
-pub use decodes::DecodeObjects;
-pub use listed::write_signals;
 pub use orders::{write_order, write_scores};

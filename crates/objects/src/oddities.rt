@@ -1,8 +1,7 @@
 // Objects of what is likely a mistake in briefs.
 
-use crate::file_lines::{At, line_of};
 use lint::Oddity;
-use object_lines::ObjectLines;
+use object_lines::{At, ObjectLines, line_of};
 use plan_core::Plan;
 use plan_words::PlanWords;
 use serde::Serialize;

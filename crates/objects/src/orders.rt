@@ -1,8 +1,7 @@
 // Objects of who wins.
 
-use crate::file_lines::{BothAt, OneAt, both_at, one_at};
 use bus_rows::labels_of;
-use object_lines::ObjectLines;
+use object_lines::{BothAt, ObjectLines, OneAt, both_at, one_at};
 use order::{Order, Outcomes, Scores, Slots, Total};
 use plan_words::PlanWords;
 use run_parts::{Output, RunError};

@@ -3,10 +3,10 @@
 use diagnostics::push_file;
 use growing_text::Text;
 use hints::{Hints, shown, visible};
-use object_lines::{
+use plan_words::called;
+use refusal_objects::{
     Detail, TextDetail, drive_object, hint_objects, refusal_object, timescale_object,
 };
-use plan_words::called;
 use report::RunError;
 use std::alloc::{AllocError, Global};
 

@@ -6,7 +6,7 @@ use command_words::{Asked, Format, Manner, Request, When, read_words};
 use files::{FilesRead, Form, Reread, Sheet, Watcher, is_standard_input};
 use hints::{Named, visible};
 use language_server::serve;
-use object_lines::Detail;
+use refusal_objects::Detail;
 use report::{RunError, Status, Watched};
 use run_ends::{
     About, Closing, Ended, Extras, Format as Written, Halt, Inputs, NamedSources, Remark, Voice,

@@ -1,6 +1,5 @@
 // Objects of a capture.
 
-use crate::file_lines::{OneAt, one_at};
 use crate::transactions::{Moment, Seen, Times, seen_of, times_of, too_few_of};
 use crate::written::Written;
 use bus_rows::{Labels, labels_of};
@@ -8,6 +7,7 @@ use capture_check::Transaction;
 use decoding::{Ending, ExplainedSink};
 use drives::{Does, Judged, Judging};
 use dump_tokens::Scale;
+use object_lines::{OneAt, one_at};
 use plan_core::Plan;
 use plan_words::PlanWords;
 use run_parts::{Output, RunError};

@@ -1,10 +1,10 @@
 // What objects say of a transaction.
 
-use crate::file_lines::{OneAt, one_at};
 use bus_rows::{Labels, bytes_of};
 use capture_check::{Mark, Transaction, Until};
 use dump_tokens::Scale;
 use message_tree::Bit;
+use object_lines::{OneAt, one_at};
 use places::Offered;
 use plan_words::PlanWords;
 use serde::Serialize;

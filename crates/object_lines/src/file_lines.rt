@@ -6,23 +6,23 @@ use std::alloc::{AllocError, Global};
 
 /// A line of a file.
 #[derive(Drop, Serialize)]
-pub(crate) struct At {
+pub struct At {
     file: String,
     line: u64,
 }
 
 /// Where the messages or the interrupts of a pair stand.
-pub(crate) type BothAt = (Option<At>, Option<At>);
+pub type BothAt = (Option<At>, Option<At>);
 
 /// Where the message and the controller of a participant stand, or the interrupt that it is.
-pub(crate) type OneAt = Vec<At>;
+pub type OneAt = Vec<At>;
 
 /// The places of a pair; nothing where no brief means the plan.
 ///
 /// # Errors
 ///
 /// Where an allocation fails.
-pub(crate) fn both_at(
+pub fn both_at(
     alloc: Global,
     words: PlanWords<'_>,
     both: (u32, u32),
@@ -40,7 +40,7 @@ pub(crate) fn both_at(
 /// # Errors
 ///
 /// Where an allocation fails.
-pub(crate) fn one_at(
+pub fn one_at(
     alloc: Global,
     words: PlanWords<'_>,
     p: u32,
@@ -62,7 +62,7 @@ pub(crate) fn one_at(
 /// # Errors
 ///
 /// Where an allocation fails.
-pub(crate) fn all_at(
+pub fn all_at(
     alloc: Global,
     words: PlanWords<'_>,
 ) -> Result<Option<Vec<String>>, AllocError> {
@@ -91,7 +91,7 @@ fn written_at(alloc: Global, words: PlanWords<'_>, p: u32) -> Result<String, All
 /// # Errors
 ///
 /// Where an allocation fails.
-pub(crate) fn line_of(
+pub fn line_of(
     alloc: Global,
     place: Option<FileLine<'_>>,
 ) -> Result<Option<At>, AllocError> {

@@ -1,7 +1,8 @@
-// Objects of what goes to standard error.
+//! Objects of what goes to standard error.
+#![tactic(auto)]
 
-use crate::writing::ObjectLines;
 use hints::{Hint, Hints, SemicolonAt};
+use object_lines::ObjectLines;
 use plan_text::{Expected as InText, NoBrief, Place, PlanError};
 use plays::OpenError;
 use run_parts::RunError;

@@ -1,0 +1,15 @@
+//! What a dump shows as JSON, one object a line, for programs.
+//!
+//! `written` writes objects as they come. `captures` and `decodes` have those of transactions (`transactions` for both), and
+//! `listed` those of signals: each is a plain struct, made of a value.
+#![tactic(auto)]
+
+mod captures;
+mod decodes;
+mod listed;
+mod transactions;
+mod written;
+
+pub use captures::CaptureObjects;
+pub use decodes::DecodeObjects;
+pub use listed::write_signals;
