@@ -2,16 +2,16 @@
 
 use crate::tasks::{Over, OverBoth, Task, task_of};
 use crate::versions::version_of;
+use closings::{FilesWritten, finish};
 use command_words::{Asked, Format, Manner, Request, When, read_words};
-use files::{FilesRead, Form, Reread, Sheet, Watcher, is_standard_input};
+use files::{FilesRead, Form, Sheet, Watcher, is_standard_input};
 use hints::{Named, visible};
 use language_server::serve;
 use refusal_objects::Detail;
 use report::{RunError, Status, Watched};
 use run_ends::{
-    About, Closing, Ended, Extras, Format as Written, Halt, Inputs, NamedSources, Remark, Voice,
-    advise, both_read, no_drive, no_timescale, one_read, open_both, open_sources, refused,
-    refused_at,
+    Extras, Format as Written, NamedSources, Voice, both_read, one_read, open_both, open_sources,
+    refused,
 };
 use std::env::{self, VarError};
 use std::io;
@@ -261,92 +261,6 @@ fn run_over_both<
         over.about(named, other.path),
         extras,
     )
-}
-
-// The files that a run was to write: of its report, where that is not standard output, and of its waves.
-#[derive(Clone, Copy)]
-struct FilesWritten<'a> {
-    output: Option<&'a str>,
-    wave: Option<&'a str>,
-}
-
-// Writes the file of a run that is to write one, and answers the status of the run, with the line of a refusal, and hints
-// where they are wanted.
-fn finish<'a, R: Files + Print + Eprint + Clock + AllocGlobal>(
-    rt: &R,
-    read: Inputs<'_, Reread<R::File>>,
-    mut out: Sheet<'_, '_, R>,
-    ended: Result<Ended, Halt>,
-    named: NamedSources<'a>,
-    files: FilesWritten<'a>,
-    about: About<'a>,
-    extras: Extras,
-) -> u8 {
-    let (ended, remark, output, reason) = match ended {
-        Ok(Ended { status, remark }) => (Ok(status), remark, files.output, None),
-        Err(Halt::Run(error)) => (Err(error), Remark::Nothing, files.output, None),
-        Err(Halt::Dump(error, wrong)) => {
-            (Err(error), Remark::refused(wrong), files.output, None)
-        }
-        Err(Halt::Text(error, text)) => (Err(error), Remark::text(text), files.output, None),
-        Err(Halt::Said(error, hints)) => (Err(error), Remark::Hints(hints), files.output, None),
-        Err(Halt::Starters(error, label, hints)) => {
-            (
-                Err(error),
-                Remark::Starters(label, hints),
-                files.output,
-                None,
-            )
-        }
-        Err(Halt::Undrawn(error, reason)) => (Err(error), Remark::Nothing, files.wave, reason),
-        Err(Halt::NoTimescale) => return no_timescale(rt, extras),
-        Err(Halt::NoDrive(controller, hints)) => {
-            return no_drive(rt, controller.as_str(), hints, extras);
-        }
-    };
-    let ended = out.settle(ended);
-    let status = exit_code_of(rt, ended, &remark, named, &read, extras);
-    if extras.hints {
-        let closing = Closing {
-            ended,
-            remark,
-            named,
-            output,
-            error: reason.or(out.into_error()),
-            about,
-            voice: extras.voice(),
-        };
-        advise(rt, read, closing);
-    }
-    status
-}
-
-// The exit code of a run that has ended, with the line of a refusal, which may name a file: one of those that give a
-// plan, or the one that was read last. The line that told how far it was goes away.
-fn exit_code_of<R: Clock + Eprint + AllocGlobal, F>(
-    rt: &R,
-    ended: Result<Status, RunError>,
-    remark: &Remark,
-    named: NamedSources<'_>,
-    read: &Inputs<'_, F>,
-    extras: Extras,
-) -> u8 {
-    extras.watcher.clear(rt);
-    match ended {
-        Ok(Status::Good) => 0,
-        Ok(Status::Bad) => 1,
-        Ok(Status::Refused) => 2,
-        Err(error) if extras.format == Written::Messages => {
-            refused_at(rt, error, remark, named, read)
-        }
-        Err(error @ RunError::Read) => {
-            refused(rt, error, Detail::File(read.last.path), extras.voice())
-        }
-        Err(error) => {
-            let detail = remark.detail(rt.alloc(), error, named);
-            refused(rt, error, detail, extras.voice())
-        }
-    }
 }
 
 // Serves the editor that has started the program, and answers the status.

@@ -1,0 +1,98 @@
+//! What is done once a run has ended: its file is settled, a refusal is told, hints follow it, and its status is answered.
+#![tactic(auto)]
+
+use files::{Reread, Sheet};
+use refusal_objects::Detail;
+use report::{RunError, Status};
+use run_ends::{
+    About, Closing, Ended, Extras, Format as Written, Halt, Inputs, NamedSources, Remark, advise,
+    no_drive, no_timescale, refused, refused_at,
+};
+use std::rt::Files;
+use std::time::Clock;
+
+/// The files that a run was to write: of its report, where that is not standard output, and of its waves.
+#[derive(Clone, Copy)]
+pub struct FilesWritten<'a> {
+    pub output: Option<&'a str>,
+    pub wave: Option<&'a str>,
+}
+
+/// Writes the file of a run that is to write one, and answers the status of the run, with the line of a refusal, and hints
+/// where they are wanted.
+pub fn finish<'a, R: Files + Print + Eprint + Clock + AllocGlobal>(
+    rt: &R,
+    read: Inputs<'_, Reread<R::File>>,
+    mut out: Sheet<'_, '_, R>,
+    ended: Result<Ended, Halt>,
+    named: NamedSources<'a>,
+    files: FilesWritten<'a>,
+    about: About<'a>,
+    extras: Extras,
+) -> u8 {
+    let (ended, remark, output, reason) = match ended {
+        Ok(Ended { status, remark }) => (Ok(status), remark, files.output, None),
+        Err(Halt::Run(error)) => (Err(error), Remark::Nothing, files.output, None),
+        Err(Halt::Dump(error, wrong)) => {
+            (Err(error), Remark::refused(wrong), files.output, None)
+        }
+        Err(Halt::Text(error, text)) => (Err(error), Remark::text(text), files.output, None),
+        Err(Halt::Said(error, hints)) => (Err(error), Remark::Hints(hints), files.output, None),
+        Err(Halt::Starters(error, label, hints)) => {
+            (
+                Err(error),
+                Remark::Starters(label, hints),
+                files.output,
+                None,
+            )
+        }
+        Err(Halt::Undrawn(error, reason)) => (Err(error), Remark::Nothing, files.wave, reason),
+        Err(Halt::NoTimescale) => return no_timescale(rt, extras),
+        Err(Halt::NoDrive(controller, hints)) => {
+            return no_drive(rt, controller.as_str(), hints, extras);
+        }
+    };
+    let ended = out.settle(ended);
+    let status = exit_code_of(rt, ended, &remark, named, &read, extras);
+    if extras.hints {
+        let closing = Closing {
+            ended,
+            remark,
+            named,
+            output,
+            error: reason.or(out.into_error()),
+            about,
+            voice: extras.voice(),
+        };
+        advise(rt, read, closing);
+    }
+    status
+}
+
+// The exit code of a run that has ended, with the line of a refusal, which may name a file: one of those that give a
+// plan, or the one that was read last. The line that told how far it was goes away.
+fn exit_code_of<R: Clock + Eprint + AllocGlobal, F>(
+    rt: &R,
+    ended: Result<Status, RunError>,
+    remark: &Remark,
+    named: NamedSources<'_>,
+    read: &Inputs<'_, F>,
+    extras: Extras,
+) -> u8 {
+    extras.watcher.clear(rt);
+    match ended {
+        Ok(Status::Good) => 0,
+        Ok(Status::Bad) => 1,
+        Ok(Status::Refused) => 2,
+        Err(error) if extras.format == Written::Messages => {
+            refused_at(rt, error, remark, named, read)
+        }
+        Err(error @ RunError::Read) => {
+            refused(rt, error, Detail::File(read.last.path), extras.voice())
+        }
+        Err(error) => {
+            let detail = remark.detail(rt.alloc(), error, named);
+            refused(rt, error, detail, extras.voice())
+        }
+    }
+}
