@@ -40,11 +40,7 @@ pub fn both_at(
 /// # Errors
 ///
 /// Where an allocation fails.
-pub fn one_at(
-    alloc: Global,
-    words: PlanWords<'_>,
-    p: u32,
-) -> Result<Option<OneAt>, AllocError> {
+pub fn one_at(alloc: Global, words: PlanWords<'_>, p: u32) -> Result<Option<OneAt>, AllocError> {
     let Some(item) = line_of(alloc, words.item_at(p))? else {
         return Ok(None);
     };
@@ -62,10 +58,7 @@ pub fn one_at(
 /// # Errors
 ///
 /// Where an allocation fails.
-pub fn all_at(
-    alloc: Global,
-    words: PlanWords<'_>,
-) -> Result<Option<Vec<String>>, AllocError> {
+pub fn all_at(alloc: Global, words: PlanWords<'_>) -> Result<Option<Vec<String>>, AllocError> {
     if !words.has_briefs() {
         return Ok(None);
     }
@@ -91,10 +84,7 @@ fn written_at(alloc: Global, words: PlanWords<'_>, p: u32) -> Result<String, All
 /// # Errors
 ///
 /// Where an allocation fails.
-pub fn line_of(
-    alloc: Global,
-    place: Option<FileLine<'_>>,
-) -> Result<Option<At>, AllocError> {
+pub fn line_of(alloc: Global, place: Option<FileLine<'_>>) -> Result<Option<At>, AllocError> {
     let Some(FileLine { file, line }) = place else {
         return Ok(None);
     };
