@@ -27,7 +27,7 @@ use Rattle.plan_core.specs.Building.{has_name, message_name_refusal}
 use Rattle.plan_core.specs.declared.builder.BuildError.{BuildError}
 use Rattle.plan_core.specs.declared.builder.BuildError.TheVariants.{Twice, TooMany, Unknown}
 use Rattle.plan_core.specs.declared.limits.TheConstants.{MOST_MESSAGES, MOST_CONTROLLERS, MOST_SENDINGS}
-use Rattle.plan_text.specs.Canonical.{bit_symbol}
+use Rattle.plan_text.specs.Symbols.{bit_symbol}
 use Rattle.plan_text.specs.Values.{address_of}
 use Rattle.plan_text.proofs.ValueLemmas.{address_found}
 use Rattle.std.specs.Prelude.{codes, map}

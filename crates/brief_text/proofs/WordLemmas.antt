@@ -11,7 +11,7 @@ use Rattle.message_tree.specs.Patterns.{address_bits, pattern_bits}
 use Rattle.message_tree.specs.declared.bits.Address.{Address}
 use Rattle.message_tree.specs.declared.bits.Bit.{Bit}
 use Rattle.message_tree.specs.declared.bits.Pattern.{Pattern}
-use Rattle.plan_text.specs.Canonical.{bit_symbol, address_word, pattern_word}
+use Rattle.plan_text.specs.Symbols.{bit_symbol, address_word, pattern_word}
 use Rattle.plan_text.specs.Values.{address_of, pattern_of}
 use Rattle.plan_text.specs.Words.{is_pattern}
 use Rattle.plan_text.proofs.ValueLemmas.{address_found, address_none, pattern_found, pattern_none}

@@ -10,7 +10,7 @@ use Rattle.message_tree.specs.declared.bits.Address.{Address}
 use Rattle.message_tree.specs.declared.bits.Bit.{Bit}
 use Rattle.message_tree.specs.declared.bits.Bit.TheVariants.{Zero, One, Either}
 use Rattle.message_tree.specs.declared.bits.Pattern.{Pattern}
-use Rattle.plan_text.specs.Canonical.{bit_symbol}
+use Rattle.plan_text.specs.Symbols.{bit_symbol}
 use Rattle.plan_core.specs.Names.{is_name}
 use Rattle.plan_text.specs.Values.{address_of, pattern_of, pattern_by}
 use Rattle.plan_text.specs.Words.{is_digits, number, around_dots}

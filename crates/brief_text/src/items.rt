@@ -31,7 +31,7 @@ use plan_core::{BuildError, Name, Plan};
 use plan_text::{PlanError, Refused};
 use std::alloc::Global;
 
-/// Reads a brief, and answers the plan that it means or its first refusal. `print_plan` of plan_text writes the text of
+/// Reads a brief, and answers the plan that it means or its first refusal. `print_plan` of spellings writes the text of
 /// that plan.
 ///
 /// # Errors

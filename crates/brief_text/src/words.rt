@@ -5,7 +5,7 @@ ghost use Rattle.std.specs.List.{prefix_len};
 ghost use Rattle.std.specs.Option.{option_map};
 ghost use Rattle.message_tree.specs.Bits.{bits_below};
 ghost use Rattle.message_tree.specs.Patterns.{address_bits};
-ghost use Rattle.plan_text.specs.Canonical.{bit_symbol};
+ghost use Rattle.plan_text.specs.Symbols.{bit_symbol};
 ghost use Rattle.plan_text.specs.Words.{around_dots};
 ghost use Rattle.brief_text.specs.Names.{is_brief_word};
 ghost use Rattle.brief_text.specs.Reading.{repetition_said};

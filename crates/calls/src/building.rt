@@ -6,7 +6,7 @@ use crate::tasks::Task;
 use growing_text::Text;
 use message_tree::Frame;
 use plan_core::{BuildError, Builder, Name, NameError, Plan};
-use plan_text::print_plan;
+use spellings::print_plan;
 use run_parts::{RunError, Status};
 use std::alloc::Global;
 

@@ -13,7 +13,7 @@ use given_plans::GivenPlan;
 use order::{order_of, order_report};
 use page::{Page, Recording, Texts, page_of};
 use plan_core::Plan;
-use plan_text::print_plan;
+use spellings::print_plan;
 use plan_words::PlanWords;
 use remedies::{Grouped, grouped_of};
 use report::{

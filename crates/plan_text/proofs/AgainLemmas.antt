@@ -12,7 +12,7 @@ use Rattle.plan_core.specs.Names.{IsName}
 use Rattle.plan_core.specs.declared.builder.BuildError.{BuildError}
 use Rattle.plan_core.specs.declared.limits.TheConstants.{MOST_BYTES, MOST_NODES}
 use Rattle.plan_core.proofs.BuildingLemmas.{message_parts, controller_parts, size_allowed}
-use Rattle.plan_text.specs.Canonical.{address_word, pattern_word, interrupt_word}
+use Rattle.plan_text.specs.Symbols.{address_word, pattern_word, interrupt_word}
 use Rattle.plan_text.specs.declared.errors.PlanError.TheVariants.{Unexpected, TooLong}
 use Rattle.plan_text.specs.declared.symbols.Keyword.TheVariants as keywords
 use Rattle.plan_text.specs.declared.versions.Version.{Version}

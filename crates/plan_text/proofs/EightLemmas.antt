@@ -5,7 +5,7 @@ use Rattle.std.proofs.lemmas.Bool.{and_parts, and_from}
 use Rattle.std.proofs.lemmas.Bool.Decides.{nat_tests}
 use lib.Lanes.{top}
 use Rattle.message_tree.specs.Bits.{bits_below}
-use Rattle.plan_text.specs.Canonical.{bit_symbol}
+use Rattle.plan_text.specs.Symbols.{bit_symbol}
 use Rattle.plan_text.specs.Values.{known_digit, value_digit}
 use Rattle.plan_text.specs.Words.{is_bit}
 use Rattle.plan_text.proofs.ValueLemmas.{known_of, whole}

@@ -9,10 +9,10 @@ use Rattle.lexer.proofs.LexemeLemmas.{front_is, later_alphabet}
 use Rattle.message_tree.specs.Patterns.{pattern_bits}
 use Rattle.message_tree.specs.declared.bits.Pattern.{Pattern}
 use Rattle.plan_text.specs.declared.symbols.Keyword.TheVariants as keywords
-use Rattle.plan_text.specs.Canonical.{pattern_word}
+use Rattle.plan_text.specs.Symbols.{pattern_word}
 use Rattle.plan_text.specs.Tokens.{next, word, keyword, tokens_of, token_of_word}
-use Rattle.plan_text.proofs.CanonicalPhrases.{word_token}
-use Rattle.plan_text.proofs.CanonicalWords.{space_apart, bits_are_word, bits_token, pattern_some}
+use Rattle.plan_text.proofs.WholeWords.{word_token}
+use Rattle.plan_text.proofs.WholeWords.{space_apart, bits_are_word, bits_token, pattern_some}
 use Rattle.plan_text.proofs.TokenLemmas.{skips_space}
 
 -- a data byte between two blanks

@@ -8,7 +8,7 @@ use Rattle.plan_core.specs.Names.{IsName, is_name}
 use Rattle.plan_core.specs.declared.builder.BuildError.{BuildError}
 use Rattle.plan_core.specs.declared.limits.TheConstants.{MOST_BYTES}
 use Rattle.plan_core.proofs.BuildingLemmas.{message_fits, controller_fits}
-use Rattle.plan_text.specs.Canonical.{interrupt_word}
+use Rattle.plan_text.specs.Symbols.{interrupt_word}
 use Rattle.plan_text.specs.declared.errors.PlanError.{PlanError}
 use Rattle.plan_text.specs.declared.errors.PlanError.TheVariants.{Unexpected}
 use Rattle.plan_text.specs.declared.symbols.Keyword.TheVariants as keywords

@@ -1,4 +1,3 @@
-pub mod Adding
 pub mod WordLemmas
 pub mod ValueLemmas
 pub mod EightLemmas
@@ -11,8 +10,5 @@ pub mod TextLemmas
 pub mod ReadLemmas
 pub mod RefusedLemmas
 pub mod TokenLemmas
-pub mod CanonicalWords
-pub mod CanonicalPhrases
+pub mod WholeWords
 pub mod FrontLemmas
-pub mod CanonicalItems
-pub mod CanonicalSpelling

@@ -13,7 +13,7 @@ use Rattle.plan_text.specs.declared.symbols.Keyword.TheVariants as keywords
 use Rattle.plan_text.specs.declared.symbols.Symbol.{Symbol}
 use Rattle.plan_text.specs.declared.symbols.Symbol.TheVariants as symbols
 use Rattle.plan_text.specs.declared.symbols.Token as seen
-use Rattle.plan_text.specs.Canonical.{pattern_word}
+use Rattle.plan_text.specs.Symbols.{pattern_word}
 use Rattle.plan_text.specs.Places.{before, payload_at, node_at, tail_at, write_at, read_at, byte_at}
 use Rattle.plan_text.specs.Reader.{Place, ◌>>=◌, token_as, address_in, counted, count_at, writes, reads, Frames, tail_by, payload_from, answers_by, tails_by, frame_in, byte_in, frame_at, or_refused, ends_in}
 use Rattle.plan_text.specs.Reading.{with_symbol, unexpected_symbol, unexpected_at}

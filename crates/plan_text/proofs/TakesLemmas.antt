@@ -9,7 +9,7 @@ use Rattle.message_tree.specs.Counts.{greatest_of}
 use Rattle.message_tree.specs.Sizes.{frame_bytes, payload_bytes, tail_bytes, frame_nodes, payload_nodes, tail_nodes}
 use Rattle.message_tree.specs.Trees.{FrameTree, write, read, PayloadTree, byte, last, TailTree, stop, again}
 use Rattle.plan_core.specs.declared.limits.TheConstants.{MOST_NODES}
-use Rattle.plan_text.specs.Canonical.{address_word, pattern_word}
+use Rattle.plan_text.specs.Symbols.{address_word, pattern_word}
 use Rattle.plan_text.specs.declared.errors.PlanError.{PlanError}
 use Rattle.plan_text.specs.declared.errors.PlanError.TheVariants.{Unexpected, BadCount, TooLong}
 use Rattle.plan_text.specs.declared.symbols.Keyword.{Keyword}

@@ -17,7 +17,7 @@ use Rattle.message_tree.specs.Bits.{bit_from, bits_below}
 use Rattle.message_tree.specs.Counts.{least_of, greatest_of}
 use Rattle.message_tree.specs.Patterns.{address_bits, pattern_bits}
 use Rattle.message_tree.proofs.BitLemmas.{same_known, same_value, bits_below-masked}
-use Rattle.plan_text.specs.Canonical.{bit_symbol, address_word, pattern_word, interrupt_word}
+use Rattle.plan_text.specs.Symbols.{bit_symbol, address_word, pattern_word, interrupt_word}
 use Rattle.plan_text.specs.Values.{binary, known_digit, value_digit, address_by, pattern_by, where_true, address_of, pattern_of, known_address_of, count_by, count_of}
 use Rattle.plan_text.specs.Words.{is_bit, is_known_bit, is_pattern, is_known_address, in_range, number}
 use Rattle.plan_text.proofs.WordLemmas.{all_bits, all_known, all_ones, bits_below_push, next_fits, no_known_bits}

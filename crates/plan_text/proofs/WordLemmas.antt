@@ -16,7 +16,7 @@ use Rattle.std.proofs.lemmas.Str.Parse.{digits_value-take-le}
 use Rattle.message_tree.specs.declared.bits.Bit.{Bit}
 use Rattle.message_tree.specs.declared.bits.Bit.TheVariants.{Zero, One, Either}
 use Rattle.message_tree.specs.Bits.{bit_from, bits_below}
-use Rattle.plan_text.specs.Canonical.{bit_symbol}
+use Rattle.plan_text.specs.Symbols.{bit_symbol}
 use Rattle.plan_text.specs.Words.{is_bit, is_known_bit, is_known_address, is_digits, number, around_dots, count_ends}
 
 -- ---- bits

@@ -10,7 +10,7 @@ use Rattle.plan_core.specs.Building.{interrupt_refusal, with_interrupt, never_re
 use Rattle.plan_text.specs.declared.symbols.Keyword.TheVariants as keywords
 use Rattle.plan_text.specs.declared.versions.Version.{Version}
 use Rattle.plan_text.specs.declared.versions.Version.TheVariants.{One, Two}
-use Rattle.plan_text.specs.Canonical.{address_word, pattern_word, interrupt_word}
+use Rattle.plan_text.specs.Symbols.{address_word, pattern_word, interrupt_word}
 use Rattle.plan_text.specs.Tokens.{Token, keyword, word, semicolon, Tokens, tokens_of}
 use Rattle.plan_text.specs.Tokens as tokens
 use Rattle.plan_text.specs.Words.{WritesCount}

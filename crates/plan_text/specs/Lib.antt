@@ -1,4 +1,4 @@
-pub mod Canonical
+pub mod Symbols
 pub mod Tokens
 pub mod Words
 pub mod Values

@@ -1,10 +1,8 @@
-// What holds of every text, and of every plan's canonical spelling. A law does nothing: its contract is the theorem.
+// What holds of every text. A law does nothing: its contract is the theorem.
 
 ghost use Rattle.std.specs.Prelude.{◌≡◌, ℕ, ◌⊎◌, List, Ok};
 ghost use Rattle.plan_core.specs.Contents.{Contents};
-ghost use Rattle.plan_core.specs.Limits.{IsWithinLimits};
 ghost use Rattle.plan_text.specs.declared.errors.PlanError.{PlanError};
-ghost use Rattle.plan_text.specs.Canonical.{plan_text};
 ghost use Rattle.plan_text.specs.Grammar.{Spells};
 ghost use Rattle.plan_text.specs.Reader.{text_read};
 ghost use Rattle.plan_text.specs.Refusals.{First};
@@ -21,9 +19,4 @@ pub fn texts_have_one_reading()
     ensures one_refusal { (text : List ℕ) (e f : PlanError) → First text e → First text f → e ≡ f }
     ensures not_both { (text : List ℕ) (P : Contents) (e : PlanError) → Spells text P → First text e → ⊥ }
     ensures one_of_both { (text : List ℕ) → ((P : Contents) × Spells text P) ⊎ ((e : PlanError) × First text e) }
-{}
-
-/// The canonical spelling of a plan spells that plan.
-pub fn canonical_spellings_are_read()
-    ensures { (plan : Contents) → IsWithinLimits plan → Spells (plan_text plan) plan }
 {}

@@ -3,7 +3,7 @@
 ghost use Rattle.std.specs.Prelude.{◌≡◌, true, false, MatchOption};
 ghost use Rattle.lexer.specs.Lexemes.{Alphabet, letters, later};
 ghost use Rattle.lexer.specs.declared.lexemes.Letters.TheVariants.{Plain, Dots};
-ghost use Rattle.plan_text.specs.Canonical.{pattern_word};
+ghost use Rattle.plan_text.specs.Symbols.{pattern_word};
 ghost use Rattle.plan_text.specs.Grammar.{one, ◌▸◌};
 ghost use Rattle.plan_text.specs.Tokens.{tokens_of, next, word, keyword};
 ghost use Rattle.plan_text.specs.declared.symbols.Keyword.TheVariants as keywords;

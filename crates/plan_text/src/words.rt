@@ -3,7 +3,7 @@
 ghost use Rattle.std.specs.Prelude.{◌≡◌, ◌<◌, ◌≤◌, ◌^◌, length, map, is_some, IfSome, MatchOption, nat_le, true};
 ghost use Rattle.std.specs.List.{list_all};
 ghost use Rattle.message_tree.specs.Bits.{bit_from, bits_below};
-ghost use Rattle.plan_text.specs.Canonical.{bit_symbol, address_word, pattern_word, interrupt_word};
+ghost use Rattle.plan_text.specs.Symbols.{bit_symbol, address_word, pattern_word, interrupt_word};
 ghost use Rattle.plan_text.specs.Words.{is_bit, is_pattern, is_known_address, is_digits, number, around_dots};
 ghost use Rattle.plan_text.specs.Words.{count_ends};
 

@@ -1,3 +1,8 @@
+pub mod Adding
+pub mod CanonicalWords
+pub mod CanonicalPhrases
+pub mod CanonicalItems
+pub mod CanonicalSpelling
 pub mod NameLemmas
 pub mod WrittenFrames
 pub mod WrittenItems

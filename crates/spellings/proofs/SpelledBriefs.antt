@@ -12,10 +12,10 @@ use Rattle.plan_core.specs.Contents.{Contents}
 use Rattle.plan_core.specs.Labels.{name_at}
 use Rattle.plan_core.specs.Limits.{IsWithinLimits}
 use Rattle.plan_core.specs.Names.{IsName, is_name, is_name_byte}
-use Rattle.plan_text.specs.Canonical.{spaced, item_line, controller_line, never_line}
+use Rattle.spellings.specs.Canonical.{spaced, item_line, controller_line, never_line}
 use Rattle.lexer.specs.Lexemes.{text_end}
 use Rattle.plan_text.specs.Values.{address_by}
-use Rattle.plan_text.proofs.CanonicalItems.{All-here, message_named, controller_named, sent_named, interrupt_named, both_named}
+use Rattle.spellings.proofs.CanonicalItems.{All-here, message_named, controller_named, sent_named, interrupt_named, both_named}
 use Rattle.lexer.specs.Lexemes.{lexemes_of}
 use Rattle.brief_text.specs.declared.symbols.Keyword.{Keyword}
 use Rattle.brief_text.specs.declared.symbols.Keyword.TheVariants as keywords
@@ -30,7 +30,7 @@ use Rattle.brief_text.specs.Tokens as tokens
 use Rattle.brief_text.specs.Trees.{BriefItem}
 use Rattle.brief_text.specs.Words.{side_by, around_slash, halves_at, is_no_slash}
 use Rattle.spellings.specs.Writing.{message_brief, controller_brief, interrupt_brief, never_brief, brief_items}
-use Rattle.plan_text.proofs.Adding.{spaced-append}
+use Rattle.spellings.proofs.Adding.{spaced-append}
 use Rattle.brief_text.proofs.SaidLemmas.{said_meant}
 use Rattle.spellings.proofs.SpelledPhrases.{Said, spaced_apart, said_word, said_name, said_names, said_frame}
 use Rattle.spellings.proofs.SpelledWords.{is_word, word_token, none_at, target_said}

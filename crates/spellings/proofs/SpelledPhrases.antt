@@ -12,12 +12,12 @@ use Rattle.message_tree.specs.Trees as trees
 use Rattle.message_tree.specs.declared.bits.Pattern.{Pattern}
 use Rattle.message_tree.specs.declared.counts.Count.{Count}
 use Rattle.plan_core.specs.Names.{IsName}
-use Rattle.plan_text.specs.Canonical.{spaced, count_word}
+use Rattle.spellings.specs.Canonical.{spaced, count_word}
 use Rattle.plan_text.specs.Words.{is_digits}
-use Rattle.plan_text.proofs.Adding.{spaced-append}
+use Rattle.spellings.proofs.Adding.{spaced-append}
 use Rattle.lexer.specs.declared.lexemes.Letters.TheVariants.{Dots, Brief}
 use Rattle.lexer.specs.Lexemes.{is_sign, is_word_part}
-use Rattle.plan_text.proofs.CanonicalWords.{count_is_word, decimal_digits, name_is_word}
+use Rattle.spellings.proofs.CanonicalWords.{count_is_word, decimal_digits, name_is_word}
 use Rattle.brief_text.specs.declared.symbols.Keyword.TheVariants as keywords
 use Rattle.brief_text.specs.Grammar.{Phrase, one, ◌▸◌, SpellsName, SpellsNames, SpellsData, SpellsOften, SpellsCount, SpellsFrame, SpellsBytes, SpellsNext, SpellsRefused}
 use Rattle.brief_text.specs.Names.{is_brief_word}

@@ -12,11 +12,11 @@ use Rattle.message_tree.specs.declared.bits.Bit.TheVariants.{Zero, One, Either}
 use Rattle.message_tree.specs.declared.bits.Pattern.{Pattern}
 use Rattle.message_tree.specs.Patterns.{address_bits, pattern_bits}
 use Rattle.plan_core.specs.Names.{IsName, is_name, is_reserved, reserved_words}
-use Rattle.plan_text.specs.Canonical.{bit_symbol, address_word, pattern_word}
+use Rattle.plan_text.specs.Symbols.{bit_symbol, address_word, pattern_word}
 use Rattle.plan_text.specs.Values.{pattern_of}
 use Rattle.lexer.specs.declared.lexemes.Letters.TheVariants.{Dots, Brief}
 use Rattle.lexer.specs.Lexemes.{is_word_part, begins_with_part}
-use Rattle.plan_text.proofs.CanonicalWords as words
+use Rattle.plan_text.proofs.WholeWords as words
 use Rattle.plan_text.proofs.ValueLemmas.{address_found, pattern_found}
 use Rattle.brief_text.specs.declared.symbols.Keyword.TheVariants as keywords
 use Rattle.brief_text.specs.Grammar.{Phrase, SpellsData, SpellsTo}

@@ -1,7 +1,7 @@
 -- What the runs of print, expand and brief know of their texts.
 use Rattle.std.proofs.Common.{◌≡◌, ◌⊎◌, ◌∙◌, List, ℕ, false, inl, inr, refl, subst, sym}
 use Rattle.plan_core.specs.Contents.{Contents}
-use Rattle.plan_text.specs.Canonical.{plan_text}
+use Rattle.spellings.specs.Canonical.{plan_text}
 use Rattle.plan_text.specs.Grammar.{Spells}
 use Rattle.plan_text.specs.Refusals.{First}
 use Rattle.plan_text.specs.declared.errors.PlanError.{PlanError}

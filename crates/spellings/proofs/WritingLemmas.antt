@@ -11,9 +11,10 @@ use Rattle.message_tree.specs.declared.bits.Address.{Address}
 use Rattle.message_tree.specs.Patterns.{address_bits, pattern_bits}
 use Rattle.message_tree.specs.Bits.{bits_below}
 use Rattle.message_tree.proofs.BitLemmas.{bits_below-masked}
-use Rattle.plan_text.specs.Canonical.{Adds, spaced, item_line, bit_symbol}
+use Rattle.plan_text.specs.Symbols.{bit_symbol}
+use Rattle.spellings.specs.Canonical.{Adds, spaced, item_line}
 use Rattle.plan_text.specs.Values.{address_by}
-use Rattle.plan_text.proofs.Adding.{adds_then, then_adds}
+use Rattle.spellings.proofs.Adding.{adds_then, then_adds}
 use Rattle.spellings.specs.Spelling.{digit_symbol, data_of, data_word, target_of, target_word}
 
 -- eight bits, each of which is known

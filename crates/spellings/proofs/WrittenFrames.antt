@@ -7,7 +7,7 @@ use Rattle.message_tree.specs.Patterns.{pattern_bits}
 use Rattle.message_tree.specs.Trees.{FrameTree, write, read, PayloadTree, last, TailTree, stop, again}
 use Rattle.message_tree.specs.Trees as trees
 use Rattle.message_tree.specs.declared.bits.Pattern.{Pattern}
-use Rattle.plan_text.specs.Canonical.{bit_symbol, pattern_word}
+use Rattle.plan_text.specs.Symbols.{bit_symbol, pattern_word}
 use Rattle.plan_text.proofs.ValueLemmas.{pattern_found}
 use Rattle.brief_text.specs.Drafts.{Draft, frame_meant, bytes_meant, tail_meant, repeated}
 use Rattle.brief_text.specs.Fitting.{KnowsFrame, KnowsBytes, KnowsTail, frame_ranges, bytes_ranges, tail_ranges}

@@ -22,7 +22,7 @@ use Rattle.plan_core.specs.Limits.{IsWithinLimits, sending_count}
 use Rattle.plan_core.specs.declared.limits.TheConstants.{MOST_CONTROLLERS, MOST_SENDINGS}
 use Rattle.plan_core.proofs.BuildingLemmas.{position-None, message_parts, controller_allowed, name_allowed}
 use Rattle.plan_text.specs.Values.{address_by}
-use Rattle.plan_text.proofs.CanonicalItems.{up_to_messages, up_to_controllers, message_fits, controller_fits, interrupt_fits}
+use Rattle.spellings.proofs.CanonicalItems.{up_to_messages, up_to_controllers, message_fits, controller_fits, interrupt_fits}
 use Rattle.brief_text.specs.Drafts.{Draft, with_item}
 use Rattle.brief_text.specs.Fitting.{Fits, ListFits, MakeUp}
 use Rattle.brief_text.specs.Judging.{message_refusal_of, is_taken, controller_refusal_of, all_of, sendings, listing_refusal}

@@ -14,7 +14,7 @@ use Rattle.plan_core.specs.Labels.{name_at}
 use Rattle.plan_core.specs.Limits.{IsWithinLimits}
 use Rattle.plan_core.specs.Participants.{names_both}
 use Rattle.plan_core.proofs.BuildingLemmas.{bytes_eq-same, same-bytes_eq}
-use Rattle.plan_text.proofs.CanonicalItems.{All-here, AllPairs-here, All-before, number_at}
+use Rattle.spellings.proofs.CanonicalItems.{All-here, AllPairs-here, All-before, number_at}
 use Rattle.brief_text.specs.Drafts.{Draft, with_item}
 use Rattle.brief_text.specs.Fitting.{Fits}
 use Rattle.brief_text.specs.Judging.{first_refusal, second_refusal, are_sides}

@@ -12,7 +12,7 @@ use Rattle.plan_core.specs.Contents.{Contents}
 use Rattle.plan_core.specs.Labels.{name_at}
 use Rattle.plan_core.specs.Limits.{IsWithinLimits}
 use Rattle.plan_core.proofs.BuildingLemmas.{bytes_eq-same, same-bytes_eq}
-use Rattle.plan_text.proofs.CanonicalItems.{up_to_controllers, up_to_nevers, controller_adds, never_fits, never_adds}
+use Rattle.spellings.proofs.CanonicalItems.{up_to_controllers, up_to_nevers, controller_adds, never_fits, never_adds}
 use Rattle.brief_text.specs.Drafts.{Draft, no_items}
 use Rattle.brief_text.specs.Fitting.{MakeUp}
 use Rattle.brief_text.specs.Splitting.{Part, part_name, whole, parts, are_of_one, pairs_among, side_means, parts_meant, pairs_meant, pairs_apart, with_parts, with_pair, with_pairs, plan_meant}

@@ -1,3 +1,4 @@
+pub mod Canonical
 pub mod Writing
 pub mod Spelling
 pub mod Runs

@@ -12,7 +12,8 @@ use Rattle.message_tree.specs.Patterns.{address_bits, pattern_bits}
 use Rattle.message_tree.specs.Trees.{FrameTree, write, read, PayloadTree, last, TailTree, stop, again}
 use Rattle.message_tree.specs.Trees as trees
 use Rattle.plan_core.specs.Contents.{Contents}
-use Rattle.plan_text.specs.Canonical.{bit_symbol, count_word, item_line, controller_line, never_line}
+use Rattle.plan_text.specs.Symbols.{bit_symbol}
+use Rattle.spellings.specs.Canonical.{count_word, item_line, controller_line, never_line}
 use Rattle.plan_text.specs.Values.{address_by}
 use Rattle.brief_text.specs.Words.{known_number}
 use Rattle.spellings.specs.Writing.{Run, ended_by, with_byte}

@@ -1,7 +1,7 @@
 -- What print says of a plan text, expand of a brief, and brief of a plan text.
 use Rattle.std.specs.Prelude.{◌≡◌, ℕ, List, false}
 use Rattle.plan_core.specs.Contents.{Contents}
-use Rattle.plan_text.specs.Canonical.{plan_text}
+use Rattle.spellings.specs.Canonical.{plan_text}
 use Rattle.plan_text.specs.Grammar.{Spells}
 use Rattle.plan_text.specs.Refusals.{First}
 use Rattle.brief_text.specs.Briefs.{Means, IsRefused}

@@ -2,7 +2,7 @@
 
 ghost use Rattle.std.specs.Prelude.{◌≡◌, ◌⊎◌, IfOk, OnOk, IfErr};
 ghost use Rattle.plan_core.specs.PlanContents.{plan_contents};
-ghost use Rattle.plan_text.specs.Canonical.{plan_text};
+ghost use Rattle.spellings.specs.Canonical.{plan_text};
 ghost use Rattle.spellings.specs.Spellings.{Printed, Expanded, Abbreviated, RefusesBrief, GivesNoBrief};
 ghost use Rattle.run_parts.specs.PlanTexts.{RefusesPlan};
 ghost use Rattle.run_parts.specs.Runs.{ReadsText, HaltsAtText, Reports, Stops};
@@ -10,10 +10,11 @@ ghost use Rattle.run_parts.specs.Writing.{WritesAll, WritingStops};
 ghost use Rattle.run_parts.specs.declared.errors.RunError.TheVariants.{NoMemory};
 ghost use Rattle.run_parts.specs.declared.runs.Status.TheVariants.{Good};
 
+use crate::print::print_plan;
 use crate::writing::brief_of;
 use brief_text::expand_brief;
 use plan_core::Plan;
-use plan_text::{print_plan, read_plan};
+use plan_text::read_plan;
 use run_parts::devices::reading::READS;
 use run_parts::{Input, Output, RunError, Status, read_within, write_lines};
 use std::alloc::Global;

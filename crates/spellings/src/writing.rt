@@ -10,7 +10,8 @@ ghost use Rattle.message_tree.specs.Trees.{frame_tree, payload_tree, tail_tree};
 ghost use Rattle.plan_core.specs.Labels.{name_at};
 ghost use Rattle.plan_core.specs.NameBytes.{name_bytes};
 ghost use Rattle.plan_core.specs.PlanContents.{plan_contents};
-ghost use Rattle.plan_text.specs.Canonical.{Adds, bit_symbol, count_word, item_line, controller_line, never_line};
+ghost use Rattle.plan_text.specs.Symbols.{bit_symbol};
+ghost use Rattle.spellings.specs.Canonical.{Adds, count_word, item_line, controller_line, never_line};
 ghost use Rattle.brief_text.specs.Briefs.{Means};
 ghost use Rattle.brief_text.specs.Names.{is_brief_word, has_brief_word, first_brief_word, LacksBrief};
 ghost use Rattle.spellings.specs.Runs.{run_of, run_before};
@@ -21,10 +22,11 @@ ghost use Rattle.brief_text.specs.Words.{known_number};
 ghost use Rattle.spellings.specs.Writing.{ended_by, with_byte};
 
 use crate::families::gathered;
+use crate::print::print_plan;
 use brief_text::{expand_brief, is_brief_word};
 use message_tree::{Address, Bit, Count, Frame, Pattern, Payload, Tail};
 use plan_core::{Name, Plan};
-use plan_text::{NoBrief, PlanError, print_plan};
+use plan_text::{NoBrief, PlanError};
 use std::alloc::{AllocError, Global};
 
 /// A brief that means this plan: addresses and data bytes in hex where their bits allow it, runs of equal bytes with

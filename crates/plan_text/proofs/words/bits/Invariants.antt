@@ -1,6 +1,6 @@
 use Rattle.std.proofs.Common.{◌≡◌, ◌<◌, ◌^◌, map, take}
 use Rattle.message_tree.specs.Bits.{bits_below}
-use Rattle.plan_text.specs.Canonical.{bit_symbol}
+use Rattle.plan_text.specs.Symbols.{bit_symbol}
 use Rattle.plan_text.proofs.words.bits.Given as goal
 
 -- the characters before this one are read

@@ -2,7 +2,7 @@ use Rattle.std.proofs.Common.{◌≡◌, ◌<◌, ◌%◌, ◌^◌, ℕ, true, f
 use Rattle.std.specs.List.{list_all}
 use Rattle.std.proofs.lemmas.Bool.{false_from_ne_true}
 use Rattle.message_tree.specs.Bits.{bits_below}
-use Rattle.plan_text.specs.Canonical.{bit_symbol}
+use Rattle.plan_text.specs.Symbols.{bit_symbol}
 use Rattle.plan_text.specs.Words.{is_bit}
 use Rattle.plan_text.proofs.EightLemmas.{seen, mask, one_lane, known_lane, bit_lane, mask_whole}
 use Rattle.plan_text.proofs.words.eight_bits.Goals as goal

@@ -1,8 +1,8 @@
 use Rattle.std.proofs.Common.{ap, sym, ◌∙◌, Some, ◌≡◌, slice_get}
 use Rattle.std.specs.Map.{keys_of}
 use Rattle.plan_core.specs.PlanContents.{plan_contents}
-use Rattle.plan_text.specs.Canonical.{controller_line}
-use Rattle.plan_text.proofs.Adding.{entry_at, line_more}
+use Rattle.spellings.specs.Canonical.{controller_line}
+use Rattle.spellings.proofs.Adding.{entry_at, line_more}
 use Rattle.spellings.proofs.writing.controllers.Goals as goal
 
 pub loop-k-preserved : goal.loop-k-preserved

@@ -1,8 +1,8 @@
 use Rattle.std.proofs.Common.{◌<◌, [], ◌∷◌, ◌++◌, map, take, string_bytes, arith, subst, sym, ap, ◌∙◌, codes}
 use Rattle.std.proofs.lemmas.Option.{slice_get-get_or}
 use Rattle.message_tree.specs.declared.bits.Bit.TheVariants.{Zero}
-use Rattle.plan_text.specs.Canonical.{bit_symbol}
-use Rattle.plan_text.proofs.Adding.{bits_more, symbol_ascii}
+use Rattle.plan_text.specs.Symbols.{bit_symbol}
+use Rattle.spellings.proofs.Adding.{bits_more, symbol_ascii}
 use Rattle.spellings.proofs.WritingLemmas.{bits_after}
 use Rattle.spellings.proofs.writing.in_bits.Goals as goal
 

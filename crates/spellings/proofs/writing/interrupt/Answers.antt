@@ -1,5 +1,5 @@
 use Rattle.std.proofs.Common.{◌≡◌, ◌++◌, ◌∷◌, [], OnOk, codes, string_bytes, subst}
-use Rattle.plan_text.specs.Canonical.{item_line}
+use Rattle.spellings.specs.Canonical.{item_line}
 use Rattle.spellings.specs.Spelling.{target_word}
 use Rattle.spellings.proofs.WritingLemmas.{interrupt_target, line_made}
 use Rattle.spellings.proofs.writing.interrupt.Goals as goal

@@ -2,7 +2,7 @@ use Rattle.std.proofs.Common.{ap, sym, ◌∙◌, Some, ◌≡◌, slice_get}
 use Rattle.std.specs.Map.{keys_of}
 use Rattle.plan_core.specs.PlanContents.{plan_contents}
 use Rattle.spellings.specs.Spelling.{interrupt_line}
-use Rattle.plan_text.proofs.Adding.{entry_at, line_more}
+use Rattle.spellings.proofs.Adding.{entry_at, line_more}
 use Rattle.spellings.proofs.writing.interrupts.Goals as goal
 
 pub loop-k-preserved : goal.loop-k-preserved

@@ -1,7 +1,7 @@
 use Rattle.std.proofs.Common.{ap, sym, ◌∙◌, Some, ◌≡◌, arith, get_or, slice_get}
 use Rattle.std.specs.Map.{keys_of}
 use Rattle.plan_core.specs.PlanContents.{plan_contents}
-use Rattle.plan_text.proofs.Adding.{names_more}
+use Rattle.spellings.proofs.Adding.{names_more}
 use Rattle.spellings.proofs.writing.message_names.Goals as goal
 
 pub loop-message-preserved : goal.loop-message-preserved

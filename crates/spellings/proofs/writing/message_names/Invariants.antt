@@ -1,7 +1,7 @@
 use Rattle.std.proofs.Common.{map, take, string_bytes}
 use Rattle.plan_core.specs.Labels.{name_at}
 use Rattle.plan_core.specs.PlanContents.{plan_contents}
-use Rattle.plan_text.specs.Canonical.{Adds}
+use Rattle.spellings.specs.Canonical.{Adds}
 use Rattle.spellings.proofs.writing.message_names.Given as goal
 
 -- the names before this one are written

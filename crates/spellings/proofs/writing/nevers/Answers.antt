@@ -3,8 +3,8 @@ use Rattle.std.specs.Map.{keys_of}
 use Rattle.std.proofs.lemmas.Option.{get_or_from_slice_get}
 use Rattle.plan_core.specs.Labels.{name_at}
 use Rattle.plan_core.specs.PlanContents.{plan_contents}
-use Rattle.plan_text.specs.Canonical.{never_line, item_line}
-use Rattle.plan_text.proofs.Adding.{line_more}
+use Rattle.spellings.specs.Canonical.{never_line, item_line}
+use Rattle.spellings.proofs.Adding.{line_more}
 use Rattle.spellings.proofs.writing.nevers.Goals as goal
 
 pub loop-k-preserved : goal.loop-k-preserved

@@ -1,7 +1,7 @@
 use Rattle.std.proofs.Common.{◌≡◌, ◌++◌, drop, string_bytes}
 use Rattle.std.specs.List.{flat_map}
 use Rattle.plan_core.specs.PlanContents.{plan_contents}
-use Rattle.plan_text.specs.Canonical.{never_line}
+use Rattle.spellings.specs.Canonical.{never_line}
 use Rattle.spellings.proofs.writing.nevers.Given as goal
 
 -- the lines so far and those of what is left are all lines

@@ -1,9 +1,0 @@
-use Rattle.std.proofs.Common.{◌≡◌, ◌++◌, drop, string_bytes}
-use Rattle.std.specs.List.{flat_map}
-use Rattle.plan_core.specs.PlanContents.{plan_contents}
-use Rattle.plan_text.specs.Canonical.{interrupt_line}
-use Rattle.plan_text.proofs.print.interrupts.Given as goal
-
--- the lines so far and those of what is left are all lines
-abbrev pub invariant-loop-k : goal.invariant-loop-k
-invariant-loop-k l = string_bytes l.text ++ flat_map interrupt_line (drop l.k (plan_contents l.plan).interrupts) ≡ string_bytes l.initial.text ++ flat_map interrupt_line (plan_contents l.plan).interrupts
