@@ -9,10 +9,10 @@ use Rattle.message_tree.specs.declared.counts.Count.{Count}
 use Rattle.plan_core.specs.declared.builder.BuildError.{BuildError}
 use Rattle.plan_core.specs.declared.limits.TheConstants.{MOST_NODES}
 use Rattle.plan_text.specs.Reader.{◌>>=◌, or_refused}
-use Rattle.plan_text.specs.declared.errors.PlanError.TheVariants.{Unexpected, TooLong}
+use Rattle.plan_text.specs.declared.errors.PlanError.TheVariants.{Unexpected}
 use Rattle.plan_text.specs.declared.errors.PlanError.TheVariants as errors
 use Rattle.plan_text.proofs.ValueLemmas.{count_found}
-use Rattle.brief_text.specs.declared.symbols.Keyword.TheVariants as keywords
+use Rattle.brief_tokens.specs.declared.symbols.Keyword.TheVariants as keywords
 use Rattle.brief_text.specs.declared.syntax.Lengths.{Lengths}
 use Rattle.brief_text.specs.Drafts.{Draft, how_often}
 use Rattle.brief_text.specs.Fitting.{often_ranges, range_count, IsAllowed}
@@ -21,7 +21,7 @@ use Rattle.brief_text.specs.Grammar.{one, SpellsName, SpellsTo, SpellsData, Spel
 use Rattle.brief_text.specs.Judging.{range_refusal}
 use Rattle.brief_text.specs.Places.{Place, Reads, first_as, token_as, past, name_in, name_at, is_known, to_in, to_at, data_in, data_at}
 use Rattle.brief_text.specs.Standing.{node_at}
-use Rattle.brief_text.specs.Tokens.{Token, keyword, word, Tokens}
+use Rattle.brief_tokens.specs.Tokens.{Token, keyword, word, Tokens}
 use Rattle.brief_text.specs.Trees.{Said, spelled, named, Times, times, ranged}
 use Rattle.brief_text.specs.Words.{so_often, from_to}
 use Rattle.brief_text.proofs.FollowLemmas.{begins_star, often_stays}

@@ -2,14 +2,14 @@
 use Rattle.std.proofs.Common.{◌≡◌, ℕ, Bool, true, false, Option, refl, ap, sym, ◌∙◌, inl, inr}
 use Rattle.std.specs.Prelude.{Ok}
 use Rattle.message_tree.specs.declared.bits.Pattern.{Pattern}
-use Rattle.brief_text.specs.declared.symbols.Keyword.TheVariants as keywords
-use Rattle.brief_text.specs.declared.symbols.Sign.TheVariants as signs
+use Rattle.brief_tokens.specs.declared.symbols.Keyword.TheVariants as keywords
+use Rattle.brief_tokens.specs.declared.symbols.Sign.TheVariants as signs
 use Rattle.brief_text.specs.declared.syntax.Lengths.{Lengths}
 use Rattle.brief_text.specs.Drafts.{Draft}
 use Rattle.brief_text.specs.Frames.{Around, Frames, next_from, refused_from, often_from, begins_data}
 use Rattle.brief_text.specs.Grammar.{SpellsData, SpellsBytes, SpellsNext, SpellsRefused}
 use Rattle.brief_text.specs.Places.{Place}
-use Rattle.brief_text.specs.Tokens.{keyword, sign, Tokens, next}
+use Rattle.brief_tokens.specs.Tokens.{keyword, sign, Tokens, next}
 use Rattle.brief_text.specs.Trees.{Said, spelled, named, times, write_to, read_from, BriefBytes, data_byte, no_more, BriefTail, stop_here, go_on}
 
 abbrev pub begins_frame : Tokens → Bool

@@ -8,8 +8,8 @@ use Rattle.message_tree.specs.declared.bits.Pattern.{Pattern}
 use Rattle.message_tree.specs.declared.counts.Count.{Count}
 use Rattle.plan_core.specs.declared.limits.TheConstants.{MOST_NODES}
 use Rattle.plan_text.specs.Reader.{◌>>=◌, writes, reads}
-use Rattle.brief_text.specs.declared.symbols.Keyword.TheVariants as keywords
-use Rattle.brief_text.specs.declared.symbols.Sign.TheVariants as signs
+use Rattle.brief_tokens.specs.declared.symbols.Keyword.TheVariants as keywords
+use Rattle.brief_tokens.specs.declared.symbols.Sign.TheVariants as signs
 use Rattle.brief_text.specs.declared.syntax.Lengths.{Lengths}
 use Rattle.brief_text.specs.Drafts.{frame_meant, bytes_meant, tail_meant, bits_said, how_often, repeated}
 use Rattle.brief_text.specs.Fitting.{KnowsFrame, KnowsBytes, KnowsTail, frame_ranges, bytes_ranges, tail_ranges, range_count, IsAllowed}
@@ -17,7 +17,7 @@ use Rattle.brief_text.specs.Frames.{Around, form_in, stops, opens, ends_with, fr
 use Rattle.brief_text.specs.Grammar.{SpellsFrame, SpellsBytes, SpellsNext, SpellsRefused}
 use Rattle.brief_text.specs.Places.{close_in}
 use Rattle.brief_text.specs.Standing.{refused_at, next_at, payload_at}
-use Rattle.brief_text.specs.Tokens.{keyword, sign, Tokens}
+use Rattle.brief_tokens.specs.Tokens.{keyword, sign, Tokens}
 use Rattle.brief_text.specs.Trees.{Said, Times, BriefFrame, write_to, read_from, BriefBytes, data_byte, no_more, BriefTail, stop_here, go_on}
 use Rattle.brief_text.proofs.AgainLemmas.{spot, token_again, past_again, to_again, data_again, data_begins, count_again, node_again, often_some, Again, often_again}
 use Rattle.brief_text.proofs.FollowLemmas.{closes, closed, begins_else, next_stays, refused_stays, next_apart, bytes_apart, refused_apart}

@@ -7,9 +7,9 @@ use Rattle.message_tree.specs.declared.bits.Address.{Address}
 use Rattle.message_tree.specs.declared.bits.Pattern.{Pattern}
 use Rattle.plan_text.specs.Reader.{◌>>=◌, Form, writes, reads}
 use Rattle.plan_text.proofs.TakesLemmas.{bind_ok, ok_is}
-use Rattle.brief_text.specs.declared.symbols.Keyword.{Keyword}
-use Rattle.brief_text.specs.declared.symbols.Keyword.TheVariants as keywords
-use Rattle.brief_text.specs.declared.symbols.Sign.TheVariants as signs
+use Rattle.brief_tokens.specs.declared.symbols.Keyword.{Keyword}
+use Rattle.brief_tokens.specs.declared.symbols.Keyword.TheVariants as keywords
+use Rattle.brief_tokens.specs.declared.symbols.Sign.TheVariants as signs
 use Rattle.brief_text.specs.declared.syntax.Lengths.{Lengths}
 use Rattle.brief_text.specs.Drafts.{frame_meant, bytes_meant, tail_meant, bits_said, repeated}
 use Rattle.brief_text.specs.Fitting.{KnowsFrame, KnowsBytes, KnowsTail, frame_ranges, bytes_ranges, tail_ranges}
@@ -17,7 +17,7 @@ use Rattle.brief_text.specs.Frames.{Around, count_at, often_at, form_in, next_fr
 use Rattle.brief_text.specs.Grammar.{Phrase, one, nothing, SpellsTo, SpellsFrame, SpellsBytes, SpellsNext, SpellsRefused}
 use Rattle.brief_text.specs.Places.{Place, token_as, close_in, past, is_known, to_at, data_at}
 use Rattle.brief_text.specs.Standing.{node_at, refused_at, next_at, payload_at, bytes_at}
-use Rattle.brief_text.specs.Tokens.{Token, keyword, sign, Tokens, next}
+use Rattle.brief_tokens.specs.Tokens.{Token, keyword, sign, Tokens, next}
 use Rattle.brief_text.specs.Trees.{Said, Times, BriefFrame, write_to, read_from, BriefBytes, data_byte, no_more, BriefTail, stop_here, go_on}
 use Rattle.brief_text.proofs.PartLemmas.{most_often, repeated_nodes, repeated_bytes, Agrees, agrees_self, agrees_then, Part, passing, joined, noded, recounted, often_takes}
 use Rattle.brief_text.proofs.StepLemmas.{write_in_is, read_in_is, payload_data, payload_last}

@@ -14,7 +14,7 @@ use Rattle.brief_text.specs.declared.syntax.Lengths.{Lengths}
 use Rattle.brief_text.specs.Drafts.{Draft, frame_meant, bytes_meant, tail_meant, bits_said, how_often, repeated, member_meant, messages_meant}
 use Rattle.brief_text.specs.Fitting.{frame_ranges, bytes_ranges, tail_ranges, often_ranges, range_count, IsWithin}
 use Rattle.brief_text.specs.Grammar.{SpellsFrame, SpellsBytes, SpellsNext, SpellsRefused, SpellsOften}
-use Rattle.brief_text.specs.Tokens.{Tokens}
+use Rattle.brief_tokens.specs.Tokens.{Tokens}
 use Rattle.brief_text.specs.Trees.{Times, times, ranged, BriefFrame, write_to, read_from, BriefBytes, data_byte, no_more, BriefTail, stop_here, go_on}
 use Rattle.brief_text.specs.Words.{is_range, is_countable}
 use Rattle.brief_text.proofs.PartLemmas.{repeated_nodes, repeated_bytes, most_often}

@@ -7,8 +7,8 @@ use Rattle.plan_core.specs.Building.{interrupt_refusal}
 use Rattle.plan_core.specs.declared.limits.TheConstants.{MOST_BYTES, MOST_NODES}
 use Rattle.plan_core.proofs.BuildingLemmas.{size_allowed}
 use Rattle.plan_text.specs.Reader.{◌>>=◌}
-use Rattle.brief_text.specs.declared.symbols.Keyword.TheVariants as keywords
-use Rattle.brief_text.specs.declared.symbols.Sign.TheVariants as signs
+use Rattle.brief_tokens.specs.declared.symbols.Keyword.TheVariants as keywords
+use Rattle.brief_tokens.specs.declared.symbols.Sign.TheVariants as signs
 use Rattle.brief_text.specs.declared.syntax.Lengths.{Lengths}
 use Rattle.brief_text.specs.Drafts.{Draft, address_said, frame_meant}
 use Rattle.brief_text.specs.Fitting.{Fits, ListFits, MessageFits, range_count, frame_ranges}
@@ -17,7 +17,7 @@ use Rattle.brief_text.specs.Grammar.{one, SpellsNames, SpellsItem}
 use Rattle.brief_text.specs.Items.{address_in, pattern_in, device_at, byte_at, message_at, listed_from, controller_at, interrupt_at, side_in, never_at, item_in, item_at}
 use Rattle.brief_text.specs.Judging.{named_refusal, message_refusal_of, controller_refusal_of}
 use Rattle.brief_text.specs.Places.{Reads, end_in, past}
-use Rattle.brief_text.specs.Tokens.{keyword, word, sign, Tokens}
+use Rattle.brief_tokens.specs.Tokens.{keyword, word, sign, Tokens}
 use Rattle.brief_text.specs.Trees.{BriefFrame, BriefItem, device, byte, message, controller, interrupt, never_both}
 use Rattle.brief_text.specs.Words.{known_number}
 use Rattle.brief_text.proofs.AgainLemmas.{spot, token_again, past_again, name_again, to_again}

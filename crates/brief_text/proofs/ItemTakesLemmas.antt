@@ -11,9 +11,9 @@ use Rattle.plan_core.proofs.BuildingLemmas.{size_fits}
 use Rattle.plan_text.specs.Reader.{◌>>=◌, or_refused, unless_refused}
 use Rattle.plan_text.specs.declared.errors.PlanError.TheVariants.{Unexpected}
 use Rattle.plan_text.proofs.TakesLemmas.{bind_ok, or_ok, ok_is}
-use Rattle.brief_text.specs.declared.symbols.Keyword.{Keyword}
-use Rattle.brief_text.specs.declared.symbols.Keyword.TheVariants as keywords
-use Rattle.brief_text.specs.declared.symbols.Sign.TheVariants as signs
+use Rattle.brief_tokens.specs.declared.symbols.Keyword.{Keyword}
+use Rattle.brief_tokens.specs.declared.symbols.Keyword.TheVariants as keywords
+use Rattle.brief_tokens.specs.declared.symbols.Sign.TheVariants as signs
 use Rattle.brief_text.specs.Drafts.{Draft, address_said, frame_meant, with_label}
 use Rattle.brief_text.specs.Fitting.{Fits, ListFits}
 use Rattle.brief_text.specs.Frames.{Around, frames_at}
@@ -21,8 +21,8 @@ use Rattle.brief_text.specs.Grammar.{one, SpellsName, SpellsNames, SpellsAs, Spe
 use Rattle.brief_text.specs.Items.{address_in, pattern_in, device_at, byte_at, message_at, listed_from, controller_at, interrupt_at, side_in, never_at, item_in, item_at}
 use Rattle.brief_text.specs.Judging.{named_refusal, message_refusal_of, controller_refusal_of, listing_refusal, all_of, first_refusal, second_refusal}
 use Rattle.brief_text.specs.Places.{Place, Reads, token_as, end_in, past, name_in, name_at, to_at}
-use Rattle.brief_text.specs.Tokens.{Token, keyword, word, sign, Tokens, next}
-use Rattle.brief_text.specs.Tokens as tokens
+use Rattle.brief_tokens.specs.Tokens.{Token, keyword, word, sign, Tokens, next}
+use Rattle.brief_tokens.specs.Tokens as tokens
 use Rattle.brief_text.specs.Trees.{Side, BriefItem, device, byte, message, controller, interrupt, never_both}
 use Rattle.brief_text.specs.Words.{address_by, data_by, known_number, side_by}
 use Rattle.brief_text.proofs.FrameLemmas.{frames_take}

@@ -7,12 +7,12 @@ use Rattle.plan_text.specs.Reader.{◌>>=◌, or_refused}
 use Rattle.plan_text.specs.Places.{Refuses}
 use Rattle.plan_text.specs.declared.errors.PlanError.{PlanError}
 use Rattle.plan_text.specs.declared.errors.PlanError.TheVariants.{Unexpected, NoMemory}
-use Rattle.brief_text.specs.declared.symbols.Symbol.{Symbol}
-use Rattle.brief_text.specs.declared.symbols.Symbol.TheVariants as symbols
-use Rattle.brief_text.specs.declared.symbols.Token as seen
+use Rattle.brief_tokens.specs.declared.symbols.Symbol.{Symbol}
+use Rattle.brief_tokens.specs.declared.symbols.Symbol.TheVariants as symbols
+use Rattle.brief_tokens.specs.declared.symbols.Token as seen
 use Rattle.brief_text.specs.Items.{side_in}
 use Rattle.brief_text.specs.Places.{Place, Finds, token_as, name_in}
-use Rattle.brief_text.specs.Reading.{with_symbol, unexpected_at}
+use Rattle.brief_tokens.specs.Reading.{with_symbol, unexpected_at}
 use Rattle.brief_text.specs.Standing.{before}
 use Rattle.brief_text.specs.Trees.{Side}
 use Rattle.brief_text.specs.Words.{around_slash, is_brief_name, whole_side, label_side, side_by}

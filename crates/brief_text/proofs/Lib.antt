@@ -1,4 +1,3 @@
-pub mod TokenLemmas
 pub mod StepLemmas
 pub mod WordLemmas
 pub mod NamingLemmas

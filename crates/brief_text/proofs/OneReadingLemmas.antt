@@ -9,8 +9,8 @@ use Rattle.brief_text.specs.Drafts.{Draft, with_item}
 use Rattle.brief_text.specs.Fitting.{Fits, MakeUp, Says}
 use Rattle.brief_text.specs.Grammar.{SpellsItem, SpellsItems}
 use Rattle.brief_text.specs.Places.{Place}
-use Rattle.brief_text.specs.Tokens.{Tokens, next}
-use Rattle.brief_text.specs.Tokens as tokens
+use Rattle.brief_tokens.specs.Tokens.{Tokens, next}
+use Rattle.brief_tokens.specs.Tokens as tokens
 use Rattle.brief_text.specs.Trees.{BriefItem}
 use Rattle.brief_text.proofs.AgainLemmas.{spot}
 use Rattle.brief_text.proofs.ItemAgainLemmas.{item_again}

@@ -10,7 +10,7 @@ use Rattle.plan_core.specs.declared.limits.TheConstants.{MOST_NODES}
 use Rattle.plan_text.specs.declared.errors.PlanError.TheVariants.{Unexpected, BadCount, TooLong}
 use Rattle.plan_text.specs.declared.errors.PlanError.TheVariants as errors
 use Rattle.plan_text.proofs.TakesLemmas.{bind_ok, ok_is}
-use Rattle.brief_text.specs.declared.symbols.Sign.TheVariants as signs
+use Rattle.brief_tokens.specs.declared.symbols.Sign.TheVariants as signs
 use Rattle.brief_text.specs.declared.syntax.Lengths.{Lengths}
 use Rattle.brief_text.specs.Drafts.{Draft, repeated, how_often}
 use Rattle.brief_text.specs.Fitting.{often_ranges, range_count, IsAllowed}
@@ -18,7 +18,7 @@ use Rattle.brief_text.specs.Frames.{Around, further, counted, often_or, often_by
 use Rattle.brief_text.specs.Grammar.{Phrase, one, ◌▸◌, SpellsAs, SpellsOften}
 use Rattle.brief_text.specs.Judging.{range_refusal}
 use Rattle.brief_text.specs.Places.{Place, token_as}
-use Rattle.brief_text.specs.Tokens.{Token, word, sign, Tokens, next}
+use Rattle.brief_tokens.specs.Tokens.{Token, word, sign, Tokens, next}
 use Rattle.brief_text.specs.Trees.{Times, times, ranged}
 use Rattle.brief_text.specs.Words.{Repetition, so_often, from_to, repetition_by, is_countable, is_range}
 use Rattle.brief_text.proofs.TakesLemmas.{Passed, Counted, counted_takes, spelled_takes, le_from, test_then, done}

@@ -5,13 +5,14 @@ use Rattle.plan_core.specs.Contents.{Contents}
 use Rattle.lexer.specs.Lexemes.{text_end}
 use Rattle.plan_text.proofs.TakesLemmas.{bind_ok, ok_is}
 use Rattle.brief_text.specs.declared.syntax.Lengths.{Lengths}
-use Rattle.brief_text.specs.Briefs.{is_end, items_in, after_head, text_read, brief_read, Means}
+use Rattle.brief_tokens.specs.Heads.{after_head}
+use Rattle.brief_text.specs.Briefs.{is_end, items_in, text_read, brief_read, Means}
 use Rattle.brief_text.specs.Drafts.{Draft, no_items, with_item}
 use Rattle.brief_text.specs.Fitting.{MakeUp, Says}
 use Rattle.brief_text.specs.Grammar.{SpellsItem, SpellsItems}
 use Rattle.brief_text.specs.Splitting.{plan_meant}
-use Rattle.brief_text.specs.Tokens.{Tokens, tokens_of}
-use Rattle.brief_text.specs.Tokens as tokens
+use Rattle.brief_tokens.specs.Tokens.{Tokens, tokens_of}
+use Rattle.brief_tokens.specs.Tokens as tokens
 use Rattle.brief_text.specs.Trees.{BriefItem, device, byte, message, controller, interrupt, never_both}
 use Rattle.brief_text.proofs.AgainLemmas.{spot}
 use Rattle.brief_text.proofs.ItemAgainLemmas.{item_again}

@@ -7,15 +7,16 @@ use Rattle.plan_text.specs.Reader.{◌>>=◌}
 use Rattle.lexer.specs.Lexemes.{text_end}
 use Rattle.plan_text.specs.declared.errors.PlanError.TheVariants.{Version}
 use Rattle.plan_text.proofs.TakesLemmas.{bind_ok, ok_is}
-use Rattle.brief_text.specs.declared.symbols.Keyword.TheVariants as keywords
-use Rattle.brief_text.specs.Briefs.{is_end, items_in, after_head, text_read}
+use Rattle.brief_tokens.specs.declared.symbols.Keyword.TheVariants as keywords
+use Rattle.brief_tokens.specs.Heads.{after_head}
+use Rattle.brief_text.specs.Briefs.{is_end, items_in, text_read}
 use Rattle.brief_text.specs.Drafts.{Draft, with_item}
 use Rattle.brief_text.specs.Fitting.{MakeUp, Says}
 use Rattle.brief_text.specs.Grammar.{one, ◌▸◌, SpellsItems}
 use Rattle.brief_text.specs.Items.{item_at}
 use Rattle.brief_text.specs.Places.{Place}
-use Rattle.brief_text.specs.Tokens.{keyword, word, Tokens, next, tokens_of}
-use Rattle.brief_text.specs.Tokens as tokens
+use Rattle.brief_tokens.specs.Tokens.{keyword, word, Tokens, next, tokens_of}
+use Rattle.brief_tokens.specs.Tokens as tokens
 use Rattle.brief_text.specs.Trees.{BriefItem}
 use Rattle.brief_text.proofs.ItemTakesLemmas.{item_takes}
 use Rattle.brief_text.proofs.TakesLemmas.{test_then}

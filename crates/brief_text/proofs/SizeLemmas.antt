@@ -3,7 +3,7 @@ use Rattle.std.proofs.Common.{◌≡◌, ℕ, suc, ◌+◌, ◌≤◌, Bool, tru
 use Rattle.lexer.specs.declared.lexemes.Letters.TheVariants.{Brief}
 use Rattle.lexer.specs.Lexemes.{Lexemes, next, last, word, briefs, Class, line_feed, blank, number_sign, sign_byte, word_part, foreign_byte, stray_byte, class_of, put_before, begins_with_part, raw_lexemes, in_comment, lexemes_of}
 use Rattle.lexer.proofs.LexemeLemmas.{lexemes_at, comment_at, part_at}
-use Rattle.brief_text.specs.Tokens.{tokens_from, tokens_of}
+use Rattle.brief_tokens.specs.Tokens.{tokens_from, tokens_of}
 use Rattle.brief_text.proofs.ValueLemmas.{size}
 
 abbrev count : Lexemes → ℕ

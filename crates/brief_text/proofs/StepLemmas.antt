@@ -12,19 +12,19 @@ use Rattle.plan_text.specs.Reader.{◌>>=◌, or_refused, writes, reads}
 use Rattle.plan_text.specs.Values.{count_of}
 use Rattle.plan_text.specs.Words.{count_ends}
 use Rattle.plan_text.proofs.StepLemmas.{same_after}
-use Rattle.brief_text.specs.declared.symbols.Keyword.TheVariants as keywords
-use Rattle.brief_text.specs.declared.symbols.Sign.TheVariants as signs
-use Rattle.brief_text.specs.declared.symbols.Symbol.{Symbol}
-use Rattle.brief_text.specs.declared.symbols.Symbol.TheVariants as symbols
-use Rattle.brief_text.specs.declared.symbols.Token as seen
+use Rattle.brief_tokens.specs.declared.symbols.Keyword.TheVariants as keywords
+use Rattle.brief_tokens.specs.declared.symbols.Sign.TheVariants as signs
+use Rattle.brief_tokens.specs.declared.symbols.Symbol.{Symbol}
+use Rattle.brief_tokens.specs.declared.symbols.Symbol.TheVariants as symbols
+use Rattle.brief_tokens.specs.declared.symbols.Token as seen
 use Rattle.brief_text.specs.Drafts.{Draft}
 use Rattle.brief_text.specs.Frames.{Around, Frames, Bytes, counted, ends_in, count_at, repetition_in, often_by, often_from, often_at, frames_by, next_from, next_by, ends_with, else_by, refused_from, refused_by, begins_data, last_by, payload_by, frame_in, byte_in, frames_at}
 use Rattle.brief_text.specs.Places.{Place, Reads, Finds, token_as, to_at, data_at}
 use Rattle.brief_text.specs.Words.{Repetition, repetition_by}
 use Rattle.brief_text.specs.Trees.{Said, Times, times, BriefFrame, write_to, read_from, BriefBytes, data_byte, BriefTail, stop_here, go_on}
 use Rattle.brief_text.specs.Standing.{before, node_at, refused_at, next_at, payload_at, write_at, read_at, bytes_at}
-use Rattle.brief_text.specs.Reading.{with_symbol, unexpected_symbol, unexpected_at}
-use Rattle.brief_text.specs.Tokens.{Token, word, Tokens}
+use Rattle.brief_tokens.specs.Reading.{with_symbol, unexpected_symbol, unexpected_at}
+use Rattle.brief_tokens.specs.Tokens.{Token, word, Tokens}
 
 node_is : {B : Type 0} (room copies line : ℕ) (at : Place) (f : ℕ × Place → Result B PlanError) → (counted copies line at >>= λ node. f (room, node)) ≡ (node_at (suc room) copies line at >>= f)
 node_is {B} room copies line at f = by_test (nat_lt 0 (suc room)) (suc room - 1) (grind arith) (omega arith)

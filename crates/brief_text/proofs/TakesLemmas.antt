@@ -16,15 +16,15 @@ use Rattle.plan_text.specs.declared.errors.PlanError.{PlanError}
 use Rattle.plan_text.specs.declared.errors.PlanError.TheVariants.{Unexpected, Unknown, BadCount, TooLong}
 use Rattle.plan_text.proofs.TakesLemmas.{bind_ok, or_ok, test_ok, ok_is}
 use Rattle.plan_text.proofs.ValueLemmas.{count_is}
-use Rattle.brief_text.specs.declared.symbols.Keyword.TheVariants as keywords
-use Rattle.brief_text.specs.declared.symbols.Sign.TheVariants as signs
+use Rattle.brief_tokens.specs.declared.symbols.Keyword.TheVariants as keywords
+use Rattle.brief_tokens.specs.declared.symbols.Sign.TheVariants as signs
 use Rattle.brief_text.specs.Drafts.{Draft}
 use Rattle.brief_text.specs.Frames.{counted, ends_in, count_at}
 use Rattle.brief_text.specs.Grammar.{Phrase, one, SpellsName, SpellsTo, SpellsData, SpellsCount}
 use Rattle.brief_text.specs.Places.{Place, first_as, token_as, end_in, close_in, past, name_in, name_at, or_name, is_known, value_as, to_in, to_at, data_in, data_at}
 use Rattle.brief_text.specs.Standing.{node_at}
-use Rattle.brief_text.specs.Tokens.{Token, keyword, word, sign, Tokens, next}
-use Rattle.brief_text.specs.Tokens as tokens
+use Rattle.brief_tokens.specs.Tokens.{Token, keyword, word, sign, Tokens, next}
+use Rattle.brief_tokens.specs.Tokens as tokens
 use Rattle.brief_text.specs.Trees.{Said, spelled, named}
 use Rattle.brief_text.specs.Words.{address_by, data_by, any_byte}
 use Rattle.brief_text.proofs.ValueLemmas.{size}

@@ -10,18 +10,19 @@ use Rattle.plan_text.specs.declared.places.Refused.{Refused}
 use Rattle.plan_text.specs.declared.errors.PlanError.{PlanError}
 use Rattle.plan_text.specs.declared.errors.PlanError.TheVariants.{NoMemory}
 use Rattle.plan_text.proofs.TakesLemmas.{ok_is}
-use Rattle.brief_text.specs.Briefs.{is_end, unexpected, items_in, after_head, text_read, brief_read, Means, IsRefused}
+use Rattle.brief_tokens.specs.Heads.{after_head}
+use Rattle.brief_text.specs.Briefs.{is_end, unexpected, items_in, text_read, brief_read, Means, IsRefused}
 use Rattle.brief_text.specs.Drafts.{Draft, no_items, with_item}
 use Rattle.brief_text.specs.Items.{item_at}
 use Rattle.brief_text.specs.Places.{Place, Reads}
 use Rattle.brief_text.specs.Splitting.{plan_meant}
 use Rattle.brief_text.specs.Standing.{adds}
 use Rattle.brief_text.specs.Trees.{BriefItem}
-use Rattle.brief_text.specs.Reading.{with_symbol, with_token, unexpected_symbol, unexpected_at}
-use Rattle.brief_text.specs.declared.symbols.Symbol.{Symbol}
-use Rattle.brief_text.specs.declared.symbols.Symbol.TheVariants as symbols
-use Rattle.brief_text.specs.declared.symbols.Token as seen
-use Rattle.brief_text.specs.Tokens.{Tokens, tokens_of}
+use Rattle.brief_tokens.specs.Reading.{with_symbol, with_token, unexpected_symbol, unexpected_at}
+use Rattle.brief_tokens.specs.declared.symbols.Symbol.{Symbol}
+use Rattle.brief_tokens.specs.declared.symbols.Symbol.TheVariants as symbols
+use Rattle.brief_tokens.specs.declared.symbols.Token as seen
+use Rattle.brief_tokens.specs.Tokens.{Tokens, tokens_of}
 
 module _ (most : ℕ) (plan : Draft) (at : Place) where
   abbrev with_read : BriefItem × Place → Result (Draft × Place) PlanError

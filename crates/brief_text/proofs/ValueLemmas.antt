@@ -12,19 +12,19 @@ use Rattle.plan_text.specs.Reader.{◌>>=◌, or_refused, unless_refused, refuse
 use Rattle.plan_text.specs.declared.errors.PlanError.{PlanError}
 use Rattle.plan_text.specs.declared.errors.PlanError.TheVariants.{Unexpected, Unknown}
 use Rattle.plan_text.proofs.TakesLemmas.{bind_ok, ok_is}
-use Rattle.brief_text.specs.declared.symbols.Keyword.TheVariants as keywords
-use Rattle.brief_text.specs.declared.symbols.Sign.TheVariants as signs
-use Rattle.brief_text.specs.declared.symbols.Symbol.{Symbol}
-use Rattle.brief_text.specs.declared.symbols.Symbol.TheVariants as symbols
-use Rattle.brief_text.specs.declared.symbols.Token as seen
+use Rattle.brief_tokens.specs.declared.symbols.Keyword.TheVariants as keywords
+use Rattle.brief_tokens.specs.declared.symbols.Sign.TheVariants as signs
+use Rattle.brief_tokens.specs.declared.symbols.Symbol.{Symbol}
+use Rattle.brief_tokens.specs.declared.symbols.Symbol.TheVariants as symbols
+use Rattle.brief_tokens.specs.declared.symbols.Token as seen
 use Rattle.brief_text.specs.Drafts.{Draft}
 use Rattle.brief_text.specs.Items.{listed_from}
 use Rattle.brief_text.specs.Judging.{listing_refusal, all_of}
 use Rattle.brief_text.specs.Places.{Place, Reads, Finds, first_as, token_as, name_in, or_name, is_known, to_at, data_at}
-use Rattle.brief_text.specs.Reading.{with_symbol}
+use Rattle.brief_tokens.specs.Reading.{with_symbol}
 use Rattle.brief_text.specs.Standing.{before}
-use Rattle.brief_text.specs.Tokens.{Token, word, Tokens, next}
-use Rattle.brief_text.specs.Tokens as tokens
+use Rattle.brief_tokens.specs.Tokens.{Token, word, Tokens, next}
+use Rattle.brief_tokens.specs.Tokens as tokens
 use Rattle.brief_text.specs.Trees.{Said, spelled, named}
 use Rattle.brief_text.specs.Words.{address_by, data_by, any_byte}
 use Rattle.brief_text.proofs.StepLemmas.{by_symbol}

@@ -1,18 +1,17 @@
 -- What briefs mean: the plan that the items of all of them make up, or the first refusal.
-use Rattle.std.specs.Prelude.{◌≡◌, ℕ, zero, suc, ◌+◌, Bool, true, false, List, [], ◌∷◌, length, None, Result, Ok, Err, codes}
+use Rattle.std.specs.Prelude.{◌≡◌, ℕ, zero, suc, ◌+◌, Bool, true, false, List, [], ◌∷◌, length, None, Result, Ok, Err}
 use Rattle.std.specs.Prelude.{if◌then◌else◌}
-use Rattle.std.specs.Str.{bytes_eq}
 use Rattle.plan_core.specs.Contents.{Contents}
 use Rattle.plan_text.specs.declared.errors.PlanError.{PlanError}
-use Rattle.plan_text.specs.declared.errors.PlanError.TheVariants.{Unexpected, NotAscii, Version}
+use Rattle.plan_text.specs.declared.errors.PlanError.TheVariants.{Unexpected}
 use Rattle.plan_text.specs.Reader.{◌>>=◌, ends_early}
-use Rattle.lexer.specs.Lexemes.{text_end, foreign, stray}
-use Rattle.brief_text.specs.declared.symbols.Keyword.TheVariants as keywords
+use Rattle.lexer.specs.Lexemes.{text_end}
 use Rattle.brief_text.specs.Drafts.{Draft, no_items, with_item}
 use Rattle.brief_text.specs.Items.{item_at}
 use Rattle.brief_text.specs.Places.{Place}
 use Rattle.brief_text.specs.Splitting.{plan_meant}
-use Rattle.brief_text.specs.Tokens.{keyword, word, Tokens, next, last, tokens_of}
+use Rattle.brief_tokens.specs.Heads.{after_head}
+use Rattle.brief_tokens.specs.Tokens.{Tokens, next, last, tokens_of}
 
 abbrev pub is_end : Tokens → Bool
 is_end (last text_end line) = true
@@ -28,23 +27,6 @@ unfoldable pub items_in : ℕ → Draft → Place → Result Draft PlanError
 items_in zero draft at = Err (unexpected at.tokens)
 items_in (suc most) draft at =
     if is_end at.tokens then Ok draft else (item_at draft at >>= λ item. items_in most (with_item draft item.0) item.1)
-
--- the refusal of what stands in the place of `brief` or of `1`
-abbrev pub no_version : Tokens → PlanError
-no_version (last stray line) = Unexpected line
-no_version (last foreign line) = NotAscii line
-no_version (last text_end line) = Version line
-no_version (next token line rest) = Version line
-
--- `1`, and the tokens after it
-abbrev pub after_version : Tokens → Result Tokens PlanError
-after_version (next (word bytes) line rest) = if bytes_eq bytes (codes "1") then Ok rest else Err (Version line)
-after_version tokens = Err (no_version tokens)
-
--- `brief`, `1`, and the tokens after them
-abbrev pub after_head : Tokens → Result Tokens PlanError
-after_head (next (keyword keywords.Brief) line rest) = after_version rest
-after_head tokens = Err (no_version tokens)
 
 -- What the items of a text add to those of the texts before it. It has fewer items than bytes, since each has a byte.
 unfoldable pub text_read : Draft → List ℕ → Result Draft PlanError

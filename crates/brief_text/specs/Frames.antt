@@ -11,13 +11,13 @@ use Rattle.plan_text.specs.declared.errors.PlanError.TheVariants.{Unexpected, Ba
 use Rattle.plan_text.specs.Reader.{◌>>=◌, or_refused, Form, writes, reads}
 use Rattle.plan_text.specs.Values.{count_of}
 use Rattle.plan_text.specs.Words.{count_ends}
-use Rattle.brief_text.specs.declared.symbols.Keyword.TheVariants as keywords
-use Rattle.brief_text.specs.declared.symbols.Sign.TheVariants as signs
+use Rattle.brief_tokens.specs.declared.symbols.Keyword.TheVariants as keywords
+use Rattle.brief_tokens.specs.declared.symbols.Sign.TheVariants as signs
 use Rattle.brief_text.specs.declared.syntax.Lengths.{Lengths}
 use Rattle.brief_text.specs.Drafts.{Draft}
 use Rattle.brief_text.specs.Judging.{range_refusal}
 use Rattle.brief_text.specs.Places.{Place, Reads, token_as, close_in, past, to_at, data_at}
-use Rattle.brief_text.specs.Tokens.{Token, keyword, word, sign, Tokens, next}
+use Rattle.brief_tokens.specs.Tokens.{Token, keyword, word, sign, Tokens, next}
 use Rattle.brief_text.specs.Trees.{Said, Times, times, ranged, BriefFrame, write_to, read_from, BriefBytes, data_byte, no_more}
 use Rattle.brief_text.specs.Trees.{BriefTail, stop_here, go_on}
 use Rattle.brief_text.specs.Words.{Repetition, so_often, from_to, repetition_by, is_countable, is_range}

@@ -6,11 +6,11 @@ use Rattle.message_tree.specs.declared.counts.Count.{Count}
 use Rattle.plan_core.specs.Names.{IsName}
 use Rattle.lexer.specs.Lexemes.{text_end}
 use Rattle.plan_text.specs.Words.{WritesCount}
-use Rattle.brief_text.specs.declared.symbols.Keyword.TheVariants as keywords
-use Rattle.brief_text.specs.declared.symbols.Sign.TheVariants as signs
+use Rattle.brief_tokens.specs.declared.symbols.Keyword.TheVariants as keywords
+use Rattle.brief_tokens.specs.declared.symbols.Sign.TheVariants as signs
 use Rattle.brief_text.specs.declared.syntax.Lengths.{Lengths}
-use Rattle.brief_text.specs.Tokens.{Token, keyword, word, sign, Tokens, tokens_of}
-use Rattle.brief_text.specs.Tokens as tokens
+use Rattle.brief_tokens.specs.Tokens.{Token, keyword, word, sign, Tokens, tokens_of}
+use Rattle.brief_tokens.specs.Tokens as tokens
 use Rattle.brief_text.specs.Trees.{Said, spelled, named, Times, times, ranged, BriefFrame, write_to, read_from, BriefBytes}
 use Rattle.brief_text.specs.Trees.{data_byte, no_more, BriefTail, stop_here, go_on, BriefItem, device, byte, message}
 use Rattle.brief_text.specs.Trees.{controller, interrupt, never_both}

@@ -7,14 +7,14 @@ use Rattle.plan_core.specs.Building.{interrupt_refusal}
 use Rattle.plan_core.specs.declared.limits.TheConstants.{MOST_BYTES}
 use Rattle.plan_text.specs.declared.errors.PlanError.TheVariants.{Unexpected}
 use Rattle.plan_text.specs.Reader.{◌>>=◌, or_refused, unless_refused, ends_early}
-use Rattle.brief_text.specs.declared.symbols.Keyword.TheVariants as keywords
-use Rattle.brief_text.specs.declared.symbols.Sign.TheVariants as signs
+use Rattle.brief_tokens.specs.declared.symbols.Keyword.TheVariants as keywords
+use Rattle.brief_tokens.specs.declared.symbols.Sign.TheVariants as signs
 use Rattle.brief_text.specs.Drafts.{Draft, address_said, with_label}
 use Rattle.brief_text.specs.Frames.{frames_at}
 use Rattle.brief_text.specs.Judging.{named_refusal, message_refusal_of, controller_refusal_of, listing_refusal, all_of}
 use Rattle.brief_text.specs.Judging.{first_refusal, second_refusal}
 use Rattle.brief_text.specs.Places.{Place, Reads, token_as, name_in, name_at, end_in, past, to_at}
-use Rattle.brief_text.specs.Tokens.{Token, keyword, word, sign, Tokens, next, last}
+use Rattle.brief_tokens.specs.Tokens.{Token, keyword, word, sign, Tokens, next, last}
 use Rattle.brief_text.specs.Trees.{Side, BriefItem, device, byte, message, controller, interrupt, never_both}
 use Rattle.brief_text.specs.Words.{address_by, data_by, known_number, side_by}
 

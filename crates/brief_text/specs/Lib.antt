@@ -1,5 +1,3 @@
-pub mod Tokens
-pub mod Names
 pub mod Words
 pub mod Trees
 pub mod Drafts

@@ -10,11 +10,11 @@ use Rattle.plan_core.specs.declared.builder.BuildError.{BuildError}
 use Rattle.plan_text.specs.declared.errors.PlanError.{PlanError}
 use Rattle.plan_text.specs.declared.errors.PlanError.TheVariants.{Unexpected, Unknown}
 use Rattle.plan_text.specs.Reader.{◌>>=◌, or_refused, unless_refused, ends_early}
-use Rattle.brief_text.specs.declared.symbols.Keyword.TheVariants as keywords
-use Rattle.brief_text.specs.declared.symbols.Sign.TheVariants as signs
+use Rattle.brief_tokens.specs.declared.symbols.Keyword.TheVariants as keywords
+use Rattle.brief_tokens.specs.declared.symbols.Sign.TheVariants as signs
 use Rattle.brief_text.specs.declared.syntax.Lengths.{Lengths}
 use Rattle.brief_text.specs.Drafts.{Draft}
-use Rattle.brief_text.specs.Tokens.{Token, keyword, word, sign, Tokens, next, last}
+use Rattle.brief_tokens.specs.Tokens.{Token, keyword, word, sign, Tokens, next, last}
 use Rattle.brief_text.specs.Trees.{Said, spelled, named}
 use Rattle.brief_text.specs.Words.{address_by, data_by, any_byte}
 

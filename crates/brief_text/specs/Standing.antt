@@ -15,7 +15,7 @@ use Rattle.brief_text.specs.declared.boards.Never.{Never}
 use Rattle.brief_text.specs.declared.frames.Within.{Within}
 use Rattle.brief_text.specs.declared.naming.Named.{Named}
 use Rattle.brief_text.specs.declared.sources.Source.{Source}
-use Rattle.brief_text.specs.declared.symbols.Token.{Token}
+use Rattle.brief_tokens.specs.declared.symbols.Token.{Token}
 use Rattle.brief_text.specs.declared.syntax.DataSyntax.{DataSyntax}
 use Rattle.brief_text.specs.declared.syntax.DataSyntax.TheVariants.{Byte', Last}
 use Rattle.brief_text.specs.declared.syntax.FrameSyntax.{FrameSyntax}
@@ -30,7 +30,7 @@ use Rattle.brief_text.specs.declared.syntax.Value.TheVariants as values
 use Rattle.brief_text.specs.Drafts.{Draft, with_item}
 use Rattle.brief_text.specs.Frames.{Around, count_at, counted, often_at, refused_by, next_by, payload_by, frame_in, byte_in}
 use Rattle.brief_text.specs.Places.{Place, Reads, Finds, to_at, data_at}
-use Rattle.brief_text.specs.Reading.{left, with_token}
+use Rattle.brief_tokens.specs.Reading.{left, with_token}
 use Rattle.brief_text.specs.Trees.{Said, spelled, named, Times, times, ranged, BriefFrame, write_to, read_from, BriefBytes}
 use Rattle.brief_text.specs.Trees.{data_byte, no_more, BriefTail, stop_here, go_on, Side, BriefItem}
 

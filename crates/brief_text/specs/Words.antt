@@ -14,7 +14,7 @@ use Rattle.plan_text.specs.Symbols.{bit_symbol}
 use Rattle.plan_core.specs.Names.{is_name}
 use Rattle.plan_text.specs.Values.{address_of, pattern_of, pattern_by}
 use Rattle.plan_text.specs.Words.{is_digits, number, around_dots}
-use Rattle.brief_text.specs.Names.{is_brief_word}
+use Rattle.brief_tokens.specs.Names.{is_brief_word}
 use Rattle.brief_text.specs.Trees.{Side}
 
 -- the four bits of a digit, as a plan text has them: those of `X` are open

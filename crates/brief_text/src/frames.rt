@@ -13,10 +13,10 @@ ghost use Rattle.brief_text.specs.Standing.{brief_frame, brief_bytes, brief_tail
 use crate::boards::Board;
 use crate::numbers::Digits;
 use crate::sources::Source;
-use crate::symbols::{Keyword, Sign, Symbol};
 use crate::syntax::{DataSyntax, FrameSyntax, Lengths, Often, TailSyntax};
 use crate::traces::Wanted;
 use crate::words::{Repetition, repetition_of};
+use brief_tokens::{Keyword, Sign, Symbol};
 use message_tree::Count;
 use plan_core::Name;
 use plan_core::limits::{MOST_BYTES, MOST_NODES};

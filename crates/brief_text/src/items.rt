@@ -9,24 +9,21 @@ ghost use Rattle.plan_core.specs.PlanContents.{plan_contents};
 ghost use Rattle.plan_core.specs.declared.builder.BuildError.{BuildError};
 ghost use Rattle.plan_text.specs.Places.{Refuses, Passes};
 ghost use Rattle.plan_text.specs.Reader.{refused_at};
-ghost use Rattle.brief_text.specs.Briefs.{brief_read, text_read, items_in, after_head, is_end, Means, IsRefused};
+ghost use Rattle.brief_text.specs.Briefs.{brief_read, text_read, items_in, is_end, Means, IsRefused};
 ghost use Rattle.brief_text.specs.Items.{device_at, byte_at, message_at, controller_at, listed_from, interrupt_at, never_at};
 ghost use Rattle.brief_text.specs.Items.{item_at};
 ghost use Rattle.brief_text.specs.Judging.{all_of};
-ghost use Rattle.brief_text.specs.Reading.{left};
 ghost use Rattle.brief_text.specs.Standing.{draft, place, adds, entries_of};
-ghost use Rattle.brief_text.specs.Tokens.{tokens_of};
 
 use crate::boards::{Board, Never};
 use crate::frames::Within;
 use crate::naming::Named;
 use crate::sources::Source;
 use crate::splitting::push_all;
-use crate::symbols::{Keyword, Symbol};
 use crate::syntax::NameFound;
-use crate::tokens::Tokens;
 use crate::traces::Wanted;
 use crate::words::known_address;
+use brief_tokens::{Keyword, Symbol, after_head};
 use plan_core::{BuildError, Name, Plan};
 use plan_text::{PlanError, Refused};
 use std::alloc::Global;
@@ -110,23 +107,6 @@ fn read_items(source: &mut Source<'_>, board: &mut Board, most: usize) -> Result
         }
     }
     Err(source.token.unexpected())
-}
-
-// `brief` and `1`: the tokens after them.
-fn after_head(text: &[u8]) -> Result<Tokens<'_>, Refused>
-    ensures rest { IfOk result (λ rest. after_head (tokens_of 1 text.now) ≡ Ok (left rest)) }
-    ensures refused { IfErr result (λ e. after_head (tokens_of 1 text.now) ≡ Err e.error) }
-{
-    let mut tokens = Tokens::new(text);
-    let first = tokens.next();
-    let Symbol::Keyword(Keyword::Brief) = first.symbol else {
-        return Err(tokens.refused(first.no_version()));
-    };
-    let second = tokens.next();
-    match second.symbol {
-        Symbol::Word(b"1") => Ok(tokens),
-        _ => Err(tokens.refused(second.no_version())),
-    }
 }
 
 // An item. It answers whether there was one before the end of the text.

@@ -1,18 +1,17 @@
 //! The text of a brief, the short form of a plan that people write: `expand_brief` reads the plan that it means.
 //!
-//! A text is cut into tokens, one at a time, each with its line (`tokens`, `symbols`). What a single word spells out is in
-//! `words`, the parts of items that are one token in `sources`. `frames` has a function for each rule of a message, and
-//! makes its tree (`syntax`); `items` has one for each kind of item. What items make up so far is a `Board` (`boards`): names
-//! are looked up in it, and each next name is judged by it. `meanings` writes the tree of a message out, `splitting` splits
+//! A text is cut into tokens by `brief_tokens`. What a single word spells out is in `words`, the parts of items that are one
+//! token in `sources`. `frames` has a function for each rule of a message, and makes its tree (`syntax`); `items` has one for
+//! each kind of item. What items make up so far is a `Board` (`boards`): names are looked up in it, and each next name is
+//! judged by it. `meanings` writes the tree of a message out, `splitting` splits
 //! controllers by labels. `specs/Briefs.antt` and the files that it stands on define what a brief means, and each function
 //! that reads is proved equal to its rule there. `laws` says that a text is read exactly where the grammar spells items
-//! that fit. Where a brief is refused stands in `traces`, and `given` has the names before.
+//! that fit. Where a brief is refused stands in `traces`.
 #![tactic(auto)]
 
 mod boards;
 mod briefs;
 mod frames;
-mod given;
 mod items;
 pub mod laws;
 mod lint;
@@ -21,16 +20,12 @@ mod naming;
 mod numbers;
 mod sources;
 mod splitting;
-pub mod symbols;
 mod syntax;
-mod tokens;
 mod traces;
 mod words;
 
 pub use briefs::Briefs;
-pub use given::names_in;
 pub use items::{expand_brief, expand_brief_at};
 pub use meanings::member_text;
 pub use plan_text::PlanError as BriefError;
 pub use syntax::Lengths;
-pub use words::is_brief_word;

@@ -6,15 +6,14 @@ ghost use Rattle.plan_core.specs.declared.limits.TheConstants.{MOST_NODES};
 ghost use Rattle.plan_text.specs.Places.{Passes};
 ghost use Rattle.brief_text.specs.Items.{address_in, pattern_in, side_in};
 ghost use Rattle.brief_text.specs.Words.{is_brief_name};
-ghost use Rattle.brief_text.specs.Reading.{unexpected_at};
+ghost use Rattle.brief_tokens.specs.Reading.{unexpected_at};
 ghost use Rattle.brief_text.specs.Places.{Place, token_as, name_in, end_in, past, to_at, data_at};
 
 use crate::boards::Board;
-use crate::symbols::{Keyword, Sign, Symbol, Token};
 use crate::syntax::{Lengths, NameFound, Party, Value};
-use crate::tokens::Tokens;
 use crate::traces::{Trace, Wanted};
-use crate::words::{address, around_slash, data, is_brief_word};
+use crate::words::{address, around_slash, data};
+use brief_tokens::{Keyword, Sign, Symbol, Token, Tokens, is_brief_word};
 use message_tree::{Address, Pattern};
 use plan_core::{Name, NameError};
 use plan_text::places::Over;
@@ -47,7 +46,7 @@ pub(crate) struct Found<T: Drop> {
 }
 
 impl<'a> Source<'a> {
-    ghost use Rattle.brief_text.specs.Reading.{left};
+    ghost use Rattle.brief_tokens.specs.Reading.{left};
     ghost use Rattle.brief_text.specs.Standing.{place, before, draft, said, side, FindsOut};
 
     /// The whole of these tokens.

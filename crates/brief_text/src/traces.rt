@@ -2,7 +2,7 @@
 
 ghost use Rattle.std.specs.Prelude.{◌≡◌};
 
-use crate::symbols::{Keyword, Sign, Symbol, Token};
+use brief_tokens::{Sign, Symbol, Token, kind_of};
 use plan_text::places::{Further, Kind, Over, Spot};
 use plan_text::{Expected, PlanError, Refused};
 
@@ -118,17 +118,5 @@ impl Trace {
             bytes,
             is_inner: self.depth != 0,
         })
-    }
-}
-
-/// What an item that begins with this token gives a name to.
-pub(crate) fn kind_of(token: Token<'_>) -> Option<Kind> {
-    match token.symbol {
-        Symbol::Keyword(Keyword::Device) => Some(Kind::Device),
-        Symbol::Keyword(Keyword::Byte) => Some(Kind::Byte),
-        Symbol::Keyword(Keyword::Message) => Some(Kind::Message),
-        Symbol::Keyword(Keyword::Controller) => Some(Kind::Controller),
-        Symbol::Keyword(Keyword::Interrupt) => Some(Kind::Interrupt),
-        _ => None,
     }
 }

@@ -7,7 +7,6 @@ ghost use Rattle.message_tree.specs.Bits.{bits_below};
 ghost use Rattle.message_tree.specs.Patterns.{address_bits};
 ghost use Rattle.plan_text.specs.Symbols.{bit_symbol};
 ghost use Rattle.plan_text.specs.Words.{around_dots};
-ghost use Rattle.brief_text.specs.Names.{is_brief_word};
 ghost use Rattle.brief_text.specs.Reading.{repetition_said};
 ghost use Rattle.brief_text.specs.Words.{data_by, address_by, digit_bits, hex_bits, known_number, repetition_by, range_by};
 ghost use Rattle.brief_text.specs.Words.{around_slash, is_no_slash};
@@ -171,11 +170,4 @@ fn slash_of(word: &[u8]) -> usize
     ensures within { result ≤ length word.now }
 {
     word.iter().take_while(|byte| **byte != b'/').count()
-}
-
-/// Whether this is a word of briefs and none of plans.
-pub fn is_brief_word(name: &str) -> bool
-    ensures { result ≡ is_brief_word name.now }
-{
-    matches!(name, "brief" | "device" | "byte" | "any")
 }

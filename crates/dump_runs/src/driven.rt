@@ -1,6 +1,6 @@
 // Dumps that have for each controller what it pulls itself.
 
-use brief_text::is_brief_word;
+use brief_tokens::is_brief_word;
 use decoding::{Ending, TransactionSink};
 use drives::{Drivers, Driving, Judging};
 use dump_hints::{on_denied_line, on_no_controller, on_no_line, on_no_name, on_same_line};

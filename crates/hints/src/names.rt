@@ -28,7 +28,7 @@ fn called(kind: Kind) -> &'static str {
 pub fn names_in(alloc: Global, language: Language, text: &[u8]) -> Result<Names<'_>, AllocError> {
     match language {
         Language::Plan => plan_text::given::names_in(alloc, text),
-        Language::Brief => brief_text::names_in(alloc, text),
+        Language::Brief => brief_tokens::names_in(alloc, text),
     }
 }
 

@@ -9,7 +9,7 @@ use crate::paths::quoted;
 use crate::values::Hints;
 use crate::wording::{bad_count, foreign, push_limit, push_over, push_version};
 use crate::words::{RANGES, push_reason, reason_of_characters};
-use brief_text::expand_brief_at;
+use brief_tokens::after_head;
 use plan_text::places::Further;
 use plan_text::{Expected, Language, Place, PlanError, Refused};
 use std::alloc::{AllocError, Global};
@@ -72,7 +72,7 @@ pub(crate) fn called(language: Language) -> &'static str {
 /// Where an allocation fails.
 pub fn on_text(alloc: Global, refused: RefusedIn<'_>) -> Result<Hints, AllocError> {
     let mut lines = Lines::new(alloc);
-    let looked = Looked::at(alloc, refused);
+    let looked = Looked::at(refused);
     if !is_binary(looked.kind) {
         push_span(alloc, &mut lines, &looked.refused, looked.fault.span());
     }
@@ -95,7 +95,7 @@ pub struct Cause {
 /// Where an allocation fails.
 pub fn cause_of(alloc: Global, refused: RefusedIn<'_>) -> Result<Cause, AllocError> {
     let mut lines = Lines::new(alloc);
-    let looked = Looked::at(alloc, refused);
+    let looked = Looked::at(refused);
     push_cause(alloc, &mut lines, &looked);
     let Span { start, end, .. } = looked.fault.span();
     Ok(Cause {
@@ -114,9 +114,9 @@ struct Looked<'a> {
 }
 
 impl<'a> Looked<'a> {
-    fn at(alloc: Global, refused: RefusedIn<'a>) -> Looked<'a> {
+    fn at(refused: RefusedIn<'a>) -> Looked<'a> {
         let head = refused.text.get(..LOOKED_AT).unwrap_or(refused.text);
-        let refused = as_brief(alloc, refused, head).unwrap_or(refused);
+        let refused = as_brief(refused, head).unwrap_or(refused);
         Looked {
             refused,
             fault: fault_of(&refused),
@@ -147,11 +147,11 @@ fn kind_of_language(language: Language) -> Kind {
 }
 
 // The refusal of a text that begins with the word `brief`, and goes on otherwise than a brief, as that of a brief.
-fn as_brief<'a>(alloc: Global, refused: RefusedIn<'a>, head: &[u8]) -> Option<RefusedIn<'a>> {
+fn as_brief<'a>(refused: RefusedIn<'a>, head: &[u8]) -> Option<RefusedIn<'a>> {
     if refused.token() != b"brief".as_slice() {
         return None;
     }
-    match expand_brief_at(alloc, head) {
+    match after_head(head) {
         Err(
             Refused {
                 error: error @ PlanError::Version(_),

@@ -246,7 +246,7 @@ fn is_name(word: &str) -> bool {
 
 // Whether something can have this name in a brief.
 fn is_free_name(alloc: Global, word: &str) -> bool {
-    !brief_text::is_brief_word(word) && Name::new(alloc, word).is_ok()
+    !brief_tokens::is_brief_word(word) && Name::new(alloc, word).is_ok()
 }
 
 // Which of these words it is, but for capital letters.

@@ -1,7 +1,7 @@
 //! What is allowed in briefs, and is likely a mistake. Nothing of it decides anything, and no clause speaks of it.
 #![tactic(auto)]
 
-use brief_text::names_in;
+use brief_tokens::names_in;
 use message_tree::{Address, Bit};
 use origins::{Device, NamedByte, Origins, Spot};
 use plan_core::Plan;

@@ -17,16 +17,16 @@ use Rattle.lexer.specs.Lexemes.{text_end}
 use Rattle.plan_text.specs.Values.{address_by}
 use Rattle.spellings.proofs.CanonicalItems.{All-here, message_named, controller_named, sent_named, interrupt_named, both_named}
 use Rattle.lexer.specs.Lexemes.{lexemes_of}
-use Rattle.brief_text.specs.declared.symbols.Keyword.{Keyword}
-use Rattle.brief_text.specs.declared.symbols.Keyword.TheVariants as keywords
-use Rattle.brief_text.specs.declared.symbols.Sign.TheVariants as signs
+use Rattle.brief_tokens.specs.declared.symbols.Keyword.{Keyword}
+use Rattle.brief_tokens.specs.declared.symbols.Keyword.TheVariants as keywords
+use Rattle.brief_tokens.specs.declared.symbols.Sign.TheVariants as signs
 use Rattle.brief_text.specs.Briefs.{Means}
 use Rattle.brief_text.specs.Grammar.{Phrase, one, ◌▸◌, SpellsAs, SpellsItem, SpellsItems, Spells}
-use Rattle.brief_text.specs.Names.{is_brief_word, has_brief_word}
+use Rattle.brief_tokens.specs.Names.{is_brief_word, has_brief_word}
 use Rattle.spellings.specs.Spelling.{message_line, interrupt_line, brief_spelled}
 use Rattle.brief_text.specs.Splitting.{whole}
-use Rattle.brief_text.specs.Tokens.{Token, keyword, word, sign, Tokens, next, tokens_of, token_of_word}
-use Rattle.brief_text.specs.Tokens as tokens
+use Rattle.brief_tokens.specs.Tokens.{Token, keyword, word, sign, Tokens, next, tokens_of, token_of_word}
+use Rattle.brief_tokens.specs.Tokens as tokens
 use Rattle.brief_text.specs.Trees.{BriefItem}
 use Rattle.brief_text.specs.Words.{side_by, around_slash, halves_at, is_no_slash}
 use Rattle.spellings.specs.Writing.{message_brief, controller_brief, interrupt_brief, never_brief, brief_items}
@@ -34,7 +34,7 @@ use Rattle.spellings.proofs.Adding.{spaced-append}
 use Rattle.brief_text.proofs.SaidLemmas.{said_meant}
 use Rattle.spellings.proofs.SpelledPhrases.{Said, spaced_apart, said_word, said_name, said_names, said_frame}
 use Rattle.spellings.proofs.SpelledWords.{is_word, word_token, none_at, target_said}
-use Rattle.brief_text.proofs.TokenLemmas.{skips_space, skips_line_feed, sign_here, ends_here}
+use Rattle.brief_tokens.proofs.TokenLemmas.{skips_space, skips_line_feed, sign_here, ends_here}
 use Rattle.spellings.proofs.WrittenPlans.{plan_said}
 
 -- ---- items: a keyword, words, and `;` at the end of a line

@@ -18,16 +18,16 @@ use Rattle.spellings.proofs.Adding.{spaced-append}
 use Rattle.lexer.specs.declared.lexemes.Letters.TheVariants.{Dots, Brief}
 use Rattle.lexer.specs.Lexemes.{is_sign, is_word_part}
 use Rattle.spellings.proofs.CanonicalWords.{count_is_word, decimal_digits, name_is_word}
-use Rattle.brief_text.specs.declared.symbols.Keyword.TheVariants as keywords
+use Rattle.brief_tokens.specs.declared.symbols.Keyword.TheVariants as keywords
 use Rattle.brief_text.specs.Grammar.{Phrase, one, ◌▸◌, SpellsName, SpellsNames, SpellsData, SpellsOften, SpellsCount, SpellsFrame, SpellsBytes, SpellsNext, SpellsRefused}
-use Rattle.brief_text.specs.Names.{is_brief_word}
+use Rattle.brief_tokens.specs.Names.{is_brief_word}
 use Rattle.spellings.specs.Spelling.{data_word, run_word, run_words, frame_words, bytes_words, refused_words, next_words}
-use Rattle.brief_text.specs.Tokens.{Token, keyword, word, sign, sign_of, tokens_of, token_of_word}
+use Rattle.brief_tokens.specs.Tokens.{Token, keyword, word, sign, sign_of, tokens_of, token_of_word}
 use Rattle.brief_text.specs.Trees.{spelled, times, BriefBytes, data_byte, no_more, go_on}
 use Rattle.brief_text.specs.Words.{repetition_by, so_often, is_countable}
 use Rattle.spellings.specs.Writing.{Run, goes_on, same_pattern, ended_by, with_byte, after_run, frame_brief, bytes_brief, tail_brief}
 use Rattle.spellings.proofs.SpelledWords.{is_word, Apart, word_token, word_too, digit_first, name_token, Spelled, data_said, target_said}
-use Rattle.brief_text.proofs.TokenLemmas.{skips_space, sign_here}
+use Rattle.brief_tokens.proofs.TokenLemmas.{skips_space, sign_here}
 
 -- the words at the front of a text, each after a space, are this phrase
 pub record Said (words : List (List ℕ)) (P : Phrase) : Type 0 where

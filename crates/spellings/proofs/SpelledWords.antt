@@ -18,14 +18,14 @@ use Rattle.lexer.specs.declared.lexemes.Letters.TheVariants.{Dots, Brief}
 use Rattle.lexer.specs.Lexemes.{is_word_part, begins_with_part}
 use Rattle.plan_text.proofs.WholeWords as words
 use Rattle.plan_text.proofs.ValueLemmas.{address_found, pattern_found}
-use Rattle.brief_text.specs.declared.symbols.Keyword.TheVariants as keywords
+use Rattle.brief_tokens.specs.declared.symbols.Keyword.TheVariants as keywords
 use Rattle.brief_text.specs.Grammar.{Phrase, SpellsData, SpellsTo}
-use Rattle.brief_text.specs.Names.{is_brief_word}
+use Rattle.brief_tokens.specs.Names.{is_brief_word}
 use Rattle.spellings.specs.Spelling.{digit_symbol, target_of, target_word, data_of, data_word}
-use Rattle.brief_text.specs.Tokens.{Token, keyword, word, next, tokens_of, token_of_word}
+use Rattle.brief_tokens.specs.Tokens.{Token, keyword, word, next, tokens_of, token_of_word}
 use Rattle.brief_text.specs.Trees.{spelled}
 use Rattle.brief_text.specs.Words.{digit_bits, any_byte, data_by, address_by, hex_bits, eight_bits, seven_bits}
-use Rattle.brief_text.proofs.TokenLemmas.{word_here}
+use Rattle.brief_tokens.proofs.TokenLemmas.{word_here}
 use Rattle.brief_text.proofs.WordLemmas.{data_base_2, data_base_16, address_base_2, address_base_16}
 
 -- a part of words, and then more of them or none

@@ -7,7 +7,7 @@ use Rattle.plan_text.specs.Refusals.{First}
 use Rattle.plan_text.specs.declared.errors.PlanError.{PlanError}
 use Rattle.plan_text.specs.declared.errors.PlanError.TheVariants as plan
 use Rattle.brief_text.specs.Briefs.{Means, IsRefused}
-use Rattle.brief_text.specs.Names.{has_brief_word, LacksBrief}
+use Rattle.brief_tokens.specs.Names.{has_brief_word, LacksBrief}
 use Rattle.plan_text.specs.declared.briefs.NoBrief.{NoBrief}
 use Rattle.plan_text.specs.declared.briefs.NoBrief.TheVariants as cause
 use Rattle.spellings.specs.Spellings.{Printed, Expanded, Abbreviated, RefusesBrief, GivesNoBrief}

@@ -5,7 +5,7 @@ use Rattle.spellings.specs.Canonical.{plan_text}
 use Rattle.plan_text.specs.Grammar.{Spells}
 use Rattle.plan_text.specs.Refusals.{First}
 use Rattle.brief_text.specs.Briefs.{Means, IsRefused}
-use Rattle.brief_text.specs.Names.{has_brief_word, LacksBrief}
+use Rattle.brief_tokens.specs.Names.{has_brief_word, LacksBrief}
 use Rattle.run_parts.specs.declared.errors.RunError.{RunError}
 use Rattle.run_parts.specs.declared.errors.RunError.TheVariants as error
 use Rattle.run_parts.specs.declared.runs.Status.{Status}

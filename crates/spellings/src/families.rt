@@ -7,7 +7,8 @@ ghost use Rattle.plan_core.specs.PlanContents.{plan_contents};
 use crate::writing::{
     Run, address, count, end, end_run, interrupts, message, nevers, pattern, with_byte, word,
 };
-use brief_text::{Lengths, is_brief_word, member_text};
+use brief_text::{Lengths, member_text};
+use brief_tokens::is_brief_word;
 use message_tree::{Address, Count, Frame, Pattern, Payload, Tail};
 use plan_core::{Name, NameError, Plan};
 use plan_text::words::{is_digits, number};

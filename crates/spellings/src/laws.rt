@@ -7,7 +7,7 @@ ghost use Rattle.plan_core.specs.Limits.{IsWithinLimits};
 ghost use Rattle.brief_text.specs.Briefs.{Means};
 ghost use Rattle.brief_text.specs.Drafts.{Draft, no_items};
 ghost use Rattle.brief_text.specs.Fitting.{MakeUp};
-ghost use Rattle.brief_text.specs.Names.{has_brief_word};
+ghost use Rattle.brief_tokens.specs.Names.{has_brief_word};
 ghost use Rattle.brief_text.specs.Splitting.{plan_meant};
 ghost use Rattle.plan_text.specs.Grammar.{Spells};
 ghost use Rattle.spellings.specs.Canonical.{plan_text};

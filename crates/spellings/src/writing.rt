@@ -13,7 +13,7 @@ ghost use Rattle.plan_core.specs.PlanContents.{plan_contents};
 ghost use Rattle.plan_text.specs.Symbols.{bit_symbol};
 ghost use Rattle.spellings.specs.Canonical.{Adds, count_word, item_line, controller_line, never_line};
 ghost use Rattle.brief_text.specs.Briefs.{Means};
-ghost use Rattle.brief_text.specs.Names.{is_brief_word, has_brief_word, first_brief_word, LacksBrief};
+ghost use Rattle.brief_tokens.specs.Names.{is_brief_word, has_brief_word, first_brief_word, LacksBrief};
 ghost use Rattle.spellings.specs.Runs.{run_of, run_before};
 ghost use Rattle.spellings.specs.Spelling.{hex_symbol, is_open, digit_symbol, target_word, data_word, run_word};
 ghost use Rattle.spellings.specs.Spelling.{run_words, frame_words, bytes_words, refused_words, next_words};
@@ -23,7 +23,8 @@ ghost use Rattle.spellings.specs.Writing.{ended_by, with_byte};
 
 use crate::families::gathered;
 use crate::print::print_plan;
-use brief_text::{expand_brief, is_brief_word};
+use brief_text::expand_brief;
+use brief_tokens::is_brief_word;
 use message_tree::{Address, Bit, Count, Frame, Pattern, Payload, Tail};
 use plan_core::{Name, Plan};
 use plan_text::{NoBrief, PlanError};

@@ -5,7 +5,7 @@ use Rattle.plan_text.specs.Places.{Refuses}
 use Rattle.plan_text.specs.declared.errors.PlanError.{PlanError}
 use Rattle.brief_text.specs.Briefs.{items_in}
 use Rattle.brief_text.specs.Drafts.{Draft}
-use Rattle.brief_text.specs.Reading.{left}
+use Rattle.brief_tokens.specs.Reading.{left}
 use Rattle.brief_text.specs.Standing.{draft, place}
 use Rattle.brief_text.proofs.TextLemmas.{items_after, items_end, items_refuse, items_none, unexpected_first}
 use Rattle.brief_text.proofs.items.read_items.Goals as goal

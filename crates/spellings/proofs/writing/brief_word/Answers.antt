@@ -4,7 +4,7 @@ use Rattle.std.specs.Map.{keys_of}
 use Rattle.plan_core.specs.NameBytes.{name_bytes}
 use Rattle.plan_core.specs.PlanContents.{plan_contents}
 use Rattle.spellings.proofs.NameLemmas.{first_of_three, some_of_three}
-use Rattle.brief_text.specs.Names.{is_brief_word}
+use Rattle.brief_tokens.specs.Names.{is_brief_word}
 use Rattle.spellings.proofs.writing.brief_word.Goals as goal
 
 pub returns-clause-some : goal.returns-clause-some

@@ -2,7 +2,7 @@ use Rattle.std.proofs.Common.{◌≡◌, drop}
 use Rattle.std.specs.List.{find}
 use Rattle.std.specs.Map.{keys_of}
 use Rattle.plan_core.specs.PlanContents.{plan_contents}
-use Rattle.brief_text.specs.Names.{is_brief_word}
+use Rattle.brief_tokens.specs.Names.{is_brief_word}
 use Rattle.spellings.proofs.writing.word_of_controller.Given as goal
 
 -- no name before this one is such a word

@@ -3,7 +3,7 @@ use Rattle.std.specs.Map.{keys_of}
 use Rattle.plan_core.specs.NameBytes.{name_bytes}
 use Rattle.plan_core.specs.PlanContents.{plan_contents}
 use Rattle.spellings.proofs.NameLemmas.{found_at, passed_at}
-use Rattle.brief_text.specs.Names.{is_brief_word}
+use Rattle.brief_tokens.specs.Names.{is_brief_word}
 use Rattle.spellings.proofs.writing.word_of_message.Goals as goal
 
 pub returns-then-is_brief_word : goal.returns-then-is_brief_word

@@ -3,10 +3,10 @@ use Rattle.std.specs.Prelude.{Ok}
 use Rattle.std.proofs.lemmas.Result.{err_from_is_err_and}
 use Rattle.plan_text.specs.Places.{Refuses}
 use Rattle.plan_text.specs.Reader.{◌>>=◌}
-use Rattle.brief_text.specs.declared.symbols.Keyword.TheVariants as keywords
-use Rattle.brief_text.specs.declared.symbols.Symbol.TheVariants as symbols
+use Rattle.brief_tokens.specs.declared.symbols.Keyword.TheVariants as keywords
+use Rattle.brief_tokens.specs.declared.symbols.Symbol.TheVariants as symbols
 use Rattle.brief_text.specs.Places.{Reads}
-use Rattle.brief_text.specs.Reading.{left}
+use Rattle.brief_tokens.specs.Reading.{left}
 use Rattle.brief_text.specs.Standing.{place, around, said, times_of, brief_frame, brief_bytes, brief_tail, Gives}
 use Rattle.brief_text.specs.Trees.{BriefFrame, BriefBytes, data_byte}
 use Rattle.brief_text.proofs.StepLemmas.{frames_write, frames_read, bytes_steps, data_first, payload_data}

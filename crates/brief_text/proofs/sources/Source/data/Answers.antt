@@ -1,7 +1,7 @@
 use Rattle.std.proofs.Common.{rules, ◌≡◌, sym, ap, ◌∙◌, subst, inr}
 use Rattle.std.specs.Prelude.{Ok}
-use Rattle.brief_text.specs.declared.symbols.Keyword.TheVariants as keywords
-use Rattle.brief_text.specs.declared.symbols.Symbol.TheVariants as symbols
+use Rattle.brief_tokens.specs.declared.symbols.Keyword.TheVariants as keywords
+use Rattle.brief_tokens.specs.declared.symbols.Symbol.TheVariants as symbols
 use Rattle.brief_text.proofs.WordLemmas.{any_is}
 use Rattle.std.proofs.lemmas.Result.{err_from_is_err_and}
 use Rattle.message_tree.specs.declared.bits.Pattern.{Pattern}

@@ -1,8 +1,8 @@
 use Rattle.std.proofs.Common.{rules, ◌≡◌, ◌∙◌, ℕ, Some, sym, ap, subst}
 use Rattle.std.specs.Option.{option_map}
 use Rattle.plan_text.specs.Words.{number}
-use Rattle.brief_text.specs.declared.symbols.Sign.TheVariants as signs
-use Rattle.brief_text.specs.declared.symbols.Symbol.TheVariants as symbols
+use Rattle.brief_tokens.specs.declared.symbols.Sign.TheVariants as signs
+use Rattle.brief_tokens.specs.declared.symbols.Symbol.TheVariants as symbols
 use Rattle.brief_text.specs.declared.words.Repetition.TheVariants as repetitions
 use Rattle.brief_text.specs.Places.{Reads}
 use Rattle.brief_text.specs.Reading.{repetition_said}

@@ -1,9 +1,9 @@
 // The names of a brief that may be refused after them, for people.
 
-use crate::symbols::{Keyword, Sign, Symbol};
+use crate::symbols::{Keyword, Sign, Symbol, Token};
 use crate::tokens::Tokens;
-use crate::traces::kind_of;
 use plan_text::given::Names;
+use plan_text::places::Kind;
 use std::alloc::{AllocError, Global};
 
 /// The names of the items of a brief, up to its end or to what is no token.
@@ -29,4 +29,16 @@ pub fn names_in(alloc: Global, text: &[u8]) -> Result<Names<'_>, AllocError> {
         }
     }
     Ok(names)
+}
+
+/// What an item that begins with this token gives a name to.
+pub fn kind_of(token: Token<'_>) -> Option<Kind> {
+    match token.symbol {
+        Symbol::Keyword(Keyword::Device) => Some(Kind::Device),
+        Symbol::Keyword(Keyword::Byte) => Some(Kind::Byte),
+        Symbol::Keyword(Keyword::Message) => Some(Kind::Message),
+        Symbol::Keyword(Keyword::Controller) => Some(Kind::Controller),
+        Symbol::Keyword(Keyword::Interrupt) => Some(Kind::Interrupt),
+        _ => None,
+    }
 }

@@ -2,7 +2,7 @@
 
 ghost use Rattle.std.specs.Prelude.{◌≡◌};
 ghost use Rattle.lexer.specs.declared.lexemes.Letters.TheVariants.{Brief};
-ghost use Rattle.brief_text.specs.Tokens.{tokens_of};
+ghost use Rattle.brief_tokens.specs.Tokens.{tokens_of};
 
 use crate::symbols::Token;
 use lexer::{Letters, Lexer, Spot};
@@ -11,16 +11,16 @@ use plan_text::{Expected, PlanError, Refused};
 
 /// What is left of a brief.
 #[derive(Drop)]
-pub(crate) struct Tokens<'a> {
+pub struct Tokens<'a> {
     lexer: Lexer<'a>,
     ghost is_brief: { lexer.letters ≡ Brief },
 }
 
 impl<'a> Tokens<'a> {
-    ghost use Rattle.brief_text.specs.Reading.{with_token, left};
+    ghost use Rattle.brief_tokens.specs.Reading.{with_token, left};
 
     /// The tokens of a whole text.
-    pub(crate) fn new(text: &'a [u8]) -> Self
+    pub fn new(text: &'a [u8]) -> Self
         ensures { left result ≡ tokens_of 1 text.now }
     {
         Tokens {
@@ -29,19 +29,19 @@ impl<'a> Tokens<'a> {
     }
 
     /// The next token. A stray character and a foreign byte stay in their places.
-    pub(crate) fn next(&mut self) -> Token<'a>
+    pub fn next(&mut self) -> Token<'a>
         ensures { left self.old ≡ with_token result (left self.new) }
     {
         Token::of(self.lexer.next())
     }
 
     /// The whole text.
-    pub(crate) fn text(&self) -> &'a [u8] {
+    pub fn text(&self) -> &'a [u8] {
         self.lexer.text()
     }
 
     /// Where the last token stands.
-    pub(crate) fn spot(&self) -> Spot {
+    pub fn spot(&self) -> Spot {
         self.lexer.spot()
     }
 

@@ -1,8 +1,8 @@
 use Rattle.std.proofs.Common.{ap, sym, ◌∙◌}
 use Rattle.lexer.specs.Lexemes.{briefs}
 use Rattle.lexer.specs.Reading as lexemes
-use Rattle.brief_text.specs.Tokens.{tokens_from, tokens_of}
-use Rattle.brief_text.proofs.tokens.Tokens.next.Goals as goal
+use Rattle.brief_tokens.specs.Tokens.{tokens_from, tokens_of}
+use Rattle.brief_tokens.proofs.tokens.Tokens.next.Goals as goal
 
 pub returns : goal.returns
 unfolding tokens_of

@@ -1,8 +1,8 @@
 // The symbols of a brief: its tokens, and what stands where there is none.
 
 ghost use Rattle.std.specs.Prelude.{◌≡◌, Some, true, false};
-ghost use Rattle.brief_text.specs.Tokens.{keyword_of, token_of_word, sign_of};
-ghost use Rattle.brief_text.specs.Reading.{token_of_symbol};
+ghost use Rattle.brief_tokens.specs.Tokens.{keyword_of, token_of_word, sign_of};
+ghost use Rattle.brief_tokens.specs.Reading.{token_of_symbol};
 ghost use Rattle.lexer.specs.Lexemes as lexemes;
 
 use lexer::Lexeme;
@@ -36,7 +36,7 @@ pub enum Sign {
 
 /// What stands at one place of a brief, after the white space and the comments before it.
 #[derive(Clone, Copy)]
-pub(crate) enum Symbol<'a> {
+pub enum Symbol<'a> {
     /// A maximal run of letters, digits, `_`, `.` and `/` that is a keyword.
     Keyword(Keyword),
     /// Another such run.
@@ -53,17 +53,17 @@ pub(crate) enum Symbol<'a> {
 
 /// A symbol with its line.
 #[derive(Clone, Copy)]
-pub(crate) struct Token<'a> {
-    pub(crate) symbol: Symbol<'a>,
-    pub(crate) line: u64,
+pub struct Token<'a> {
+    pub symbol: Symbol<'a>,
+    pub line: u64,
 }
 
 impl<'a> Token<'a> {
     ghost use Rattle.lexer.specs.Reading.{with_lexeme};
-    ghost use Rattle.brief_text.specs.Reading.{unexpected_at, with_token};
-    ghost use Rattle.brief_text.specs.Briefs.{no_version};
-    ghost use Rattle.brief_text.specs.Tokens.{tokens_from};
-    ghost use Rattle.brief_text.specs.Tokens as tokens;
+    ghost use Rattle.brief_tokens.specs.Reading.{unexpected_at, with_token};
+    ghost use Rattle.brief_tokens.specs.Heads.{no_version};
+    ghost use Rattle.brief_tokens.specs.Tokens.{tokens_from};
+    ghost use Rattle.brief_tokens.specs.Tokens as tokens;
 
     /// The token that a lexeme is.
     pub(crate) fn of(lexeme: Lexeme<'a>) -> Self
@@ -84,7 +84,7 @@ impl<'a> Token<'a> {
     }
 
     /// The refusal of this token where the grammar does not allow it.
-    pub(crate) fn unexpected(&self) -> PlanError
+    pub fn unexpected(&self) -> PlanError
         ensures { result ≡ unexpected_at self.now }
     {
         match self.symbol {
@@ -94,7 +94,7 @@ impl<'a> Token<'a> {
     }
 
     /// Whether this is `;`.
-    pub(crate) fn is_semicolon(&self) -> bool
+    pub fn is_semicolon(&self) -> bool
         ensures some { result ≡ true → self.now.symbol ≡ Symbol.Sign Sign.Semicolon }
         ensures none { result ≡ false → self.now.symbol ≡ Symbol.Sign Sign.Semicolon → ⊥ }
     {

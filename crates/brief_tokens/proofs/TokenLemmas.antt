@@ -4,7 +4,7 @@ use Rattle.std.specs.List.{prefix_len}
 use Rattle.lexer.specs.declared.lexemes.Letters.TheVariants.{Brief}
 use Rattle.lexer.specs.Lexemes.{briefs, is_word_part, is_sign, text_end}
 use Rattle.lexer.proofs.LexemeLemmas as lexemes
-use Rattle.brief_text.specs.Tokens.{next, last, sign, sign_of, tokens_from, tokens_of, token_of_word}
+use Rattle.brief_tokens.specs.Tokens.{next, last, sign, sign_of, tokens_from, tokens_of, token_of_word}
 
 -- white space has no tokens
 pub skips_line_feed : (line : ℕ) (rest others : List ℕ) → rest ≡ 10 ∷ others → tokens_of (line + 1) others ≡ tokens_of line rest

@@ -4,11 +4,11 @@ use Rattle.std.specs.Str.{bytes_eq}
 use Rattle.message_tree.specs.Codes.{code}
 use Rattle.lexer.specs.Lexemes.{Lexeme, Lexemes, Ending, briefs, lexemes_of}
 use Rattle.lexer.specs.Lexemes as lexemes
-use Rattle.brief_text.specs.declared.symbols.Keyword.{Keyword}
-use Rattle.brief_text.specs.declared.symbols.Keyword.TheVariants.{Brief, Device, Byte, Any, Message, Controller, Interrupt}
-use Rattle.brief_text.specs.declared.symbols.Keyword.TheVariants.{Never, Write, Read, Else, Stop}
-use Rattle.brief_text.specs.declared.symbols.Sign.{Sign}
-use Rattle.brief_text.specs.declared.symbols.Sign.TheVariants.{Semicolon, Open, Close, Star}
+use Rattle.brief_tokens.specs.declared.symbols.Keyword.{Keyword}
+use Rattle.brief_tokens.specs.declared.symbols.Keyword.TheVariants.{Brief, Device, Byte, Any, Message, Controller, Interrupt}
+use Rattle.brief_tokens.specs.declared.symbols.Keyword.TheVariants.{Never, Write, Read, Else, Stop}
+use Rattle.brief_tokens.specs.declared.symbols.Sign.{Sign}
+use Rattle.brief_tokens.specs.declared.symbols.Sign.TheVariants.{Semicolon, Open, Close, Star}
 
 -- a word that the language has in fixed places, any other word, or one of `;`, `(`, `)` and `*`
 pub data Token : Type 0 where

@@ -1,0 +1,25 @@
+-- What a brief begins with.
+use Rattle.std.specs.Prelude.{Result, Ok, Err, codes, if◌then◌else◌}
+use Rattle.std.specs.Str.{bytes_eq}
+use Rattle.lexer.specs.Lexemes.{text_end, foreign, stray}
+use Rattle.plan_text.specs.declared.errors.PlanError.{PlanError}
+use Rattle.plan_text.specs.declared.errors.PlanError.TheVariants.{Unexpected, NotAscii, Version}
+use Rattle.brief_tokens.specs.declared.symbols.Keyword.TheVariants as keywords
+use Rattle.brief_tokens.specs.Tokens.{keyword, word, Tokens, next, last}
+
+-- the refusal of what stands in the place of `brief` or of `1`
+abbrev pub no_version : Tokens → PlanError
+no_version (last stray line) = Unexpected line
+no_version (last foreign line) = NotAscii line
+no_version (last text_end line) = Version line
+no_version (next token line rest) = Version line
+
+-- `1`, and the tokens after it
+abbrev pub after_version : Tokens → Result Tokens PlanError
+after_version (next (word bytes) line rest) = if bytes_eq bytes (codes "1") then Ok rest else Err (Version line)
+after_version tokens = Err (no_version tokens)
+
+-- `brief`, `1`, and the tokens after them
+abbrev pub after_head : Tokens → Result Tokens PlanError
+after_head (next (keyword keywords.Brief) line rest) = after_version rest
+after_head tokens = Err (no_version tokens)

@@ -1,0 +1,4 @@
+pub mod Tokens
+pub mod Names
+pub mod Heads
+pub mod Reading
